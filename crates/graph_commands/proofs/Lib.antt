@@ -1,7 +1,7 @@
 mod Counted
 pub mod DrawingEnds
 pub mod Ends
-mod Explaining
+pub mod Explaining
 mod Needed
 pub mod Places
 mod Putting

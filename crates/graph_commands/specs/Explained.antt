@@ -1,12 +1,14 @@
 -- What is told of a graph's file that gives no job, where it is explained: the line of the fault, as it
 -- is told without an explanation, and then what is said further.
-use Rattle.std.specs.Prelude.{◌≡◌, ◌⊎◌, ◌≤◌, ◌++◌, ℕ, List, [], length, codes, ⊤}
+use Rattle.std.specs.Prelude.{◌≡◌, ◌⊎◌, ◌≤◌, ◌++◌, ℕ, List, [], length, map, codes, ⊤}
+use Rattle.std.specs.List.{flat_map}
 use Rattle.graph_commands.specs.FileJobs.{Explains, Known}
-use Rattle.graph_commands.specs.GraphRuns.{CheckEnds, EvalEnds, job_line, job_status}
+use Rattle.graph_commands.specs.GraphDrawings.{DrawEnds, ExplainsNoGraph}
+use Rattle.graph_commands.specs.GraphRuns.{CheckEnds, EvalEnds, IsNoSink, IsTooBig, job_line, job_status}
 use Rattle.graph_commands.specs.declared.fault.JobFault.{JobFault}
 use Rattle.graph_commands.specs.declared.fault.JobFault.TheVariants as fault
 use Rattle.graph_commands.specs.declared.graph_file.TheConstants.{GRAPH_MAX}
-use Rattle.graph_show.specs.Explanations.{ExplainsLine}
+use Rattle.graph_show.specs.Explanations.{ExplainsLine, shown}
 use Rattle.graph_show.specs.watched_io.Statuses.{Says}
 use Rattle.std.specs.declared.option.Option.{Option}
 use Rattle.graph_show.specs.watched_io.Files.{HasBytes}
@@ -20,10 +22,25 @@ pub record IsTextOf (known : Known) (name text : List ℕ) : Type 0 where
 
 -- ---- what is said further
 
+-- a line for a person: two spaces, and this text as it is shown
+abbrev pub further_line : List ℕ → List ℕ
+further_line text = codes "  " ++ map shown text ++ codes "\n"
+
+-- the text is such lines, or nothing
+pub record AreFurtherLines (more : List ℕ) : Type 0 where
+  pub texts : List (List ℕ)
+  pub are : more ≡ flat_map further_line texts
+
 -- what a sample is
 abbrev pub record_wanted : List ℕ
 record_wanted =
     codes "  expected: one whole number, from -9223372036854775807 to 9223372036854775807\n"
+
+-- where a record stands and why it is no sample, as far as that is known, and what a sample is
+pub record TellsRecord (more : List ℕ) : Type 0 where
+  pub front : List ℕ
+  pub front_are : AreFurtherLines front
+  pub is : more ≡ front ++ record_wanted
 
 -- the name of a file, and why it was refused
 pub record TellsRefusal (more : List ℕ) : Type 0 where
@@ -34,7 +51,7 @@ pub record TellsRefusal (more : List ℕ) : Type 0 where
 -- the text explains a fault; of the graph, by the line of that
 abbrev pub Tells : List ℕ → JobFault → List ℕ → Type 0
 Tells text (fault.Graph found) more = ExplainsLine text found more
-Tells text (fault.BadSample name number) more = more ≡ record_wanted
+Tells text (fault.BadSample name number) more = TellsRecord more
 Tells text fault.ReadFault more = TellsRefusal more
 Tells text fault.OutOfMemory more = ⊥
 
@@ -69,11 +86,48 @@ pub record ExplainsNoJob (known : Known) (name : List ℕ) (status : ℕ)
   pub text_of : IsOfText found → IsTextOf known name text
   pub explained : Explained text found before after
 
+-- the file tells no graph, or memory ran out; its line was told, and then an explanation
+pub record ToldNoGraph (known : Known) (name : List ℕ) (status : ℕ)
+    (before after : WriterState) : Type 0 where
+  pub found : JobFault
+  pub explains : ExplainsNoGraph known name found
+  pub status_is : status ≡ job_status found
+  pub text : List ℕ
+  pub text_of : IsOfText found → IsTextOf known name text
+  pub explained : Explained text found before after
+
+-- and nothing was written to the output
+pub record IsNoGraphExplained {W : Type 0} (known : Known) (name : List ℕ) (status : ℕ)
+    (old new : Watched W) (before after : WriterState) : Type 0 where
+  pub no_graph : ToldNoGraph known name status before after
+  pub silent : new ≡ old
+
 -- and nothing was written to the output
 pub record IsNoJobExplained {W : Type 0} (known : Known) (name : List ℕ) (status : ℕ)
     (old new : Watched W) (before after : WriterState) : Type 0 where
   pub no_job : ExplainsNoJob known name status before after
   pub silent : new ≡ old
+
+-- ---- why a job has no answer
+
+-- the line of a fault was told, and then lines for a person, or nothing
+pub record SaysFurther (line : List ℕ) (before after : WriterState) : Type 0 where
+  pub told : WriterState
+  pub says : Says line before told
+  pub more : List ℕ
+  pub more_are : AreFurtherLines more
+  pub further : Says more told after
+
+-- no sink of the job has the name that was asked for, or a value is out of range: nothing was written,
+-- and its line was told, with lines for a person behind it
+pub record IsRefusedExplained {W : Type 0} (known : Known) (name : List ℕ) (asked : Option (List ℕ))
+    (status : ℕ) (old new : Watched W) (before after : WriterState) : Type 0 where
+  pub line : List ℕ
+  pub cause : IsNoSink known name asked status line old new
+      ⊎ IsTooBig known name status line old new
+  pub says : SaysFurther line before after
+
+-- ---- how commands end that explain
 
 -- how a check ends that explains: as without that, or the files tell no job
 abbrev pub CheckEndsExplained : {W : Type 0} → Known → List ℕ → ℕ → (W → Option (List ℕ))
@@ -82,9 +136,18 @@ CheckEndsExplained known name status contents old new before after =
     CheckEnds known name status contents old new before after
     ⊎ IsNoJobExplained known name status old new before after
 
--- and how an evaluation does
+-- how a drawing ends that explains: as without that, or the file tells no graph
+abbrev pub DrawEndsExplained : {W : Type 0} → Known → List ℕ → ℕ → (W → Option (List ℕ))
+    → Watched W → Watched W → WriterState → WriterState → Type 0
+DrawEndsExplained known name status contents old new before after =
+    DrawEnds known name status contents old new before after
+    ⊎ IsNoGraphExplained known name status old new before after
+
+-- how an evaluation ends that explains: as without that, or the files tell no job, or the job has no
+-- answer
 abbrev pub EvalEndsExplained : {W : Type 0} → Known → List ℕ → Option (List ℕ) → ℕ
     → (W → Option (List ℕ)) → Watched W → Watched W → WriterState → WriterState → Type 0
 EvalEndsExplained known name asked status contents old new before after =
     EvalEnds known name asked status contents old new before after
-    ⊎ IsNoJobExplained known name status old new before after
+    ⊎ (IsNoJobExplained known name status old new before after
+    ⊎ IsRefusedExplained known name asked status old new before after)

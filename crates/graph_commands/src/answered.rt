@@ -119,28 +119,6 @@ pub fn eval_and_report<W: Write, E: Write, F: Files>(
     }
 }
 
-/// As `eval_and_report`, and the line of a refusal or a fault of the files is explained to a person
-/// behind it.
-pub fn eval_and_explain<W: Write, E: Write, F: Files + Refuses>(
-    alloc: Global,
-    name: &str,
-    sink: Option<&str>,
-    output: &mut Watched<W>,
-    faults: &mut Watched<E>,
-    files: &mut F,
-) -> u8
-    ensures status { (result ≡ 0) ⊎ ((result ≡ 1) ⊎ ((result ≡ 3) ⊎ (result ≡ 5))) }
-    ensures ends { EvalEndsExplained (F.file files.old) name.now
-        (option_map (λ s. s.now) sink.entry) result W.contents output.old output.new
-        (writer_state E.contents faults.old) (writer_state E.contents faults.new) }
-    ensures quiet { result ≡ 0 → faults.new ≡ faults.old }
-{
-    match read_job_or_explain(alloc, files, name, faults) {
-        Ok(read) => eval_asked(alloc, &read, sink, output, faults),
-        Err(status) => status,
-    }
-}
-
 /// Evaluates a job for all its sinks, or for the one of a name, and answers the exit status.
 fn eval_asked<W: Write, E: Write>(
     alloc: Global,

@@ -1,11 +1,13 @@
 //! A drawing of a graph, and the reports of its faults.
 ghost use Rattle.std.specs.Prelude.{◌≡◌, ◌⊎◌, OnOk, IfErr};
+ghost use Rattle.graph_commands.specs.Explained.{DrawEndsExplained};
 ghost use Rattle.graph_commands.specs.GraphDrawings.{DrawEnds};
 ghost use Rattle.graph_show.specs.watched_io.Statuses.{Reports};
 ghost use Rattle.graph_show.specs.watched_io.States.{writer_state};
 
+use crate::explained::read_graph_or_explain;
 use crate::graph_faults::report_job_fault;
-use crate::read_graph_file;
+use crate::{Refuses, read_graph_file};
 use graph_show::watched_io::{DONE, Files, IoFault, Watched, report};
 use graph_show::write_drawing;
 use std::alloc::Global;
@@ -31,6 +33,27 @@ pub fn draw_and_report<W: Write, E: Write, F: Files>(
     match read_graph_file(alloc, files, name) {
         Ok(graph) => report_drawn(write_drawing(alloc, output, &graph), faults),
         Err(fault) => report_job_fault(&fault, faults),
+    }
+}
+
+/// As `draw_and_report`, and the line of a refusal or a fault of the file is explained to a person behind
+/// it.
+pub fn draw_and_explain<W: Write, E: Write, F: Files + Refuses>(
+    alloc: Global,
+    name: &str,
+    output: &mut Watched<W>,
+    faults: &mut Watched<E>,
+    files: &mut F,
+) -> u8
+    ensures status { (result ≡ 0) ⊎ ((result ≡ 1) ⊎ (result ≡ 5)) }
+    ensures ends { DrawEndsExplained (F.file files.old) name.now result W.contents
+        output.old output.new
+        (writer_state E.contents faults.old) (writer_state E.contents faults.new) }
+    ensures quiet { result ≡ 0 → faults.new ≡ faults.old }
+{
+    match read_graph_or_explain(alloc, files, name, faults) {
+        Ok(graph) => report_drawn(write_drawing(alloc, output, &graph), faults),
+        Err(status) => status,
     }
 }
 

@@ -1,16 +1,18 @@
 //! The job of a graph's file, or why there is none, told and explained.
-ghost use Rattle.std.specs.Prelude.{◌≡◌, ◌⊎◌, ℕ, List, [], IfOk, IfErr, OnOk};
-ghost use Rattle.graph_commands.specs.Explained.{Explained, ExplainsNoJob, IsFurther, IsTextOf, TellsRefusal, record_wanted};
-ghost use Rattle.graph_commands.specs.FileJobs.{Explains, IsJobOf};
+ghost use Rattle.std.specs.Prelude.{◌≡◌, ◌⊎◌, ◌++◌, ℕ, List, [], IfOk, IfErr, OnOk};
+ghost use Rattle.graph_commands.specs.Explained.{Explained, ExplainsNoJob, IsFurther, IsTextOf, TellsRecord, TellsRefusal, ToldNoGraph, record_wanted};
+ghost use Rattle.graph_commands.specs.FileJobs.{Explains, IsGraphOf, IsJobOf, Known};
+ghost use Rattle.graph_commands.specs.GraphDrawings.{ExplainsNoGraph};
 ghost use Rattle.graph_commands.specs.GraphRuns.{job_status};
-ghost use Rattle.graph_show.specs.watched_io.Statuses.{Says};
 ghost use Rattle.graph_show.specs.watched_io.States.{writer_state};
 
+use crate::further::{further_lines, tell_bytes};
 use crate::graph_faults::report_job_fault;
 use crate::job_file::job_of_graph;
+use crate::records::record_texts;
 use crate::{FileRefusal, GRAPH_MAX, JobFault, Refuses};
 use graph_show::explanation;
-use graph_show::graph_lang::read_graph;
+use graph_show::graph_lang::{Graph, read_graph};
 use graph_show::watched_io::{Files, Watched};
 use std::alloc::{AllocError, Global};
 use std::io::Write;
@@ -21,8 +23,9 @@ use stream_eval::stream_lists::Job;
 /// else 5.
 ///
 /// A fault of the graph is explained by its line, a mark under the word that is at fault, and what was
-/// expected there; a record that is no sample by what a sample is; a file that was refused by its name
-/// and why, as far as the files tell. Where memory runs out nothing more is said.
+/// expected there; a record that is no sample by where it stands, why it is none, and what a sample is;
+/// a file that was refused by its name and why, as far as the files tell. A file of samples is read
+/// again for that. Where memory runs out nothing more is said.
 pub fn read_job_or_explain<E: Write, F: Files + Refuses>(
     alloc: Global,
     files: &mut F,
@@ -44,6 +47,39 @@ pub fn read_job_or_explain<E: Write, F: Files + Refuses>(
     }
 }
 
+/// Reads the graph of a file, as `read_graph_file` does, and explains as `read_job_or_explain` does why
+/// there is none.
+pub(crate) fn read_graph_or_explain<E: Write, F: Files + Refuses>(
+    alloc: Global,
+    files: &mut F,
+    name: &str,
+    faults: &mut Watched<E>,
+) -> Result<Graph, u8>
+    ensures ok { IfOk result (λ graph. IsGraphOf (F.file files.old) name.now graph) }
+    ensures quiet { OnOk result (faults.new ≡ faults.old) }
+    ensures err { IfErr result (λ status. ToldNoGraph (F.file files.old) name.now status
+        (writer_state E.contents faults.old) (writer_state E.contents faults.new)) }
+    ensures status { IfErr result (λ status. (status ≡ 1) ⊎ (status ≡ 5)) }
+{
+    match files.read(alloc, name, GRAPH_MAX) {
+        Ok(text) => match graph_of_text(alloc, &text) {
+            Ok(graph) => Ok(graph),
+            Err(fault) => Err(report_explained(alloc, &text, &fault, files, faults)),
+        },
+        Err(fault) => Err(report_explained(alloc, &[], &JobFault::from(fault), files, faults)),
+    }
+}
+
+/// Reads the graph of a text.
+fn graph_of_text(alloc: Global, text: &[u8]) -> Result<Graph, JobFault>
+    ensures ok { IfOk result (λ graph. (known : Known) (name : List ℕ)
+        → IsTextOf known name text.now → IsGraphOf known name graph) }
+    ensures fault { IfErr result (λ fault. (known : Known) (name : List ℕ)
+        → IsTextOf known name text.now → ExplainsNoGraph known name fault) }
+{
+    Ok(read_graph(alloc, text)?)
+}
+
 /// Makes the job of a graph's text.
 fn job_of_text<F: Files>(alloc: Global, files: &mut F, text: &[u8]) -> Result<Job, JobFault>
     ensures ok { IfOk result (λ job. (name : List ℕ)
@@ -57,11 +93,11 @@ fn job_of_text<F: Files>(alloc: Global, files: &mut F, text: &[u8]) -> Result<Jo
 
 /// Tells why there is no job, and explains it, by the graph's text where that was read; and answers the
 /// status.
-fn report_explained<E: Write, F: Refuses>(
+fn report_explained<E: Write, F: Files + Refuses>(
     alloc: Global,
     text: &[u8],
     fault: &JobFault,
-    files: &F,
+    files: &mut F,
     faults: &mut Watched<E>,
 ) -> u8
     ensures status { result ≡ job_status fault.now }
@@ -74,16 +110,13 @@ fn report_explained<E: Write, F: Refuses>(
     status
 }
 
-/// Tells these bytes. Where a write fails there is nobody to be told.
-fn tell_bytes<E: Write>(bytes: &[u8], faults: &mut Watched<E>)
-    ensures { Says bytes.now
-        (writer_state E.contents faults.old) (writer_state E.contents faults.new) }
-{
-    let _ = faults.send(bytes);
-}
-
 /// What is said of a fault further: nothing where memory runs out.
-fn further<F: Refuses>(alloc: Global, text: &[u8], fault: &JobFault, files: &F) -> Vec<u8>
+fn further<F: Files + Refuses>(
+    alloc: Global,
+    text: &[u8],
+    fault: &JobFault,
+    files: &mut F,
+) -> Vec<u8>
     ensures { IsFurther text.now fault.now result.items }
 {
     match try_further(alloc, text, fault, files) {
@@ -93,17 +126,20 @@ fn further<F: Refuses>(alloc: Global, text: &[u8], fault: &JobFault, files: &F) 
 }
 
 /// What is said of a fault further.
-fn try_further<F: Refuses>(
+fn try_further<F: Files + Refuses>(
     alloc: Global,
     text: &[u8],
     fault: &JobFault,
-    files: &F,
+    files: &mut F,
 ) -> Result<Vec<u8>, AllocError>
     ensures { IfOk result (λ more. IsFurther text.now fault.now more.items) }
 {
     match fault {
         JobFault::Graph(found) => explanation(alloc, text, *found),
-        JobFault::BadSample { .. } => record_explained(alloc),
+        JobFault::BadSample { name, number } => {
+            let texts = record_texts(alloc, files, text, name.as_str(), *number);
+            record_explained(alloc, texts)
+        }
         JobFault::ReadFault => match files.refused() {
             Some((name, why)) => refusal_explained(alloc, name, why),
             None => Ok(Vec::new(alloc)),
@@ -112,14 +148,25 @@ fn try_further<F: Refuses>(
     }
 }
 
-/// What a sample is.
-fn record_explained(alloc: Global) -> Result<Vec<u8>, AllocError>
-    ensures { IfOk result (λ more. more.items ≡ record_wanted) }
+/// Puts what a sample is behind a text.
+fn put_wanted(more: &mut Vec<u8>) -> Result<(), AllocError>
+    ensures { OnOk result (more.new.items ≡ more.old.items ++ record_wanted) }
 {
-    Vec::from_slice(
-        alloc,
+    more.extend_from_slice(
         b"  expected: one whole number, from -9223372036854775807 to 9223372036854775807\n",
     )
+}
+
+/// These texts, each as a line, and what a sample is.
+fn record_explained(
+    alloc: Global,
+    texts: Result<Vec<Vec<u8>>, AllocError>,
+) -> Result<Vec<u8>, AllocError>
+    ensures { IfOk result (λ more. TellsRecord more.items) }
+{
+    let mut more = further_lines(alloc, texts);
+    put_wanted(&mut more)?;
+    Ok(more)
 }
 
 /// The name of a file, and why it was refused.

@@ -29,7 +29,8 @@ pub trait Refuses {
     fn refused(&self) -> Option<(&str, FileRefusal)>;
 }
 
-/// The files of the disk, as `DiskFiles` reads them, and why one was refused.
+/// The files of the disk, as `DiskFiles` reads them, with standard input as the one of the name `-`,
+/// and why one was refused.
 #[derive(Drop)]
 pub struct TellingFiles<'a, R> {
     rt: &'a R,
@@ -46,6 +47,11 @@ impl<'a, R> TellingFiles<'a, R> {
             refused: None,
         }
     }
+}
+
+/// The name under which the system opens a file: of `-` that of standard input.
+fn opened_as(name: &str) -> &str {
+    if name == "-" { "/dev/stdin" } else { name }
 }
 
 /// Why the system refused an opening.
@@ -72,9 +78,9 @@ fn why_refused<R: std::rt::Files>(rt: &R, name: &str, limit: usize) -> FileRefus
 
 impl<R: std::rt::Files> Files for TellingFiles<'_, R> {
     fn read(&mut self, alloc: Global, name: &str, limit: usize) -> Result<Vec<u8>, FileFault> {
-        let read = self.files.read(alloc, name, limit);
+        let read = self.files.read(alloc, opened_as(name), limit);
         if let Err(FileFault::ReadFault) = &read {
-            let why = why_refused(self.rt, name, limit);
+            let why = why_refused(self.rt, opened_as(name), limit);
             self.refused = match String::from_str(alloc, name) {
                 Ok(name) => Some((name, why)),
                 Err(_) => None,

@@ -4,7 +4,7 @@ use Rattle.phase_cli.specs.Ends.{IsStatus, LeavesAlone, MayEnd, MayEndAs}
 use Rattle.phase_cli.specs.Inside.{IsAnswer, LeavesBy}
 use Rattle.phase_replay.specs.watched_io.Statuses.{Reports}
 use Rattle.phase_words.proofs.NoCalls.{asked-help-not-taken, asked-version-not-taken, refusal-not-help, refusal-not-taken, refusal-not-version, shown-not-taken, taken-or-not}
-use Rattle.phase_words.specs.CommandLine.{AreRefused, AreTaken, Asked, Asks, AskGraph, AskHelp, AskVersion, IsNoCall, asked_in, asked_of, check, check_explained, draw, eval, eval_explained, graph_asked, replay}
+use Rattle.phase_words.specs.CommandLine.{AreRefused, AreTaken, Asked, Asks, AskGraph, AskHelp, AskVersion, IsNoCall, asked_in, asked_of, check, check_explained, draw, draw_explained, eval, eval_explained, graph_asked, replay}
 use Rattle.phase_words.specs.declared.call.Call.{Call}
 use Rattle.phase_words.specs.declared.call.Explain.TheVariants.{No, Yes}
 use Rattle.phase_words.specs.declared.call.NoCall.{NoCall}
@@ -33,7 +33,7 @@ leaves-asked words asked input rest closed files asks leaves = record {
     unread-by call.Replay asks leaves other = absurd (other asks)
     unread-by (call.Check graph explain) asks leaves other = leaves
     unread-by (call.Eval graph sink explain) asks leaves other = leaves
-    unread-by (call.Draw graph) asks leaves other = leaves
+    unread-by (call.Draw graph explain) asks leaves other = leaves
 
     opens : (what : Asked) (name : List ℕ) → Asks words what → graph_asked what ≡ Some name
         → ((name : List ℕ) → AskGraph words name → ⊥) → files ≡ closed
@@ -48,7 +48,8 @@ leaves-asked words asked input rest closed files asks leaves = record {
         opens (eval graph.now (option_map (λ s. s.now) sink)) graph.now asks refl other
     unopened-by (call.Eval graph sink Yes) asks leaves other =
         opens (eval_explained graph.now (option_map (λ s. s.now) sink)) graph.now asks refl other
-    unopened-by (call.Draw graph) asks leaves other = opens (draw graph.now) graph.now asks refl other
+    unopened-by (call.Draw graph No) asks leaves other = opens (draw graph.now) graph.now asks refl other
+    unopened-by (call.Draw graph Yes) asks leaves other = opens (draw_explained graph.now) graph.now asks refl other
 
 -- ---- statuses
 
@@ -77,6 +78,7 @@ five-as (eval name sink) status five = inr (inr (inr five))
 five-as (draw name) status five = inr (inr five)
 five-as (check_explained name) status five = inr (inr five)
 five-as (eval_explained name sink) status five = inr (inr (inr five))
+five-as (draw_explained name) status five = inr (inr five)
 
 -- the status of words that ask for help
 help-ends : {W : Type 0} (words : List (List ℕ)) (none : NoCall) (status : ℕ) (old new : Watched W) (before after : WriterState)
@@ -148,6 +150,7 @@ any-as (eval name sink) status ends = any-evaluated status ends
 any-as (draw name) status ends = any-read status ends
 any-as (check_explained name) status ends = any-read status ends
 any-as (eval_explained name sink) status ends = any-evaluated status ends
+any-as (draw_explained name) status ends = any-read status ends
 
 any-untaken : (status : ℕ) → (status ≡ 0) ⊎ ((status ≡ 2) ⊎ (status ≡ 5)) → IsStatus status
 any-untaken status (inl zero) = inl zero
@@ -180,6 +183,7 @@ two-as (eval name sink) status two ends = two-evaluated status two ends
 two-as (draw name) status two ends = two-read status two ends
 two-as (check_explained name) status two ends = two-read status two ends
 two-as (eval_explained name sink) status two ends = two-evaluated status two ends
+two-as (draw_explained name) status two ends = two-read status two ends
 
 pub taken-not-two : (words : List (List ℕ)) (status : ℕ) → MayEnd words status → AreTaken words → status ≢ 2
 taken-not-two words status ends taken = λ two.

@@ -1,13 +1,13 @@
 -- How a run of the program may end, by what its words ask for.
 use Rattle.std.specs.Prelude.{◌≡◌, ◌⊎◌, ℕ, List, Option}
-use Rattle.graph_commands.specs.Explained.{CheckEndsExplained, EvalEndsExplained}
+use Rattle.graph_commands.specs.Explained.{CheckEndsExplained, DrawEndsExplained, EvalEndsExplained}
 use Rattle.graph_commands.specs.FileJobs.{Known}
 use Rattle.graph_commands.specs.GraphDrawings.{DrawEnds}
 use Rattle.graph_commands.specs.GraphRuns.{CheckEnds, EvalEnds}
 use Rattle.phase_replay.specs.Replays.{ReplayEnds}
 use Rattle.phase_replay.specs.Replay.{HasCause}
 use Rattle.phase_replay.specs.watched_io.Statuses.{Reports}
-use Rattle.phase_words.specs.CommandLine.{AreRefused, AreTaken, Asked, Asks, AskGraph, AskHelp, AskReplay, AskVersion, check, check_explained, draw, eval, eval_explained, replay}
+use Rattle.phase_words.specs.CommandLine.{AreRefused, AreTaken, Asked, Asks, AskGraph, AskHelp, AskReplay, AskVersion, check, check_explained, draw, draw_explained, eval, eval_explained, replay}
 use Rattle.phase_replay.specs.watched_io.States.{ReaderState, WriterState, writer_state}
 use Rattle.phase_replay.specs.watched_io.declared.fault.IoFault.{IoFault}
 use Rattle.phase_replay.specs.watched_io.declared.fault.IoFault.TheVariants.{OutOfMemory}
@@ -25,6 +25,7 @@ MayEndAs (eval _ _) status = (status ≡ 0) ⊎ ((status ≡ 1) ⊎ ((status ≡
 MayEndAs (draw _) status = (status ≡ 0) ⊎ ((status ≡ 1) ⊎ (status ≡ 5))
 MayEndAs (check_explained _) status = (status ≡ 0) ⊎ ((status ≡ 1) ⊎ (status ≡ 5))
 MayEndAs (eval_explained _ _) status = (status ≡ 0) ⊎ ((status ≡ 1) ⊎ ((status ≡ 3) ⊎ (status ≡ 5)))
+MayEndAs (draw_explained _) status = (status ≡ 0) ⊎ ((status ≡ 1) ⊎ (status ≡ 5))
 
 -- the statuses that may come, by what the words ask for
 pub record MayEnd (words : List (List ℕ)) (status : ℕ) : Type 0 where
@@ -50,6 +51,8 @@ EndsAs (check_explained name) known contents status input rest old new before af
     CheckEndsExplained known name status contents old new before after
 EndsAs (eval_explained name sink) known contents status input rest old new before after =
     EvalEndsExplained known name sink status contents old new before after
+EndsAs (draw_explained name) known contents status input rest old new before after =
+    DrawEndsExplained known name status contents old new before after
 
 -- a replay alone reads the input, and words that ask for something of a graph alone open files
 pub record LeavesAlone {R F : Type 0} (words : List (List ℕ)) (input rest : Watched R)

@@ -14,7 +14,7 @@ abbrev pub LeavesBy : {R F : Type 0} → Call → Watched R → Watched R → F 
 LeavesBy call.Replay input rest closed files = files ≡ closed
 LeavesBy (call.Check graph explain) input rest closed files = rest ≡ input
 LeavesBy (call.Eval graph sink explain) input rest closed files = rest ≡ input
-LeavesBy (call.Draw graph) input rest closed files = rest ≡ input
+LeavesBy (call.Draw graph explain) input rest closed files = rest ≡ input
 
 -- the status by why there is no call; what is told goes to the fault stream alone, but for help and
 -- the version

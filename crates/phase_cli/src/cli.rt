@@ -3,12 +3,12 @@ ghost use Rattle.std.specs.Prelude.{◌≡◌, ◌⊎◌, option_map};
 ghost use Rattle.phase_cli.specs.Ends.{AnswerEnds, AnswerStops, EndsAs, IsUnbegun, LeavesAlone, MayEnd, MayEndAs};
 ghost use Rattle.phase_cli.specs.Inside.{IsAnswer, LeavesBy};
 ghost use Rattle.phase_replay.specs.Replays.{ReplayEnds};
-ghost use Rattle.phase_words.specs.CommandLine.{AreTaken, AskReplay, Asked, Asks, asked_of, check_by, eval_by, texts};
+ghost use Rattle.phase_words.specs.CommandLine.{AreTaken, AskReplay, Asked, Asks, asked_of, check_by, draw_by, eval_by, texts};
 ghost use Rattle.phase_replay.specs.watched_io.States.{ReaderState, reader_state, writer_state};
 
 use graph_commands::{
-    Refuses, check_and_explain, check_and_report, draw_and_report, eval_and_explain,
-    eval_and_report,
+    Refuses, check_and_explain, check_and_report, draw_and_explain, draw_and_report,
+    eval_and_explain, eval_and_report,
 };
 use phase_replay::watched_io::{Files, refuse, report, show_help};
 use phase_replay::{ReplayFault as IoFault, Watched, replay_and_report};
@@ -91,7 +91,7 @@ fn run_call<R: Read, W: Write, E: Write, F: Files + Refuses>(
             sink,
             explain,
         } => run_eval(alloc, graph, sink, explain, output, faults, files),
-        Call::Draw(graph) => draw_and_report(alloc, graph, output, faults, files),
+        Call::Draw { graph, explain } => run_draw(alloc, graph, explain, output, faults, files),
     }
 }
 
@@ -114,6 +114,28 @@ fn run_check<W: Write, E: Write, F: Files + Refuses>(
     match explain {
         Explain::No => check_and_report(alloc, graph, output, faults, files),
         Explain::Yes => check_and_explain(alloc, graph, output, faults, files),
+    }
+}
+
+/// Draws a graph, and explains a fault where that is asked for.
+fn run_draw<W: Write, E: Write, F: Files + Refuses>(
+    alloc: Global,
+    graph: &str,
+    explain: Explain,
+    output: &mut Watched<W>,
+    faults: &mut Watched<E>,
+    files: &mut F,
+) -> u8
+    ensures status { MayEndAs (draw_by explain graph.now) result }
+    ensures ends { (input rest : ReaderState)
+        → EndsAs (draw_by explain graph.now) (F.file files.old) W.contents result input rest
+        output.old output.new
+        (writer_state E.contents faults.old) (writer_state E.contents faults.new) }
+    ensures quiet { result ≡ 0 → faults.new ≡ faults.old }
+{
+    match explain {
+        Explain::No => draw_and_report(alloc, graph, output, faults, files),
+        Explain::Yes => draw_and_explain(alloc, graph, output, faults, files),
     }
 }
 

@@ -1,7 +1,7 @@
 -- How a run of a graph ends: its status, and what stands on its streams then.
 use Rattle.std.specs.Prelude.{◌≡◌, ◌≢◌, ◌⊎◌, ℕ, List, codes}
 use Rattle.std.specs.declared.option.Option.{Option}
-use Rattle.stream_workers.specs.graph_commands.Explained.{IsNoJobExplained}
+use Rattle.stream_workers.specs.graph_commands.Explained.{IsNoJobExplained, IsRefusedExplained, SaysFurther}
 use Rattle.stream_workers.specs.graph_commands.FileJobs.{IsJobOf, Known}
 use Rattle.stream_workers.specs.graph_commands.GraphRuns.{AsksSink, IsNoJob, IsNoSink, IsTooBig, IsUnwritten, sinks_text}
 use Rattle.stream_workers.specs.graph_commands.watched_io.Statuses.{Says}
@@ -70,9 +70,19 @@ pub record RunEnds {W : Type 0} (known : Known) (name : List ℕ) (asked : Optio
       → Runs known name asked (writer_state contents old) (writer_state contents new)
   pub stops : status ≢ 0 → RunStops known name asked status contents old new before after
 
--- how a run ends that explains: as one that does not, or the files tell no job
+-- a run was told as stalled, with lines for a person behind that
+pub record IsStalledExplained {W : Type 0} (known : Known) (name : List ℕ) (status : ℕ)
+    (old new : Watched W) (before after : WriterState) : Type 0 where
+  pub line : List ℕ
+  pub cause : IsStalled known name status line old new
+  pub says : SaysFurther line before after
+
+-- how a run ends that explains: as one that does not, or the files tell no job, or the job has no
+-- answer, or it was told as stalled
 abbrev pub RunEndsExplained : {W : Type 0} → Known → List ℕ → Option (List ℕ) → ℕ
     → (W → Option (List ℕ)) → Watched W → Watched W → WriterState → WriterState → Type 0
 RunEndsExplained known name asked status contents old new before after =
     RunEnds known name asked status contents old new before after
-    ⊎ IsNoJobExplained known name status old new before after
+    ⊎ (IsNoJobExplained known name status old new before after
+    ⊎ (IsRefusedExplained known name asked status old new before after
+    ⊎ IsStalledExplained known name status old new before after))

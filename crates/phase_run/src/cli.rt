@@ -7,7 +7,8 @@ ghost use Rattle.phase_words.specs.RunLine.{AreRunTaken, AskRun, AskRunExplained
 ghost use Rattle.phase_run.specs.Runs.{RunEnds, RunEndsExplained};
 ghost use Rattle.stream_workers.specs.graph_commands.watched_io.States.{writer_state};
 
-use crate::graph_run::{run_and_explain, run_and_report};
+use crate::graph_run::run_and_report;
+use crate::run_explained::run_and_explain;
 use phase_words::{Explain, NoCall, RunCall, read_run_words};
 use std::alloc::Global;
 use std::io::Write;

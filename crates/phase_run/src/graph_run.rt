@@ -3,7 +3,7 @@ ghost use Rattle.std.specs.Prelude.{◌≡◌, ◌⊎◌, ℕ, List, Option, opt
 ghost use Rattle.stream_workers.specs.graph_commands.FileJobs.{IsJobOf, Known};
 ghost use Rattle.stream_workers.specs.graph_commands.GraphRuns.{AsksSink};
 ghost use Rattle.stream_workers.specs.graph_commands.watched_io.Statuses.{Says};
-ghost use Rattle.phase_run.specs.Runs.{RunEnds, RunEndsExplained, stalled_line};
+ghost use Rattle.phase_run.specs.Runs.{RunEnds, stalled_line};
 ghost use Rattle.stream_workers.specs.graph_commands.watched_io.States.{writer_state};
 
 use std::alloc::Global;
@@ -13,8 +13,8 @@ use std::thread::Threads;
 use stream_workers::graph_commands::stream_lists::Job;
 use stream_workers::graph_commands::watched_io::{Files, IoFault, STALLED, Watched, report, say};
 use stream_workers::graph_commands::{
-    Refuses, find_sink, read_job, read_job_or_explain, report_job_fault, report_no_sink,
-    report_too_big, report_written, write_sinks,
+    find_sink, read_job, report_job_fault, report_no_sink, report_too_big, report_written,
+    write_sinks,
 };
 use stream_workers::{Open, RunFault, run};
 
@@ -45,31 +45,6 @@ pub fn run_and_report<H: Threads + Wait + Sync, W: Write, E: Write, F: Files>(
     match read_job(alloc, files, name) {
         Ok(job) => run_asked(rt, alloc, &job, sink, workers, output, faults),
         Err(fault) => report_job_fault(&fault, faults),
-    }
-}
-
-/// As `run_and_report`, and the line of a refusal or a fault of the files is explained to a person
-/// behind it.
-pub fn run_and_explain<H: Threads + Wait + Sync, W: Write, E: Write, F: Files + Refuses>(
-    rt: &H,
-    alloc: Global,
-    name: &str,
-    sink: Option<&str>,
-    workers: usize,
-    output: &mut Watched<W>,
-    faults: &mut Watched<E>,
-    files: &mut F,
-) -> u8
-    ensures status { (result ≡ 0) ⊎ ((result ≡ 1) ⊎ ((result ≡ 3) ⊎ ((result ≡ 4)
-        ⊎ (result ≡ 5)))) }
-    ensures ends { RunEndsExplained (F.file files.old) name.now
-        (option_map (λ s. s.now) sink.entry) result W.contents output.old output.new
-        (writer_state E.contents faults.old) (writer_state E.contents faults.new) }
-    ensures quiet { result ≡ 0 → faults.new ≡ faults.old }
-{
-    match read_job_or_explain(alloc, files, name, faults) {
-        Ok(read) => run_asked(rt, alloc, &read, sink, workers, output, faults),
-        Err(status) => status,
     }
 }
 
@@ -128,7 +103,7 @@ fn run_job<H: Threads + Wait + Sync, W: Write, E: Write>(
 }
 
 /// Tells that a run stalled, and answers the status 4.
-fn report_stalled<E: Write>(faults: &mut Watched<E>) -> u8
+pub(crate) fn report_stalled<E: Write>(faults: &mut Watched<E>) -> u8
     ensures status { result ≡ 4 }
     ensures line { Says stalled_line
         (writer_state E.contents faults.old) (writer_state E.contents faults.new) }

@@ -2,7 +2,7 @@
 //! answers as `eval` does.
 //!
 //! `run_and_report` reads the job of a graph's file as `eval` does, runs it, and answers the exit
-//! status; `run_and_explain` also explains a fault of the files behind its line.
+//! status; `run_and_explain` also explains a fault behind its line.
 //!
 //! Proved: what is written at status 0 is what `eval` writes, and each other status has its cause. Only
 //! tested: that a run comes back, and that `phase: stalled` is told only where every task that is left
@@ -12,6 +12,8 @@
 mod cli;
 mod graph_run;
 mod laws;
+mod run_explained;
+mod stall_told;
 
 use cli::run_cli;
 use std::process::ExitCode;

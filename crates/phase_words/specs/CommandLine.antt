@@ -54,12 +54,16 @@ check_shape = (with_rule (graph_app (codes "check")) explain_rule).top
 abbrev pub eval_shape : Shape
 eval_shape = (with_rule (with_rule (graph_app (codes "eval")) sink_rule) explain_rule).top
 
+-- the command `draw`
+abbrev pub draw_shape : Shape
+draw_shape = (with_rule (graph_app (codes "draw")) explain_rule).top
+
 -- the program, with its commands: `replay`, which takes no word, and `check`, `eval` and `draw`
 unfoldable pub phase_app : App
 phase_app =
     with_subcommand (with_subcommand (with_subcommand (with_subcommand (with_version
     (without_own_name (new_app (codes "phase")))) (new_app (codes "replay")).top)
-    check_shape) eval_shape) (graph_shape (codes "draw"))
+    check_shape) eval_shape) draw_shape
 
 -- ---- what the words ask for
 
@@ -93,8 +97,7 @@ abbrev pub AreRefused : List Text → Type 0
 AreRefused words = Refuse (kinds_of words)
 
 -- what words that are taken ask for: a replay, a check of a graph's file, its evaluation, for all
--- its sinks or for the one of a name, or its drawing; of a check and an evaluation also that a fault
--- is explained
+-- its sinks or for the one of a name, or its drawing; of these three also that a fault is explained
 pub data Asked : Type 0 where
   replay : Asked
   check : Text → Asked
@@ -102,6 +105,7 @@ pub data Asked : Type 0 where
   draw : Text → Asked
   check_explained : Text → Asked
   eval_explained : Text → Option Text → Asked
+  draw_explained : Text → Asked
 
 -- whether `--explain` stands there, by the value that clap gives it, or none
 abbrev pub explain_of : Option Text → Explain
@@ -118,12 +122,17 @@ abbrev pub eval_by : Explain → Text → Option Text → Asked
 eval_by No name sink = eval name sink
 eval_by Yes name sink = eval_explained name sink
 
+-- a drawing with an explanation or without
+abbrev pub draw_by : Explain → Text → Asked
+draw_by No name = draw name
+draw_by Yes name = draw_explained name
+
 -- by the command and the words that are given to it
 abbrev pub asked_as : Text → Option Text → Option Text → Explain → Asked
 asked_as name graph sink explain =
     if bytes_eq name (codes "check") then check_by explain (unwrap_or graph [])
     else if bytes_eq name (codes "eval") then eval_by explain (unwrap_or graph []) sink
-    else if bytes_eq name (codes "draw") then draw (unwrap_or graph [])
+    else if bytes_eq name (codes "draw") then draw_by explain (unwrap_or graph [])
     else replay
 
 -- with no command a replay is asked for
@@ -167,6 +176,10 @@ AskCheckExplained words name = Asks words (check_explained name)
 abbrev pub AskEvalExplained : List Text → Text → Option Text → Type 0
 AskEvalExplained words name sink = Asks words (eval_explained name sink)
 
+-- the words ask for a drawing, and for an explanation of a fault
+abbrev pub AskDrawExplained : List Text → Text → Type 0
+AskDrawExplained words name = Asks words (draw_explained name)
+
 -- the name of the graph's file of which something is asked for
 abbrev pub graph_asked : Asked → Option Text
 graph_asked replay = None
@@ -175,6 +188,7 @@ graph_asked (eval name sink) = Some name
 graph_asked (draw name) = Some name
 graph_asked (check_explained name) = Some name
 graph_asked (eval_explained name sink) = Some name
+graph_asked (draw_explained name) = Some name
 
 -- the words ask for something of the graph in the file of this name
 pub record AskGraph (words : List Text) (name : Text) : Type 0 where
@@ -188,7 +202,7 @@ asked_of call.Replay = replay
 asked_of (call.Check graph explain) = check_by explain graph.now
 asked_of (call.Eval graph sink explain) =
     eval_by explain graph.now (option_map (λ s. s.now) sink)
-asked_of (call.Draw name) = draw name.now
+asked_of (call.Draw graph explain) = draw_by explain graph.now
 
 -- the words as texts
 abbrev pub texts : {Z : Type 0} → List (String Z) → List Text

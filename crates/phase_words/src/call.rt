@@ -27,7 +27,10 @@ pub enum Call<'a> {
         explain: Explain,
     },
     /// A drawing of the graph in the file of this name.
-    Draw(&'a str),
+    Draw {
+        graph: &'a str,
+        explain: Explain,
+    },
 }
 
 /// How many workers a run has where none are named.

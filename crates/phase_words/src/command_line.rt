@@ -6,7 +6,7 @@ ghost use Rattle.clap.specs.declared.builder.command.Command.{out-Command};
 ghost use Rattle.phase_words.specs.CommandLine.{Asks, IsNoCall, IsShown};
 ghost use Rattle.phase_words.specs.Inside.{IsToldBy, bare_app, replay_shape};
 ghost use Rattle.phase_words.specs.CommandLine.{asked_as, asked_by, asked_in, asked_of, check_shape};
-ghost use Rattle.phase_words.specs.CommandLine.{eval_shape, explain_of, explain_rule, graph_app, graph_rule};
+ghost use Rattle.phase_words.specs.CommandLine.{draw_shape, eval_shape, explain_of, explain_rule, graph_app, graph_rule};
 ghost use Rattle.phase_words.specs.CommandLine.{kinds_of, phase_app, sink_rule, texts};
 
 use crate::help::{
@@ -86,6 +86,14 @@ fn eval_command<'a>(alloc: Global) -> Result<Command<'a>, AllocError>
         .arg(explain_word(alloc))
 }
 
+/// The command `draw`.
+fn draw_command<'a>(alloc: Global) -> Result<Command<'a>, AllocError>
+    ensures shape { IfOk result (λ c. shape_of c ≡ draw_shape) }
+    ensures local { IfOk result (λ c. (out-Command c).has_globals ≡ false) }
+{
+    graph_command(alloc, "draw", DRAW, DRAW_END)?.arg(explain_word(alloc))
+}
+
 /// A command line under the program's name, with no word and no command.
 pub(crate) fn bare_command<'a>(
     alloc: Global,
@@ -131,7 +139,7 @@ fn command<'a>(alloc: Global) -> Result<Command<'a>, AllocError>
     let top = bare_command(alloc, "phase", ABOUT, END)?.subcommand(replay_command(alloc))?;
     let top = with_command(top, check_command(alloc))?;
     let top = with_command(top, eval_command(alloc))?;
-    with_command(top, graph_command(alloc, "draw", DRAW, DRAW_END))
+    with_command(top, draw_command(alloc))
 }
 
 /// What the words ask for, by what clap found in them.
@@ -175,7 +183,7 @@ fn call_named<'a>(name: &str, graph: &'a str, sink: Option<&'a str>, explain: Ex
         };
     }
     if name == "draw" {
-        return Call::Draw(graph);
+        return Call::Draw { graph, explain };
     }
     Call::Replay
 }

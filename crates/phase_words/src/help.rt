@@ -23,7 +23,8 @@ pub(crate) const EVAL: &str = "Writes the values of each sink of a graph";
 pub(crate) const DRAW: &str = "Writes a drawing of a graph, as text for Graphviz";
 
 /// What the word behind `check`, `eval`, `draw` and `run` is.
-pub(crate) const GRAPH: &str = "The file of the graph, of at most 1048576 bytes";
+pub(crate) const GRAPH: &str =
+    "The file of the graph, of at most 1048576 bytes: - for standard input";
 
 /// What the word behind `--sink` is.
 pub(crate) const SINK: &str = "Write the values of this sink alone, each on a line";
@@ -52,11 +53,12 @@ Example, with the reply to each line and what it means:
   wait 0            value 0 7    phase 0 is complete, and its value is 7
 A line that is no call is answered by `bad line`.
 
-`phase run --help` tells of another program, which runs a graph on threads.
+`phase run GRAPH`, a program of its own, runs the tasks of a graph on threads:
+`phase run --help` tells of it.
 
 Exit status: 0 done; 1 a graph or its samples are refused; 2 the words were not
-understood; 3 a value of a graph is out of range; 5 a read or a write failed, or
-memory ran out.";
+understood; 3 a value of a graph is out of range; 4 every task of a run that was
+left waited for another; 5 a read or a write failed, or memory ran out.";
 
 /// The end of the help of `check`.
 pub(crate) const CHECK_END: &str = "\
@@ -104,7 +106,7 @@ Example: where the file `sums` holds the three lines
   digraph {
       rankdir=LR;
       \"X\" [shape=ellipse, label=\"X\\nsum 4\"];
-      \"s\" [shape=box, label=\"s\\nsource\"];
+      \"s\" [shape=box, label=\"s\\nsource\\nnumbers\"];
       \"out\" [shape=box, label=\"out\\nsink\"];
       \"s\" -> \"X\";
       \"X\" -> \"out\";

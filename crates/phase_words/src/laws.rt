@@ -1,7 +1,7 @@
 //! What clap makes of the words that the program's pages name.
 ghost use Rattle.std.specs.Prelude.{◌≤◌, ℕ, List, Option, [], ◌∷◌, Some, None, codes};
 ghost use Rattle.phase_words.specs.CommandLine.{AreRefused, AskCheck, AskDraw, AskEval, AskHelp};
-ghost use Rattle.phase_words.specs.CommandLine.{AskCheckExplained, AskEvalExplained, AskReplay, AskVersion};
+ghost use Rattle.phase_words.specs.CommandLine.{AskCheckExplained, AskDrawExplained, AskEvalExplained, AskReplay, AskVersion};
 ghost use Rattle.phase_words.specs.RunLine.{AreRunRefused, AskRun, AskRunExplained, AskRunHelp};
 ghost use Rattle.phase_words.specs.RunLine.{AskRunVersion, AsksRun, Run};
 
@@ -33,8 +33,7 @@ pub fn words_for_drawings()
     ensures sink { AreRefused (codes "draw" ∷ codes "g" ∷ codes "--sink" ∷ codes "out" ∷ []) }
 {}
 
-/// `--explain` asks of a check, of an evaluation and of a run that a fault is explained; a drawing
-/// has none.
+/// `--explain` asks of a check, of an evaluation, of a drawing and of a run that a fault is explained.
 pub fn words_for_explanations()
     ensures check { AskCheckExplained (codes "check" ∷ codes "g" ∷ codes "--explain" ∷ []) (codes "g") }
     ensures first { AskCheckExplained (codes "check" ∷ codes "--explain" ∷ codes "g" ∷ []) (codes "g") }
@@ -44,7 +43,7 @@ pub fn words_for_explanations()
         (codes "eval" ∷ codes "--explain" ∷ codes "g" ∷ codes "--sink" ∷ codes "out" ∷ [])
         (codes "g") (Some (codes "out")) }
     ensures run { AskRunExplained (codes "g" ∷ codes "--explain" ∷ []) (codes "g") None 4 }
-    ensures draw { AreRefused (codes "draw" ∷ codes "g" ∷ codes "--explain" ∷ []) }
+    ensures draw { AskDrawExplained (codes "draw" ∷ codes "g" ∷ codes "--explain" ∷ []) (codes "g") }
 {}
 
 /// `--help` and `-h` ask for help, alone and behind each command.

@@ -24,6 +24,7 @@ mod plan_blocks;
 mod roots;
 mod runs;
 mod stalls;
+mod standing;
 mod step;
 mod task_list;
 mod task_state;

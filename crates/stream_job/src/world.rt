@@ -8,7 +8,7 @@ ghost use Rattle.graph_lang.specs.graph_base.Graphs.{task_at};
 ghost use Rattle.stream_eval.specs.stream_lists.Ranges.{answer_of};
 ghost use Rattle.graph_runs.specs.Moments.{Moment, started};
 ghost use Rattle.graph_runs.specs.Beginnings.{opening};
-ghost use Rattle.graph_runs.specs.Nexts.{is_live, next_of};
+ghost use Rattle.graph_runs.specs.Nexts.{is_live, next_of, registrations_at};
 ghost use Rattle.graph_runs.specs.Answers.{is_stalled, turn_tells};
 
 use crate::buffers::Buffers;
@@ -19,6 +19,7 @@ use crate::step::Step;
 use crate::turned::Turned;
 use graph_lang::Place;
 use graph_runs::{moments, outcomes};
+use phase_core::phase_base::Entry;
 use std::alloc::{AllocError, Global};
 use std::marker::Model;
 use stream_eval::Lines;
@@ -66,6 +67,7 @@ impl<'a> Model for World<'a> {
 impl<'a> World<'a> {
     ghost use Rattle.stream_job.specs.Machines.{next_by};
     ghost use Rattle.stream_job.specs.Worlds.{IsWorldAt};
+    ghost use Rattle.stream_job.specs.Standing.{standing};
     ghost use Rattle.stream_job.specs.SinkLines.{kept_by, begins_at};
     ghost use Rattle.stream_job.specs.Turning.{told_of, met_by, after_turn_of, parked_by, IsRegistration};
 
@@ -94,6 +96,13 @@ impl<'a> World<'a> {
             met: None,
             parked,
         })
+    }
+
+    /// Returns the job that is run. It takes no memory.
+    pub fn job(&self) -> &Job
+        ensures { result.now ≡ self.now.job }
+    {
+        self.job
     }
 
     /// Returns what task number `task` does next: nothing, where it is not live or there is none of
@@ -140,6 +149,17 @@ impl<'a> World<'a> {
         ensures { result.now ≡ get_or self.now.parked phaser [] }
     {
         self.parked.on(phaser)
+    }
+
+    /// Returns the mode and the phases of task number `task` on a phaser of its line, while it is
+    /// registered there: on that of its registration number `k`, counted from 0 over its inputs and
+    /// then its outputs, or over X, E and Y of a peer. It takes no memory.
+    pub fn standing(&self, task: usize, k: usize) -> Option<Entry>
+        requires task { task < length self.now.job.graph.tasks }
+        requires registration { k < length (registrations_at self.now.job task) }
+        ensures { (m : Moment) → IsWorldAt self.now m → result ≡ standing self.now.job m task k }
+    {
+        self.machine.standing(self.job, task, k)
     }
 
     /// Returns whether no task can move: some task is live, and the turn of each live task would be

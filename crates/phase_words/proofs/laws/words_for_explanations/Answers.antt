@@ -1,10 +1,8 @@
 -- clap's reading, computed.
-use Rattle.std.proofs.Common.{◌≡◌, [], ◌∷◌, codes, refl}
+use Rattle.std.proofs.Common.{refl}
 use Rattle.clap.proofs.OnLiterals.{clap_on_literals}
-use Rattle.clap.specs.declared.error.kind.ErrorKind.TheVariants.{UnknownArgument}
 use Rattle.phase_words.specs.CommandLine.{asked_in, kinds_of, phase_app}
 use Rattle.phase_words.specs.RunLine.{run_app, run_in, run_kinds_of}
-use Rattle.phase_words.proofs.Refused.{unknown_refused}
 use Rattle.phase_words.proofs.laws.words_for_explanations.Goals as goal
 
 pub returns-clause-check : goal.returns-clause-check
@@ -27,10 +25,6 @@ pub returns-clause-run : goal.returns-clause-run
 unfolding run_in run_kinds_of run_app clap_on_literals
 returns-clause-run c = record { taken = refl; run = refl }
 
-kinds-draw : kinds_of (codes "draw" ∷ codes "g" ∷ codes "--explain" ∷ []) ≡ UnknownArgument ∷ []
-unfolding kinds_of phase_app clap_on_literals
-kinds-draw = refl
-
 pub returns-clause-draw : goal.returns-clause-draw
-returns-clause-draw c =
-    unknown_refused (codes "draw" ∷ codes "g" ∷ codes "--explain" ∷ []) kinds-draw
+unfolding asked_in kinds_of phase_app clap_on_literals
+returns-clause-draw c = record { taken = refl; command = refl }

@@ -1,0 +1,28 @@
+//! How a task stands on its phasers.
+ghost use Rattle.std.specs.Prelude.{◌≡◌, ◌<◌, length};
+ghost use Rattle.graph_runs.specs.Moments.{Moment};
+ghost use Rattle.graph_runs.specs.Nexts.{registrations_at};
+ghost use Rattle.stream_job.specs.Machines.{IsMachine, IsMachineAt};
+ghost use Rattle.stream_job.specs.Standing.{standing};
+
+use crate::machine::Machine;
+use phase_core::phase_base::Entry;
+use stream_eval::stream_lists::Job;
+
+impl Machine {
+    /// The mode and the phases of task number `t` on the phaser of its registration number `k`,
+    /// while it is registered there.
+    pub fn standing(&self, job: &Job, t: usize, k: usize) -> Option<Entry>
+        requires machine { IsMachine job.now self.now }
+        requires task { t < length job.now.graph.tasks }
+        requires registration { k < length (registrations_at job.now t) }
+        ensures { (m : Moment) → IsMachineAt job.now m self.now → standing job.now m t k ≡ result }
+    {
+        let numbers = &self.state(job, t).numbers;
+        if k >= numbers.len() {
+            return None;
+        }
+        let p = job.graph().registration(t, k).phaser;
+        self.core(job, p).view(numbers[k])
+    }
+}
