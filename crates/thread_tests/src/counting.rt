@@ -103,7 +103,7 @@ fn add_to(counter: &Counter, mut turn: CounterTurn) -> CounterSeat
     ensures view { let was = turn_view turn in
         seat_view result ≡ tally was.parts (was.count + 1) None }
 {
-    let value = turn.value();
+    let value = turn.value(counter);
     *value = value.wrapping_add(1);
     counter.give::<Add>(turn)
 }
@@ -207,7 +207,7 @@ pub fn read_sum<R: Wait>(rt: &R, counter: &Counter, seat: CounterSeat) -> (u64, 
         → result.0 ≡ (seat_view seat).count % 2 ^ 64 }
 {
     let mut turn = counter.take::<Grab, R>(rt, seat);
-    let value = *turn.value();
+    let value = *turn.value(counter);
     (value, counter.give::<Return>(turn))
 }
 

@@ -42,12 +42,12 @@ fn turn_lock(rt: HostRuntime) -> Result<(), Fail> {
     let (a, b) = lock.split::<AnyValue>(seat);
 
     let mut turn = lock.take::<AnyValue, HostRuntime>(&rt, a);
-    let first = *turn.value();
+    let first = *turn.value(&lock);
     let (b, was_busy) = match lock.try_take::<AnyValue>(b) {
         Ok(turn) => (lock.give::<AnyValue>(turn), false),
         Err(b) => (b, true),
     };
-    *turn.value() = 6;
+    *turn.value(&lock) = 6;
     let a = lock.give::<AnyValue>(turn);
     assert!(rt; was_busy);
     assert_eq!(rt; first, 5);
@@ -55,13 +55,13 @@ fn turn_lock(rt: HostRuntime) -> Result<(), Fail> {
     let Ok(mut turn) = lock.try_take::<AnyValue>(b) else {
         panic!(rt; "the turn was free")
     };
-    let second = *turn.value();
+    let second = *turn.value(&lock);
     let b = lock.give::<AnyValue>(turn);
     assert_eq!(rt; second, 6);
 
     let seat = lock.join::<AnyValue, AnyValue>(a, b);
     let mut turn = lock.take::<AnyValue, HostRuntime>(&rt, seat);
-    let last = *turn.value();
+    let last = *turn.value(&lock);
     let _seat = lock.give::<AnyValue>(turn);
     assert_eq!(rt; last, 6);
     Ok(())

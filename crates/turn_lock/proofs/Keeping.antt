@@ -1,6 +1,8 @@
 -- Each step of the table keeps the rule of the word and the slot.
 use Rattle.std.proofs.Common.{◌≡◌, ◌≢◌, ℕ, zero, suc, ◌<◌, Bool, true, false, Option, Some, None, List, [], ◌∷◌, ◌++◌, map, length, set, slice_index, sym, refl, ap, ◌∙◌, subst, inl, inr, ⊎_elim, eqb, arith}
 use mathlib.Core.Option.{none, some, some-injective, some-ne-none}
+use Rattle.std.proofs.lemmas.Bool.{eqb-true}
+use mathlib.Core.Bool.{true≢false}
 use mathlib.Core.List.{map-append}
 use lib.ListN.{get_elem?}
 use lib.Seq.{map-set}
@@ -8,6 +10,7 @@ use prog.Atomic.{either}
 use Rattle.atomic_table.proofs.Lists.{at_set, at_snoc, at_map, at_longer, set_here, set_else, set_again}
 use Rattle.atomic_table.specs.Table.{State, Me, step, Act, keeps, takes, gives, stepped, carried_after, rest, Valid, Allows, Splits, Joins}
 use Rattle.turn_lock.specs.declared.seat.Doing.{Doing}
+use Rattle.turn_lock.specs.Held.{is_alone, alone_value}
 use Rattle.turn_lock.specs.Steps.{Takes, GivesBack, Looks, Forks, Merges, Busy}
 use Rattle.turn_lock.specs.Word.{doing, client, IsFree, IsTaken, Locked, tried, gave, looked}
 
@@ -28,9 +31,9 @@ not_both : (b : Bool) → b ≡ true → b ≡ false → ⊥
 not_both b e f = cc
 
 abbrev Hub : Type 0 → Type 0 → Type 0 → Type 0
-Hub N T V = State (Option T) (Doing N V)
+Hub N T V = State T (Doing N V)
 
-abbrev hub : {N T V : Type 0} → List ℕ → List (mathlib.Core.Option.Option (Option T)) → List (Doing N V) → Hub N T V
+abbrev hub : {N T V : Type 0} → List ℕ → List (mathlib.Core.Option.Option T) → List (Doing N V) → Hub N T V
 hub ws hs vs = record { words = ws; homes = hs; views = vs }
 
 -- a word that is one number stays as it is
@@ -47,18 +50,29 @@ one_not_zero : (ws : List ℕ) → ws ≡ 1 ∷ [] → slice_index ws 0 ≡ 0 �
 one_not_zero ws e h = let p : slice_index ws 0 ≡ 1 = ap (λ (z : List ℕ). slice_index z 0) e in omega arith
 
 -- the value in a slot that is held alone
-abbrev item : {T : Type 0} → Option T → List (ℕ × Option T) → Option T
+abbrev item : {T : Type 0} → T → List (ℕ × T) → T
 item x [] = x
 item x (y ∷ ys) = y.1
 
-same_some : {T : Type 0} (y z : T) → Some y ≡ Some z → y ≡ z
-same_some y z e = cc
-
-abbrev alone : {T : Type 0} → T → List (ℕ × Option T)
-alone y = (0, Some y) ∷ []
+abbrev alone : {T : Type 0} → T → List (ℕ × T)
+alone y = (0, y) ∷ []
 
 same_item : {T : Type 0} (y z : T) → alone y ≡ alone z → y ≡ z
-same_item {T} y z e = same_some y z (ap (item (Some y)) e)
+same_item {T} y z e = ap (item y) e
+
+-- a list that holds the slot 0 alone is the list of it and its value
+pub alone_is : {T : Type 0} (held : List (ℕ × T)) (one : is_alone held ≡ true)
+    → held ≡ (0, alone_value held one) ∷ []
+alone_is [] one = absurd (true≢false (sym one))
+alone_is (h ∷ []) one = ap (λ (k : ℕ). (k, h.1) ∷ []) (eqb-true h.0 0 one)
+alone_is (h ∷ k ∷ hs) one = absurd (true≢false (sym one))
+
+-- so it begins with the slot 0 and its value
+pub alone_first : {T : Type 0} (held : List (ℕ × T)) (one : is_alone held ≡ true)
+    → held ≡ (0, alone_value held one) ∷ rest held
+alone_first held one =
+    let lies : held ≡ (0, alone_value held one) ∷ [] = alone_is held one in
+    lies ∙ ap (λ (xs : List (ℕ × _)). (0, alone_value held one) ∷ xs) (sym (ap rest lies))
 
 module _ {N V : Type 0} where
   -- the same seats have the turn
@@ -156,7 +170,7 @@ module _ {N T V : Type 0} (holds : N → Option T → List V → Type 0) (name :
       (asked home views k apart (at_map client s.views id v at) (at_map client s.views other w there)))
 
   -- the step that looks at the rule and leaves the word as it is
-  looks_here : (slots id : ℕ) (me : Me (Option T) (Doing N V)) (then : N → V → V → Type 0) → me.0.turn ≡ false → me.0.name ≡ Some name
+  looks_here : (slots id : ℕ) (me : Me T (Doing N V)) (then : N → V → V → Type 0) → me.0.turn ≡ false → me.0.name ≡ Some name
       → Looks holds name id me.0.client (then name)
       → Allows (Locked holds name) slots id me 0 (λ n. n) (looked then (step slots 0 0 0 none) me)
   looks_here slots id me then idle is asked s locked _ at _ = ⊎_elim
@@ -184,18 +198,18 @@ module _ {N T V : Type 0} (holds : N → Option T → List V → Type 0) (name :
       ))
       locked
 
-  pub looks : (slots id number : ℕ) (me : Me (Option T) (Doing N V)) (d : Doing N V) (held : List (ℕ × Option T)) (then : N → V → V → Type 0)
+  pub looks : (slots id number : ℕ) (me : Me T (Doing N V)) (d : Doing N V) (held : List (ℕ × T)) (then : N → V → V → Type 0)
       → id ≡ number → me ≡ (d, held) → d.turn ≡ false → d.name ≡ Some name → Looks holds name number d.client (then name)
       → Allows (Locked holds name) slots id me 0 (λ n. n) (looked then (step slots 0 0 0 none) me)
   looks slots id number me d held then same same' idle is asked =
-      let P : ℕ × Me (Option T) (Doing N V) → Type 0 =
+      let P : ℕ × Me T (Doing N V) → Type 0 =
       λ m. Allows (Locked holds name) slots m.0 m.1 0 (λ n. n) (looked then (step slots 0 0 0 none) m.1) in
       subst P {x = (number, (d, held))} {y = (id, me)} (λ i. (sym same i, sym same' i)) (looks_here slots number (d, held) then idle is asked)
 
   -- what a try to take the turn owes at the state s, for a seat that holds no slot
   abbrev Tries : ℕ → ℕ → Doing N V → (N → V → T → V → Type 0) → Hub N T V → Type 0
   Tries slots id d then s =
-      (w : Doing N V) × (a : Act (Option T)) × Valid s.homes [] a
+      (w : Doing N V) × (a : Act T) × Valid s.homes [] a
       × Locked holds name (stepped s 0 (swapped (slice_index s.words 0)) id [] w a)
       × tried holds then (step slots 0 0 1 none) (d, []) (slice_index s.words 0) (w, carried_after [] a)
 
@@ -203,12 +217,12 @@ module _ {N T V : Type 0} (holds : N → Option T → List V → Type 0) (name :
       → Takes holds name id d.client (then name)
       → ((j : ℕ) (u : Doing N V) → get_elem? views j ≡ some u → u.turn ≡ false) → holds name (Some x) (map client views)
       → get_elem? views id ≡ some d
-      → Tries slots id d then (hub (0 ∷ []) (some (Some x) ∷ []) views)
+      → Tries slots id d then (hub (0 ∷ []) (some x ∷ []) views)
   take_free slots id d then views x is asked rests kept at =
       let t = asked x (map client views) kept (at_map client views id d at) in
       let w : Doing N V = doing d.name true t.0 in (
         w,
-        takes 0 (Some x),
+        takes 0 x,
         refl,
         inr record {
           holder = id;
@@ -255,16 +269,16 @@ module _ {N T V : Type 0} (holds : N → Option T → List V → Type 0) (name :
     ),
   )
 
-  pub tries : (slots id : ℕ) (me : Me (Option T) (Doing N V)) (then : N → V → T → V → Type 0) → me.0.turn ≡ false → me.1 ≡ []
+  pub tries : (slots id : ℕ) (me : Me T (Doing N V)) (then : N → V → T → V → Type 0) → me.0.turn ≡ false → me.1 ≡ []
       → me.0.name ≡ Some name → Takes holds name id me.0.client (then name)
       → Allows (Locked holds name) slots id me 0 swapped (tried holds then (step slots 0 0 1 none) me)
   tries slots id me then idle empty is asked =
-      let P : Me (Option T) (Doing N V) → Type 0 =
+      let P : Me T (Doing N V) → Type 0 =
       λ m. Allows (Locked holds name) slots id m 0 swapped (tried holds then (step slots 0 0 1 none) m) in
       let d : Doing N V = me.0 in
       let at_none : P (d, []) = λ s locked _ at _. ⊎_elim
       (λ (f : IsFree holds name s).
-      let is_hub : s ≡ hub (0 ∷ []) (some (Some f.value) ∷ []) s.views = λ i. hub (f.word i) (f.home i) s.views in
+      let is_hub : s ≡ hub (0 ∷ []) (some f.value ∷ []) s.views = λ i. hub (f.word i) (f.home i) s.views in
       subst (Tries slots id d then) (sym is_hub) (take_free slots id d then s.views f.value is asked f.rests f.kept at))
       (λ (f : IsTaken holds name s). take_taken slots id d then s idle is f at)
       locked in
@@ -273,9 +287,9 @@ module _ {N T V : Type 0} (holds : N → Option T → List V → Type 0) (name :
   -- what the step that gives back owes at the state s, for a seat that holds the slot with y
   abbrev Returns : ℕ → ℕ → Doing N V → T → (N → V → T → V → Type 0) → Hub N T V → Type 0
   Returns slots id d y then s =
-      (w : Doing N V) × (a : Act (Option T)) × Valid s.homes ((0, Some y) ∷ []) a
-      × Locked holds name (stepped s 0 0 id ((0, Some y) ∷ []) w a)
-      × gave then (step slots 0 0 0 none) (d, (0, Some y) ∷ []) (slice_index s.words 0) (w, carried_after ((0, Some y) ∷ []) a)
+      (w : Doing N V) × (a : Act T) × Valid s.homes ((0, y) ∷ []) a
+      × Locked holds name (stepped s 0 0 id ((0, y) ∷ []) w a)
+      × gave then (step slots 0 0 0 none) (d, (0, y) ∷ []) (slice_index s.words 0) (w, carried_after ((0, y) ∷ []) a)
 
   give_taken : (slots id : ℕ) (d : Doing N V) (y : T) (then : N → V → T → V → Type 0) (views : List (Doing N V)) → d.name ≡ Some name
       → GivesBack holds name id d.client y (then name) → get_elem? views id ≡ some d
@@ -306,19 +320,20 @@ module _ {N T V : Type 0} (holds : N → Option T → List V → Type 0) (name :
         ),
       )
 
-  pub gives_back : (slots id number : ℕ) (me : Me (Option T) (Doing N V)) (d : Doing N V) (held : List (ℕ × Option T)) (y : T)
-      (then : N → V → T → V → Type 0) → id ≡ number → me ≡ (d, (0, Some y) ∷ rest held) → held ≡ (0, None) ∷ [] → d.turn ≡ true → d.name ≡ Some name → GivesBack holds name number d.client y (then name)
+  pub gives_back : (slots id : ℕ) (me : Me T (Doing N V)) (y : T) (then : N → V → T → V → Type 0)
+      → me.1 ≡ alone y → me.0.turn ≡ true → me.0.name ≡ Some name
+      → GivesBack holds name id me.0.client y (then name)
       → Allows (Locked holds name) slots id me 0 (λ _. 0) (gave then (step slots 0 0 0 none) me)
-  gives_back slots id number me d held y then same lies was turns is asked =
-      let P : ℕ × Me (Option T) (Doing N V) → Type 0 =
-      λ m. Allows (Locked holds name) slots m.0 m.1 0 (λ _. 0) (gave then (step slots 0 0 0 none) m.1) in
-      let with_slot : P (number, (d, alone y)) = λ s locked _ at _. ⊎_elim
-      (λ (f : IsFree holds name s). absurd (not_both d.turn turns (f.rests number d at)))
+  gives_back slots id me y then lies turns is asked =
+      let d : Doing N V = me.0 in
+      let P : Me T (Doing N V) → Type 0 =
+      λ m. Allows (Locked holds name) slots id m 0 (λ _. 0) (gave then (step slots 0 0 0 none) m) in
+      let with_slot : P (d, alone y) = λ s locked _ at _. ⊎_elim
+      (λ (f : IsFree holds name s). absurd (not_both d.turn turns (f.rests id d at)))
       (λ (f : IsTaken holds name s).
       let is_hub : s ≡ hub (1 ∷ []) (none ∷ []) s.views = λ i. hub (f.word i) (f.home i) s.views in
-      let mine : number ≡ f.holder = f.only number d at turns in
-      subst (Returns slots number d y then) (sym is_hub)
-      (give_taken slots number d y then s.views is asked at (λ j u e h. f.only j u e h ∙ sym mine) f.kept))
+      let mine : id ≡ f.holder = f.only id d at turns in
+      subst (Returns slots id d y then) (sym is_hub)
+      (give_taken slots id d y then s.views is asked at (λ j u e h. f.only j u e h ∙ sym mine) f.kept))
       locked in
-      let same' : me ≡ (d, alone y) = lies ∙ ap (λ (xs : List (ℕ × Option T)). (d, (0, Some y) ∷ rest xs)) was in
-      subst P {x = (number, (d, alone y))} {y = (id, me)} (λ i. (sym same i, sym same' i)) with_slot
+      subst P (λ i. (d, sym lies i)) with_slot

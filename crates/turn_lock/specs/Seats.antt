@@ -1,7 +1,9 @@
 -- What a clause says of a lock, its seats and its turns.
 -- A place says which lock it is, as plain data: its table, which no other lock has, and its name.
 use Rattle.std.specs.Prelude.{◌≡◌, ℕ, Option, Some}
+use Rattle.atomic_table.specs.Lent.{seat_with}
 use Rattle.atomic_table.specs.Seated.{TableId}
+use Rattle.turn_lock.specs.Held.{alone_value, alone_with}
 use Rattle.turn_lock.specs.declared.seat.Seat.{Seat}
 use Rattle.turn_lock.specs.declared.seat.Turn.{Turn}
 use Rattle.turn_lock.specs.declared.lock.TurnLock.{TurnLock}
@@ -37,11 +39,15 @@ module _ {T N V : Type 0} where
 
   -- the value that is out with the turn
   abbrev pub turn_value : Turn T N V → T
-  turn_value t = t.value
+  turn_value t = alone_value t.inner.me.1 t.out
 
   -- the turn, with another value
   abbrev pub turn_with : Turn T N V → T → Turn T N V
-  turn_with t x = record t { value = x }
+  turn_with t x = record {
+    inner = seat_with t.inner 0 x;
+    turns = t.turns;
+    out = alone_with x t.inner.me.1 t.out;
+  }
 
   -- the seat belongs to the lock at the place
   abbrev pub IsSeatAt : Place N → Seat T N V → Type 0

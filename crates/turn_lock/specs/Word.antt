@@ -10,7 +10,7 @@ use Rattle.turn_lock.specs.Steps.{Busy}
 
 -- a view of the table, and the slots that are out with it
 abbrev pub Stand : Type 0 → Type 0 → Type 0 → Type 0
-Stand N T V = Me (Option T) (Doing N V)
+Stand N T V = Me T (Doing N V)
 
 -- a seat's record of the lock's name, whether it has the turn, and what its caller knows
 abbrev pub doing : {N V : Type 0} → Option N → Bool → V → Doing N V
@@ -22,16 +22,16 @@ client d = d.client
 
 -- the turn is free: the value is at home, and no seat has the turn
 pub record IsFree {N T V : Type 0} (holds : N → Option T → List V → Type 0) (name : N)
-    (s : State (Option T) (Doing N V)) : Type 0 where
+    (s : State T (Doing N V)) : Type 0 where
   pub value : T
   pub word : s.words ≡ 0 ∷ []
-  pub home : s.homes ≡ some (Some value) ∷ []
+  pub home : s.homes ≡ some value ∷ []
   pub rests : (j : ℕ) (d : Doing N V) → get_elem? s.views j ≡ some d → d.turn ≡ false
   pub kept : holds name (Some value) (map client s.views)
 
 -- the turn is taken: the slot is out, and one seat has the turn
 pub record IsTaken {N T V : Type 0} (holds : N → Option T → List V → Type 0) (name : N)
-    (s : State (Option T) (Doing N V)) : Type 0 where
+    (s : State T (Doing N V)) : Type 0 where
   pub holder : ℕ
   pub view : Doing N V
   pub word : s.words ≡ 1 ∷ []
@@ -43,33 +43,33 @@ pub record IsTaken {N T V : Type 0} (holds : N → Option T → List V → Type 
 
 module _ {N T V : Type 0} where
   -- the rule of the table
-  abbrev pub Locked : (N → Option T → List V → Type 0) → N → State (Option T) (Doing N V) → Type 0
+  abbrev pub Locked : (N → Option T → List V → Type 0) → N → State T (Doing N V) → Type 0
   Locked holds name s = IsFree holds name s ⊎ IsTaken holds name s
 
   -- the seat has the turn, and the value x is out with it
   abbrev pub Won : (N → V → T → V → Type 0) → Stand N T V → Stand N T V → Type 0
   Won then m m' =
-      (x : T) × (m'.0.turn ≡ true) × (m'.0.name ≡ m.0.name) × (m'.1 ≡ (0, Some x) ∷ [])
+      (x : T) × (m'.0.turn ≡ true) × (m'.0.name ≡ m.0.name) × (m'.1 ≡ (0, x) ∷ [])
       × ((name : N) → m.0.name ≡ Some name → then name m.0.client x m'.0.client)
 
   -- a try to take the turn won it where the word was 0; else nothing changed
   abbrev pub tried : (N → Option T → List V → Type 0) → (N → V → T → V → Type 0)
-      → Step (Option T) → Stand N T V → ℕ → Stand N T V → Type 0
+      → Step T → Stand N T V → ℕ → Stand N T V → Type 0
   tried holds then st m r m' =
       (r ≡ 0 → Won then m m')
       × (r ≢ 0 → (m' ≡ m) × ((name : N) → m.0.name ≡ Some name → Busy holds name m.0.client))
 
   -- the seat gave back the turn, with the value that lay in the slot
   abbrev pub gave : (N → V → T → V → Type 0)
-      → Step (Option T) → Stand N T V → ℕ → Stand N T V → Type 0
+      → Step T → Stand N T V → ℕ → Stand N T V → Type 0
   gave then st m r m' =
       (m'.0.turn ≡ false) × (m'.0.name ≡ m.0.name) × (m'.1 ≡ [])
-      × ((name : N) (y : T) → m.0.name ≡ Some name → m.1 ≡ (0, Some y) ∷ []
+      × ((name : N) (y : T) → m.0.name ≡ Some name → m.1 ≡ (0, y) ∷ []
       → then name m.0.client y m'.0.client)
 
   -- the seat looked at the rule
   abbrev pub looked : (N → V → V → Type 0)
-      → Step (Option T) → Stand N T V → ℕ → Stand N T V → Type 0
+      → Step T → Stand N T V → ℕ → Stand N T V → Type 0
   looked then st m r m' =
       (m'.0.turn ≡ m.0.turn) × (m'.0.name ≡ m.0.name) × (m'.1 ≡ m.1)
       × ((name : N) → m.0.name ≡ Some name → then name m.0.client m'.0.client)

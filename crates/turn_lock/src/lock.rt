@@ -15,7 +15,7 @@ pub struct Ruled<R> {
     rule: PhantomData<R>,
 }
 
-impl<T, R: TurnRule<T>> TableRule<Option<T>, Doing<R::Name, R::View>, R::Name> for Ruled<R> {
+impl<T, R: TurnRule<T>> TableRule<T, Doing<R::Name, R::View>, R::Name> for Ruled<R> {
     ghost use Rattle.std.specs.Prelude.{Some, false};
     ghost use Rattle.turn_lock.specs.Word.{Locked, doing};
 
@@ -31,7 +31,7 @@ impl<T, R: TurnRule<T>> TableRule<Option<T>, Doing<R::Name, R::View>, R::Name> f
 /// seat that is thrown away leaves its view behind.
 ///
 /// **Turns.** `try_take` and `take` make a turn of a seat, and `give` a seat of a turn. A turn
-/// cannot be thrown away. It has the value until then: `Turn::value` lends it.
+/// cannot be thrown away. It has the value until then: `Turn::value` lends it, where it lies.
 ///
 /// **The rule.** What a step owes is said of any value at home and any views that the rule allows.
 /// A type parameter of the call says what the step tells of the new view: `Tells` at a take and a
@@ -41,7 +41,8 @@ impl<T, R: TurnRule<T>> TableRule<Option<T>, Doing<R::Name, R::View>, R::Name> f
 /// `take` tries until it has the turn. Between two tries it spins briefly at first, and then
 /// yields.
 ///
-/// **Cost.** A take that wins is one atomic step, and so is a give. A split is one, and a join two.
+/// **Cost.** A take that wins is one atomic step, and so is a give; the value stays where it lies. A
+/// split is one, and a join two.
 ///
 /// **Limits.** Any number of seats.
 ///
@@ -52,6 +53,6 @@ impl<T, R: TurnRule<T>> TableRule<Option<T>, Doing<R::Name, R::View>, R::Name> f
 /// order seats get it, and that a turn ends.
 #[derive(Drop)]
 pub struct TurnLock<T, R: TurnRule<T>> {
-    pub(crate) table: Table<Option<T>, Doing<R::Name, R::View>, R::Name, Ruled<R>, Global>,
+    pub(crate) table: Table<T, Doing<R::Name, R::View>, R::Name, Ruled<R>, Global>,
     ghost sized: { (table.shared.table_id.words ≡ 1) × (table.shared.table_id.slots ≡ 1) },
 }

@@ -121,7 +121,7 @@ pub fn signal<A: Accumulate, K: SignalRule>(
         Err(seat) => return (seat, entry, Err(Tried::Busy)),
     };
     let _part = pending.part();
-    let core = turn.value();
+    let core = turn.value(&phaser.lock);
     let answer = core.signal(me, pending, single);
     let phase = match answer {
         Ok(phase) => phase,
@@ -159,7 +159,7 @@ pub fn leave<A: Accumulate, K: SignalRule>(
         Ok(turn) => turn,
         Err(seat) => return Err(seat),
     };
-    let core = turn.value();
+    let core = turn.value(&phaser.lock);
     let answer = core.drop_task(me);
     let Ok(()) = answer else { unreachable!() };
     let reached = Hints::look(core);
@@ -196,7 +196,7 @@ pub fn wait<A: Accumulate, K: SignalRule>(
         Ok(turn) => turn,
         Err(seat) => return (seat, entry, Err(Tried::Busy)),
     };
-    let core = turn.value();
+    let core = turn.value(&phaser.lock);
     let answer = core.wait(me);
     let Some(entry) = core.view(me) else {
         unreachable!()
@@ -237,7 +237,7 @@ pub fn register<A: Accumulate, K: SignalRule>(
         Ok(turn) => turn,
         Err(seat) => return (seat, Err(Tried::Busy)),
     };
-    let core = turn.value();
+    let core = turn.value(&phaser.lock);
     let child = child_of(core);
     let answer = core.register(me, child, mode);
     let found = core.view(child);

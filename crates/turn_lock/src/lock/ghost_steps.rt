@@ -11,7 +11,7 @@ pub struct OnTake<M, R> {
     marker: PhantomData<(M, R)>,
 }
 
-impl<T, R: TurnRule<T>, M: Tells<R::Name, T, R::View>> Play<Option<T>, Doing<R::Name, R::View>>
+impl<T, R: TurnRule<T>, M: Tells<R::Name, T, R::View>> Play<T, Doing<R::Name, R::View>>
     for OnTake<M, R> {
     ghost then = { tried R.holds M.then };
 }
@@ -20,7 +20,7 @@ pub struct OnGive<M> {
     marker: PhantomData<M>,
 }
 
-impl<T, N, V, M: Tells<N, T, V>> Play<Option<T>, Doing<N, V>> for OnGive<M> {
+impl<T, N, V, M: Tells<N, T, V>> Play<T, Doing<N, V>> for OnGive<M> {
     ghost then = { gave M.then };
 }
 
@@ -28,7 +28,7 @@ pub struct OnLook<L> {
     marker: PhantomData<L>,
 }
 
-impl<T, N, V, L: Learns<N, V>> Play<Option<T>, Doing<N, V>> for OnLook<L> {
+impl<T, N, V, L: Learns<N, V>> Play<T, Doing<N, V>> for OnLook<L> {
     ghost then = { looked L.then };
 }
 

@@ -34,7 +34,7 @@ impl<T, R: TurnRule<T>> TurnLock<T, R> {
         ensures view { IfOk result (λ made. seat_view made.1 ≡ R.first name.now) }
     {
         let mut slots = Vec::with_capacity(alloc, 1)?;
-        slots.push(Some(value))?;
+        slots.push(value)?;
         let Ok((table, inner)) = Table::new(alloc, &[FREE], slots, name) else {
             return Err(AllocError);
         };
@@ -63,13 +63,10 @@ impl<T, R: TurnRule<T>> TurnLock<T, R> {
         if found != FREE {
             return Err(Seat { inner });
         }
-        let Some(value) = shared.exchange(&mut inner, 0, None) else {
-            unreachable!()
-        };
-        Ok(Turn { inner, value })
+        Ok(Turn { inner })
     }
 
-    /// Ends a turn: the value goes home as the turn left it. It takes no memory.
+    /// Ends a turn: the value is at home as the turn left it. It takes no memory.
     pub fn give<M: Tells<R::Name, T, R::View>>(
         &self,
         turn: Turn<T, R::Name, R::View>,
@@ -81,11 +78,8 @@ impl<T, R: TurnRule<T>> TurnLock<T, R> {
         ensures rule { M.then (lock_name self.now) (turn_view turn) (turn_value turn)
             (seat_view result) }
     {
-        let Turn { mut inner, value } = turn;
-        let shared = &self.table.shared;
-        let spent = shared.exchange(&mut inner, 0, Some(value));
-        let None = spent else { unreachable!() };
-        shared.swap::<OnGive<M>>(&mut inner, 0, FREE);
+        let Turn { mut inner } = turn;
+        self.table.shared.swap::<OnGive<M>>(&mut inner, 0, FREE);
         Seat { inner }
     }
 
