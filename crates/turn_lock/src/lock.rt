@@ -41,8 +41,8 @@ impl<T, R: TurnRule<T>> TableRule<T, Doing<R::Name, R::View>, R::Name> for Ruled
 /// `take` tries until it has the turn. Between two tries it spins briefly at first, and then
 /// yields.
 ///
-/// **Cost.** A take that wins is one atomic step, and so is a give; the value stays where it lies. A
-/// split is one, and a join two.
+/// **Cost.** A take that wins is one atomic step, and so is a give. The value stays where it lies.
+/// A split is one step, and a join two.
 ///
 /// **Limits.** Any number of seats.
 ///
