@@ -9,8 +9,8 @@ use crate::rule::TurnRule;
 use crate::seat::Turn;
 
 impl<T, N, V> Turn<T, N, V> {
-    /// The value of a turn at the lock, to read and to change, where it lies. What is written stands
-    /// in the turn afterwards.
+    /// The value of a turn at the lock, to read and to change, where it lies. What is written there
+    /// stands in the turn afterwards.
     pub fn value<'a, R: TurnRule<T, Name = N, View = V>>(
         &'a mut self,
         lock: &'a TurnLock<T, R>,
