@@ -124,7 +124,8 @@ impl Graph {
     pub fn registration(&self, t: usize, k: usize) -> Registration
         requires task { t < length self.now.tasks }
         requires number { k < length (registrations_of self.now (task_at self.now t)) }
-        ensures { result ≡ get_or (registrations_of self.now (task_at self.now t)) k no_registration }
+        ensures { result
+            ≡ get_or (registrations_of self.now (task_at self.now t)) k no_registration }
     {
         let task = self.task(t);
         match task.kind {

@@ -16,8 +16,8 @@ pub fn limits_are()
     ensures factor { FACTOR_MAX ≡ 2147483647 }
 {}
 
-/// The registrations of a task are on its inputs and then its outputs, each once. Its inputs are those
-/// where it waits, and its outputs those where it signals: a peer's are E and then Y.
+/// The registrations of a task are on its inputs and then its outputs, each once. Its inputs are
+/// those where it waits, and its outputs those where it signals: a peer's are E and then Y.
 pub fn registrations()
     ensures phasers { (graph : Graph) (t : ℕ) (task : Task) → IsTaskLine graph t task
         → map (λ r. r.phaser) (registrations_of graph task) ≡ task.inputs ++ task.outputs }

@@ -49,8 +49,8 @@ pub struct TaskLine {
     pub kind: Kind,
     /// The numbers of the phasers that it waits for. A peer has X and then E.
     pub inputs: Vec<usize>,
-    /// The numbers of the phasers behind `->` in its line: those that it signals, but that a peer, which
-    /// has Y alone, signals its second input E too.
+    /// The numbers of the phasers behind `->` in its line: those that it signals, but that a peer,
+    /// which has Y alone, signals its second input E too.
     pub outputs: Vec<usize>,
     /// The task that registers it, where it is a child.
     pub parent: Option<Parent>,

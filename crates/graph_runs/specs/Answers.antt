@@ -25,9 +25,10 @@ use Rattle.graph_runs.specs.NextBlocks.{block_of, sample_block_of}
 use Rattle.graph_runs.specs.TaskEvents.{TaskEvent, sample, signal, first_wait, exchange_wait, leave, child, child_now, after_turn}
 use Rattle.graph_runs.specs.Nexts.{Next, is_not_live, registers, leaves, samples, signals, waits, exchanges, next_of, is_live, number_on, first_missing, first_kept}
 
--- a turn makes one event, of a step or of a block of them; or none, as its call is Ahead or NotYet or the phaser has no phase left for
--- it, as the task is not live, as the value that it would signal is out of range at this place, or as
--- the phaser refuses the call for another reason, which no run comes to
+-- a turn makes one event, of a step or of a block of them; or none, as its call is Ahead or NotYet
+-- or the phaser has no phase left for it, as the task is not live, as the value that it would
+-- signal is out of range at this place, or as the phaser refuses the call for another reason, which
+-- no run comes to
 pub data Answer : Type 0 where
   makes : TaskEvent → Answer
   is_blocked : Answer
@@ -92,8 +93,8 @@ call_leave m t (Some r) =
     accepted_answer (leave t r.phaser (number_on m t r.phaser))
     (drop_refusal (m.history r.phaser) (number_on m t r.phaser))
 
--- task t registers its child c, as the number above all that were used on the phaser, as a sink that
--- joins now or in the mode of its line
+-- task t registers its child c, as the number above all that were used on the phaser, as a sink
+-- that joins now or in the mode of its line
 abbrev pub register_answer : Moment → ℕ → ℕ → Registration → Bool → Answer
 register_answer m t c r true =
     let n = number_on m t r.phaser in

@@ -41,15 +41,16 @@ abbrev pub HasChildrenBy : Job → Moment → ℕ → ℕ → Type 0
 HasChildrenBy job m t steps = (c : ℕ) → c < length job.graph.tasks
     → comes_by t steps (task_at job.graph c).parent ≡ true → IsNumbered job m c
 
--- task t, which has begun so many steps, may make so many more in one event: `until` allows them, and
--- none of its children comes before the last of them
+-- task t, which has begun so many steps, may make so many more in one event: `until` allows them,
+-- and none of its children comes before the last of them
 pub record MayMake (job : Job) (t begun steps : ℕ) : Type 0 where
   pub cut : AtMost (begun + steps) (task_at job.graph t).until
   pub children : (c : ℕ) (u : Parent) → c < length job.graph.tasks
       → (task_at job.graph c).parent ≡ Some u → u.task ≡ t → begun < u.at
       → begun + steps ≤ u.at
 
--- a number of steps that task t may make at most in one event: one, or more where its kind has blocks
+-- a number of steps that task t may make at most in one event: one, or more where its kind has
+-- blocks
 pub record IsMost (job : Job) (t most : ℕ) : Type 0 where
   pub some : 1 ≤ most
   pub block : IsBlock (task_at job.graph t).kind most
@@ -94,8 +95,8 @@ pub record IsJoining (job : Job) (m : Moment) (c : ℕ) (numbers : List ℕ) : T
   pub nothing_put : (j : ℕ) → m.put c j ≡ []
   pub nothing_taken : (k : ℕ) → m.taken c k ≡ []
 
--- the moment of task t serves its child c as well, which has these numbers so far: for task t all is
--- as it was but what it knows of how far others are
+-- the moment of task t serves its child c as well, which has these numbers so far: for task t all
+-- is as it was but what it knows of how far others are
 pub record HasNewChild (job : Job) (before after : Moment) (t c : ℕ) (numbers : List ℕ) : Type
     0 where
   pub part : HasPart job after t

@@ -1,5 +1,5 @@
--- What a task that has left all its phasers knows, by a moment of its own, and what the founder of a
--- phaser knows that has left it.
+-- What a task that has left all its phasers knows, by a moment of its own, and what the founder of
+-- a phaser knows that has left it.
 use Rattle.std.specs.Prelude.{◌≡◌, ℕ, ◌<◌, ◌≤◌, ℤ, List, [], ◌∷◌, length, get_or, slice_get, Some, true, false}
 use Rattle.std.specs.List.{All}
 use Rattle.phase_history.specs.declared.event.Event.TheVariants.{Made, Signalled}
@@ -34,10 +34,10 @@ pub record HasGiven (job : Job) (m : Moment) (t p a : ℕ) : Type 0 where
   pub is_child : IsChildOf job child t
   pub numbered : m.number p child ≡ Some a
 
--- what the calls of task t were, up to a moment of its own: it began where the opening says, but for
--- a sink that joins now, and so did its parent; a child began when its parent had begun as many
--- steps as it comes after; its signals named the single of each phaser; no wait was answered a value
--- that is too big; and whom it registered are its children
+-- what the calls of task t were, up to a moment of its own: it began where the opening says, but
+-- for a sink that joins now, and so did its parent; a child began when its parent had begun as many
+-- steps as it comes after; its signals named the single of each phaser; no wait was answered a
+-- value that is too big; and whom it registered are its children
 pub record HasOwnCalls (job : Job) (m : Moment) (t : ℕ) : Type 0 where
   pub offset : (task_at job.graph t).joins_now ≡ false → m.offset t ≡ (opening job).offset t
   pub above : (u : Parent) → (task_at job.graph t).parent ≡ Some u

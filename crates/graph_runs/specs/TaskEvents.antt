@@ -45,4 +45,5 @@ IsNext job m (exchange_wait t p n outcome) = IsThere job t p × IsExchangeWait j
 IsNext job m (leave t p n) = IsThere job t p × IsNextLeave job m t p n
 IsNext job m (child t p n c a mode) =
     IsThere job t p × ((u : Parent) × IsNextChild job m t p n c a mode u)
-IsNext job m (child_now t p n c a) = IsThere job t p × ((u : Parent) × IsNextChildNow job m t p n c a u)
+IsNext job m (child_now t p n c a) =
+    IsThere job t p × ((u : Parent) × IsNextChildNow job m t p n c a u)

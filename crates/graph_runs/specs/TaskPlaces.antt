@@ -100,8 +100,8 @@ outputs_of_block taps shift taken [] = []
 outputs_of_block taps shift taken (x ∷ xs) =
     output_after taps shift (taken ++ x ∷ []) ∷ outputs_of_block taps shift (taken ++ x ∷ []) xs
 
--- what a task owes after the first wait of its next steps, which got these numbers. It began so many
--- steps before it, and has taken these values from its input
+-- what a task owes after the first wait of its next steps, which got these numbers. It began so
+-- many steps before it, and has taken these values from its input
 abbrev pub owed_after_wait : Task → ℕ → List ℤ → List ℤ → Owed
 owed_after_wait task begun taken xs = of task.kind
   where

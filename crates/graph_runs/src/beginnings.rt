@@ -27,10 +27,10 @@ pub fn roots_begin()
 {}
 
 /// A parent's moment serves its child as well while it registers it: from where the child has no
-/// number, `begins`; past others' events on a phaser where the child has none yet, `waits`; to where
-/// the child has all its numbers, one registration of the child after the other, `registers`, or by
-/// the one of a sink that joins now, `registers_now`. Then the child goes on alone, from a moment
-/// that is the parent's as well.
+/// number, `begins`; past others' events on a phaser where the child has none yet, `waits`; to
+/// where the child has all its numbers, one registration of the child after the other, `registers`,
+/// or by the one of a sink that joins now, `registers_now`. Then the child goes on alone, from a
+/// moment that is the parent's as well.
 pub fn children_begin()
     ensures begins { (job : Job) (m : Moment) (t c : ℕ) (u : Parent) → IsGraph job.graph
         → t < length job.graph.tasks → c < length job.graph.tasks → HasPart job m t

@@ -1,5 +1,5 @@
-//! What is known at the end of a run of which each task knows its own part. Each function here makes
-//! no call and has no effect: its contract is the law.
+//! What is known at the end of a run of which each task knows its own part. Each function here
+//! makes no call and has no effect: its contract is the law.
 ghost use Rattle.std.specs.Prelude.{◌≡◌, ◌<◌, ℕ, ℤ, List, [], ◌∷◌, true, false, length, get_or, Some, None};
 ghost use Rattle.std.specs.List.{All};
 ghost use Rattle.phase_history.specs.phase_base.declared.mode.Mode.{Mode};
@@ -23,8 +23,8 @@ ghost use Rattle.graph_runs.specs.RunEnds.{Ends, IsRunEnd, HasAnswer};
 
 use phase_history::Event;
 
-/// Where a run is over, the answer of its job is what its sinks have taken, for the starts that came
-/// about of those that join now. This is what threads that have run a graph to its end write.
+/// Where a run is over, the answer of its job is what its sinks have taken, for the starts that
+/// came about of those that join now. This is what threads that have run a graph to its end write.
 pub fn runs_end()
     ensures { (job : Job) (ends : Ends) → IsReady job → IsRunEnd job ends → HasAnswer job ends }
 {}
@@ -69,9 +69,9 @@ pub fn own_calls()
         → HasOwnCalls job m t → HasOwnCalls job after t }
 {}
 
-/// A task that begins has made no calls, and its parent only the child's registrations: of a root at
-/// its first moment, and of a child from where it has no number, past others' events, to each of its
-/// numbers.
+/// A task that begins has made no calls, and its parent only the child's registrations: of a root
+/// at its first moment, and of a child from where it has no number, past others' events, to each of
+/// its numbers.
 pub fn first_calls()
     ensures root { (job : Job) (m : Moment) (t : ℕ) (numbers : List ℕ) (seen : ℕ → History)
         → IsGraph job.graph → t < length job.graph.tasks → (task_at job.graph t).parent ≡ None

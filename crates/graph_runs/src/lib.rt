@@ -9,8 +9,8 @@
 //! - `moves`: the opening has run, and each event of a task that is the task's next one leaves a
 //!   moment that has run. `specs/Moves.antt` has one event as a relation of two moments, and
 //!   `specs/Turned.antt` as a function of the moment before.
-//! - `turns`: which event the order of a task's events gives it next, what its turn answers, and the
-//!   moment after: `specs/Nexts.antt`, then `specs/Answers.antt`.
+//! - `turns`: which event the order of a task's events gives it next, what its turn answers, and
+//!   the moment after: `specs/Nexts.antt`, then `specs/Answers.antt`.
 //! - `parts`, `places` and `beginnings`: whoever moves one task alone, as a thread with the task's
 //!   registrations does, knows a moment of the task's own, and each call of a registration makes it
 //!   a later one: `specs/Parts.antt`, `specs/Places.antt`.

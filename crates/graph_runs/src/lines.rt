@@ -84,7 +84,8 @@ pub fn first_input_of(job: &Job, t: usize, steps: u64) -> usize
 
 /// The input that the step of a line after so many waits for first.
 fn first_input(task: &TaskLine, steps: u64) -> usize
-    requires { HasEnds task.now.kind (length task.now.inputs.items) (length task.now.outputs.items) }
+    requires { HasEnds task.now.kind
+        (length task.now.inputs.items) (length task.now.outputs.items) }
     ensures input { result ≡ first_input (task_of task.now) steps }
     ensures within { task.now.kind ≢ Source → result < length task.now.inputs.items }
 {

@@ -14,9 +14,9 @@ ghost use Rattle.graph_runs.specs.Reached.{IsReachable};
 
 use crate::{moments, turns};
 
-/// What a turn tells as out of range is a fault of the job whose sinks that join now begin where they
-/// do at that moment: the value of a phase that some task takes, or one that a live task makes. So
-/// who gives turns, and stops at the first that tells so, has named a value that counts.
+/// What a turn tells as out of range is a fault of the job whose sinks that join now begin where
+/// they do at that moment: the value of a phase that some task takes, or one that a live task
+/// makes. So who gives turns, and stops at the first that tells so, has named a value that counts.
 pub fn told_is_a_fault()
     ensures { (job : Job) (m : Moment) (t : ℕ) (at : Where) → IsReady job → IsReachable job m
         → turn_tells job None m t ≡ Some (TooBig at) → IsFaultAt (started job m) at }
@@ -38,8 +38,9 @@ pub fn turns_answer_none()
 {}
 
 /// Where no task is live at a reached moment, the run is over: each task that came has left, and
-/// nobody signals. Where besides no wait was answered a value that is too big, the answer of the job
-/// is what its sinks have taken. So who gives turns until no task is live has all that the sinks get.
+/// nobody signals. Where besides no wait was answered a value that is too big, the answer of the
+/// job is what its sinks have taken. So who gives turns until no task is live has all that the
+/// sinks get.
 pub fn all_gone()
     ensures over { (job : Job) (m : Moment) → IsGraph job.graph → IsReachable job m
         → ((t : ℕ) → is_live job m t ≡ false) → IsOver job m }

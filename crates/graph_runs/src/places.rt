@@ -18,10 +18,11 @@ ghost use Rattle.graph_runs.specs.Places.{owing, after_steps, after_leaving, Has
 
 use phase_history::Event;
 
-/// What a task does next within its steps, or in the next ones, by its place: where it owes values, a
-/// signal with those values; where it owes nothing, no child comes first and `until` allows steps, a
-/// source's signal with its next samples, or the wait on the input that the steps begin with; a peer
-/// that owes its wait on E waits there. So `parts::puts` and `parts::gets` can be had of the place.
+/// What a task does next within its steps, or in the next ones, by its place: where it owes values,
+/// a signal with those values; where it owes nothing, no child comes first and `until` allows
+/// steps, a source's signal with its next samples, or the wait on the input that the steps begin
+/// with; a peer that owes its wait on E waits there. So `parts::puts` and `parts::gets` can be had
+/// of the place.
 pub fn tells_next()
     ensures values { (job : Job) (m : Moment) (t j most : ℕ) (vs : List ℤ) (at : TaskPlace)
         → IsGraph job.graph → t < length job.graph.tasks → HasPart job m t → IsMost job t most
@@ -50,8 +51,8 @@ pub fn tells_next()
 
 /// Where a task owes nothing it has come to its end when `until` allows no step, when its samples
 /// are used, or when the input that its next step would wait for first has run out. Before it has
-/// left a phaser, it stays on all of them; and where the children that come at its boundary have all
-/// their numbers, none is due. So a task that is over may leave, by `parts::leaves`.
+/// left a phaser, it stays on all of them; and where the children that come at its boundary have
+/// all their numbers, none is due. So a task that is over may leave, by `parts::leaves`.
 pub fn tells_end()
     ensures cut { (job : Job) (m : Moment) (t most : ℕ) (at : TaskPlace) → IsGraph job.graph
         → t < length job.graph.tasks → HasPart job m t → StandsUpTo most job m t at
@@ -74,9 +75,9 @@ pub fn tells_end()
         → HasChildrenBy job m t at.begun → NoneDue job m t p }
 {}
 
-/// The place of a task after each of its calls: it stays where others' events were seen; a signal or
-/// a wait leaves what the rest of the steps owe, and the first of steps begins as many more; leaving
-/// a phaser leaves one more. So who moves one task keeps its place alone.
+/// The place of a task after each of its calls: it stays where others' events were seen; a signal
+/// or a wait leaves what the rest of the steps owe, and the first of steps begins as many more;
+/// leaving a phaser leaves one more. So who moves one task keeps its place alone.
 pub fn follow()
     ensures seen { (job : Job) (m after : Moment) (t p most : ℕ) (at : TaskPlace) (now : History)
         → StandsUpTo most job m t at → HasSeen job m after t p now

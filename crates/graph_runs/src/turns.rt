@@ -23,9 +23,9 @@ ghost use Rattle.graph_runs.specs.TaskPlaces.{TaskPlace, StandsAt, own_place, ch
 use crate::moves;
 
 /// Where a turn makes an event, the event is the task's next one, and the moment after it has run
-/// as well. So who gives turns by the table, and nothing else, stays within the runs of the graph. Of
-/// children it asks that those to come are as the opening leaves them, and of a task with no child
-/// to register not even that: `childless`.
+/// as well. So who gives turns by the table, and nothing else, stays within the runs of the graph.
+/// Of children it asks that those to come are as the opening leaves them, and of a task with no
+/// child to register not even that: `childless`.
 pub fn turns_make_next_events()
     ensures next { (job : Job) (m : Moment) (t : ℕ) (event : TaskEvent) → IsGraph job.graph
         → HasRun job m → HasChildrenToCome job m → answer_of_turn job m t ≡ makes event
@@ -104,9 +104,9 @@ pub fn no_turn_is_refused()
         → AreSends (samples_at job t) → IsReachable job m → IsSome (turn_tells job met m t) }
 {}
 
-/// Each graph has an opening: on each phaser its founder, number 0, has registered the tasks without
-/// a parent in the order of their lines, as 1, 2, .., and has left. So who opens the phasers in this
-/// way is at a moment that is reached.
+/// Each graph has an opening: on each phaser its founder, number 0, has registered the tasks
+/// without a parent in the order of their lines, as 1, 2, .., and has left. So who opens the
+/// phasers in this way is at a moment that is reached.
 pub fn runs_begin()
     ensures begun { (job : Job) → IsGraph job.graph → HasBegun job (opening job) }
     ensures reached { (job : Job) → IsGraph job.graph → IsReachable job (opening job) }
@@ -116,8 +116,8 @@ pub fn runs_begin()
 
 /// What the place of a task tells of its registrations: the first that it misses stands behind its
 /// numbers, and the first that it has not left behind those that it has. Registration `k` is on
-/// input `k`, and that of an output on the output. So whoever keeps a task's numbers in the order of
-/// its registrations need not search.
+/// input `k`, and that of an output on the output. So whoever keeps a task's numbers in the order
+/// of its registrations need not search.
 pub fn places_tell()
     ensures missing { (job : Job) (m : Moment) (t : ℕ) (at : TaskPlace) → StandsAt job m t at
         → first_missing job m t ≡ slice_get (registrations_at job t) (length at.numbers) }
@@ -135,9 +135,10 @@ pub fn places_tell()
 {}
 
 /// The places of the tasks follow a turn's event. Another task stays at its place, `others`, but a
-/// child that is registered has one number more, `child`. The task itself goes on to its `own_place`:
-/// a parent stays, who leaves a phaser has left one more, and who begins steps, signals or waits
-/// owes the rest of the steps. So whoever moves tasks keeps for each of them its place alone.
+/// child that is registered has one number more, `child`. The task itself goes on to its
+/// `own_place`: a parent stays, who leaves a phaser has left one more, and who begins steps,
+/// signals or waits owes the rest of the steps. So whoever moves tasks keeps for each of them its
+/// place alone.
 pub fn places_follow()
     ensures others { (job : Job) (m : Moment) (t u : ℕ) (event : TaskEvent) (at : TaskPlace)
         → IsGraph job.graph → IsReachable job m → answer_of_turn job m t ≡ makes event

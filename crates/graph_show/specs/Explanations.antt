@@ -1,5 +1,5 @@
--- What a person is told of the first fault of a graph's text: the faulty line, a mark under a place of
--- it, and what was expected there.
+-- What a person is told of the first fault of a graph's text: the faulty line, a mark under a place
+-- of it, and what was expected there.
 use Rattle.std.specs.Prelude.{◌≡◌, ◌≤◌, ◌+◌, ◌==◌, ℕ, List, [], ◌∷◌, length, map, take, replicate, codes, Some, if◌then◌else◌, slice_get}
 use Rattle.std.specs.List.{concat}
 use Rattle.graph_lang.specs.declared.fault.GraphFault.{GraphFault}

@@ -7,7 +7,8 @@ use graph_lang::graph_text::{Version, begins_comment, is_heading, without_cr, wo
 use std::alloc::{AllocError, Global};
 
 /// The words of each line above, each with what it is, but for the heading and the lines that are
-/// ignored, with its number, counted from 1; and the version of the text, where one of them tells it.
+/// ignored, with its number, counted from 1; and the version of the text, where one of them tells
+/// it.
 #[derive(Drop)]
 pub(crate) struct Above<'a> {
     lines: Vec<Vec<Known<'a>>>,
@@ -107,7 +108,8 @@ impl<'a> Above<'a> {
         self.known.unwrap_or(Version::One)
     }
 
-    /// The number of the line that declares a name, counted from 1 in the text, or 0 where none does.
+    /// The number of the line that declares a name, counted from 1 in the text, or 0 where none
+    /// does.
     pub(crate) fn line_of(&self, name: &[u8]) -> usize {
         match self.place_of(name) {
             Some(i) if i < self.numbers.len() => self.numbers[i],
@@ -129,8 +131,8 @@ impl<'a> Above<'a> {
         None
     }
 
-    /// The first of the names that are declared, as that of a phaser or else as that of a task, that
-    /// becomes this one by one edit, or else by two.
+    /// The first of the names that are declared, as that of a phaser or else as that of a task,
+    /// that becomes this one by one edit, or else by two.
     pub(crate) fn nearest(&self, name: &[u8], is_phaser: bool) -> Option<&'a [u8]> {
         match self.near(name, 1, is_phaser) {
             Some(near) => Some(near),

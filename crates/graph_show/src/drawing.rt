@@ -27,9 +27,9 @@ pub fn drawing_text(alloc: Global, graph: &Graph) -> Result<Vec<u8>, AllocError>
     Ok(text)
 }
 
-/// Writes the drawing of a graph, as text for Graphviz, and flushes it. It takes memory for the text,
-/// and where there is none, nothing is written. After a failed write the writer has a prefix of the
-/// text.
+/// Writes the drawing of a graph, as text for Graphviz, and flushes it. It takes memory for the
+/// text, and where there is none, nothing is written. After a failed write the writer has a prefix
+/// of the text.
 pub fn write_drawing<W: Write>(
     alloc: Global,
     writer: &mut Watched<W>,

@@ -4,6 +4,9 @@ use crate::wanted::Wanted;
 use graph_lang::Op;
 use graph_lang::phase_base::{is_digit, is_file, is_name};
 
+const A_NAME: &str =
+    "a name: a letter, then letters, digits and _, at most 32 in all, and no word of the grammar";
+
 /// What may stand at a place of a line.
 #[derive(Clone, Copy)]
 pub(crate) enum Part {
@@ -171,9 +174,7 @@ impl Part {
             Part::Low | Part::High | Part::Taps | Part::Factor => "a whole number",
             Part::Sign(sign) => sign,
             Part::End(wanted) => wanted,
-            _ => {
-                "a name: a letter, then letters, digits and _, at most 32 in all, and no word of the grammar"
-            }
+            _ => A_NAME,
         }
     }
 

@@ -146,9 +146,9 @@ fn line_explained<'a>(
     marked(alloc, line, start_of(line, mark.word), count, &wanted)
 }
 
-/// Explains the first fault of a graph's text: gives the faulty line, a mark under the word that is at
-/// fault, and what was expected there, a line each. Where the text has no line of that number, it gives
-/// nothing. It takes memory.
+/// Explains the first fault of a graph's text: gives the faulty line, a mark under the word that is
+/// at fault, and what was expected there, a line each. Where the text has no line of that number,
+/// it gives nothing. It takes memory.
 ///
 /// ```text
 ///   fir f X -> Q shift 0 taps 1

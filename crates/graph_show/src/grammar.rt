@@ -7,8 +7,8 @@ use std::alloc::{AllocError, Global};
 /// A word of a line, with what it is.
 pub(crate) type Known<'a> = (Part, &'a [u8]);
 
-/// The words of a line, each with what it is, as far as the line is in the grammar, and what may stand
-/// behind them.
+/// The words of a line, each with what it is, as far as the line is in the grammar, and what may
+/// stand behind them.
 #[derive(Drop)]
 pub(crate) struct Reading<'w, 'a> {
     words: &'w [&'a [u8]],
@@ -64,8 +64,8 @@ impl<'w, 'a> Reading<'w, 'a> {
         Ok(())
     }
 
-    /// Reads what stands behind the first word, but for the optional ends, and answers whether all is
-    /// there.
+    /// Reads what stands behind the first word, but for the optional ends, and answers whether all
+    /// is there.
     fn follow_body(&mut self, kind: &[u8]) -> Result<bool, AllocError> {
         if kind == b"phaser".as_slice() {
             return self.follow(&[Part::Own, Part::Operation, Part::Bound]);

@@ -1,12 +1,12 @@
 //! A graph and its faults, for people: its drawing, and what explains a fault of its text.
 //!
 //! The drawing is text for Graphviz: phasers as ellipses with their operation, bound and single,
-//! tasks as boxes with their kind and what their line says of file, shift and taps, factor, `until`,
-//! `now` and block, an arrow for each wait and each signal, and parents dashed to their children.
-//! `write_drawing` writes it; `drawing_text` gives it as bytes.
+//! tasks as boxes with their kind and what their line says of file, shift and taps, factor,
+//! `until`, `now` and block, an arrow for each wait and each signal, and parents dashed to their
+//! children. `write_drawing` writes it; `drawing_text` gives it as bytes.
 //!
-//! A fault is explained by its line, with the word that is at fault marked, and by what was expected
-//! in its place: by `explanation`.
+//! A fault is explained by its line, with the word that is at fault marked, and by what was
+//! expected in its place: by `explanation`.
 //!
 //! Proved: how the lines of an explanation are laid out, and that the marked place is one of the
 //! faulty line. Only tested: which word is marked, and what is said to be expected.

@@ -63,8 +63,8 @@ pub(crate) fn limit_passed(part: Part, word: &[u8]) -> Option<&'static str> {
     }
 }
 
-/// What is wanted of one of several words of a part, by its number and how many they are, where they are
-/// too many or too few.
+/// What is wanted of one of several words of a part, by its number and how many they are, where
+/// they are too many or too few.
 pub(crate) fn count_passed(part: Part, number: usize, count: usize) -> Option<&'static str> {
     match part {
         Part::Taps if number >= TAPS_MAX => Some("at most 64 taps"),

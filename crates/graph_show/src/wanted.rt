@@ -4,8 +4,8 @@ use crate::parts::put;
 use itoa::Buffer;
 use std::alloc::{AllocError, Global};
 
-/// What was expected in the place of a word: a text, and perhaps more behind it, with a word or with
-/// the number of a line.
+/// What was expected in the place of a word: a text, and perhaps more behind it, with a word or
+/// with the number of a line.
 #[derive(Clone, Copy)]
 pub(crate) struct Wanted<'a> {
     text: &'static str,

@@ -176,7 +176,8 @@ crossed_after samples rounds =
 -- phaser X sum 2 / source s s.csv -> X block=2 / sink out X
 abbrev pub two_graph : Graph
 two_graph = record {
-  names = (codes "X", place.Phaser 0) ∷ (codes "s", place.Task 0) ∷ (codes "out", place.Task 1) ∷ [];
+  names =
+      (codes "X", place.Phaser 0) ∷ (codes "s", place.Task 0) ∷ (codes "out", place.Task 1) ∷ [];
   phasers = record { op = Sum; bound = 2; single = None } ∷ [];
   tasks = record no_task { line = 2; kind = Source; outputs = 0 ∷ []; block = 2 }
       ∷ record no_task { line = 3; inputs = 0 ∷ [] }

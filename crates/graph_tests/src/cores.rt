@@ -10,8 +10,8 @@ use stream_job::{AnyCore, Parcels};
 
 const ALL: [Op; 5] = [Op::Sum, Op::Product, Op::Least, Op::Greatest, Op::Any];
 
-/// A phaser of bound 2 whose founder has registered tasks 1 and 2 in `Sig` and task 3 in `Wait`, and
-/// has left.
+/// A phaser of bound 2 whose founder has registered tasks 1 and 2 in `Sig` and task 3 in `Wait`,
+/// and has left.
 fn opened(alloc: Global, op: Op) -> Result<AnyCore, Fail> {
     let mut core = AnyCore::new(alloc, op, Spec::new(2, 100)?)?;
     core.register(0, 1, Mode::Sig)?;

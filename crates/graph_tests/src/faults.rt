@@ -4,8 +4,8 @@ use crate::rounds::{Round, given, ran};
 use std::test::Fail;
 use stream_job::graph_base::Place;
 
-/// A graph with a `?` for the bound of each phaser, the samples of its sources, where a value is out
-/// of range first, and what the sinks have by then.
+/// A graph with a `?` for the bound of each phaser, the samples of its sources, where a value is
+/// out of range first, and what the sinks have by then.
 struct Case {
     name: &'static str,
     graph: &'static str,

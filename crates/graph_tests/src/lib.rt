@@ -1,7 +1,7 @@
-//! Tests of runs of graphs, by their public calls: whole runs on one thread, event by event and from
-//! the opening to the end, each law of them used once, and the phasers of a graph. What is expected
-//! was worked out by hand. They stand in a crate of their own, since a crate is proved anew with its
-//! tests.
+//! Tests of runs of graphs, by their public calls: whole runs on one thread, event by event and
+//! from the opening to the end, each law of them used once, and the phasers of a graph. What is
+//! expected was worked out by hand. They stand in a crate of their own, since a crate is proved
+//! anew with its tests.
 #![tactic(auto)]
 
 #[cfg(test)]

@@ -111,7 +111,8 @@ pub fn given(alloc: Global, graph: &str, samples: &[&str]) -> Result<(Round, Str
     }
 }
 
-/// What the sinks had at the end of a run, which all tasks have left. Or what its last round came to.
+/// What the sinks had at the end of a run, which all tasks have left. Or what its last round came
+/// to.
 pub fn at_end(alloc: Global, (round, lines): (Round, String)) -> Result<String, Fail> {
     match round {
         Round::Gone => Ok(lines),

@@ -7,8 +7,8 @@ use std::alloc::Global;
 use std::test::Fail;
 use stream_job::{Job, World};
 
-/// A splitter, of whose outputs one has a filter that signals with a filter of the splitter's input,
-/// and the other nobody that takes.
+/// A splitter, of whose outputs one has a filter that signals with a filter of the splitter's
+/// input, and the other nobody that takes.
 const TO_ONE_BUS: &str = "phaser X sum ?\nphaser A sum ?\nphaser B sum ?\nphaser S sum ?\n\
     source s s.csv -> X\nsplit d X -> A B\nfir f A -> S shift 0 taps 1\n\
     fir g X -> S shift 0 taps 1\nsink out S\n";
@@ -32,10 +32,10 @@ struct Case {
     parked: &'static [(usize, &'static str)],
 }
 
-/// The fewest samples on which the graph comes to a stand, and one less. Where the sink has taken `k`
-/// values, the filter of the input has signalled `k + bound` and holds one more; so the source has
-/// signalled `k + 2 * bound + 1`, of which the other filter has every second one, `k` in all. So `k`
-/// is `2 * bound + 1`, and sample `4 * bound + 3` cannot be signalled.
+/// The fewest samples on which the graph comes to a stand, and one less. Where the sink has taken
+/// `k` values, the filter of the input has signalled `k + bound` and holds one more; so the source
+/// has signalled `k + 2 * bound + 1`, of which the other filter has every second one, `k` in all.
+/// So `k` is `2 * bound + 1`, and sample `4 * bound + 3` cannot be signalled.
 const CASES: [Case; 4] = [
     Case {
         name: "six samples of bound 1 come to an end",

@@ -6,9 +6,9 @@ use std::test::Fail;
 use stream_job::graph_base::Place;
 use stream_job::{Turned, World, run_turns};
 
-/// A graph with a `?` for the bound of each phaser, the samples of its source, how many rounds of turns
-/// its tasks have first, turns of them with what each comes to, and what the sink has after them. The
-/// run is not stalled then.
+/// A graph with a `?` for the bound of each phaser, the samples of its source, how many rounds of
+/// turns its tasks have first, turns of them with what each comes to, and what the sink has after
+/// them. The run is not stalled then.
 struct Case {
     name: &'static str,
     graph: &'static str,
@@ -168,8 +168,8 @@ fn first_wrong(
     Ok(None)
 }
 
-/// The first turn of a case that comes to something else, what the sink has then, and whether the run
-/// is stalled.
+/// The first turn of a case that comes to something else, what the sink has then, and whether the
+/// run is stalled.
 fn turned(alloc: Global, case: &Case, bound: u64) -> Result<(Option<usize>, String, bool), Fail> {
     let graph = at_bound(alloc, case.graph, bound)?;
     let job = job_of(alloc, &graph, &[case.samples])?;

@@ -16,8 +16,8 @@ ghost use Rattle.graph_tests.specs.Worked.{worked, worked_opening, worked_turns,
 
 use stream_job::graph_runs::{moments, moves};
 
-/// Events of one step or of a block that are each the next one of their task lead from one moment of
-/// a run to another.
+/// Events of one step or of a block that are each the next one of their task lead from one moment
+/// of a run to another.
 pub(crate) fn turns_lead_on()
     ensures { (job : Job) (m : Moment) (turns : List TaskEvent) → IsGraph job.graph
         → AreNext job m turns → HasRun job m → HasRunThrough job m turns }

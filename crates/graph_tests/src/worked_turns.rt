@@ -52,8 +52,8 @@ fn the_run_is_reached()
 }
 
 /// The opening of its job is the one that was worked out: the founder has registered a task that
-/// signals and a task that waits, and on E the peer, which does both. On Z out is number 2, and late,
-/// which begins a step after it, is not there yet. By the law it is reached.
+/// signals and a task that waits, and on E the peer, which does both. On Z out is number 2, and
+/// late, which begins a step after it, is not there yet. By the law it is reached.
 fn the_run_begins()
     ensures on_x { (opening worked).history 0 ≡ founded }
     ensures on_e { (opening worked).history 1 ≡ founded_exchange }
@@ -68,9 +68,9 @@ fn the_run_begins()
     turns::runs_begin();
 }
 
-/// At the opening of that run the source is registered as 1 and has begun nothing. By the laws it has
-/// begun a step after its sample, while the peer, which is registered as 2, 1 and 1, stays where it
-/// was; and once the peer has taken the sample 5, it owes 5 on E, its output 0.
+/// At the opening of that run the source is registered as 1 and has begun nothing. By the laws it
+/// has begun a step after its sample, while the peer, which is registered as 2, 1 and 1, stays
+/// where it was; and once the peer has taken the sample 5, it owes 5 on E, its output 0.
 fn places_follow_the_run()
     ensures source { StandsAt worked worked_opening 0 source_at }
     ensures peer { StandsAt worked worked_opening 1 peer_at }
@@ -136,8 +136,8 @@ fn the_seventh_sample_stalls()
     ensures stalled { is_stalled (crossed seven) (crossed_after seven 20) ≡ true }
 {}
 
-/// On a phaser of bound 2 a source of blocks of two signals 1 and 2 in one event. It is blocked until
-/// the sink has waited, and then signals 3, which alone is left.
+/// On a phaser of bound 2 a source of blocks of two signals 1 and 2 in one event. It is blocked
+/// until the sink has waited, and then signals 3, which alone is left.
 fn a_block_waits_for_its_room()
     ensures { answers_in_turn by_two two_opening two_order ≡ two_answers }
 {}

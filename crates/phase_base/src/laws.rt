@@ -15,5 +15,6 @@ pub fn limits()
 
 /// A word stands for an operation exactly where it is that operation's word.
 pub fn operations_have_one_word()
-    ensures { (word : List ℕ) (op : Op) → (operation_of word ≡ Some op) ↔ (word ≡ operation_word op) }
+    ensures { (word : List ℕ) (op : Op)
+        → (operation_of word ≡ Some op) ↔ (word ≡ operation_word op) }
 {}

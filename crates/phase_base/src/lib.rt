@@ -1,7 +1,7 @@
 //! What every layer speaks of: the modes in which a task is registered, the entry of a registered
 //! task, the limits that a phaser is made with, the operations on the sends of a phase, and the
-//! words by which texts name them. The first calls are `Spec::new` and `Op::read`; of the words of a
-//! graph's text `is_name` and `is_file`.
+//! words by which texts name them. The first calls are `Spec::new` and `Op::read`; of the words of
+//! a graph's text `is_name` and `is_file`.
 #![tactic(auto)]
 
 mod entry;

@@ -45,7 +45,8 @@ block_rows limits slowest r (held ∷ more) single entry =
 
 -- while a waiter is registered: the ring is kept from the slowest waiter's phase on, and the phase
 -- is not complete
-pub record IsOpen {A : Type 0} (op : Operation A) (r : Ring A) (bound done top : ℕ) (slowest : Option ℕ) (phase : ℕ)
+pub record IsOpen {A : Type 0} (op : Operation A) (r : Ring A) (bound done top : ℕ)
+    (slowest : Option ℕ) (phase : ℕ)
     : Type 0 where
   pub kept : IsRingAt op r bound done top
   pub slowest_is : slowest ≡ Some r.base

@@ -12,8 +12,8 @@ use phase_history::phase_accum::{Accumulate, Pending, Single};
 use phase_registry::phase_base::Entry;
 use phase_ring::Board;
 
-/// The first refusal of a signal in the phase of the entry. `slowest` is the least wait phase of the
-/// waiters.
+/// The first refusal of a signal in the phase of the entry. `slowest` is the least wait phase of
+/// the waiters.
 pub fn list_refusal<A: Accumulate>(
     board: &Board<A>,
     slowest: Option<u64>,

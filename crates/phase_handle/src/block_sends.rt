@@ -35,9 +35,9 @@ fn fill<A: Accumulate>(places: &mut [Pending<A>], values: &[i64])
     }
 }
 
-/// Signals as many phases in a row as there are values, the first the task's, with one send each and
-/// a single for all of them or none, and answers the first phase. A refused block signals nothing.
-/// It takes memory for the sends, and gives it back.
+/// Signals as many phases in a row as there are values, the first the task's, with one send each
+/// and a single for all of them or none, and answers the first phase. A refused block signals
+/// nothing. It takes memory for the sends, and gives it back.
 pub fn signal_values<A: Accumulate>(
     core: &mut PhaserCore<A>,
     alloc: Global,

@@ -12,8 +12,8 @@
 //! ```
 //!
 //! Proved: that what is kept is what was received by the history that was seen; of who saw the end
-//! of a stream, that this is exactly the stream from its start on. Not promised: that a waiting call
-//! comes back.
+//! of a stream, that this is exactly the stream from its start on. Not promised: that a waiting
+//! call comes back.
 #![tactic(auto)]
 
 mod fault;

@@ -54,7 +54,8 @@ AreRising members =
 
 -- for the code: the members rise, all are among the used numbers, no more than may be, and these
 -- are the numbers of signallers and of waiters
-pub record IsRoster (members : Members) (greatest : Option ℕ) (signallers waiters : ℕ) : Type 0 where
+pub record IsRoster (members : Members) (greatest : Option ℕ) (signallers waiters : ℕ)
+    : Type 0 where
   pub rising : AreRising members
   pub used : (i : ℕ) → i < length members → is_used greatest (number_at members i) ≡ true
   pub few : length members ≤ MEMBERS_MAX

@@ -105,8 +105,8 @@ impl<A: Accumulate> Board<A> {
         self.settle();
     }
 
-    // Joins sends to a phase that does not refuse them. No signal has joined the phases from the top
-    // on: there it only writes.
+    // Joins sends to a phase that does not refuse them. No signal has joined the phases from the
+    // top on: there it only writes.
     fn join(&mut self, phase: u64, pending: &Pending<A>, single: &Option<Single>)
         requires within { IsWithin self.old.ring phase }
         requires below { phase + 1 < self.old.ring.base + length self.old.ring.slots }
@@ -127,7 +127,8 @@ impl<A: Accumulate> Board<A> {
         self.ring.join(phase, pending, single);
     }
 
-    /// Joins a signal to its phase, which does not refuse it, and moves its task on to the next one.
+    /// Joins a signal to its phase, which does not refuse it, and moves its task on to the next
+    /// one.
     pub fn signal(&mut self, phase: u64, pending: &Pending<A>, single: &Option<Single>)
         requires invariant { IsBoard A.operation self.old }
         requires may { MaySignal phase (phase + 1) self.old }
@@ -143,8 +144,8 @@ impl<A: Accumulate> Board<A> {
         self.go_on(phase, phase + 1);
     }
 
-    /// Joins the signals of a block to their phases, of which this is the first and none refuses its
-    /// one, and moves their task on to the phase behind them.
+    /// Joins the signals of a block to their phases, of which this is the first and none refuses
+    /// its one, and moves their task on to the phase behind them.
     pub fn signal_block(&mut self, phase: u64, lists: &[Pending<A>], single: &Option<Single>)
         requires invariant { IsBoard A.operation self.old }
         requires may { MaySignal phase (phase + length lists.now) self.old }

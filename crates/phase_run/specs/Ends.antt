@@ -31,8 +31,8 @@ pub record IsUnbegun {F W : Type 0} (status : ℕ) (closed files : F) (old new :
   pub silent : new ≡ old
   pub says : Reports OutOfMemory before after
 
--- the answer to words that are not taken stopped: memory ran out before anything was written, or help
--- or the version could not be written; that was told
+-- the answer to words that are not taken stopped: memory ran out before anything was written, or
+-- help or the version could not be written; that was told
 abbrev pub AnswerStops : {W : Type 0} → Watched W → Watched W → WriterState → WriterState → Type 0
 AnswerStops old new before after =
     ((new ≡ old) × Reports OutOfMemory before after)

@@ -12,8 +12,8 @@ use Rattle.std.specs.Io.KnownBytes.{Appends}
 use Rattle.stream_workers.specs.graph_commands.watched_io.States.{WriterState, writer_state}
 use Rattle.stream_workers.specs.graph_commands.watched_io.declared.watched.Watched.{Watched}
 
--- the files tell a job whose values fit for some starts of its sinks that join now, and the lists of
--- the sinks that were asked for were written, with these starts
+-- the files tell a job whose values fit for some starts of its sinks that join now, and the lists
+-- of the sinks that were asked for were written, with these starts
 pub record Runs (known : Known) (name : List ℕ) (asked : Option (List ℕ))
     (old new : WriterState) : Type 0 where
   pub job : Job

@@ -19,10 +19,11 @@ use stream_workers::graph_commands::watched_io::{
     Files, IoFault, Watched, refuse, report, show_help,
 };
 
-/// Runs the program on its words, those behind `phase run`, and answers its exit status: 0 where the
-/// graph was run, or help or the version was shown, 1 where the graph or its samples are refused, or no
-/// sink has the name that is asked for, 2 where the words are refused, 3 where a value of the graph is
-/// out of range, 4 where every task that is left waits for another, and 5 after a fault.
+/// Runs the program on its words, those behind `phase run`, and answers its exit status: 0 where
+/// the graph was run, or help or the version was shown, 1 where the graph or its samples are
+/// refused, or no sink has the name that is asked for, 2 where the words are refused, 3 where a
+/// value of the graph is out of range, 4 where every task that is left waits for another, and 5
+/// after a fault.
 ///
 /// A refusal's text goes to the fault stream, and so does a fault's line. Where that stream fails
 /// too, the status stands alone. A run waits, and it is not promised that it comes back.
@@ -93,8 +94,8 @@ fn run_call<H: Threads + Wait + Sync, W: Write, E: Write, F: Files + Refuses>(
     }
 }
 
-/// Answers words that give no call: help and the version go to the output, a refusal's text and the line of a
-/// fault go to the fault stream.
+/// Answers words that give no call: help and the version go to the output, a refusal's text and the
+/// line of a fault go to the fault stream.
 fn answer<W: Write, E: Write>(none: &NoCall, output: &mut Watched<W>, faults: &mut Watched<E>) -> u8
     ensures answer { IsAnswer none.now result output.old output.new
         (writer_state E.contents faults.old) (writer_state E.contents faults.new) }

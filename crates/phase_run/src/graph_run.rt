@@ -19,10 +19,11 @@ use stream_workers::graph_commands::{
 use stream_workers::{Open, RunFault, run};
 
 /// Reads a graph and the samples of its sources, runs it by so many worker threads, of which the
-/// caller's is one, and answers the exit status: 0, with the lists of its sinks on the output, or the
-/// values alone of the sink of the name that is asked for; 1 where the graph or the samples are
-/// refused, or no sink has the name; 3 where a value is out of range; 4 where every task that is left
-/// waits for another; or 5 after a fault. The line of a refusal or a fault goes to the fault stream.
+/// caller's is one, and answers the exit status: 0, with the lists of its sinks on the output, or
+/// the values alone of the sink of the name that is asked for; 1 where the graph or the samples are
+/// refused, or no sink has the name; 3 where a value is out of range; 4 where every task that is
+/// left waits for another; or 5 after a fault. The line of a refusal or a fault goes to the fault
+/// stream.
 ///
 /// It waits, and it is not promised that it comes back.
 pub fn run_and_report<H: Threads + Wait + Sync, W: Write, E: Write, F: Files>(

@@ -4,9 +4,9 @@
 //! `run_and_report` reads the job of a graph's file as `eval` does, runs it, and answers the exit
 //! status; `run_and_explain` also explains a fault behind its line.
 //!
-//! Proved: what is written at status 0 is what `eval` writes, and each other status has its cause. Only
-//! tested: that a run comes back, and that `phase: stalled` is told only where every task that is left
-//! waits for another.
+//! Proved: what is written at status 0 is what `eval` writes, and each other status has its cause.
+//! Only tested: that a run comes back, and that `phase: stalled` is told only where every task that
+//! is left waits for another.
 #![tactic(auto)]
 
 mod cli;

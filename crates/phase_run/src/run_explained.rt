@@ -20,8 +20,8 @@ use stream_workers::graph_commands::{
 };
 use stream_workers::{Open, RunFault, run};
 
-/// As `run_and_report`, and the line of a refusal or a fault, but for those of memory and of a write, is
-/// explained to a person behind it.
+/// As `run_and_report`, and the line of a refusal or a fault, but for those of memory and of a
+/// write, is explained to a person behind it.
 pub fn run_and_explain<H: Threads + Wait + Sync, W: Write, E: Write, F: Files + Refuses>(
     rt: &H,
     alloc: Global,
@@ -45,8 +45,8 @@ pub fn run_and_explain<H: Threads + Wait + Sync, W: Write, E: Write, F: Files + 
     }
 }
 
-/// Runs the job of a graph's file for all its sinks, or for the one of a name, explains why there is no
-/// answer, and answers the exit status.
+/// Runs the job of a graph's file for all its sinks, or for the one of a name, explains why there
+/// is no answer, and answers the exit status.
 fn explain_asked<H: Threads + Wait + Sync, W: Write, E: Write, F: Files>(
     rt: &H,
     alloc: Global,
@@ -102,8 +102,8 @@ fn explain_stalled<H: Wait, E: Write>(
     status
 }
 
-/// Runs the job of a graph's file for all its sinks, or for the one of this number, explains why there
-/// is no answer, and answers the exit status.
+/// Runs the job of a graph's file for all its sinks, or for the one of this number, explains why
+/// there is no answer, and answers the exit status.
 fn explain_job<H: Threads + Wait + Sync, W: Write, E: Write, F: Files>(
     rt: &H,
     alloc: Global,

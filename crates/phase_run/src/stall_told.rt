@@ -247,8 +247,8 @@ fn push_waiters(
     Ok(())
 }
 
-/// Gives the tasks turns in the order of their lines until none moves, and the run as it stands then;
-/// nothing where a value is out of range, or where the tasks come to their end.
+/// Gives the tasks turns in the order of their lines until none moves, and the run as it stands
+/// then; nothing where a value is out of range, or where the tasks come to their end.
 fn stalled<'a, R: Wait>(
     rt: &R,
     alloc: Global,
@@ -285,9 +285,10 @@ fn told_lines<R: Wait>(rt: &R, alloc: Global, job: &Job) -> Result<Vec<Vec<u8>>,
     }
 }
 
-/// Runs a job by turns of its tasks on one thread until it stands still, and says what each task that
-/// is left waits for then, and how far the waiters are of each phaser that a task may not signal. It is
-/// nothing where memory runs out, or where the job does not stand still by these turns.
+/// Runs a job by turns of its tasks on one thread until it stands still, and says what each task
+/// that is left waits for then, and how far the waiters are of each phaser that a task may not
+/// signal. It is nothing where memory runs out, or where the job does not stand still by these
+/// turns.
 ///
 /// It takes memory as a `World` does, and it is not promised that it comes back.
 pub fn stall_told<R: Wait>(rt: &R, alloc: Global, job: &Job) -> Vec<u8>

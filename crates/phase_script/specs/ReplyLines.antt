@@ -12,7 +12,8 @@ use Rattle.phase_script.specs.declared.refusal.Refusal.TheVariants.{NoPhaser, Ma
 use Rattle.phase_script.specs.declared.reply.Reply.{Reply}
 use Rattle.phase_script.specs.declared.reply.Reply.TheVariants as given
 
--- the reply to a script line, with what a block of phases gave: the code keeps that beside a `Reply`
+-- the reply to a script line, with what a block of phases gave: the code keeps that beside a
+-- `Reply`
 pub data WholeReply : Type 0 where
   Accepted : WholeReply
   Signalled : (phase : ℕ) → WholeReply
@@ -110,4 +111,5 @@ IsReply _ = Unit {0}
 -- the text has one line end, its last byte
 abbrev pub IsOneLine : List ℕ → Type 0
 IsOneLine text =
-    (prefix : List ℕ) × (text ≡ prefix ++ codes "\n") × (list_all (λ b. not (b == 10)) prefix ≡ true)
+    (prefix : List ℕ) × (text ≡ prefix ++ codes "\n")
+    × (list_all (λ b. not (b == 10)) prefix ≡ true)

@@ -103,8 +103,8 @@ TookAt op allows terms v x w =
     Took terms.limits (allows terms.rule) (StandsWithin op terms.limits) v x w
 
 -- a seat at rest that speaks for one registered task
-pub record IsSeatOfTask {K : Type 0} (allows : K → Allows) (terms : Terms K) (me : ℕ) (entry : Entry)
-    (v : View) : Type 0 where
+pub record IsSeatOfTask {K : Type 0} (allows : K → Allows) (terms : Terms K) (me : ℕ)
+    (entry : Entry) (v : View) : Type 0 where
   pub rests : v ≡ resting (known_of v).seen (me ∷ [])
   pub member : entry_of (members_of (known_of v).seen) me ≡ Some entry
   pub good : IsGoodAt allows terms (known_of v).seen

@@ -11,8 +11,8 @@
 //!
 //! A **registration**, `Reg`, is what a thread acts by: it has a mode, two phases and the sends
 //! that it holds. The first one comes with the phaser, by `Phaser::make`, and each registers
-//! others. **Sends** become a value by an operation of `phase_accum`, as `Sum`. A **past** is what a
-//! registration that left has seen.
+//! others. **Sends** become a value by an operation of `phase_accum`, as `Sum`. A **past** is what
+//! a registration that left has seen.
 //!
 //! **What a call tells.** Each registration has seen a history: a list of the events on its phaser.
 //! Each call makes it longer, by what the others did up to the moment of the call and then by the
@@ -85,9 +85,8 @@
 //!
 //! fn main(rt: HostRuntime) -> io::Result<()> {
 //!     let Ok(limits) = Spec::new(2, 1000) else { return Ok(()) };
-//!     let Ok((phaser, mut founder)) = Phaser::<Sum, NoRule>::make(rt.alloc(), limits, NoRule) else {
-//!         return Ok(());
-//!     };
+//!     let made = Phaser::<Sum, NoRule>::make(rt.alloc(), limits, NoRule);
+//!     let Ok((phaser, mut founder)) = made else { return Ok(()) };
 //!     let child = founder.register(&rt, &phaser, Mode::SigWait).ok();
 //!     run(&rt, &phaser, Some(founder), child);
 //!     println!(rt; "both left")
@@ -99,8 +98,8 @@
 //!
 //! Proved: what the clauses say, for any number of threads. Only tested: that a call succeeds where
 //! it can, and that a waiting call comes back. Not promised: that a phase is ever complete, that a
-//! `Busy` could not have been avoided, when the turn of the lock is free, when a pause ends, and any
-//! order of the events of threads that never told each other anything.
+//! `Busy` could not have been avoided, when the turn of the lock is free, when a pause ends, and
+//! any order of the events of threads that never told each other anything.
 //!
 //! **Inside** is a phaser under a lock, `LockedPhaser`. A **seat** of the lock speaks for a
 //! registration. Its view, which stands in proofs alone, is the history that it has seen, and the

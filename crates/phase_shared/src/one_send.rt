@@ -24,7 +24,8 @@ impl SignalRule for OneSend {
     ghost allows = { allows_one_send };
 }
 
-/// Sends a value and signals with it, and answers the phase. A refused signal leaves the value held.
+/// Sends a value and signals with it, and answers the phase. A refused signal leaves the value
+/// held.
 pub fn try_signal_value<A: Accumulate>(
     phaser: &Phaser<A, OneSend>,
     reg: &mut Reg<A, OneSend>,

@@ -126,8 +126,8 @@ impl<A: Accumulate, K: SignalRule> Reg<A, K> {
         (self.entry.signal_phase, self.entry.wait_phase)
     }
 
-    /// Returns how many phases from its signal phase on are not ahead, as far as the turns that have
-    /// ended tell: there may be room for more by now. It takes no turn.
+    /// Returns how many phases from its signal phase on are not ahead, as far as the turns that
+    /// have ended tell: there may be room for more by now. It takes no turn.
     ///
     /// It is a hint for how much to signal next, and no contract speaks of it.
     pub fn room(&self, phaser: &Phaser<A, K>) -> u64 {

@@ -27,8 +27,8 @@ impl Read for Hiccup<'_> {
     }
 }
 
-/// How a replay of three lines ends whose read of this number fails, with how many reads it made and
-/// how many bytes it wrote.
+/// How a replay of three lines ends whose read of this number fails, with how many reads it made
+/// and how many bytes it wrote.
 fn read_failing_at(alloc: Global, fails_at: usize) -> (Result<(), ReplayFault>, usize, usize) {
     let mut reader = Watched::new(Hiccup {
         rest: b"x\nx\nx\n",

@@ -88,8 +88,8 @@ impl Gate for Behind {
 const FIR: &str = "phaser X sum 4\nphaser Y sum 4\nsource s s.csv -> X\n\
     fir f X -> Y shift 0 taps 1 1\nsink out Y\n";
 
-/// A graph whose task 1 is held in its step 2 until task 0 is in its last, which is step 3, and what its
-/// run ends with.
+/// A graph whose task 1 is held in its step 2 until task 0 is in its last, which is step 3, and
+/// what its run ends with.
 struct Held {
     name: &'static str,
     graph: &'static str,
@@ -191,8 +191,8 @@ struct Entries {
     entered: [u64; 8],
 }
 
-// A source enters a step for each sample. Another task enters one more than it makes, in which it is
-// told that no value comes, unless `until` ends it before. A step is entered once, also where it
+// A source enters a step for each sample. Another task enters one more than it makes, in which it
+// is told that no value comes, unless `until` ends it before. A step is entered once, also where it
 // waits twice, and where the task is refused and comes again.
 const ENTRIES: [Entries; 6] = [
     Entries {

@@ -1,6 +1,6 @@
-//! Tests of runs on worker threads, by their public calls: of `worker_pool` and `stream_workers`; and
-//! of members of a phaser between threads, of `stream_members`. They stand in a crate of their own,
-//! since a crate is proved anew with its tests.
+//! Tests of runs on worker threads, by their public calls: of `worker_pool` and `stream_workers`;
+//! and of members of a phaser between threads, of `stream_members`. They stand in a crate of their
+//! own, since a crate is proved anew with its tests.
 #![tactic(auto)]
 
 #[cfg(test)]

@@ -76,8 +76,8 @@ const CASES: [Case; 15] = [
         end: None,
         taken: 1,
     },
-    // One waits at a place at which the other has put, and told it, since the one was taken: it is not
-    // left to wait.
+    // One waits at a place at which the other has put, and told it, since the one was taken: it is
+    // not left to wait.
     Case {
         name: "one that waits too late goes on",
         number: 1,
@@ -87,8 +87,8 @@ const CASES: [Case; 15] = [
         end: None,
         taken: 0,
     },
-    // The first is held until the second goes on, though nothing was told at its place, and the second
-    // then until the third does.
+    // The first is held until the second goes on, though nothing was told at its place, and the
+    // second then until the third does.
     Case {
         name: "one that was tried and is held",
         number: 2,

@@ -4,7 +4,8 @@ use crate::jobs::{job_of, told};
 use std::test::Fail;
 use stream_workers::Open;
 
-/// Graphs, the samples of their sources, with a semicolon between two, and what their runs end with.
+/// Graphs, the samples of their sources, with a semicolon between two, and what their runs end
+/// with.
 const GRAPHS: [(&str, &str, &str); 20] = [
     // seed 14
     (

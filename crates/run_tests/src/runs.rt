@@ -6,8 +6,8 @@ use std::test::Fail;
 use std::thread::Threads;
 use stream_workers::Open;
 
-/// A graph, the samples of its sources, how often it is run by each number of workers, and what each
-/// run ends with.
+/// A graph, the samples of its sources, how often it is run by each number of workers, and what
+/// each run ends with.
 pub struct Case {
     pub name: &'static str,
     pub graph: &'static str,
@@ -60,8 +60,8 @@ const CASES: [Case; 25] = [
         runs: 1,
         wanted: "out 3\n11\n2\n3\n",
     },
-    // The filter `f` and the filter `g` meet on S, and `f` gets each second sample alone. With bounds of 1
-    // `g` is let on six samples, and no further.
+    // The filter `f` and the filter `g` meet on S, and `f` gets each second sample alone. With
+    // bounds of 1 `g` is let on six samples, and no further.
     Case {
         name: "a splitter and a filter on one bus",
         graph: "phaser X sum 1\nphaser A sum 1\nphaser B sum 1\nphaser S sum 1\n\
@@ -192,7 +192,8 @@ const CASES: [Case; 25] = [
         runs: 1,
         wanted: "too big at X 1\n",
     },
-    // A worker meets the fault of `g` at once and that of `f` later: the one of the earlier line is told.
+    // A worker meets the fault of `g` at once and that of `f` later: the one of the earlier line is
+    // told.
     Case {
         name: "the first of two faults is told",
         graph: "phaser X sum 2\nphaser Z sum 2\nphaser Y sum 2\nsource a a.csv -> X\n\

@@ -105,14 +105,15 @@ pub enum Toy<'a> {
         go: &'a Place,
         has_looked: bool,
     },
-    /// Puts one at the first place and waits at the second. When it is taken again, it puts one there.
+    /// Puts one at the first place and waits at the second. When it is taken again, it puts one
+    /// there.
     Tells {
         at: &'a Place,
         go: &'a Place,
         turns: u64,
     },
-    /// Waits at the first place. When it is taken again, it puts one there and is held until one was
-    /// put at the second.
+    /// Waits at the first place. When it is taken again, it puts one there and is held until one
+    /// was put at the second.
     Tried {
         at: &'a Place,
         go: &'a Place,

@@ -61,9 +61,9 @@ Shows job m t (answers.has_made at) (made.OutOfRange step) = at ≡ (place.Task 
 Shows job m t answers.is_gone made.Nothing = Unit {0}
 Shows job m t answer it = ⊥
 
--- the machine had a turn of task t, of which the code tells so: at each moment that the machine stood
--- for it tells the answer of the table, and the machine stands for the moment after, where no wait
--- was answered a value too big before
+-- the machine had a turn of task t, of which the code tells so: at each moment that the machine
+-- stood for it tells the answer of the table, and the machine stands for the moment after, where no
+-- wait was answered a value too big before
 pub record HadTurn (job : Job) (old new : Machine) (t : ℕ) (it : Made) : Type 0 where
   pub shows : (m : Moment) → IsMachineAt job m old → Shows job m t (answer_of_turn job m t) it
   pub after : (m : Moment) → IsMachineAt job m old → HasAnsweredNone job m

@@ -47,8 +47,8 @@ impl AnyCore {
         }
     }
 
-    /// Signals the task's phase with one send and a single or none, and answers that phase. It takes
-    /// no memory.
+    /// Signals the task's phase with one send and a single or none, and answers that phase. It
+    /// takes no memory.
     ///
     /// Any value can be sent but `NO_VALUE`.
     pub fn signal_one(

@@ -1,9 +1,9 @@
 //! Jobs, their lists and their runs on one thread, under one name: a graph with the samples of its
-//! sources (`stream_lists`), what its sinks get, or the first value out of range (`stream_eval`), and
-//! here runs by turns of the tasks, one event at a time.
+//! sources (`stream_lists`), what its sinks get, or the first value out of range (`stream_eval`),
+//! and here runs by turns of the tasks, one event at a time.
 //!
-//! The first calls are `job_of`, of texts, `World::new`, `World::turn` and `run_turns`. `AnyCore` is
-//! one phaser of a graph, whatever its operation.
+//! The first calls are `job_of`, of texts, `World::new`, `World::turn` and `run_turns`. `AnyCore`
+//! is one phaser of a graph, whatever its operation.
 #![tactic(auto)]
 
 mod any_core;

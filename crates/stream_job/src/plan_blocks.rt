@@ -64,8 +64,8 @@ fn until_allows(until: Option<u64>, begun: u64, steps: u64) -> u64
     }
 }
 
-/// So many steps of task `t`, but none past the boundary of a line's task, where it is a later child
-/// of task `t`.
+/// So many steps of task `t`, but none past the boundary of a line's task, where it is a later
+/// child of task `t`.
 fn child_allows(t: usize, begun: u64, parent: Option<Parent>, steps: u64) -> u64
     ensures { result ≡ child_allows t begun parent steps }
 {

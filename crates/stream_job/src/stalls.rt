@@ -45,7 +45,8 @@ impl Machine {
     fn has_live(&self, job: &Job) -> bool
         requires { IsMachine job.now self.now }
         ensures { (m : Moment) → IsMachineAt job.now m self.now
-            → list_any (is_live job.now m) (range_with_len 0 (length job.now.graph.tasks)) ≡ result }
+            → list_any (is_live job.now m)
+            (range_with_len 0 (length job.now.graph.tasks)) ≡ result }
     {
         for t in 0..job.graph().tasks() {
             if self.state(job, t).is_live(job, t) {

@@ -332,8 +332,8 @@ impl Machine {
         }
     }
 
-    /// Registers task `c` as this child of a task on phaser `p`: in this mode, or, where it is a sink
-    /// that joins now, at the first phase that is not complete, where its line then begins.
+    /// Registers task `c` as this child of a task on phaser `p`: in this mode, or, where it is a
+    /// sink that joins now, at the first phase that is not complete, where its line then begins.
     fn add_on(
         &mut self,
         job: &Job,

@@ -27,8 +27,8 @@ use stream_eval::stream_lists::Job;
 
 /// A run of a graph on one thread, which goes on by turns of its tasks.
 ///
-/// **Moments.** A world stands for moments of the run: the events on each phaser so far, and how far
-/// each task has come.
+/// **Moments.** A world stands for moments of the run: the events on each phaser so far, and how
+/// far each task has come.
 #[derive(Drop)]
 pub struct World<'a> {
     job: &'a Job,
@@ -117,8 +117,8 @@ impl<'a> World<'a> {
     }
 
     /// Returns each sink's number and what it has taken so far, in the order of the lines. A value
-    /// that is too big is not among them, and what came behind it in its block is not either. A sink
-    /// that joins now and is registered has the phase at which it began. It takes no memory.
+    /// that is too big is not among them, and what came behind it in its block is not either. A
+    /// sink that joins now and is registered has the phase at which it began. It takes no memory.
     ///
     /// Where no value was out of range and no task is live, they are all that the sinks get.
     pub fn lines(&self) -> &[Lines]
@@ -165,7 +165,8 @@ impl<'a> World<'a> {
     /// Returns whether no task can move: some task is live, and the turn of each live task would be
     /// blocked. After a value out of range no run is stalled. It takes no memory.
     ///
-    /// It looks at each task, and asks the phasers for those alone that stand in no list of `parked`.
+    /// It looks at each task, and asks the phasers for those alone that stand in no list of
+    /// `parked`.
     pub fn stalled(&self) -> bool
         ensures stalled { (m : Moment) → IsWorldAt self.now m → self.now.met ≡ None
             → is_stalled self.now.job m ≡ result }
@@ -174,9 +175,9 @@ impl<'a> World<'a> {
         self.met.is_none() && self.machine.is_stalled(self.job, &self.plan, &self.parked)
     }
 
-    /// Gives a turn to task number `task`: it makes its next call, or tells why it makes none. A task
-    /// whose line names a block makes so many steps by one call, but none past its `until` or past
-    /// the boundary of a child. After a value out of range each turn tells it again, and does
+    /// Gives a turn to task number `task`: it makes its next call, or tells why it makes none. A
+    /// task whose line names a block makes so many steps by one call, but none past its `until` or
+    /// past the boundary of a child. After a value out of range each turn tells it again, and does
     /// nothing.
     ///
     /// A child's registration may ask for memory, and no other call does. Where there is none, the

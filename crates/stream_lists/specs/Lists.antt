@@ -125,7 +125,8 @@ number_in value job p members n = number (phase_in value job p members n)
 -- the phases of a phaser, over the numbers of the lists of the phasers above
 abbrev pub list_over : Job → Schedule → List (List ℤ) → ℕ → List Outcome
 list_over job schedule above p =
-    map (phase_in (value_by (phaser_at job.graph p).op) job p (contributions_on job schedule above p))
+    map (phase_in (value_by (phaser_at job.graph p).op) job p
+    (contributions_on job schedule above p))
     (range_with_len 0 (get_or schedule.lengths p 0))
 
 -- the numbers of the lists of the first n phasers

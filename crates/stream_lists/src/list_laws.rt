@@ -15,8 +15,9 @@ ghost use Rattle.stream_lists.specs.Ranges.{Fits, answer_of};
 ghost use Rattle.stream_lists.specs.Spans.{greatest, lengths_of, LooksAt, puts_on, signalled_by, takes_from, nowhere, offset_of, span_in, span_of, spans_of, spans_up_to, schedule_of};
 ghost use Rattle.stream_lists.specs.declared.span.Span.{Span};
 
-/// A phaser has a place among those of a line where it stands there, and each input of a task stands
-/// at its own. A parent signals what its child signals, and waits for what its child waits for.
+/// A phaser has a place among those of a line where it stands there, and each input of a task
+/// stands at its own. A parent signals what its child signals, and waits for what its child waits
+/// for.
 pub fn places()
     ensures found { (qs : List ℕ) (p j : ℕ) → index_in qs p ≡ Some j
         → (j < length qs) × (get_or qs j 0 ≡ p) }

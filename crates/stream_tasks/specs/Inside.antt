@@ -55,12 +55,13 @@ pub record HasKept (i : ℕ) (child : AnyMember) (start : ℕ) (old new : TaskSt
 pub record IsNextOn (job : Job) (spots : ℕ → Spot) (s : TaskState) (i k : ℕ) (r : Registration)
     : Type 0 where
   pub registering : IsRegistering job spots s i
-  pub room : length registering.kid.numbers.items < length (registrations_at job registering.kid.task)
+  pub room : length registering.kid.numbers.items
+      < length (registrations_at job registering.kid.task)
   pub is : r ≡ registration_at job registering.kid.task (length registering.kid.numbers.items)
   pub on : IsPlaceOn job s.number r.phaser k
 
--- the child joins now and has no registration yet: its first is on phaser p, and registration k of the
--- task is there
+-- the child joins now and has no registration yet: its first is on phaser p, and registration k of
+-- the task is there
 pub record IsNextNow (job : Job) (spots : ℕ → Spot) (s : TaskState) (i k p : ℕ) : Type 0 where
   pub registering : IsRegistering job spots s i
   pub none : registering.kid.numbers.items ≡ []

@@ -25,7 +25,8 @@ pub record HasGrownTo (one all : AnyLeft) : Type 0 where
   pub legal : IsLegal (limits_on (left_in one).at) (left_in one).seen
       → IsLegal (limits_on (left_in one).at) (left_in all).seen
   pub came : OthersCame (left_in one).numbers (left_in one).seen (left_in all).seen
-  pub numbers : (n : ℕ) → is_in n (left_in one).numbers ≡ true → is_in n (left_in all).numbers ≡ true
+  pub numbers : (n : ℕ) → is_in n (left_in one).numbers ≡ true
+      → is_in n (left_in all).numbers ≡ true
 
 -- at each place one has become another
 abbrev pub HaveGrown : List (Option AnyLeft) → List (Option AnyLeft) → Type 0

@@ -60,7 +60,8 @@ spot_at (phaser ∷ phasers) (suc p) = spot_at phasers p
 -- ---- founders
 
 -- the founder of phaser p, which is this one
-pub record IsFounderOn (job : Job) (spots : ℕ → Spot) (p : ℕ) (founder : FounderState) : Type 0 where
+pub record IsFounderOn (job : Job) (spots : ℕ → Spot) (p : ℕ) (founder : FounderState)
+    : Type 0 where
   pub at : founder.at ≡ spots p
   pub line : IsOfLine job p founder.op (spots p)
 

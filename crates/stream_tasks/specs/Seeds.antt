@@ -29,7 +29,8 @@ pub record HasNoRegistration (job : Job) (t : ℕ) (child : Child) : Type 0 wher
 
 -- the children of task t among the first n tasks
 pub record AreChildrenBelow (job : Job) (t n : ℕ) (children : List Child) : Type 0 where
-  pub each : (i : ℕ) (child : Child) → slice_get children i ≡ Some child → HasNoRegistration job t child
+  pub each : (i : ℕ) (child : Child) → slice_get children i ≡ Some child
+      → HasNoRegistration job t child
   pub all : (c : ℕ) (u : Parent) → c < n → (task_at job.graph c).parent ≡ Some u → u.task ≡ t
       → (i : ℕ) × ((child : Child) × (slice_get children i ≡ Some child) × (child.task ≡ c)
       × (child.at ≡ u.at))

@@ -128,8 +128,8 @@ pub record IsTaskAt (job : Job) (spots : ℕ → Spot) (m : Moment) (s : TaskSta
   pub given : HasGivenNumbers job m s.children.items
   pub at_end : s.over ≡ true → IsAtEnd job m s
 
--- the places of a task for the steps of one event: for so many of its own accord, and for a block of
--- its line
+-- the places of a task for the steps of one event: for so many of its own accord, and for a block
+-- of its line
 pub record HasPlaces (job : Job) (s : TaskState) : Type 0 where
   pub most : IsMost job s.number s.most
   pub own : 1 ≤ s.own

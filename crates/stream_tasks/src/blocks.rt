@@ -76,8 +76,8 @@ impl<'a> TaskState<'a> {
     }
 
     /// How many steps it would make, if only `until` and its children allow them: a block of its
-    /// line; or, of a line that names none, as many as there is room for on its output, where nobody
-    /// looks at steps.
+    /// line; or, of a line that names none, as many as there is room for on its output, where
+    /// nobody looks at steps.
     fn wanted<G: Gate>(&self, job: &Job, gate: &G) -> u64
         requires { IsWhole job.now self.now }
         ensures some { 1 ≤ result }

@@ -113,8 +113,8 @@ impl<'a> TaskState<'a> {
         }
     }
 
-    /// Makes the registration of the child at place `i`, which joins now, on registration `k` of its
-    /// own, phaser `p`.
+    /// Makes the registration of the child at place `i`, which joins now, on registration `k` of
+    /// its own, phaser `p`.
     fn add_now(&mut self, i: usize, k: usize, p: usize) -> Went
         requires room { HasChildRoom self.old i }
         requires next { (job : JobValue) × (spots : ℕ → Spot) × IsWhole job self.old

@@ -1,4 +1,5 @@
-//! The end of a run between threads: what its tasks and founders leave behind, put together and compared.
+//! The end of a run between threads: what its tasks and founders leave behind, put together and
+//! compared.
 
 pub mod agreeing;
 pub mod gathering;

@@ -10,8 +10,8 @@
 //! let lefts = leave_all(&rt, alloc, founders)?;                     // what the founders have seen
 //! ```
 //!
-//! Founders and members cannot be thrown away: where memory is wanting on the way, the founders made
-//! so far leave. Each function waits where it says so.
+//! Founders and members cannot be thrown away: where memory is wanting on the way, the founders
+//! made so far leave. Each function waits where it says so.
 //!
 //! **Going on.** Whoever has a task makes its next event: `Task::found`, `Unregistered::new` and
 //! `Task::turn`.
@@ -24,8 +24,8 @@
 //! let lines = finish(alloc, &job, founders, &gave, tasks)?;  // None where something differs
 //! ```
 //!
-//! Proved: what the clause of `finish` says. Not promised: that it is not None; of a run whose tasks
-//! have all left, none is known where it is.
+//! Proved: what the clause of `finish` says. Not promised: that it is not None; of a run whose
+//! tasks have all left, none is known where it is.
 #![tactic(auto)]
 
 mod blocks;

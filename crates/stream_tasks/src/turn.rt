@@ -350,7 +350,8 @@ fn is_cut(until: Option<u64>, steps: u64) -> bool
 /// need none.
 fn make_room(lines: &mut Vec<i64>, sink: bool, steps: usize) -> bool
     ensures items { lines.new.items ≡ lines.old.items }
-    ensures room { result ≡ true → sink ≡ true → vec_len lines.new + steps ≤ vec_capacity lines.new }
+    ensures room { result ≡ true → sink ≡ true
+        → vec_len lines.new + steps ≤ vec_capacity lines.new }
 {
     if sink {
         return lines.reserve(steps).is_ok();

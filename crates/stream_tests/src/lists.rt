@@ -1,5 +1,5 @@
-//! What a job tells of its tasks: their inputs and outputs by phaser, what their steps take, and the
-//! samples of a source. What is expected was worked out by hand.
+//! What a job tells of its tasks: their inputs and outputs by phaser, what their steps take, and
+//! the samples of a source. What is expected was worked out by hand.
 use graph_show::graph_lang::{read_graph, samples_of};
 use graph_show::phase_accum::Outcome;
 use std::alloc::{AllocError, Global};

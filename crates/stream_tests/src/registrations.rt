@@ -4,8 +4,8 @@ use graph_show::graph_lang::{Graph, Mode, Registration, read_graph};
 use std::alloc::Global;
 use std::test::Fail;
 
-/// What a task is registered for: an input or an output, with its number and its phaser, or a peer's
-/// exchange.
+/// What a task is registered for: an input or an output, with its number and its phaser, or a
+/// peer's exchange.
 #[derive(Clone, Copy)]
 enum End {
     Input(usize, usize),

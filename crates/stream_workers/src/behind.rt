@@ -34,7 +34,8 @@ pub fn run_on<'a, J: Run + Send + Sync, G: Gate + Sync, R: Threads + Wait + Sync
     requires spots { spot_at phasers.now ≡ J.spots }
     requires phasers { ArePhasers J.job phasers.now }
     requires founders { AreFoundersFrom 0 phasers.now regs.items }
-    ensures founders { IfOk result (λ behind. HaveFoundersLeft J.job J.spots behind.founders.items) }
+    ensures founders { IfOk result (λ behind.
+        HaveFoundersLeft J.job J.spots behind.founders.items) }
     ensures many { IfOk result (λ behind. length behind.tasks.items
         ≡ length J.job.graph.tasks) }
     ensures tasks { IfOk result (λ behind. AreTasksLeft J.job J.spots behind.tasks.items) }

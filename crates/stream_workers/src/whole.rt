@@ -106,9 +106,9 @@ fn run_named<'a, J: Run + Send + Sync, G: Gate + Sync, R: Threads + Wait + Sync>
 /// parent's turn comes to register it, and tells where. The gate is called once a step, as a worker
 /// enters it, and once for a block of steps.
 ///
-/// It takes memory for the phasers, the tasks, their registrations and the sinks' values, and waits.
-/// `Stalled` is said where every task that is left waits for another; nothing is promised of it. It
-/// is not promised that a run comes back.
+/// It takes memory for the phasers, the tasks, their registrations and the sinks' values, and
+/// waits. `Stalled` is said where every task that is left waits for another; nothing is promised of
+/// it. It is not promised that a run comes back.
 pub fn run<R: Threads + Wait + Sync, G: Gate + Sync>(
     rt: &R,
     alloc: Global,

@@ -178,8 +178,8 @@ fn all_joined(
     joins(phaser, both, three)
 }
 
-// A founder that signals and waits, a child that waits alone, and one that comes after a phase: each
-// keeps what it got, in order, and their receipts stand in the order in which they are joined.
+// A founder that signals and waits, a child that waits alone, and one that comes after a phase:
+// each keeps what it got, in order, and their receipts stand in the order in which they are joined.
 #[test]
 fn each_keeps_what_it_got(rt: HostRuntime) -> Result<(), Fail> {
     let alloc = rt.alloc();

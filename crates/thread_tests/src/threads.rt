@@ -55,7 +55,7 @@ fn receive_all<R: Wait>(
     for value in 0..count {
         let outcome = Outcome::Value(value);
         all = all
-            && matches!(reg.wait(rt, phaser), Ok(Got::Value { outcome: got, .. }) if got == outcome);
+            && matches!(reg.wait(rt, phaser), Ok(Got::Value { outcome: is, .. }) if is == outcome);
     }
     let has_ended = reg.wait(rt, phaser) == Ok(Got::Ended);
     let _past = reg.leave(rt, phaser);

@@ -27,8 +27,8 @@ type Sender = Reg<Sum, ByOne>;
 
 type Taker = Receiver<Sum, ByOne>;
 
-/// How many blocks are sent, how many values a block has, and how far the sender may be ahead of the
-/// taker, in phases.
+/// How many blocks are sent, how many values a block has, and how far the sender may be ahead of
+/// the taker, in phases.
 const BLOCKS: i64 = 1000;
 
 const SIZE: i64 = 32;

@@ -13,7 +13,8 @@ pub const BYTES_COUNTED_MAX: u64 = 18_446_744_073_709_551_615;
 /// A reader or a writer, whether one of its calls through here has failed, and how many bytes its
 /// reads gave.
 ///
-/// The note is set by a failure alone, and never taken back. The count stops at `BYTES_COUNTED_MAX`.
+/// The note is set by a failure alone, and never taken back. The count stops at
+/// `BYTES_COUNTED_MAX`.
 #[derive(Drop)]
 pub struct Watched<T> {
     inner: T,

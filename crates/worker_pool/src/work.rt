@@ -11,8 +11,8 @@ pub trait Work {
     /// Goes on by one turn.
     fn turn(&mut self) -> Progress;
 
-    /// How much its turns did so far, beside being turns: what takes some half a nanosecond, such as
-    /// a multiplication, counts 1. It tells which tasks are worth another worker's while, and
+    /// How much its turns did so far, beside being turns: what takes some half a nanosecond, such
+    /// as a multiplication, counts 1. It tells which tasks are worth another worker's while, and
     /// nothing else.
     fn effort(&self) -> u64;
 

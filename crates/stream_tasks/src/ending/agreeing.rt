@@ -55,7 +55,8 @@ fn agrees(job: &Job, parts: &[Option<TaskKnowledge>], c: usize) -> bool
 
 /// Whether what all tasks know of one another agrees.
 pub fn all_agree(job: &Job, parts: &[Option<TaskKnowledge>]) -> bool
-    ensures { result ≡ true → (c : ℕ) → c < length job.now.graph.tasks → Agrees job.now parts.now c }
+    ensures { result ≡ true → (c : ℕ) → c < length job.now.graph.tasks
+        → Agrees job.now parts.now c }
 {
     for c in 0..job.graph().tasks() {
         if !agrees(job, parts, c) {

@@ -18,8 +18,8 @@ use stream_eval::stream_lists::Job;
 use stream_members::AnyLeft;
 
 /// What the sinks have taken, where what the tasks and the founders leave behind agrees: then it is
-/// the answer of the job, for the starts of the sinks that joined now. None where something differs,
-/// or is missing.
+/// the answer of the job, for the starts of the sinks that joined now. None where something
+/// differs, or is missing.
 ///
 /// The founders' and the tasks' places are those of the lines; a task that never came has none. It
 /// takes memory for a list of the tasks, and one of the sinks.

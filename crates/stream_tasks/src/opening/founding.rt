@@ -45,8 +45,8 @@ fn register_all<'a, J: Run, W: Wait>(
 }
 
 impl<'a, J: Run> Task<'a, J> {
-    /// Begins a task without a parent: the founders of its phasers register it. It takes memory, and
-    /// waits for their turns. Where it cannot be registered it leaves again.
+    /// Begins a task without a parent: the founders of its phasers register it. It takes memory,
+    /// and waits for their turns. Where it cannot be registered it leaves again.
     pub fn found<W: Wait>(
         rt: &W,
         alloc: Global,

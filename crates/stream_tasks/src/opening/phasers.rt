@@ -12,7 +12,8 @@ use stream_members::{AnyPhaser, AnyReg};
 /// Makes phaser number `p`.
 fn open_phaser(alloc: Global, job: &Job, p: usize) -> Result<(AnyPhaser, AnyReg), AllocError>
     requires { p < length job.now.graph.phasers }
-    ensures line { IfOk result (λ made. IsOfLine job.now p (phaser_op made.0) (phaser_spot made.0)) }
+    ensures line { IfOk result (λ made.
+        IsOfLine job.now p (phaser_op made.0) (phaser_spot made.0)) }
     ensures founder { IfOk result (λ made. IsFounderOf made.0 made.1) }
 {
     let line = job.graph().phaser(p);
