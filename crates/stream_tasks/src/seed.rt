@@ -90,7 +90,8 @@ impl<'a> Seed<'a> {
 
     /// Has been registered on the next of its phasers. It takes no memory.
     pub fn receive(&mut self, member: AnyMember<'a>)
-        requires room { HasRoom (length (seed_state self.old).holds.items + 1) (seed_state self.old) }
+        requires room { HasRoom (length (seed_state self.old).holds.items + 1)
+            (seed_state self.old) }
         requires long { length (seed_state self.old).numbers.items
             ≡ length (seed_state self.old).holds.items }
         ensures seed { (job : JobValue) → IsSeed job (seed_state self.old)
