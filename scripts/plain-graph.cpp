@@ -1,6 +1,7 @@
-// A plain program that reads a file of numbers, one a line, passes them through so many filters of 64
-// taps, and writes a heading and the values: unproved. With `narrow` a filter sums in 64 bits and stops
-// where a product or a sum leaves them, and with `wide` it sums in 128 bits. With no filter it copies.
+// A plain program that reads a file of numbers, one a line, passes them through so many filters of
+// 64 taps, and writes a heading and the values: unproved. With `narrow` a filter sums in 64 bits and
+// stops where a product or a sum leaves them, with `wide` it sums in 128 bits, and with `bare` in 64
+// that wrap unseen. With no filter it copies, and with `read` it tells the count of the numbers alone.
 #include <cstdint>
 #include <cstdio>
 #include <cstdlib>
@@ -48,10 +49,17 @@ static int64_t wide(const int64_t *taps, const int64_t *window, int shift) {
     return (int64_t)sum;
 }
 
+static int64_t bare(const int64_t *taps, const int64_t *window, int shift) {
+    int64_t sum = 0;
+    for (int j = 0; j < 64; j++) sum += taps[j] * window[j];
+    return sum >> shift;
+}
+
 int main(int, char **words) {
-    bool is_wide = !strcmp(words[1], "wide");
+    bool is_wide = !strcmp(words[1], "wide"), is_bare = !strcmp(words[1], "bare");
     int filters = atoi(words[2]);
     std::vector<int64_t> values = numbers(words[3]);
+    if (!strcmp(words[1], "read")) return printf("%zu\n", values.size()) < 0 ? 5 : 0;
     int64_t taps[64];
     for (int j = 0; j < 64; j++) taps[j] = j % 2 == 0 ? 1000 + j : j - 900;
     for (int f = 0; f < filters; f++) {
@@ -61,7 +69,8 @@ int main(int, char **words) {
         for (int64_t &value : values) {
             at = at == 0 ? 63 : at - 1;
             window[at] = window[at + 64] = value;
-            value = is_wide ? wide(taps, window + at, 12) : narrow(taps, window + at, 12);
+            const int64_t *last = window + at;
+            value = is_bare ? bare(taps, last, 12) : is_wide ? wide(taps, last, 12) : narrow(taps, last, 12);
         }
     }
     std::string out = "out " + std::to_string(values.size()) + "\n";
