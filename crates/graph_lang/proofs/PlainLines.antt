@@ -1,18 +1,17 @@
 -- Lines of a word each, as csv reads them, and the values of such a text.
-use Rattle.std.proofs.Common.{ℕ, zero, suc, ◌≡◌, ◌≢◌, ◌<◌, ◌≤◌, ◌==◌, ◌⊎◌, inl, inr, ℤ, List, [], ◌∷◌, ◌++◌, length, ◌+◌, ◌-◌, map, take, drop, get_or, append_assoc, append-nil, refl, sym, subst, ap, ◌∙◌, arith, Option, Some, None, Bool, true, false, cond}
+use Rattle.std.proofs.Common.{ℕ, zero, suc, ◌≡◌, ◌<◌, ◌≤◌, ◌==◌, inl, inr, ℤ, List, [], ◌∷◌, ◌++◌, length, ◌+◌, ◌-◌, map, take, drop, get_or, append_assoc, append-nil, refl, sym, ap, ◌∙◌, arith, Some, false}
 use Rattle.std.specs.Str.Parse.{AllDigits}
 use Rattle.std.specs.Fmt.{decimal, signed_decimal}
 use Rattle.std.proofs.lemmas.Str.Parse.{digit_from_value}
 use Rattle.std.proofs.lemmas.Bool.{ne_eqb}
 use Rattle.std.proofs.lemmas.List.{drop-drop, take-append-drop, take_all, length-drop}
-use Rattle.csv.specs.Machine.{Runs, Read, next_record, step}
-use Rattle.csv.specs.Reading.{AreRecords, Reached, default_config, is_bom, strip_bom}
+use Rattle.csv.specs.Machine.{Runs, next_record, step}
+use Rattle.csv.specs.Reading.{AreRecords, Reached, default_config, strip_bom}
 use Rattle.csv.specs.declared.parser.State.{State}
 use Rattle.csv.specs.declared.parser.State.TheVariants as st
 use Rattle.csv.specs.declared.parser.Action.TheVariants as act
 use Rattle.csv.proofs.ReadFacts.{run-copies, not-first}
 use Rattle.graph_base.specs.phase_accum.Sends.{AreSends, IsSend, value_max}
-use Rattle.graph_base.proofs.phase_accum_lemmas.Parts.{AreSends-append}
 use Rattle.graph_lang.specs.TextInside.{EndsLine, BeginsWithCount, BeginsWithLine, BeginsWithWord}
 use Rattle.graph_lang.specs.Samples.{AreSamples, row_of}
 use Rattle.graph_lang.proofs.Digits.{looks_decimal}

@@ -1,6 +1,6 @@
 -- What the code keeps while it reads samples: the form of a number, the part of a text that is read,
 -- and the lines that it begins with.
-use Rattle.std.specs.Prelude.{ℕ, ℤ, pos, neg_ℤ, ◌≤◌, ◌≡◌, ◌<◌, List, length, drop, slice_index, ◌⊎◌, [], ◌∷◌, ◌++◌}
+use Rattle.std.specs.Prelude.{ℕ, ℤ, ◌≤◌, ◌≡◌, ◌<◌, List, length, drop, slice_index, ◌⊎◌, [], ◌∷◌, ◌++◌}
 use Rattle.std.specs.Fmt.{decimal, signed_decimal}
 use Rattle.graph_base.specs.phase_accum.Sends.{IsSend, value_max}
 

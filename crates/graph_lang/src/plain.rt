@@ -30,11 +30,11 @@ fn digits_in(text: &[u8]) -> Digits
     let limit = text.len().min(19);
     let mut value = 0u64;
     for size in 0..limit {
-        let b = text[size];
-        if b < b'0' || b > b'9' {
+        let digit = text[size].wrapping_sub(b'0');
+        if digit > 9 {
             return Digits { value, size };
         }
-        value = value * 10 + u64::from(b - b'0');
+        value = value * 10 + u64::from(digit);
     }
     Digits { value, size: limit }
 }
