@@ -6,6 +6,9 @@ ghost use Rattle.graph_lang.specs.TextInside.{BeginsWithWord, BeginsWithCount, B
 
 use std::alloc::{AllocError, Global};
 
+/// The greatest magnitude of a value.
+const VALUE_MAX: u64 = 9_223_372_036_854_775_807;
+
 /// Digits at the front of a text: their number, and how many they are.
 #[derive(Clone, Copy)]
 struct Digits {
@@ -63,7 +66,7 @@ fn count_in(text: &[u8]) -> Option<Digits>
     if digits.size == 0 || (text[0] == b'0' && digits.size != 1) {
         return None;
     }
-    if digits.value > 9223372036854775807 {
+    if digits.value > VALUE_MAX {
         return None;
     }
     match line_end_in(&text[digits.size..]) {
@@ -90,16 +93,11 @@ fn line_in(text: &[u8]) -> Option<Line>
     }
     match count_in(&text[1..]) {
         None => None,
-        Some(line) => {
-            if line.value == 0 {
-                None
-            } else {
-                Some(Line {
-                    value: -(line.value as i64),
-                    size: line.size + 1,
-                })
-            }
-        }
+        Some(line) if line.value == 0 => None,
+        Some(line) => Some(Line {
+            value: -(line.value as i64),
+            size: line.size + 1,
+        }),
     }
 }
 

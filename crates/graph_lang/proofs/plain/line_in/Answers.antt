@@ -5,8 +5,8 @@ use Rattle.graph_lang.proofs.PlainLines.{minus-line, rest-is}
 use Rattle.graph_lang.proofs.plain.line_in.Goals as goal
 use lib.IntN.{neg_ℤ}
 
-pub returns-else-line-eq0 : goal.returns-else-line-eq0
-returns-else-line-eq0 c =
+pub returns-in-Some-2 : goal.returns-in-Some-2
+returns-in-Some-2 c =
     let text = c.args.text.now in
     let line = c.in-Some-count_in.line in
     let begins = rw (rest-is text 1) at c.in-Some-count_in.ensures.some in
