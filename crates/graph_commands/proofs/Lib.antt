@@ -1,4 +1,5 @@
 mod Counted
+mod Decimals
 pub mod DrawingEnds
 pub mod Ends
 pub mod Explaining

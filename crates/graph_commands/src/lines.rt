@@ -57,23 +57,6 @@ pub fn write_values<W: Write>(writer: &mut Watched<W>, values: &[i64]) -> Result
 }
 
 impl OutputBuffer {
-    /// Puts a value on a line of its own.
-    fn put_value<W: Write>(
-        &mut self,
-        value: i64,
-        writer: &mut Watched<W>,
-    ) -> Result<(), WriteFailed>
-        ensures ok { OnOk result (Puts (W.contents (inner_of writer.old))
-            (W.contents (inner_of writer.new)) self.old self.new (value_text value)) }
-        ensures err { OnErr result (AppendsPrefix (W.contents (inner_of writer.old))
-            (W.contents (inner_of writer.new)) (self.old ++ value_text value)) }
-        ensures failed { OnErr result (has_failed_of writer.new ≡ true) }
-        ensures same { OnOk result (has_failed_of writer.new ≡ has_failed_of writer.old) }
-    {
-        self.put(Buffer::new().format(value).as_bytes(), writer)?;
-        self.put(b"\n", writer)
-    }
-
     /// Puts where a sink begins, of one that has a start.
     fn put_start<W: Write>(
         &mut self,

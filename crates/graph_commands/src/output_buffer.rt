@@ -1,14 +1,19 @@
 //! Text that is collected, so that a writer is called once for many lines.
-ghost use Rattle.std.specs.Prelude.{◌≡◌, ◌≤◌, ◌++◌, ◌+◌, List, ℕ, [], length, take, true, OnOk, OnErr};
+ghost use Rattle.std.specs.Prelude.{◌≡◌, ◌≤◌, ◌++◌, ◌+◌, ◌∷◌, List, ℕ, [], length, take, true, decimal, OnOk, OnErr};
 ghost use Rattle.std.specs.Io.KnownBytes.{Appends};
 ghost use Rattle.graph_commands.specs.Inside.{Puts};
+ghost use Rattle.graph_commands.specs.OutputTexts.{value_text};
 ghost use Rattle.graph_show.specs.watched_io.declared.text.TheConstants.{CHUNK_MAX};
 ghost use Rattle.graph_show.specs.watched_io.Prefix.{AppendsPrefix};
 ghost use Rattle.graph_show.specs.watched_io.Watched.{has_failed_of, inner_of};
 
 use graph_show::watched_io::{CHUNK_MAX, Watched, WriteFailed};
+use itoa::write_digits;
 use std::io::Write;
 use std::marker::Model;
+
+/// Room for a number, its sign and the end of its line, in bytes.
+const LINE_ROOM: usize = 22;
 
 /// The end of a text, of at most `CHUNK_MAX` bytes, which waits to be written. It stands on the
 /// stack.
@@ -16,6 +21,17 @@ use std::marker::Model;
 pub(crate) struct OutputBuffer {
     buf: [u8; CHUNK_MAX],
     len: usize,
+}
+
+/// How many digits the number has.
+fn digit_count(number: u64) -> usize
+    ensures { result ≡ length (decimal number) }
+{
+    if number == 0 {
+        1
+    } else {
+        number.ilog10() as usize + 1
+    }
 }
 
 impl Model for OutputBuffer {
@@ -54,6 +70,37 @@ impl OutputBuffer {
         self.len = end;
     }
 
+    /// Keeps a byte behind those that wait.
+    fn keep_byte(&mut self, byte: u8)
+        requires { length self.old + 1 ≤ CHUNK_MAX }
+        ensures { self.new ≡ self.old ++ byte ∷ [] }
+    {
+        self.buf[self.len] = byte;
+        self.len += 1;
+    }
+
+    /// Keeps a number's digits behind the bytes that wait.
+    fn keep_digits(&mut self, number: u64)
+        requires { length self.old + 20 ≤ CHUNK_MAX }
+        ensures { self.new ≡ self.old ++ decimal number }
+    {
+        let end = self.len + digit_count(number);
+        write_digits(number, &mut self.buf, end);
+        self.len = end;
+    }
+
+    /// Keeps a value behind the bytes that wait, with the end of its line.
+    fn keep_value(&mut self, value: i64)
+        requires { length self.old + LINE_ROOM ≤ CHUNK_MAX }
+        ensures { self.new ≡ self.old ++ value_text value }
+    {
+        if value < 0 {
+            self.keep_byte(b'-');
+        }
+        self.keep_digits(value.unsigned_abs());
+        self.keep_byte(b'\n');
+    }
+
     /// Writes what waits.
     pub(crate) fn hand_over<W: Write>(&mut self, writer: &mut Watched<W>) -> Result<(), WriteFailed>
         ensures ok { OnOk result (Appends (W.contents (inner_of writer.old))
@@ -66,6 +113,40 @@ impl OutputBuffer {
     {
         writer.send(&self.buf[..self.len])?;
         self.len = 0;
+        Ok(())
+    }
+
+    /// Writes what waits where it leaves no room for a value's line.
+    fn make_room<W: Write>(&mut self, writer: &mut Watched<W>) -> Result<(), WriteFailed>
+        ensures ok { OnOk result (Puts (W.contents (inner_of writer.old))
+            (W.contents (inner_of writer.new)) self.old self.new []) }
+        ensures room { OnOk result (length self.new + LINE_ROOM ≤ CHUNK_MAX) }
+        ensures err { OnErr result (AppendsPrefix (W.contents (inner_of writer.old))
+            (W.contents (inner_of writer.new)) self.old) }
+        ensures failed { OnErr result (has_failed_of writer.new ≡ true) }
+        ensures same { OnOk result (has_failed_of writer.new ≡ has_failed_of writer.old) }
+    {
+        if self.has_room(LINE_ROOM) {
+            return Ok(());
+        }
+        self.hand_over(writer)
+    }
+
+    /// Puts a value on a line of its own.
+    pub(crate) fn put_value<W: Write>(
+        &mut self,
+        value: i64,
+        writer: &mut Watched<W>,
+    ) -> Result<(), WriteFailed>
+        ensures ok { OnOk result (Puts (W.contents (inner_of writer.old))
+            (W.contents (inner_of writer.new)) self.old self.new (value_text value)) }
+        ensures err { OnErr result (AppendsPrefix (W.contents (inner_of writer.old))
+            (W.contents (inner_of writer.new)) (self.old ++ value_text value)) }
+        ensures failed { OnErr result (has_failed_of writer.new ≡ true) }
+        ensures same { OnOk result (has_failed_of writer.new ≡ has_failed_of writer.old) }
+    {
+        self.make_room(writer)?;
+        self.keep_value(value);
         Ok(())
     }
 

@@ -12,10 +12,9 @@ use lib.IntN.{ℤ, pos, negsuc}
 use Rattle.std.proofs.Math.Seq.{take-length}
 
 -- the number of at most 18 digits is below 10 ^ 18
-pub few_digits : (bs : List ℕ) (i : ℕ) → i < length bs → length bs ≤ 19 → AllDigits 10 (take i bs) → digits_value 10 (take i bs) < 10 ^ 18
-few_digits bs i h few digits =
+pub few_digits : (bs : List ℕ) (i : ℕ) → i < length bs → i ≤ 18 → AllDigits 10 (take i bs) → digits_value 10 (take i bs) < 10 ^ 18
+few_digits bs i h low digits =
     let below : digits_value 10 (take i bs) < 10 ^ i = subst (λ (n : ℕ). digits_value 10 (take i bs) < 10 ^ n) (length-take-le i bs (omega arith)) (digits_value-lt 10 (take i bs) digits) in
-    let low : i ≤ 18 = omega arith in
     let ten : zero < 10 = omega arith in
     let wide : 10 ^ i ≤ 10 ^ 18 = pow-le-pow_right ten low in
     omega arith

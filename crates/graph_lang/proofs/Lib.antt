@@ -14,6 +14,7 @@ mod WorkedText
 pub mod Commas
 mod Digits
 mod Fields
+mod PlainLines
 mod Reading
 mod Shrinks
 mod Unique

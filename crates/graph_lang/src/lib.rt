@@ -15,6 +15,7 @@ mod file;
 pub mod laws;
 mod number;
 mod parents;
+mod plain;
 mod read;
 mod sample;
 mod text_fault;

@@ -11,6 +11,7 @@ ghost use Rattle.watched_io.specs.declared.text.TheConstants.{CHUNK_MAX};
 
 use crate::SampleFault;
 use crate::number::value_of;
+use crate::plain::plain_samples;
 use csv::{ByteRecord, ReaderBuilder};
 use memchr::memchr;
 use std::alloc::Global;
@@ -60,7 +61,11 @@ pub fn samples_of(alloc: Global, text: &[u8]) -> Result<Vec<i64>, SampleFault>
     ensures bad { (n : ℕ) → IsErrOf result (SampleFault.BadSample n) → IsBadSample text.now n }
     ensures read { IsErrOf result SampleFault.ReadFault → ⊥ }
 {
-    records_of(alloc, through_comma(text))
+    match plain_samples(alloc, text) {
+        Err(_) => Err(SampleFault::OutOfMemory),
+        Ok(Some(values)) => Ok(values),
+        Ok(None) => records_of(alloc, through_comma(text)),
+    }
 }
 
 /// The values of all records of a text.

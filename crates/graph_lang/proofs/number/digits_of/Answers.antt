@@ -12,20 +12,20 @@ returns-then-b-lt48-clause-none c all =
 
 pub overflow_mul-value : goal.overflow_mul-value
 overflow_mul-value c =
-    let small = few_digits c.args.word.now c.loop-i.i c.loop-i-test.true c.requires c.loop-i.invariant.digits in
+    let small = few_digits c.args.word.now c.loop-i.i c.loop-i-test.true (omega arith) c.loop-i.invariant.digits in
     let v = c.loop-i.invariant.value in
     omega arith
 
 pub overflow_add-value : goal.overflow_add-value
 overflow_add-value c =
-    let small = few_digits c.args.word.now c.loop-i.i c.loop-i-test.true c.requires c.loop-i.invariant.digits in
+    let small = few_digits c.args.word.now c.loop-i.i c.loop-i-test.true (omega arith) c.loop-i.invariant.digits in
     let v = c.loop-i.invariant.value in
     let d = c.from.ensures in
     omega arith
 
 pub loop-i-preserved : goal.loop-i-preserved
 loop-i-preserved c =
-    let small = few_digits c.args.word.now c.loop-i.i c.loop-i-test.true c.requires c.loop-i.invariant.digits in
+    let small = few_digits c.args.word.now c.loop-i.i c.loop-i-test.true (omega arith) c.loop-i.invariant.digits in
     let v = c.loop-i.invariant.value in
     let bs = c.args.word.now in
     let d = digit_value_digit (get_or bs c.loop-i.i 0) (omega arith, omega arith) in
