@@ -1,0 +1,28 @@
+use Rattle.std.proofs.Common.{◌+◌}
+use Rattle.stream_filters.specs.Filter.{outputs}
+use Rattle.stream_filters.specs.Inside.{MadeSoFar}
+use Rattle.stream_filters.proofs.WholeLists.{IsNarrow-shown, block-made, OnOk-extended}
+use Rattle.stream_filters.proofs.whole_list.add_block.Goals as goal
+
+-- the samples are small
+pub block_outputs-outputs-requires-clause-narrow : goal.block_outputs-outputs-requires-clause-narrow
+block_outputs-outputs-requires-clause-narrow c =
+    IsNarrow-shown _ _ c.args.shift c.args.at c.requires.taps c.requires.small c.requires.within.0
+    c.requires.within.1
+
+-- the next 16 outputs, which are in range
+pub returns : goal.returns
+returns c =
+    let taps = c.args.taps.now in
+    let samples = c.args.samples.now in
+    let at = c.args.at in
+    record {
+      made = OnOk-extended c.extend_from_slice.result
+          (λ list. MadeSoFar (outputs taps c.args.shift samples) list
+          (at + 16)) c.args.list.now.items
+          c.block_outputs-outputs.result _ c.extend_from_slice.ensures.items
+          (block-made taps samples c.args.list.now.items c.block_outputs-outputs.result
+          c.args.shift at c.requires.taps
+          c.requires.small c.requires.within.0 c.requires.within.1 c.block_outputs-outputs.ensures
+          c.requires.made);
+    }
