@@ -4,6 +4,7 @@ pub mod DrawingEnds
 pub mod Ends
 pub mod Explaining
 mod Needed
+mod Noting
 pub mod Places
 mod Putting
 mod TextExamples

@@ -1,18 +1,23 @@
 -- What is told of a graph's file that gives no job, where it is explained: the line of the fault, as it
--- is told without an explanation, and then what is said further.
-use Rattle.std.specs.Prelude.{◌≡◌, ◌⊎◌, ◌≤◌, ◌++◌, ℕ, List, [], length, map, codes, ⊤}
+-- is told without an explanation, and then what is said further. What is said of one that gives a job
+-- and has no fault.
+use Rattle.std.specs.Prelude.{◌≡◌, ◌≢◌, ◌⊎◌, ◌≤◌, ◌++◌, ℕ, List, [], length, map, codes, ⊤}
+use Rattle.std.specs.Io.KnownBytes.{Appends}
 use Rattle.std.specs.List.{flat_map}
-use Rattle.graph_commands.specs.FileJobs.{Explains, Known}
+use Rattle.graph_commands.specs.FileJobs.{Explains, IsJobOf, Known}
 use Rattle.graph_commands.specs.GraphDrawings.{DrawEnds, ExplainsNoGraph}
-use Rattle.graph_commands.specs.GraphRuns.{CheckEnds, EvalEnds, IsNoSink, IsTooBig, job_line, job_status}
+use Rattle.graph_commands.specs.GraphRuns.{EvalEnds, IsNoSink, IsTooBig, IsUnwritten, check_line, job_line, job_status}
 use Rattle.graph_commands.specs.declared.fault.JobFault.{JobFault}
 use Rattle.graph_commands.specs.declared.fault.JobFault.TheVariants as fault
 use Rattle.graph_commands.specs.declared.graph_file.TheConstants.{GRAPH_MAX}
 use Rattle.graph_show.specs.Explanations.{ExplainsLine, shown}
+use Rattle.graph_show.specs.graph_base.Graphs.{Graph}
 use Rattle.graph_show.specs.watched_io.Statuses.{Says}
 use Rattle.std.specs.declared.option.Option.{Option}
+use Rattle.stream_eval.specs.stream_lists.Jobs.{Job}
 use Rattle.graph_show.specs.watched_io.Files.{HasBytes}
-use Rattle.graph_show.specs.watched_io.States.{WriterState}
+use Rattle.graph_show.specs.watched_io.Prefix.{AppendsPrefix}
+use Rattle.graph_show.specs.watched_io.States.{WriterState, writer_state}
 use Rattle.graph_show.specs.watched_io.declared.watched.Watched.{Watched}
 
 -- the text is that of the file of this name
@@ -127,13 +132,53 @@ pub record IsRefusedExplained {W : Type 0} (known : Known) (name : List ℕ) (as
       ⊎ IsTooBig known name status line old new
   pub says : SaysFurther line before after
 
+-- ---- what is said of a graph that has no fault
+
+-- the line of the graph's counts was written, and lines for a person, or nothing, behind it
+pub record WritesNoted (graph : Graph) (old new : Option (List ℕ)) : Type 0 where
+  pub more : List ℕ
+  pub more_are : AreFurtherLines more
+  pub written : Appends old new (check_line graph ++ more)
+
+-- a prefix of these was
+pub record WritesNotedPrefix (graph : Graph) (old new : Option (List ℕ)) : Type 0 where
+  pub more : List ℕ
+  pub more_are : AreFurtherLines more
+  pub written : AppendsPrefix old new (check_line graph ++ more)
+
+-- the files tell a job, and its line was written, with lines for a person behind it
+pub record ChecksNoted (known : Known) (name : List ℕ) (old new : WriterState) : Type 0 where
+  pub job : Job
+  pub job_of : IsJobOf known name job
+  pub noted : WritesNoted job.graph old.written new.written
+
+-- the files tell a job, and a prefix of these lines was written
+pub record ChecksNotedPrefix (known : Known) (name : List ℕ) (old new : WriterState) : Type 0 where
+  pub job : Job
+  pub job_of : IsJobOf known name job
+  pub noted : WritesNotedPrefix job.graph old.written new.written
+
+-- a write of these lines failed, and its line was told
+pub record NotedStops (known : Known) (name : List ℕ) (status : ℕ)
+    (old new before after : WriterState) : Type 0 where
+  pub line : List ℕ
+  pub cause : IsUnwritten (ChecksNotedPrefix known name old new) status line new
+  pub says : Says line before after
+
+-- how a check ends of files that tell a job, by its status
+pub record IsNoted (known : Known) (name : List ℕ) (status : ℕ)
+    (old new before after : WriterState) : Type 0 where
+  pub done : status ≡ 0 → ChecksNoted known name old new
+  pub stops : status ≢ 0 → NotedStops known name status old new before after
+
 -- ---- how commands end that explain
 
--- how a check ends that explains: as without that, or the files tell no job
+-- how a check ends that explains: its line was written with lines for a person behind it, or a prefix
+-- of these, or the files tell no job
 abbrev pub CheckEndsExplained : {W : Type 0} → Known → List ℕ → ℕ → (W → Option (List ℕ))
     → Watched W → Watched W → WriterState → WriterState → Type 0
 CheckEndsExplained known name status contents old new before after =
-    CheckEnds known name status contents old new before after
+    IsNoted known name status (writer_state contents old) (writer_state contents new) before after
     ⊎ IsNoJobExplained known name status old new before after
 
 -- how a drawing ends that explains: as without that, or the file tells no graph

@@ -1,7 +1,7 @@
 //! A check and an evaluation of a graph, and the reports of their faults.
 ghost use Rattle.std.specs.Prelude.{◌≡◌, ◌⊎◌, ℕ, List, Option, true, OnOk, OnErr, map, option_map};
 ghost use Rattle.std.specs.Io.KnownBytes.{Appends};
-ghost use Rattle.graph_commands.specs.Explained.{CheckEndsExplained, EvalEndsExplained};
+ghost use Rattle.graph_commands.specs.Explained.{CheckEndsExplained, EvalEndsExplained, WritesNoted, WritesNotedPrefix};
 ghost use Rattle.graph_commands.specs.FileJobs.{IsJobOf, Known};
 ghost use Rattle.graph_commands.specs.GraphRuns.{AsksSink, CheckEnds, EvalEnds, check_line};
 ghost use Rattle.graph_commands.specs.OutputTexts.{lines_text};
@@ -15,7 +15,9 @@ ghost use Rattle.graph_show.specs.watched_io.States.{writer_state};
 ghost use Rattle.graph_show.specs.watched_io.Watched.{has_failed_of, inner_of};
 
 use crate::explained::read_job_or_explain;
+use crate::further::further_lines;
 use crate::graph_faults::{report_job_fault, report_no_sink, report_too_big};
+use crate::notes::job_notes;
 use crate::sinks::{find_sink, values_of};
 use crate::{Refuses, read_job, write_lines, write_values};
 use graph_show::graph_lang::Graph;
@@ -48,7 +50,10 @@ pub fn check_and_report<W: Write, E: Write, F: Files>(
 }
 
 /// As `check_and_report`, and the line of a refusal or a fault of the files is explained to a person
-/// behind it.
+/// behind it. Where there is none, lines for a person stand behind how many phasers and tasks there
+/// are: which phasers hang loose, which sinks take no value, which tasks have inputs that end at
+/// different lengths, and at which phasers no bound is enough. Where memory runs out over these lines,
+/// there are none.
 pub fn check_and_explain<W: Write, E: Write, F: Files + Refuses>(
     alloc: Global,
     name: &str,
@@ -63,7 +68,7 @@ pub fn check_and_explain<W: Write, E: Write, F: Files + Refuses>(
     ensures quiet { result ≡ 0 → faults.new ≡ faults.old }
 {
     match read_job_or_explain(alloc, files, name, faults) {
-        Ok(read) => report_written(write_counts(read.graph(), output), faults),
+        Ok(read) => report_written(write_noted(alloc, &read, output), faults),
         Err(status) => status,
     }
 }
@@ -94,6 +99,23 @@ fn write_counts<W: Write>(graph: &Graph, output: &mut Watched<W>) -> Result<(), 
     let tasks = tasks.format(graph.tasks());
     let parts = ["ok phasers ", phasers, " tasks ", tasks, "\n"];
     write_parts(parts.as_slice(), output)
+}
+
+/// Writes how many phasers and tasks there are, and then lines for a person, or none.
+fn write_noted<W: Write>(
+    alloc: Global,
+    job: &Job,
+    output: &mut Watched<W>,
+) -> Result<(), WriteFailed>
+    ensures ok { OnOk result (WritesNoted job.now.graph
+        (W.contents (inner_of output.old)) (W.contents (inner_of output.new))) }
+    ensures err { OnErr result (WritesNotedPrefix job.now.graph
+        (W.contents (inner_of output.old)) (W.contents (inner_of output.new))) }
+    ensures failed { OnErr result (has_failed_of output.new ≡ true) }
+{
+    let more = further_lines(alloc, job_notes(alloc, job));
+    write_counts(job.graph(), output)?;
+    output.send(&more)
 }
 
 /// Evaluates a graph on the samples of its sources, and answers the exit status: 0, with the lists

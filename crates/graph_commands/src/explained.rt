@@ -6,6 +6,7 @@ ghost use Rattle.graph_commands.specs.GraphDrawings.{ExplainsNoGraph};
 ghost use Rattle.graph_commands.specs.GraphRuns.{job_status};
 ghost use Rattle.graph_show.specs.watched_io.States.{writer_state};
 
+use crate::controls::without_controls;
 use crate::further::{further_lines, tell_bytes};
 use crate::graph_faults::report_job_fault;
 use crate::job_file::job_of_graph;
@@ -169,13 +170,14 @@ fn record_explained(
     Ok(more)
 }
 
-/// The name of a file, and why it was refused.
+/// The name of a file, without control bytes, and why it was refused.
 fn refusal_explained(alloc: Global, name: &str, why: FileRefusal) -> Result<Vec<u8>, AllocError>
     ensures { IfOk result (λ more. TellsRefusal more.items) }
 {
+    let file = without_controls(alloc, name.as_bytes())?;
     let mut more = Vec::new(alloc);
     more.extend_from_slice(b"  ")?;
-    more.extend_from_slice(name.as_bytes())?;
+    more.extend_from_slice(&file)?;
     more.extend_from_slice(b": ")?;
     more.extend_from_slice(told_of(why).as_bytes())?;
     more.extend_from_slice(b"\n")?;

@@ -8,8 +8,9 @@ ghost use Rattle.graph_show.specs.watched_io.States.{writer_state};
 use crate::GRAPH_MAX;
 use crate::further::{further_lines, tell_bytes};
 use crate::graph_faults::{report_no_sink, report_too_big};
+use crate::members::signals;
 use crate::records::front_of;
-use graph_show::graph_base::{Graph, Kind, Place, TaskLine};
+use graph_show::graph_base::{Graph, Kind, Place};
 use graph_show::graph_lang::graph_text::{lines_of, without_cr, words_of};
 use graph_show::watched_io::{Files, Watched};
 use itoa::Buffer;
@@ -104,12 +105,6 @@ fn line_texts(alloc: Global, graph: &[u8], name: &[u8]) -> Result<Vec<Vec<u8>>, 
         }
     }
     Ok(texts)
-}
-
-/// Whether a task signals phaser number `p`.
-fn signals(task: &TaskLine, p: usize) -> bool {
-    let is_exchange = matches!(task.kind, Kind::Peer) && task.inputs.last() == Some(&p);
-    is_exchange || task.outputs.iter().any(|output| *output == p)
 }
 
 /// Which tasks signal phaser number `p`, as a text for a person.

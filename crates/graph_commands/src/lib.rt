@@ -5,11 +5,13 @@
 //! the files of its sources; the third reads the graph alone;
 //! `write_lines` writes what an evaluation gave each sink, and `write_values` what it gave one.
 //! `check_and_explain`, `eval_and_explain` and `draw_and_explain` do the same, and explain a fault behind
-//! its line. `explain_no_sink` and `explain_too_big` do that for two of them. `find_sink`, `write_sinks` and the calls that report an end are for another command that gives the
-//! same values.
+//! its line; `check_and_explain` also says what a person may want to know of a graph without a fault.
+//! `explain_no_sink` and `explain_too_big` explain two of the faults. `find_sink`, `write_sinks` and the
+//! calls that report an end are for another command that gives the same values.
 #![tactic(auto)]
 
 mod answered;
+mod controls;
 mod drawn;
 mod eval_explained;
 mod explained;
@@ -21,7 +23,11 @@ mod hints;
 mod job_file;
 pub mod laws;
 mod lines;
+mod members;
+mod notes;
 mod output_buffer;
+mod rate;
+mod rates;
 mod records;
 mod refused;
 mod sinks;

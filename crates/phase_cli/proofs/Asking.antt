@@ -4,9 +4,10 @@ use Rattle.phase_cli.specs.Ends.{IsStatus, LeavesAlone, MayEnd, MayEndAs}
 use Rattle.phase_cli.specs.Inside.{IsAnswer, LeavesBy}
 use Rattle.phase_replay.specs.watched_io.Statuses.{Reports}
 use Rattle.phase_words.proofs.NoCalls.{asked-help-not-taken, asked-version-not-taken, refusal-not-help, refusal-not-taken, refusal-not-version, shown-not-taken, taken-or-not}
-use Rattle.phase_words.specs.CommandLine.{AreRefused, AreTaken, Asked, Asks, AskGraph, AskHelp, AskVersion, IsNoCall, asked_in, asked_of, check, check_explained, draw, draw_explained, eval, eval_explained, graph_asked, replay}
+use Rattle.phase_words.specs.CommandLine.{AreRefused, AreTaken, Asked, Asks, AskFile, AskHelp, AskVersion, IsNoCall, asked_in, asked_of, check, check_explained, draw, draw_explained, eval, eval_explained, file_asked, replay, replay_file, replay_strictly}
 use Rattle.phase_words.specs.declared.call.Call.{Call}
 use Rattle.phase_words.specs.declared.call.Explain.TheVariants.{No, Yes}
+use Rattle.phase_words.specs.declared.call.Strict.TheVariants as strictly
 use Rattle.phase_words.specs.declared.call.NoCall.{NoCall}
 use Rattle.phase_words.specs.declared.call.Call.TheVariants as call
 use Rattle.phase_words.specs.declared.call.NoCall.TheVariants as no_call
@@ -20,7 +21,7 @@ use Rattle.phase_replay.specs.watched_io.declared.watched.Watched.{Watched}
 pub asks-one : (words : List (List ℕ)) (one other : Asked) → Asks words one → Asks words other → one ≡ other
 asks-one words one other p q = sym p.command ∙ q.command
 
--- a replay alone reads the input, and what goes by a graph alone opens files
+-- a replay with no file alone reads the input, and what goes by a file alone opens files
 pub leaves-asked : {R F : Type 0} (words : List (List ℕ)) (asked : Call) (input rest : Watched R) (closed files : F)
     → Asks words (asked_of asked) → LeavesBy asked input rest closed files → LeavesAlone words input rest closed files
 leaves-asked words asked input rest closed files asks leaves = record {
@@ -31,17 +32,21 @@ leaves-asked words asked input rest closed files asks leaves = record {
     unread-by : (asked : Call) → Asks words (asked_of asked) → LeavesBy asked input rest closed files
         → (Asks words replay → ⊥) → rest ≡ input
     unread-by call.Replay asks leaves other = absurd (other asks)
+    unread-by (call.ReplayFile script strict) asks leaves other = leaves
     unread-by (call.Check graph explain) asks leaves other = leaves
     unread-by (call.Eval graph sink explain) asks leaves other = leaves
     unread-by (call.Draw graph explain) asks leaves other = leaves
 
-    opens : (what : Asked) (name : List ℕ) → Asks words what → graph_asked what ≡ Some name
-        → ((name : List ℕ) → AskGraph words name → ⊥) → files ≡ closed
+    opens : (what : Asked) (name : List ℕ) → Asks words what → file_asked what ≡ Some name
+        → ((name : List ℕ) → AskFile words name → ⊥) → files ≡ closed
     opens what name asks named other = absurd (other name (record { what = what; asks = asks; named = named }))
 
     unopened-by : (asked : Call) → Asks words (asked_of asked) → LeavesBy asked input rest closed files
-        → ((name : List ℕ) → AskGraph words name → ⊥) → files ≡ closed
+        → ((name : List ℕ) → AskFile words name → ⊥) → files ≡ closed
     unopened-by call.Replay asks leaves other = leaves
+    unopened-by (call.ReplayFile script strictly.No) asks leaves other = opens (replay_file script.now) script.now asks refl other
+    unopened-by (call.ReplayFile script strictly.Yes) asks leaves other =
+        opens (replay_strictly script.now) script.now asks refl other
     unopened-by (call.Check graph No) asks leaves other = opens (check graph.now) graph.now asks refl other
     unopened-by (call.Check graph Yes) asks leaves other = opens (check_explained graph.now) graph.now asks refl other
     unopened-by (call.Eval graph sink No) asks leaves other =
@@ -73,6 +78,8 @@ taken-memory words no_call.OutOfMemory status old new before after taken why ans
 
 five-as : (what : Asked) (status : ℕ) → status ≡ 5 → MayEndAs what status
 five-as replay status five = inr five
+five-as (replay_file name) status five = inr five
+five-as (replay_strictly name) status five = inr (inr five)
 five-as (check name) status five = inr (inr five)
 five-as (eval name sink) status five = inr (inr (inr five))
 five-as (draw name) status five = inr (inr five)
@@ -145,6 +152,9 @@ any-evaluated status (inr (inr (inr five))) = inr (inr (inr (inr five)))
 any-as : (what : Asked) (status : ℕ) → MayEndAs what status → IsStatus status
 any-as replay status (inl zero) = inl zero
 any-as replay status (inr five) = inr (inr (inr (inr five)))
+any-as (replay_file name) status (inl zero) = inl zero
+any-as (replay_file name) status (inr five) = inr (inr (inr (inr five)))
+any-as (replay_strictly name) status ends = any-read status ends
 any-as (check name) status ends = any-read status ends
 any-as (eval name sink) status ends = any-evaluated status ends
 any-as (draw name) status ends = any-read status ends
@@ -178,6 +188,9 @@ two-evaluated status two (inr (inr (inr five))) = omega (arith, two, five)
 two-as : (what : Asked) (status : ℕ) → status ≡ 2 → MayEndAs what status → ⊥
 two-as replay status two (inl zero) = omega (arith, two, zero)
 two-as replay status two (inr five) = omega (arith, two, five)
+two-as (replay_file name) status two (inl zero) = omega (arith, two, zero)
+two-as (replay_file name) status two (inr five) = omega (arith, two, five)
+two-as (replay_strictly name) status two ends = two-read status two ends
 two-as (check name) status two ends = two-read status two ends
 two-as (eval name sink) status two ends = two-evaluated status two ends
 two-as (draw name) status two ends = two-read status two ends

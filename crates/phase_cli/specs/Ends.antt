@@ -4,10 +4,11 @@ use Rattle.graph_commands.specs.Explained.{CheckEndsExplained, DrawEndsExplained
 use Rattle.graph_commands.specs.FileJobs.{Known}
 use Rattle.graph_commands.specs.GraphDrawings.{DrawEnds}
 use Rattle.graph_commands.specs.GraphRuns.{CheckEnds, EvalEnds}
+use Rattle.phase_replay.specs.FileReplays.{FileReplayEnds, StrictFileReplayEnds}
 use Rattle.phase_replay.specs.Replays.{ReplayEnds}
 use Rattle.phase_replay.specs.Replay.{HasCause}
 use Rattle.phase_replay.specs.watched_io.Statuses.{Reports}
-use Rattle.phase_words.specs.CommandLine.{AreRefused, AreTaken, Asked, Asks, AskGraph, AskHelp, AskReplay, AskVersion, check, check_explained, draw, draw_explained, eval, eval_explained, replay}
+use Rattle.phase_words.specs.CommandLine.{AreRefused, AreTaken, Asked, Asks, AskFile, AskHelp, AskReplay, AskVersion, check, check_explained, draw, draw_explained, eval, eval_explained, replay, replay_file, replay_strictly}
 use Rattle.phase_replay.specs.watched_io.States.{ReaderState, WriterState, writer_state}
 use Rattle.phase_replay.specs.watched_io.declared.fault.IoFault.{IoFault}
 use Rattle.phase_replay.specs.watched_io.declared.fault.IoFault.TheVariants.{OutOfMemory}
@@ -20,6 +21,8 @@ IsStatus status = (status ≡ 0) ⊎ ((status ≡ 1) ⊎ ((status ≡ 2) ⊎ ((s
 -- the statuses of what words that are taken ask for
 abbrev pub MayEndAs : Asked → ℕ → Type 0
 MayEndAs replay status = (status ≡ 0) ⊎ (status ≡ 5)
+MayEndAs (replay_file _) status = (status ≡ 0) ⊎ (status ≡ 5)
+MayEndAs (replay_strictly _) status = (status ≡ 0) ⊎ ((status ≡ 1) ⊎ (status ≡ 5))
 MayEndAs (check _) status = (status ≡ 0) ⊎ ((status ≡ 1) ⊎ (status ≡ 5))
 MayEndAs (eval _ _) status = (status ≡ 0) ⊎ ((status ≡ 1) ⊎ ((status ≡ 3) ⊎ (status ≡ 5)))
 MayEndAs (draw _) status = (status ≡ 0) ⊎ ((status ≡ 1) ⊎ (status ≡ 5))
@@ -41,6 +44,12 @@ abbrev pub EndsAs : {W : Type 0} → Asked → Known → (W → Option (List ℕ
     → ReaderState → ReaderState → Watched W → Watched W → WriterState → WriterState → Type 0
 EndsAs replay known contents status input rest old new before after =
     ReplayEnds status input rest (writer_state contents old) (writer_state contents new) before after
+EndsAs (replay_file name) known contents status input rest old new before after =
+    FileReplayEnds (known name) status (writer_state contents old) (writer_state contents new)
+    before after
+EndsAs (replay_strictly name) known contents status input rest old new before after =
+    StrictFileReplayEnds (known name) status (writer_state contents old) (writer_state contents new)
+    before after
 EndsAs (check name) known contents status input rest old new before after =
     CheckEnds known name status contents old new before after
 EndsAs (eval name sink) known contents status input rest old new before after =
@@ -54,11 +63,12 @@ EndsAs (eval_explained name sink) known contents status input rest old new befor
 EndsAs (draw_explained name) known contents status input rest old new before after =
     DrawEndsExplained known name status contents old new before after
 
--- a replay alone reads the input, and words that ask for something of a graph alone open files
+-- a replay with no file alone reads the input, and words that ask for something of a script or a graph in
+-- a file alone open files
 pub record LeavesAlone {R F : Type 0} (words : List (List ℕ)) (input rest : Watched R)
     (closed files : F) : Type 0 where
   pub unread : (AskReplay words → ⊥) → rest ≡ input
-  pub unopened : ((name : List ℕ) → AskGraph words name → ⊥) → files ≡ closed
+  pub unopened : ((name : List ℕ) → AskFile words name → ⊥) → files ≡ closed
 
 -- memory ran out over the words: no file was opened, and nothing was written but the fault's line
 pub record IsUnbegun {F W : Type 0} (status : ℕ) (closed files : F) (old new : Watched W)

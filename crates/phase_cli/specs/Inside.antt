@@ -9,9 +9,10 @@ use Rattle.phase_replay.specs.watched_io.declared.watched.Watched.{Watched}
 use Rattle.phase_words.specs.declared.call.Call.TheVariants as call
 use Rattle.phase_words.specs.declared.call.NoCall.TheVariants as no_call
 
--- what a call leaves alone: the files by a replay, and the input by what goes by a graph
+-- what a call leaves alone: the files by a replay with none, and the input by what goes by a file
 abbrev pub LeavesBy : {R F : Type 0} → Call → Watched R → Watched R → F → F → Type 0
 LeavesBy call.Replay input rest closed files = files ≡ closed
+LeavesBy (call.ReplayFile script strict) input rest closed files = rest ≡ input
 LeavesBy (call.Check graph explain) input rest closed files = rest ≡ input
 LeavesBy (call.Eval graph sink explain) input rest closed files = rest ≡ input
 LeavesBy (call.Draw graph explain) input rest closed files = rest ≡ input

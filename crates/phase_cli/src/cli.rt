@@ -3,7 +3,7 @@ ghost use Rattle.std.specs.Prelude.{◌≡◌, ◌⊎◌, option_map};
 ghost use Rattle.phase_cli.specs.Ends.{AnswerEnds, AnswerStops, EndsAs, IsUnbegun, LeavesAlone, MayEnd, MayEndAs};
 ghost use Rattle.phase_cli.specs.Inside.{IsAnswer, LeavesBy};
 ghost use Rattle.phase_replay.specs.Replays.{ReplayEnds};
-ghost use Rattle.phase_words.specs.CommandLine.{AreTaken, AskReplay, Asked, Asks, asked_of, check_by, draw_by, eval_by, texts};
+ghost use Rattle.phase_words.specs.CommandLine.{AreTaken, AskReplay, Asked, Asks, asked_of, check_by, draw_by, eval_by, file_by, texts};
 ghost use Rattle.phase_replay.specs.watched_io.States.{ReaderState, reader_state, writer_state};
 
 use graph_commands::{
@@ -11,15 +11,18 @@ use graph_commands::{
     eval_and_explain, eval_and_report,
 };
 use phase_replay::watched_io::{Files, refuse, report, show_help};
-use phase_replay::{ReplayFault as IoFault, Watched, replay_and_report};
-use phase_words::{Call, Explain, NoCall, read_words};
+use phase_replay::{
+    ReplayFault as IoFault, Watched, replay_and_report, replay_file_and_report,
+    replay_file_strictly,
+};
+use phase_words::{Call, Explain, NoCall, Strict, read_words};
 use std::alloc::Global;
 use std::io::{Read, Write};
 
 /// Runs the program on its words, without its own name, and answers its exit status: 0 where what
 /// was asked for is done, or help or the version was shown, 1 where a graph or its samples are
-/// refused, or no sink has the name that is asked for, 2 where the words are refused, 3 where a value
-/// of a graph is out of range, and 5 after a fault.
+/// refused, or no sink has the name that is asked for, or a line of a strict replay is refused, 2 where
+/// the words are refused, 3 where a value of a graph is out of range, and 5 after a fault.
 ///
 /// A refusal's text goes to the fault stream, and so does a fault's line. Where that stream fails
 /// too, the status stands alone.
@@ -40,8 +43,8 @@ pub fn run_cli<R: Read, W: Write, E: Write, F: Files + Refuses>(
         (writer_state W.contents output.old) (writer_state W.contents output.new)
         (writer_state E.contents faults.old) (writer_state E.contents faults.new) }
 
-    // What a check, an evaluation and a drawing of a graph wrote, whole or up to a fault, why there is
-    // no other answer, and what is said further where a fault is explained.
+    // What a replay of a file, and a check, an evaluation and a drawing of a graph wrote, whole or up
+    // to a fault, why there is no other answer, and what is said further where that is asked for.
     ensures asked { (what : Asked) → Asks (texts words.now) what
         → IsUnbegun result files.old files.new output.old output.new
         (writer_state E.contents faults.old) (writer_state E.contents faults.new)
@@ -55,8 +58,8 @@ pub fn run_cli<R: Read, W: Write, E: Write, F: Files + Refuses>(
         → AnswerEnds (texts words.now) result W.contents output.old output.new
         (writer_state E.contents faults.old) (writer_state E.contents faults.new) }
 
-    // What is left alone: a replay alone reads the input, and a check, an evaluation and a drawing
-    // alone open files.
+    // What is left alone: a replay with no file alone reads the input, and what goes by a file alone
+    // opens files.
     ensures left { LeavesAlone (texts words.now) input.old input.new files.old files.new }
     ensures quiet { result ≡ 0 → faults.new ≡ faults.old }
 {
@@ -85,6 +88,9 @@ fn run_call<R: Read, W: Write, E: Write, F: Files + Refuses>(
 {
     match call {
         Call::Replay => replay_and_report(alloc, input, output, faults),
+        Call::ReplayFile { script, strict } => {
+            run_replay(alloc, script, strict, output, faults, files)
+        }
         Call::Check { graph, explain } => run_check(alloc, graph, explain, output, faults, files),
         Call::Eval {
             graph,
@@ -92,6 +98,28 @@ fn run_call<R: Read, W: Write, E: Write, F: Files + Refuses>(
             explain,
         } => run_eval(alloc, graph, sink, explain, output, faults, files),
         Call::Draw { graph, explain } => run_draw(alloc, graph, explain, output, faults, files),
+    }
+}
+
+/// Replays the script in a file, to its end, or strictly.
+fn run_replay<W: Write, E: Write, F: Files + Refuses>(
+    alloc: Global,
+    script: &str,
+    strict: Strict,
+    output: &mut Watched<W>,
+    faults: &mut Watched<E>,
+    files: &mut F,
+) -> u8
+    ensures status { MayEndAs (file_by strict script.now) result }
+    ensures ends { (input rest : ReaderState)
+        → EndsAs (file_by strict script.now) (F.file files.old) W.contents result input rest
+        output.old output.new
+        (writer_state E.contents faults.old) (writer_state E.contents faults.new) }
+    ensures quiet { result ≡ 0 → faults.new ≡ faults.old }
+{
+    match strict {
+        Strict::No => replay_file_and_report(alloc, script, output, faults, files),
+        Strict::Yes => replay_file_strictly(alloc, script, output, faults, files),
     }
 }
 

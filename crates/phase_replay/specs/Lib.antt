@@ -1,3 +1,4 @@
+pub mod FileReplays
 pub mod HeldSends
 pub mod Inside
 pub mod Replay
@@ -6,4 +7,5 @@ pub mod Replays
 pub mod Replies
 pub mod Scripts
 pub mod Session
+pub mod Stops
 pub use Rattle.watched_io.specs as watched_io

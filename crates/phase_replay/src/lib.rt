@@ -3,10 +3,13 @@
 //! Wrap a reader and a writer by `Watched::new` and call `replay`, or make a `Session` and hand it
 //! one line after the other. A line gives a command where `read` reads it. `replay_and_report` is
 //! the command `replay` of the program: it replays the input, and reports its fault.
+//! `replay_file_and_report` and `replay_file_strictly` replay the script in a file.
 #![tactic(auto)]
 
 mod any_phaser;
 mod block_sends;
+mod file_replay;
+mod first_line;
 mod held_sends;
 pub mod laws;
 mod line_prefix;
@@ -14,8 +17,11 @@ mod replayed;
 mod replayer;
 mod script_phaser;
 mod session;
+mod stop;
+mod strict;
 mod whole;
 
+pub use file_replay::{replay_file_and_report, replay_file_strictly};
 pub use phase_core::phase_base;
 pub use phase_script;
 pub use phase_script::{

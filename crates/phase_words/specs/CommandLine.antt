@@ -12,6 +12,8 @@ use Rattle.phase_words.specs.declared.call.Call.{Call}
 use Rattle.phase_words.specs.declared.call.Call.TheVariants as call
 use Rattle.phase_words.specs.declared.call.Explain.{Explain}
 use Rattle.phase_words.specs.declared.call.Explain.TheVariants.{No, Yes}
+use Rattle.phase_words.specs.declared.call.Strict.{Strict}
+use Rattle.phase_words.specs.declared.call.Strict.TheVariants as strictly
 use Rattle.phase_words.specs.declared.call.NoCall.{NoCall}
 use Rattle.phase_words.specs.declared.call.NoCall.TheVariants as no_call
 
@@ -58,11 +60,24 @@ eval_shape = (with_rule (with_rule (graph_app (codes "eval")) sink_rule) explain
 abbrev pub draw_shape : Shape
 draw_shape = (with_rule (graph_app (codes "draw")) explain_rule).top
 
--- the program, with its commands: `replay`, which takes no word, and `check`, `eval` and `draw`
+-- the name of a script's file, which may be given
+abbrev pub script_rule : Rule
+script_rule = record (new_rule (codes "script")) { value_names = 1 }
+
+-- the word `--strict`, which may be given
+abbrev pub strict_rule : Rule
+strict_rule =
+    record (new_rule (codes "strict")) { long = Some (codes "strict"); action = Some SetTrue }
+
+-- the command `replay`
+abbrev pub replay_shape : Shape
+replay_shape = (with_rule (with_rule (new_app (codes "replay")) script_rule) strict_rule).top
+
+-- the program, with its commands `replay`, `check`, `eval` and `draw`
 unfoldable pub phase_app : App
 phase_app =
     with_subcommand (with_subcommand (with_subcommand (with_subcommand (with_version
-    (without_own_name (new_app (codes "phase")))) (new_app (codes "replay")).top)
+    (without_own_name (new_app (codes "phase")))) replay_shape)
     check_shape) eval_shape) draw_shape
 
 -- ---- what the words ask for
@@ -96,10 +111,13 @@ Refuse kinds = (kinds ≢ []) × ((kind : ErrorKind) → IsShown kind → IsAmon
 abbrev pub AreRefused : List Text → Type 0
 AreRefused words = Refuse (kinds_of words)
 
--- what words that are taken ask for: a replay, a check of a graph's file, its evaluation, for all
+-- what words that are taken ask for: a replay of standard input, or of the script in a file, also one
+-- that ends at the first line that is refused; a check of a graph's file, its evaluation, for all
 -- its sinks or for the one of a name, or its drawing; of these three also that a fault is explained
 pub data Asked : Type 0 where
   replay : Asked
+  replay_file : Text → Asked
+  replay_strictly : Text → Asked
   check : Text → Asked
   eval : Text → Option Text → Asked
   draw : Text → Asked
@@ -111,6 +129,21 @@ pub data Asked : Type 0 where
 abbrev pub explain_of : Option Text → Explain
 explain_of None = No
 explain_of (Some value) = if bytes_eq value (codes "true") then Yes else No
+
+-- whether `--strict` stands there, by the value that clap gives it, or none
+abbrev pub strict_of : Option Text → Strict
+strict_of None = strictly.No
+strict_of (Some value) = if bytes_eq value (codes "true") then strictly.Yes else strictly.No
+
+-- a replay of a script's file, to its end or strictly
+abbrev pub file_by : Strict → Text → Asked
+file_by strictly.No name = replay_file name
+file_by strictly.Yes name = replay_strictly name
+
+-- a replay of the script of this name, which is standard input where it is `-`
+abbrev pub replay_by : Strict → Text → Asked
+replay_by strictly.No name = if bytes_eq name (codes "-") then replay else replay_file name
+replay_by strictly.Yes name = replay_strictly name
 
 -- a check with an explanation or without
 abbrev pub check_by : Explain → Text → Asked
@@ -135,12 +168,27 @@ asked_as name graph sink explain =
     else if bytes_eq name (codes "draw") then draw_by explain (unwrap_or graph [])
     else replay
 
+-- by what clap found for the words of `replay`
+abbrev pub replay_with : List Row → Asked
+replay_with rows =
+    replay_by (strict_of (first_of (codes "strict") rows))
+    (unwrap_or (first_of (codes "script") rows) (codes "-"))
+
+-- by a command on a graph, and what clap found for its words
+abbrev pub graph_call_with : Text → List Row → Asked
+graph_call_with name rows =
+    asked_as name (first_of (codes "graph") rows) (first_of (codes "sink") rows)
+    (explain_of (first_of (codes "explain") rows))
+
+-- by a command, and what clap found for its words
+abbrev pub asked_with : Text → List Row → Asked
+asked_with name rows =
+    if bytes_eq name (codes "replay") then replay_with rows else graph_call_with name rows
+
 -- with no command a replay is asked for
 abbrev pub asked_by : Option (Text × List Row) → Asked
 asked_by None = replay
-asked_by (Some command) =
-    asked_as command.0 (first_of (codes "graph") command.1) (first_of (codes "sink") command.1)
-    (explain_of (first_of (codes "explain") command.1))
+asked_by (Some command) = asked_with command.0 command.1
 
 -- what the words ask for, by the command that clap finds in them
 unfoldable pub asked_in : List Text → Asked
@@ -154,6 +202,14 @@ pub record Asks (words : List Text) (what : Asked) : Type 0 where
 -- the words ask for a replay
 abbrev pub AskReplay : List Text → Type 0
 AskReplay words = Asks words replay
+
+-- the words ask for a replay of the script in the file of this name
+abbrev pub AskReplayFile : List Text → Text → Type 0
+AskReplayFile words name = Asks words (replay_file name)
+
+-- the words ask for a replay of it that ends at the first line that is refused
+abbrev pub AskReplayStrictly : List Text → Text → Type 0
+AskReplayStrictly words name = Asks words (replay_strictly name)
 
 -- the words ask for a check of the graph in the file of this name
 abbrev pub AskCheck : List Text → Text → Type 0
@@ -180,25 +236,28 @@ AskEvalExplained words name sink = Asks words (eval_explained name sink)
 abbrev pub AskDrawExplained : List Text → Text → Type 0
 AskDrawExplained words name = Asks words (draw_explained name)
 
--- the name of the graph's file of which something is asked for
-abbrev pub graph_asked : Asked → Option Text
-graph_asked replay = None
-graph_asked (check name) = Some name
-graph_asked (eval name sink) = Some name
-graph_asked (draw name) = Some name
-graph_asked (check_explained name) = Some name
-graph_asked (eval_explained name sink) = Some name
-graph_asked (draw_explained name) = Some name
+-- the name of the file, of a script or of a graph, of which something is asked for
+abbrev pub file_asked : Asked → Option Text
+file_asked replay = None
+file_asked (replay_file name) = Some name
+file_asked (replay_strictly name) = Some name
+file_asked (check name) = Some name
+file_asked (eval name sink) = Some name
+file_asked (draw name) = Some name
+file_asked (check_explained name) = Some name
+file_asked (eval_explained name sink) = Some name
+file_asked (draw_explained name) = Some name
 
--- the words ask for something of the graph in the file of this name
-pub record AskGraph (words : List Text) (name : Text) : Type 0 where
+-- the words ask for something of the script or the graph in the file of this name
+pub record AskFile (words : List Text) (name : Text) : Type 0 where
   pub what : Asked
   pub asks : Asks words what
-  pub named : graph_asked what ≡ Some name
+  pub named : file_asked what ≡ Some name
 
 -- what a call asks for
 abbrev pub asked_of : Call → Asked
 asked_of call.Replay = replay
+asked_of (call.ReplayFile script strict) = file_by strict script.now
 asked_of (call.Check graph explain) = check_by explain graph.now
 asked_of (call.Eval graph sink explain) =
     eval_by explain graph.now (option_map (λ s. s.now) sink)

@@ -1,6 +1,6 @@
 -- How an error of clap is told, and what the command line is made of.
 use Rattle.std.specs.Prelude.{◌≢◌, codes, ⊤}
-use Rattle.clap.specs.Words.{App, Shape, new_app}
+use Rattle.clap.specs.Words.{App, new_app}
 use Rattle.clap.specs.declared.error.kind.ErrorKind.{ErrorKind}
 use Rattle.clap.specs.declared.error.kind.ErrorKind.TheVariants.{OutOfMemory}
 use Rattle.phase_words.specs.CommandLine.{IsShown, with_version, without_own_name}
@@ -16,7 +16,3 @@ IsToldBy kind no_call.OutOfMemory = ⊤
 -- the program with no word and no command
 abbrev pub bare_app : App
 bare_app = with_version (without_own_name (new_app (codes "phase")))
-
--- the command `replay`
-abbrev pub replay_shape : Shape
-replay_shape = (new_app (codes "replay")).top

@@ -9,11 +9,25 @@ pub enum Explain {
     Yes,
 }
 
+/// Whether a replay ends at the first line that is refused.
+#[derive(Clone, Copy, Debug, PartialEq, Eq)]
+pub enum Strict {
+    /// It goes on to the script's end.
+    No,
+    /// It ends there.
+    Yes,
+}
+
 /// What the words ask for.
 #[derive(Clone, Copy, Debug, PartialEq, Eq)]
 pub enum Call<'a> {
-    /// A replay of the script on standard input.
+    /// A replay of the script on standard input, to its end.
     Replay,
+    /// A replay of the script in the file of this name.
+    ReplayFile {
+        script: &'a str,
+        strict: Strict,
+    },
     /// A check of the graph in the file of this name.
     Check {
         graph: &'a str,

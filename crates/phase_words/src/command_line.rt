@@ -1,19 +1,23 @@
 //! The words of the program, as clap reads them.
 ghost use Rattle.std.specs.Prelude.{◌≡◌, ◌↔◌, IfOk, IfErr, IsTrue, Some, false, option_map};
-ghost use Rattle.clap.specs.Words.{FailsBy, Shape, app_of, kind_of, rule_of, shape_of};
+ghost use Rattle.clap.specs.Words.{FailsBy, Shape, app_of, found_of, kind_of, rows_of, rule_of, shape_of};
 ghost use Rattle.clap.specs.Words.{subcommand_rows_of, with_subcommand};
 ghost use Rattle.clap.specs.declared.builder.command.Command.{out-Command};
 ghost use Rattle.phase_words.specs.CommandLine.{Asks, IsNoCall, IsShown};
-ghost use Rattle.phase_words.specs.Inside.{IsToldBy, bare_app, replay_shape};
-ghost use Rattle.phase_words.specs.CommandLine.{asked_as, asked_by, asked_in, asked_of, check_shape};
-ghost use Rattle.phase_words.specs.CommandLine.{draw_shape, eval_shape, explain_of, explain_rule, graph_app, graph_rule};
-ghost use Rattle.phase_words.specs.CommandLine.{kinds_of, phase_app, sink_rule, texts};
+ghost use Rattle.phase_words.specs.Inside.{IsToldBy, bare_app};
+ghost use Rattle.phase_words.specs.CommandLine.{asked_as, asked_by, asked_in, asked_of, asked_with};
+ghost use Rattle.phase_words.specs.CommandLine.{graph_call_with, replay_with};
+ghost use Rattle.phase_words.specs.CommandLine.{check_shape, draw_shape, eval_shape, explain_of};
+ghost use Rattle.phase_words.specs.CommandLine.{explain_rule, graph_app, graph_rule, kinds_of};
+ghost use Rattle.phase_words.specs.CommandLine.{phase_app, replay_by, replay_shape, script_rule};
+ghost use Rattle.phase_words.specs.CommandLine.{sink_rule, strict_of, strict_rule, texts};
 
+use crate::escape::escaped;
 use crate::help::{
-    ABOUT, CHECK, CHECK_END, DRAW, DRAW_END, END, EVAL, EVAL_END, EXPLAIN, GRAPH, REPLAY, SINK,
-    VERSION,
+    ABOUT, CHECK, CHECK_END, DRAW, DRAW_END, END, EVAL, EVAL_END, EXPLAIN, GRAPH, REPLAY, SCRIPT,
+    SINK, STRICT, VERSION,
 };
-use crate::{Call, Explain, NoCall};
+use crate::{Call, Explain, NoCall, Strict};
 use clap::error::ErrorKind;
 use clap::{Arg, ArgAction, ArgMatches, Command, Error};
 use std::alloc::{AllocError, Global};
@@ -111,12 +115,35 @@ pub(crate) fn bare_command<'a>(
         .bin_name(name)
 }
 
-/// The command `replay`.
-fn replay_command<'a>(alloc: Global) -> Command<'a>
-    ensures shape { shape_of result ≡ replay_shape }
-    ensures local { (out-Command result).has_globals ≡ false }
+/// The word behind `replay`, which may be given: the name of a script's file.
+fn script_word<'a>(alloc: Global) -> Arg<'a>
+    ensures rule { rule_of result ≡ script_rule }
+    ensures local { result.global ≡ false }
 {
-    Command::new(alloc, "replay").about(REPLAY).after_help(END)
+    Arg::new(alloc, "script").value_name("FILE").help(SCRIPT)
+}
+
+/// The word `--strict`, which may be given.
+fn strict_word<'a>(alloc: Global) -> Arg<'a>
+    ensures rule { rule_of result ≡ strict_rule }
+    ensures local { result.global ≡ false }
+{
+    Arg::new(alloc, "strict")
+        .long("strict")
+        .action(ArgAction::SetTrue)
+        .help(STRICT)
+}
+
+/// The command `replay`.
+fn replay_command<'a>(alloc: Global) -> Result<Command<'a>, AllocError>
+    ensures shape { IfOk result (λ c. shape_of c ≡ replay_shape) }
+    ensures local { IfOk result (λ c. (out-Command c).has_globals ≡ false) }
+{
+    Command::new(alloc, "replay")
+        .about(REPLAY)
+        .after_help(END)
+        .arg(script_word(alloc))?
+        .arg(strict_word(alloc))
 }
 
 /// A command line with one more command, where there was memory for that.
@@ -136,7 +163,8 @@ fn with_command<'a>(
 fn command<'a>(alloc: Global) -> Result<Command<'a>, AllocError>
     ensures { IfOk result (λ c. app_of c ≡ phase_app) }
 {
-    let top = bare_command(alloc, "phase", ABOUT, END)?.subcommand(replay_command(alloc))?;
+    let top = bare_command(alloc, "phase", ABOUT, END)?;
+    let top = with_command(top, replay_command(alloc))?;
     let top = with_command(top, check_command(alloc))?;
     let top = with_command(top, eval_command(alloc))?;
     with_command(top, draw_command(alloc))
@@ -146,15 +174,62 @@ fn command<'a>(alloc: Global) -> Result<Command<'a>, AllocError>
 fn call_of<'a>(matches: &ArgMatches<'a>) -> Call<'a>
     ensures { asked_of result ≡ asked_by (subcommand_rows_of matches.now) }
 {
-    let Some((name, own)) = matches.subcommand() else {
-        return Call::Replay;
-    };
+    match matches.subcommand() {
+        Some((name, own)) => call_with(name, own),
+        None => Call::Replay,
+    }
+}
+
+/// What a command of this name asks for, by what clap found for its words.
+fn call_with<'a>(name: &str, own: &ArgMatches<'a>) -> Call<'a>
+    ensures { asked_of result ≡ asked_with name.now (rows_of (found_of own.now)) }
+{
+    if name == "replay" {
+        return replay_with(own);
+    }
+    graph_call_with(name, own)
+}
+
+/// What `replay` asks for, by what clap found for its words.
+fn replay_with<'a>(own: &ArgMatches<'a>) -> Call<'a>
+    ensures { asked_of result ≡ replay_with (rows_of (found_of own.now)) }
+{
+    replay_of(
+        own.get_str("script").unwrap_or("-"),
+        strict_of(own.get_str("strict")),
+    )
+}
+
+/// What a command on a graph asks for, by what clap found for its words.
+fn graph_call_with<'a>(name: &str, own: &ArgMatches<'a>) -> Call<'a>
+    ensures { asked_of result ≡ graph_call_with name.now (rows_of (found_of own.now)) }
+{
     call_named(
         name,
         own.get_str("graph").unwrap_or(""),
         own.get_str("sink"),
         explain_of(own.get_str("explain")),
     )
+}
+
+/// A replay of the script of this name, which is standard input where it is `-`.
+fn replay_of<'a>(script: &'a str, strict: Strict) -> Call<'a>
+    ensures { asked_of result ≡ replay_by strict script.now }
+{
+    if strict == Strict::No && script == "-" {
+        return Call::Replay;
+    }
+    Call::ReplayFile { script, strict }
+}
+
+/// Whether the value that clap gives `--strict`, or none, is that of a flag that stands there.
+fn strict_of(value: Option<&str>) -> Strict
+    ensures { result ≡ strict_of (option_map (λ s. s.now) value.entry) }
+{
+    match value {
+        Some(value) if value == "true" => Strict::Yes,
+        _ => Strict::No,
+    }
 }
 
 /// Whether the value that clap gives `--explain`, or none, is that of a flag that stands there.
@@ -213,10 +288,15 @@ pub(crate) fn no_call(alloc: Global, error: &Error) -> NoCall
     if kind == ErrorKind::OutOfMemory {
         return NoCall::OutOfMemory;
     }
-    match error.to_string(alloc) {
-        Err(_) => NoCall::OutOfMemory,
-        Ok(text) if is_shown(kind) => NoCall::Shown(text),
+    let Ok(text) = error.to_string(alloc) else {
+        return NoCall::OutOfMemory;
+    };
+    if is_shown(kind) {
+        return NoCall::Shown(text);
+    }
+    match escaped(alloc, &text) {
         Ok(text) => NoCall::Refused(text),
+        Err(_) => NoCall::OutOfMemory,
     }
 }
 

@@ -1,14 +1,21 @@
 //! What clap makes of the words that the program's pages name.
 ghost use Rattle.std.specs.Prelude.{◌≤◌, ℕ, List, Option, [], ◌∷◌, Some, None, codes};
 ghost use Rattle.phase_words.specs.CommandLine.{AreRefused, AskCheck, AskDraw, AskEval, AskHelp};
-ghost use Rattle.phase_words.specs.CommandLine.{AskCheckExplained, AskDrawExplained, AskEvalExplained, AskReplay, AskVersion};
+ghost use Rattle.phase_words.specs.CommandLine.{AskCheckExplained, AskDrawExplained, AskEvalExplained, AskReplay};
+ghost use Rattle.phase_words.specs.CommandLine.{AskReplayFile, AskReplayStrictly, AskVersion};
 ghost use Rattle.phase_words.specs.RunLine.{AreRunRefused, AskRun, AskRunExplained, AskRunHelp};
 ghost use Rattle.phase_words.specs.RunLine.{AskRunVersion, AsksRun, Run};
 
-/// `phase` and `phase replay` ask for a replay.
+/// `phase` and `phase replay` ask for a replay, `phase replay s` for one of the script in the file s, and
+/// `--strict` for one that ends at the first line that is refused. `-` is standard input.
 pub fn words_for_replay()
     ensures none { AskReplay [] }
     ensures replay { AskReplay (codes "replay" ∷ []) }
+    ensures dash { AskReplay (codes "replay" ∷ codes "-" ∷ []) }
+    ensures file { AskReplayFile (codes "replay" ∷ codes "s" ∷ []) (codes "s") }
+    ensures strict { AskReplayStrictly (codes "replay" ∷ codes "--strict" ∷ []) (codes "-") }
+    ensures strict_file { AskReplayStrictly
+        (codes "replay" ∷ codes "s" ∷ codes "--strict" ∷ []) (codes "s") }
 {}
 
 /// `phase check g` and `phase eval g` ask for a check and an evaluation of the graph in the file g,
@@ -63,12 +70,12 @@ pub fn words_for_version()
     ensures of_eval { AreRefused (codes "eval" ∷ codes "--version" ∷ []) }
 {}
 
-/// A word that is no command, a word behind `replay`, a flag that is none, `run`, a sink behind
+/// A word that is no command, two files behind `replay`, a flag that is none, `run`, a sink behind
 /// `check`, and `check` and `eval` with no file or with two are refused.
 pub fn words_refused()
     ensures command { AreRefused (codes "bogus" ∷ []) }
     ensures run { AreRefused (codes "run" ∷ codes "g" ∷ []) }
-    ensures extra { AreRefused (codes "replay" ∷ codes "extra" ∷ []) }
+    ensures two_scripts { AreRefused (codes "replay" ∷ codes "s" ∷ codes "t" ∷ []) }
     ensures flag { AreRefused (codes "--bogus" ∷ []) }
     ensures empty { AreRefused ([] ∷ []) }
     ensures no_file { AreRefused (codes "eval" ∷ []) }

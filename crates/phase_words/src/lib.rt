@@ -1,14 +1,16 @@
 //! The words of the program's command line, and what they ask for, as clap reads them.
 //!
-//! The first call is `read_words`, and `read_run_words` for the words behind `phase run`. Each answers plain data: who calls it needs nothing of clap.
+//! The first call is `read_words`, and `read_run_words` for the words behind `phase run`. Each answers
+//! plain data: who calls it needs nothing of clap.
 #![tactic(auto)]
 
 mod call;
 mod command_line;
+mod escape;
 mod help;
 pub mod laws;
 mod run_line;
 
-pub use call::{Call, Explain, NoCall, RunCall, WORKERS, WORKERS_MAX};
+pub use call::{Call, Explain, NoCall, RunCall, Strict, WORKERS, WORKERS_MAX};
 pub use command_line::read_words;
 pub use run_line::read_run_words;

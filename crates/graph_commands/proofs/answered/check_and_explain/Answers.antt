@@ -1,5 +1,5 @@
 use Rattle.std.proofs.Common.{inl, inr, refl, arith}
-use Rattle.graph_commands.proofs.Ends.{check-written}
+use Rattle.graph_commands.proofs.Noting.{noted-written}
 use Rattle.graph_commands.proofs.answered.check_and_explain.Goals as goal
 
 -- the files tell no job, which was told and explained
@@ -18,12 +18,11 @@ returns-in-Err-clause-quiet g c = λ zero. elim c.in-Err.ensures.status [
   | inr five ↦ absurd (omega (arith, zero, five))
 ]
 
--- the job was read, and nothing was told before its line was written or not
+-- the job was read, and nothing was told before its lines were written or not
 pub returns-in-Ok-clause-ends : goal.returns-in-Ok-clause-ends
 returns-in-Ok-clause-ends g c =
-    inl (rw c.in-Ok.ensures.quiet at (check-written _ g.W.Write.contents _ _ c.in-Ok.read
-    c.write_counts.result c.report_written.result
-    c.args.output.now c.write_counts.new.output _ _ c.in-Ok.ensures.ok
-    (rw c.graph.ensures.graph at c.write_counts.ensures.ok)
-    (rw c.graph.ensures.graph at c.write_counts.ensures.err) c.write_counts.ensures.failed
+    inl (rw c.in-Ok.ensures.quiet at (noted-written _ g.W.Write.contents _ _ c.in-Ok.read
+    c.write_noted.result c.report_written.result
+    c.args.output.now c.write_noted.new.output _ _ c.in-Ok.ensures.ok
+    c.write_noted.ensures.ok c.write_noted.ensures.err c.write_noted.ensures.failed
     c.report_written.ensures.done c.report_written.ensures.stops))

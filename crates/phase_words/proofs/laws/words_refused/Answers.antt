@@ -13,12 +13,13 @@ kinds-command = refl
 pub returns-clause-command : goal.returns-clause-command
 returns-clause-command c = stray_refused (codes "bogus" ∷ []) kinds-command
 
-kinds-extra : kinds_of (codes "replay" ∷ codes "extra" ∷ []) ≡ UnknownArgument ∷ []
+kinds-two_scripts : kinds_of (codes "replay" ∷ codes "s" ∷ codes "t" ∷ []) ≡ UnknownArgument ∷ []
 unfolding kinds_of phase_app clap_on_literals
-kinds-extra = refl
+kinds-two_scripts = refl
 
-pub returns-clause-extra : goal.returns-clause-extra
-returns-clause-extra c = unknown_refused (codes "replay" ∷ codes "extra" ∷ []) kinds-extra
+pub returns-clause-two_scripts : goal.returns-clause-two_scripts
+returns-clause-two_scripts c =
+    unknown_refused (codes "replay" ∷ codes "s" ∷ codes "t" ∷ []) kinds-two_scripts
 
 kinds-flag : kinds_of (codes "--bogus" ∷ []) ≡ UnknownArgument ∷ []
 unfolding kinds_of phase_app clap_on_literals

@@ -1,0 +1,53 @@
+use Rattle.std.proofs.Common.{◌≤◌, [], length, take, inl, inr, refl, arith}
+use Rattle.std.proofs.KnownBytes.{Appends-nil}
+use Rattle.watched_io.specs.declared.fault.IoFault.TheVariants.{OutOfMemory}
+use Rattle.phase_replay.specs.Replies.{replies_of}
+use Rattle.phase_replay.specs.Stops.{StopsAt}
+use Rattle.phase_replay.proofs.strict.replay_strictly.Goals as goal
+
+-- A line is refused.
+pub returns-in-Ok-Some-clause-ends : goal.returns-in-Ok-Some-clause-ends
+returns-in-Ok-Some-clause-ends g c =
+    let script = c.args.script.now in
+    let end = c.in-Ok-Some.stop.end in
+    let number = c.in-Ok-Some.stop.number in
+    let found : (end ≤ length script) × StopsAt script (take end script) number =
+    rw c.in-Ok-Some.field-0-is at c.in-Ok-Some.ensures.some in
+    let stops = found.1 in
+    record {
+      done = λ zero. absurd (elim c.replay_front.ensures.status [
+        | inl one ↦ omega (arith, zero, one)
+        | inr five ↦ omega (arith, zero, five)
+      ]);
+      refused = λ one. record {
+        front = take end script;
+        number = number;
+        stops = stops;
+        written = c.replay_front.ensures.written one;
+        says = c.replay_front.ensures.says one;
+      };
+      stops = λ five. record {
+        front = take end script;
+        number = number;
+        through = inr stops;
+        stops = c.replay_front.ensures.stops five;
+      };
+    }
+
+-- Memory ran out over the search.
+pub returns-in-Err-clause-ends : goal.returns-in-Err-clause-ends
+returns-in-Err-clause-ends g c = record {
+  done = λ zero. absurd (omega (arith, zero, c.report.ensures.status));
+  refused = λ one. absurd (omega (arith, one, c.report.ensures.status));
+  stops = λ five. record {
+    front = c.args.script.now;
+    number = 0;
+    through = inl refl;
+    stops = record {
+      fault = OutOfMemory;
+      noted = refl;
+      prefix = ([], replies_of c.args.script.now, refl, Appends-nil _);
+      says = c.report.ensures.line;
+    };
+  };
+}

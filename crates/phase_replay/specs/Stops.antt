@@ -1,0 +1,96 @@
+-- A replay of a text that is known, and where a strict one stops: at the first line that is refused.
+use Rattle.std.specs.Prelude.{◌≡◌, ◌⊎◌, ℕ, ◌+◌, Bool, true, false, List, [], ◌∷◌, ◌++◌, length, codes, decimal, ⊤}
+use Rattle.std.specs.List.{concat}
+use Rattle.std.specs.Io.KnownBytes.{Appends}
+use Rattle.phase_script.specs.Commands.{command_of}
+use Rattle.phase_script.specs.Lines.{lines_of}
+use Rattle.phase_script.specs.ReplyLines.{WholeReply, BadLine, Refused}
+use Rattle.watched_io.specs.Prefix.{AppendsPrefix}
+use Rattle.watched_io.specs.States.{WriterState}
+use Rattle.watched_io.specs.Statuses.{Reports, Says}
+use Rattle.watched_io.specs.declared.fault.IoFault.{IoFault}
+use Rattle.watched_io.specs.declared.fault.IoFault.TheVariants.{ReadFault, WriteFault, OutOfMemory}
+use Rattle.phase_replay.specs.Replies.{replies_of}
+use Rattle.phase_replay.specs.Scripts.{ScriptState, after_line, reply_of_line, start, state_after}
+
+-- ---- lines that are refused
+
+-- the reply says that the line is no command, or that it was refused
+abbrev pub is_refusal : WholeReply → Bool
+is_refusal (Refused refusal) = true
+is_refusal BadLine = true
+is_refusal reply = false
+
+-- the line is refused there, or it is no command
+abbrev pub is_refused : ScriptState → List ℕ → Bool
+is_refused state line = is_refusal (reply_of_line state (command_of line))
+
+-- none of the lines is
+abbrev pub AreTaken : ScriptState → List (List ℕ) → Type 0
+AreTaken state [] = ⊤
+AreTaken state (line ∷ lines) =
+    (is_refused state line ≡ false) × AreTaken (after_line state line) lines
+
+-- the script's line of this number, counted from 1, is the first that is refused, and the front is the
+-- script through that line
+pub record StopsAt (script front : List ℕ) (number : ℕ) : Type 0 where
+  pub before : List (List ℕ)
+  pub line : List ℕ
+  pub behind : List (List ℕ)
+  pub lines_are : lines_of script ≡ before ++ line ∷ behind
+  pub front_lines : lines_of front ≡ before ++ line ∷ []
+  pub taken : AreTaken start before
+  pub refused : is_refused (state_after before) line ≡ true
+  pub number_is : number ≡ length before + 1
+
+-- ---- how a replay of a text ends
+
+-- the fault's line for the line of this number
+abbrev pub script_line : ℕ → List ℕ
+script_line number = concat (codes "phase: script line " ∷ decimal number ∷ codes "\n" ∷ [])
+
+-- a note of a failed write is set by this fault alone
+abbrev pub IsNotedBy : IoFault → WriterState → WriterState → Type 0
+IsNotedBy ReadFault old new = new.failed ≡ old.failed
+IsNotedBy WriteFault old new = new.failed ≡ true
+IsNotedBy OutOfMemory old new = new.failed ≡ old.failed
+
+-- the output grew by a prefix of these replies, and a fault was told
+pub record TextStops (owed : List ℕ) (old new before after : WriterState) : Type 0 where
+  pub fault : IoFault
+  pub noted : IsNotedBy fault old new
+  pub prefix : AppendsPrefix old.written new.written owed
+  pub says : Reports fault before after
+
+-- how a replay of a text ends, by its status
+pub record TextEnds (script : List ℕ) (status : ℕ)
+    (old new before after : WriterState) : Type 0 where
+  pub done : status ≡ 0 → Appends old.written new.written (replies_of script)
+  pub stops : status ≡ 5 → TextStops (replies_of script) old new before after
+
+-- no line of the script is refused, and the output grew by the replies
+pub record StrictReplays (script : List ℕ) (old new : WriterState) : Type 0 where
+  pub taken : AreTaken start (lines_of script)
+  pub written : Appends old.written new.written (replies_of script)
+
+-- a line is: the output grew by the replies through that line, and its number was told
+pub record StrictRefusal (script : List ℕ) (old new before after : WriterState) : Type 0 where
+  pub front : List ℕ
+  pub number : ℕ
+  pub stops : StopsAt script front number
+  pub written : Appends old.written new.written (replies_of front)
+  pub says : Says (script_line number) before after
+
+-- a fault was told, behind a prefix of the replies, through the line that is refused where there is one
+pub record StrictStops (script : List ℕ) (old new before after : WriterState) : Type 0 where
+  pub front : List ℕ
+  pub number : ℕ
+  pub through : (front ≡ script) ⊎ StopsAt script front number
+  pub stops : TextStops (replies_of front) old new before after
+
+-- how a strict replay of a text ends, by its status
+pub record StrictEnds (script : List ℕ) (status : ℕ)
+    (old new before after : WriterState) : Type 0 where
+  pub done : status ≡ 0 → StrictReplays script old new
+  pub refused : status ≡ 1 → StrictRefusal script old new before after
+  pub stops : status ≡ 5 → StrictStops script old new before after

@@ -1,0 +1,97 @@
+//! A replay of a script that is at hand, and a strict one, which ends at the first line that is refused.
+ghost use Rattle.std.specs.Prelude.{◌≡◌, ◌⊎◌};
+ghost use Rattle.std.specs.Io.KnownBytes.{Appends};
+ghost use Rattle.phase_replay.specs.Replies.{replies_of};
+ghost use Rattle.phase_replay.specs.Stops.{StrictEnds, TextEnds, TextStops, script_line};
+ghost use Rattle.watched_io.specs.States.{writer_state};
+ghost use Rattle.watched_io.specs.Statuses.{Says};
+ghost use Rattle.watched_io.specs.Watched.{inner_of};
+
+use crate::replay;
+use crate::stop::first_refused;
+use itoa::Buffer;
+use std::alloc::Global;
+use std::io::Write;
+use watched_io::{DONE, IoFault, Watched, report, say};
+
+/// A line of a strict replay is refused.
+const LINE_REFUSED: u8 = 1;
+
+/// Replays a script, and answers the exit status: 0, or 5 after a fault, whose line then goes to the
+/// fault stream.
+pub(crate) fn replay_text<W: Write, E: Write>(
+    alloc: Global,
+    script: &[u8],
+    output: &mut Watched<W>,
+    faults: &mut Watched<E>,
+) -> u8
+    ensures status { (result ≡ 0) ⊎ (result ≡ 5) }
+    ensures ends { TextEnds script.now result
+        (writer_state W.contents output.old) (writer_state W.contents output.new)
+        (writer_state E.contents faults.old) (writer_state E.contents faults.new) }
+    ensures quiet { result ≡ 0 → faults.new ≡ faults.old }
+{
+    match replay(alloc, &mut Watched::new(script), output) {
+        Ok(()) => DONE,
+        Err(fault) => report(fault, faults),
+    }
+}
+
+/// Tells the number of a line that is refused, and answers the status 1.
+fn report_line<E: Write>(number: usize, faults: &mut Watched<E>) -> u8
+    ensures status { result ≡ 1 }
+    ensures line { Says (script_line number)
+        (writer_state E.contents faults.old) (writer_state E.contents faults.new) }
+{
+    let mut buffer = Buffer::new();
+    let number = buffer.format(number);
+    let parts = ["phase: script line ", number, "\n"];
+    say(parts.as_slice(), faults);
+    LINE_REFUSED
+}
+
+/// Replays the front of a script, whose last line is refused and has this number, and tells that.
+fn replay_front<W: Write, E: Write>(
+    alloc: Global,
+    front: &[u8],
+    number: usize,
+    output: &mut Watched<W>,
+    faults: &mut Watched<E>,
+) -> u8
+    ensures status { (result ≡ 1) ⊎ (result ≡ 5) }
+    ensures written { result ≡ 1 → Appends (W.contents (inner_of output.old))
+        (W.contents (inner_of output.new)) (replies_of front.now) }
+    ensures says { result ≡ 1 → Says (script_line number)
+        (writer_state E.contents faults.old) (writer_state E.contents faults.new) }
+    ensures stops { result ≡ 5 → TextStops (replies_of front.now)
+        (writer_state W.contents output.old) (writer_state W.contents output.new)
+        (writer_state E.contents faults.old) (writer_state E.contents faults.new) }
+{
+    match replay(alloc, &mut Watched::new(front), output) {
+        Ok(()) => report_line(number, faults),
+        Err(fault) => report(fault, faults),
+    }
+}
+
+/// Replays a script through its first line that is refused or no command, and answers the exit status:
+/// 0 where there is none, 1 where there is one, whose number is then told, or 5 after a fault.
+///
+/// The script is gone through twice: once for that line, and once for the replies.
+pub(crate) fn replay_strictly<W: Write, E: Write>(
+    alloc: Global,
+    script: &[u8],
+    output: &mut Watched<W>,
+    faults: &mut Watched<E>,
+) -> u8
+    ensures status { (result ≡ 0) ⊎ ((result ≡ 1) ⊎ (result ≡ 5)) }
+    ensures ends { StrictEnds script.now result
+        (writer_state W.contents output.old) (writer_state W.contents output.new)
+        (writer_state E.contents faults.old) (writer_state E.contents faults.new) }
+    ensures quiet { result ≡ 0 → faults.new ≡ faults.old }
+{
+    match first_refused(alloc, script) {
+        Ok(None) => replay_text(alloc, script, output, faults),
+        Ok(Some(stop)) => replay_front(alloc, &script[..stop.end], stop.number, output, faults),
+        Err(_) => report(IoFault::OutOfMemory, faults),
+    }
+}
