@@ -1,6 +1,6 @@
--- What is told of a graph's file that gives no job, where it is explained: the line of the fault, as it
--- is told without an explanation, and then what is said further. What is said of one that gives a job
--- and has no fault.
+-- What is told of a graph's file that gives no job, where it is explained: the line of the fault,
+-- as it is told without an explanation, and then what is said further. What is said of one that
+-- gives a job and has no fault.
 use Rattle.std.specs.Prelude.{◌≡◌, ◌≢◌, ◌⊎◌, ◌≤◌, ◌++◌, ℕ, List, [], length, map, codes, ⊤}
 use Rattle.std.specs.Io.KnownBytes.{Appends}
 use Rattle.std.specs.List.{flat_map}
@@ -123,8 +123,8 @@ pub record SaysFurther (line : List ℕ) (before after : WriterState) : Type 0 w
   pub more_are : AreFurtherLines more
   pub further : Says more told after
 
--- no sink of the job has the name that was asked for, or a value is out of range: nothing was written,
--- and its line was told, with lines for a person behind it
+-- no sink of the job has the name that was asked for, or a value is out of range: nothing was
+-- written, and its line was told, with lines for a person behind it
 pub record IsRefusedExplained {W : Type 0} (known : Known) (name : List ℕ) (asked : Option (List ℕ))
     (status : ℕ) (old new : Watched W) (before after : WriterState) : Type 0 where
   pub line : List ℕ
@@ -173,8 +173,8 @@ pub record IsNoted (known : Known) (name : List ℕ) (status : ℕ)
 
 -- ---- how commands end that explain
 
--- how a check ends that explains: its line was written with lines for a person behind it, or a prefix
--- of these, or the files tell no job
+-- how a check ends that explains: its line was written with lines for a person behind it, or a
+-- prefix of these, or the files tell no job
 abbrev pub CheckEndsExplained : {W : Type 0} → Known → List ℕ → ℕ → (W → Option (List ℕ))
     → Watched W → Watched W → WriterState → WriterState → Type 0
 CheckEndsExplained known name status contents old new before after =
@@ -188,8 +188,8 @@ DrawEndsExplained known name status contents old new before after =
     DrawEnds known name status contents old new before after
     ⊎ IsNoGraphExplained known name status old new before after
 
--- how an evaluation ends that explains: as without that, or the files tell no job, or the job has no
--- answer
+-- how an evaluation ends that explains: as without that, or the files tell no job, or the job has
+-- no answer
 abbrev pub EvalEndsExplained : {W : Type 0} → Known → List ℕ → Option (List ℕ) → ℕ
     → (W → Option (List ℕ)) → Watched W → Watched W → WriterState → WriterState → Type 0
 EvalEndsExplained known name asked status contents old new before after =

@@ -1,5 +1,5 @@
--- How a drawing of a graph ends: its status, and what stands on its streams then. No file is read but
--- the graph's.
+-- How a drawing of a graph ends: its status, and what stands on its streams then. No file is read
+-- but the graph's.
 use Rattle.std.specs.Prelude.{◌≡◌, ◌≢◌, ◌⊎◌, ℕ, List}
 use Rattle.std.specs.Io.KnownBytes.{Appends}
 use Rattle.std.specs.declared.option.Option.{Option}

@@ -53,12 +53,14 @@ sink_named job name =
 abbrev pub sinks_text : Job → Option ℕ → List ℕ
 sinks_text job sink = lines_text job.graph (map (with_start job) (lines_of job)) sink
 
--- what is asked for, all sinks or the one of a name, is this: all of them, or the sink of this number
+-- what is asked for, all sinks or the one of a name, is this: all of them, or the sink of this
+-- number
 abbrev pub AsksSink : Job → Option (List ℕ) → Option ℕ → Type 0
 AsksSink job None sink = sink ≡ None
 AsksSink job (Some name) sink = (sink ≢ None) × (sink_named job name ≡ sink)
 
--- the files tell a job whose values fit, and the lists of the sinks that were asked for were written
+-- the files tell a job whose values fit, and the lists of the sinks that were asked for were
+-- written
 pub record Evaluates (known : Known) (name : List ℕ) (asked : Option (List ℕ))
     (old new : WriterState) : Type 0 where
   pub job : Job

@@ -49,11 +49,11 @@ pub fn check_and_report<W: Write, E: Write, F: Files>(
     }
 }
 
-/// As `check_and_report`, and the line of a refusal or a fault of the files is explained to a person
-/// behind it. Where there is none, lines for a person stand behind how many phasers and tasks there
-/// are: which phasers hang loose, which sinks take no value, which tasks have inputs that end at
-/// different lengths, and at which phasers no bound is enough. Where memory runs out over these lines,
-/// there are none.
+/// As `check_and_report`, and the line of a refusal or a fault of the files is explained to a
+/// person behind it. Where there is none, lines for a person stand behind how many phasers and
+/// tasks there are: which phasers hang loose, which sinks take no value, which tasks have inputs
+/// that end at different lengths, and at which phasers no bound is enough. Where memory runs out
+/// over these lines, there are none.
 pub fn check_and_explain<W: Write, E: Write, F: Files + Refuses>(
     alloc: Global,
     name: &str,
@@ -131,8 +131,9 @@ pub fn eval_and_report<W: Write, E: Write, F: Files>(
     files: &mut F,
 ) -> u8
     ensures status { (result ≡ 0) ⊎ ((result ≡ 1) ⊎ ((result ≡ 3) ⊎ (result ≡ 5))) }
-    ensures ends { EvalEnds (F.file files.old) name.now (option_map (λ s. s.now) sink.entry) result W.contents output.old
-        output.new (writer_state E.contents faults.old) (writer_state E.contents faults.new) }
+    ensures ends { EvalEnds (F.file files.old) name.now (option_map (λ s. s.now) sink.entry) result
+        W.contents output.old output.new
+        (writer_state E.contents faults.old) (writer_state E.contents faults.new) }
     ensures quiet { result ≡ 0 → faults.new ≡ faults.old }
 {
     match read_job(alloc, files, name) {
@@ -151,7 +152,8 @@ fn eval_asked<W: Write, E: Write>(
 ) -> u8
     ensures status { (result ≡ 0) ⊎ ((result ≡ 1) ⊎ ((result ≡ 3) ⊎ (result ≡ 5))) }
     ensures ends { (known : Known) (name : List ℕ) → IsJobOf known name job.now
-        → EvalEnds known name (option_map (λ s. s.now) sink.entry) result W.contents output.old output.new
+        → EvalEnds known name (option_map (λ s. s.now) sink.entry) result W.contents
+        output.old output.new
         (writer_state E.contents faults.old) (writer_state E.contents faults.new) }
     ensures quiet { result ≡ 0 → faults.new ≡ faults.old }
 {
@@ -188,8 +190,8 @@ fn eval_job<W: Write, E: Write>(
     }
 }
 
-/// Writes the text of each of these sinks of a job, or the values of the one of this number alone. The
-/// lines are those of the job, for some starts of its sinks that join now. It takes no memory.
+/// Writes the text of each of these sinks of a job, or the values of the one of this number alone.
+/// The lines are those of the job, for some starts of its sinks that join now. It takes no memory.
 /// After a failed write the writer has a prefix of them.
 pub fn write_sinks<W: Write>(
     writer: &mut Watched<W>,
@@ -200,9 +202,11 @@ pub fn write_sinks<W: Write>(
     requires { (starts : List ℕ)
         × (map sink_values lines.now ≡ lines_of (with_starts starts job.now)) }
     ensures ok { OnOk result (Appends (W.contents (inner_of writer.old))
-        (W.contents (inner_of writer.new)) (lines_text job.now.graph (map sink_output lines.now) sink)) }
+        (W.contents (inner_of writer.new))
+        (lines_text job.now.graph (map sink_output lines.now) sink)) }
     ensures err { OnErr result (AppendsPrefix (W.contents (inner_of writer.old))
-        (W.contents (inner_of writer.new)) (lines_text job.now.graph (map sink_output lines.now) sink)) }
+        (W.contents (inner_of writer.new))
+        (lines_text job.now.graph (map sink_output lines.now) sink)) }
     ensures failed { OnErr result (has_failed_of writer.new ≡ true) }
 {
     match sink {

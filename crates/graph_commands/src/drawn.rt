@@ -14,8 +14,8 @@ use std::alloc::Global;
 use std::io::Write;
 
 /// Reads a graph, and no samples of its sources, and answers the exit status: 0, with the graph's
-/// drawing on the output, as text for Graphviz; 1 where the graph is refused; or 5 after a fault. The
-/// line of a refusal or a fault goes to the fault stream.
+/// drawing on the output, as text for Graphviz; 1 where the graph is refused; or 5 after a fault.
+/// The line of a refusal or a fault goes to the fault stream.
 ///
 /// Tasks that meet on a phaser with `any` are drawn, since only their samples tell whether they do.
 pub fn draw_and_report<W: Write, E: Write, F: Files>(
@@ -36,8 +36,8 @@ pub fn draw_and_report<W: Write, E: Write, F: Files>(
     }
 }
 
-/// As `draw_and_report`, and the line of a refusal or a fault of the file is explained to a person behind
-/// it.
+/// As `draw_and_report`, and the line of a refusal or a fault of the file is explained to a person
+/// behind it.
 pub fn draw_and_explain<W: Write, E: Write, F: Files + Refuses>(
     alloc: Global,
     name: &str,

@@ -16,8 +16,8 @@ use std::io::Write;
 use stream_eval::stream_lists::Job;
 use stream_eval::{EvalFault, eval};
 
-/// As `eval_and_report`, and the line of a refusal or a fault, but for those of memory and of a write, is
-/// explained to a person behind it.
+/// As `eval_and_report`, and the line of a refusal or a fault, but for those of memory and of a
+/// write, is explained to a person behind it.
 pub fn eval_and_explain<W: Write, E: Write, F: Files + Refuses>(
     alloc: Global,
     name: &str,
@@ -38,8 +38,8 @@ pub fn eval_and_explain<W: Write, E: Write, F: Files + Refuses>(
     }
 }
 
-/// Evaluates the job of a graph's file for all its sinks, or for the one of a name, explains why there
-/// is no answer, and answers the exit status.
+/// Evaluates the job of a graph's file for all its sinks, or for the one of a name, explains why
+/// there is no answer, and answers the exit status.
 fn explain_asked<W: Write, E: Write, F: Files>(
     alloc: Global,
     file: &str,
@@ -65,8 +65,8 @@ fn explain_asked<W: Write, E: Write, F: Files>(
     }
 }
 
-/// Evaluates the job of a graph's file for all its sinks, or for the one of this number, explains why
-/// there is no answer, and answers the exit status.
+/// Evaluates the job of a graph's file for all its sinks, or for the one of this number, explains
+/// why there is no answer, and answers the exit status.
 fn explain_job<W: Write, E: Write, F: Files>(
     alloc: Global,
     file: &str,

@@ -20,13 +20,13 @@ use std::io::Write;
 use stream_eval::stream_lists::Job;
 
 /// Makes the job of a graph's file, as `read_job` does. Where there is none it tells why, and then
-/// explains it to a person, and answers the status: 1 where the graph or the samples are refused, and
-/// else 5.
+/// explains it to a person, and answers the status: 1 where the graph or the samples are refused,
+/// and else 5.
 ///
-/// A fault of the graph is explained by its line, a mark under the word that is at fault, and what was
-/// expected there; a record that is no sample by where it stands, why it is none, and what a sample is;
-/// a file that was refused by its name and why, as far as the files tell. A file of samples is read
-/// again for that. Where memory runs out nothing more is said.
+/// A fault of the graph is explained by its line, a mark under the word that is at fault, and what
+/// was expected there; a record that is no sample by where it stands, why it is none, and what a
+/// sample is; a file that was refused by its name and why, as far as the files tell. A file of
+/// samples is read again for that. Where memory runs out nothing more is said.
 pub fn read_job_or_explain<E: Write, F: Files + Refuses>(
     alloc: Global,
     files: &mut F,
@@ -48,8 +48,8 @@ pub fn read_job_or_explain<E: Write, F: Files + Refuses>(
     }
 }
 
-/// Reads the graph of a file, as `read_graph_file` does, and explains as `read_job_or_explain` does why
-/// there is none.
+/// Reads the graph of a file, as `read_graph_file` does, and explains as `read_job_or_explain` does
+/// why there is none.
 pub(crate) fn read_graph_or_explain<E: Write, F: Files + Refuses>(
     alloc: Global,
     files: &mut F,
@@ -92,8 +92,8 @@ fn job_of_text<F: Files>(alloc: Global, files: &mut F, text: &[u8]) -> Result<Jo
     job_of_graph(alloc, files, graph)
 }
 
-/// Tells why there is no job, and explains it, by the graph's text where that was read; and answers the
-/// status.
+/// Tells why there is no job, and explains it, by the graph's text where that was read; and answers
+/// the status.
 fn report_explained<E: Write, F: Files + Refuses>(
     alloc: Global,
     text: &[u8],

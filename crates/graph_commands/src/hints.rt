@@ -17,8 +17,8 @@ use itoa::Buffer;
 use std::alloc::{AllocError, Global};
 use std::io::Write;
 
-/// Tells that no sink has this name, and answers the status 1, as `report_no_sink` does, and then tells
-/// a person which sinks there are. Where memory runs out nothing more is said.
+/// Tells that no sink has this name, and answers the status 1, as `report_no_sink` does, and then
+/// tells a person which sinks there are. Where memory runs out nothing more is said.
 pub fn explain_no_sink<E: Write>(
     alloc: Global,
     graph: &Graph,
@@ -35,10 +35,10 @@ pub fn explain_no_sink<E: Write>(
     status
 }
 
-/// Tells where a value is out of range, and answers the status 3, as `report_too_big` does, and then
-/// tells a person which line of the graph's file declares the phaser or makes the value, and which tasks
-/// signal the phaser. The file is read for that; where it is refused, or memory runs out, nothing more
-/// is said.
+/// Tells where a value is out of range, and answers the status 3, as `report_too_big` does, and
+/// then tells a person which line of the graph's file declares the phaser or makes the value, and
+/// which tasks signal the phaser. The file is read for that; where it is refused, or memory runs
+/// out, nothing more is said.
 pub fn explain_too_big<E: Write, F: Files>(
     alloc: Global,
     file: &str,
@@ -126,8 +126,8 @@ fn signaller_text(alloc: Global, graph: &Graph, p: usize) -> Result<Vec<u8>, All
     Ok(text)
 }
 
-/// Which line of a graph's file makes a value, and who signals it, as texts for a person: none where
-/// the file is refused now.
+/// Which line of a graph's file makes a value, and who signals it, as texts for a person: none
+/// where the file is refused now.
 fn value_texts<F: Files>(
     alloc: Global,
     file: &str,

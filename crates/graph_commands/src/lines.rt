@@ -15,8 +15,8 @@ use itoa::Buffer;
 use std::io::Write;
 use stream_eval::Lines;
 
-/// Writes the values of each sink: its name, ` from ` and its start where it has one, a space and the
-/// count of its values, and then each value, each on a line of its own.
+/// Writes the values of each sink: its name, ` from ` and its start where it has one, a space and
+/// the count of its values, and then each value, each on a line of its own.
 ///
 /// The text is written in pieces of at most `CHUNK_MAX` bytes, each of them flushed. It takes no
 /// memory. After a failed write the writer has a prefix of the text.
@@ -86,7 +86,8 @@ impl OutputBuffer {
         writer: &mut Watched<W>,
     ) -> Result<(), WriteFailed>
         ensures ok { OnOk result (Puts (W.contents (inner_of writer.old))
-            (W.contents (inner_of writer.new)) self.old self.new (heading_text name.now start count)) }
+            (W.contents (inner_of writer.new)) self.old self.new
+            (heading_text name.now start count)) }
         ensures err { OnErr result (AppendsPrefix (W.contents (inner_of writer.old))
             (W.contents (inner_of writer.new)) (self.old ++ heading_text name.now start count)) }
         ensures failed { OnErr result (has_failed_of writer.new ≡ true) }

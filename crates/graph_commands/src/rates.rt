@@ -1,7 +1,8 @@
 //! Phasers whose members give and take at different rates, which no bound is enough for.
 //!
-//! A stream begins where a source signals, and where others meet that no task brings together before. A
-//! task with `until` makes no stream of every length: it has no rate, and nor has what comes of it.
+//! A stream begins where a source signals, and where others meet that no task brings together
+//! before. A task with `until` makes no stream of every length: it has no rate, and nor has what
+//! comes of it.
 
 use crate::members::{signals, takes};
 use crate::rate::Rate;
@@ -51,8 +52,8 @@ fn least_input(
     least
 }
 
-/// The rate at which a task takes from each of its inputs, of a stream of this number where they are of
-/// several.
+/// The rate at which a task takes from each of its inputs, of a stream of this number where they
+/// are of several.
 fn taken(task: &TaskLine, rates: &[Option<Rate>], anew: usize) -> Option<Rate> {
     if task.until.is_some() {
         return None;
@@ -60,8 +61,8 @@ fn taken(task: &TaskLine, rates: &[Option<Rate>], anew: usize) -> Option<Rate> {
     least_input(task, rates, 1, 1, anew)
 }
 
-/// The rate at which a task signals phaser number `p`, which it does. Where its inputs are of several
-/// streams, one begins there anew.
+/// The rate at which a task signals phaser number `p`, which it does. Where its inputs are of
+/// several streams, one begins there anew.
 fn given(task: &TaskLine, rates: &[Option<Rate>], p: usize) -> Option<Rate> {
     if task.until.is_some() {
         return None;
@@ -75,8 +76,8 @@ fn given(task: &TaskLine, rates: &[Option<Rate>], p: usize) -> Option<Rate> {
     }
 }
 
-/// The rate of phaser number `p`, by those of the phasers above it: the least at which a task signals
-/// it.
+/// The rate of phaser number `p`, by those of the phasers above it: the least at which a task
+/// signals it.
 fn rate_of(graph: &Graph, above: &[Option<Rate>], p: usize) -> Option<Rate> {
     let mut least = None;
     for t in 0..graph.tasks() {

@@ -37,7 +37,8 @@ fn up_to_end(text: &[u8]) -> &[u8] {
     text
 }
 
-/// Record number `number` of a text, counted from 1, where no record before it has a line end within.
+/// Record number `number` of a text, counted from 1, where no record before it has a line end
+/// within.
 fn record_at(text: &[u8], number: usize) -> Option<Found<'_>> {
     let mut records = 0usize;
     let mut line = 1usize;
@@ -167,8 +168,8 @@ fn place_text(
     Ok(text)
 }
 
-/// Where record number `number` of a source stands and why it is no sample, as texts for a person: none
-/// where its file is refused now.
+/// Where record number `number` of a source stands and why it is no sample, as texts for a person:
+/// none where its file is refused now.
 pub(crate) fn record_texts<F: Files>(
     alloc: Global,
     files: &mut F,

@@ -6,8 +6,8 @@ use std::alloc::Global;
 use std::fs::File;
 use std::io::ErrorKind;
 
-/// Why a file was refused, as far as the system tells. It is said to a person, and nothing is proved
-/// of it.
+/// Why a file was refused, as far as the system tells. It is said to a person, and nothing is
+/// proved of it.
 #[derive(Clone, Copy, Debug, PartialEq, Eq, Hash)]
 pub enum FileRefusal {
     /// There is none of this name.
@@ -24,13 +24,13 @@ pub enum FileRefusal {
 
 /// Files that tell which one they refused, and why.
 pub trait Refuses {
-    /// The name of the file that was refused last, and why, where that is kept. Nothing is promised of
-    /// it.
+    /// The name of the file that was refused last, and why, where that is kept. Nothing is promised
+    /// of it.
     fn refused(&self) -> Option<(&str, FileRefusal)>;
 }
 
-/// The files of the disk, as `DiskFiles` reads them, with standard input as the one of the name `-`,
-/// and why one was refused.
+/// The files of the disk, as `DiskFiles` reads them, with standard input as the one of the name
+/// `-`, and why one was refused.
 #[derive(Drop)]
 pub struct TellingFiles<'a, R> {
     rt: &'a R,

@@ -1,5 +1,5 @@
--- What the code keeps while it reads samples: the form of a number, the part of a text that is read,
--- and the lines that it begins with.
+-- What the code keeps while it reads samples: the form of a number, the part of a text that is
+-- read, and the lines that it begins with.
 use Rattle.std.specs.Prelude.{ℕ, ℤ, ◌≤◌, ◌≡◌, ◌<◌, List, length, drop, slice_index, ◌⊎◌, [], ◌∷◌, ◌++◌}
 use Rattle.std.specs.Fmt.{decimal, signed_decimal}
 use Rattle.graph_base.specs.phase_accum.Sends.{IsSend, value_max}
@@ -21,8 +21,8 @@ pub record EndsWithComma (text part : List ℕ) : Type 0 where
 abbrev pub IsThroughComma : List ℕ → List ℕ → Type 0
 IsThroughComma text part = (part ≡ text) ⊎ EndsWithComma text part
 
--- these bytes end a line, before the rest: a line feed with a return before it or without, or nothing
--- at the end of the text
+-- these bytes end a line, before the rest: a line feed with a return before it or without, or
+-- nothing at the end of the text
 abbrev pub EndsLine : List ℕ → List ℕ → Type 0
 EndsLine end rest = (end ≡ 10 ∷ []) ⊎ (end ≡ 13 ∷ 10 ∷ []) ⊎ ((end ≡ []) × (rest ≡ []))
 

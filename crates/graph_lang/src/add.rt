@@ -56,8 +56,8 @@ impl Draft {
         add_name(alloc, &mut self.names, name_text(name), place)
     }
 
-    /// The line of a task with these numbers, as line `number`, where its phasers and its parent were
-    /// declared.
+    /// The line of a task with these numbers, as line `number`, where its phasers and its parent
+    /// were declared.
     pub(crate) fn task_line(
         &self,
         alloc: Global,

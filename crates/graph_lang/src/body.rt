@@ -156,7 +156,8 @@ pub(crate) fn output_numbers(
     ensures known { IfOk result (λ found. is_some found
         ≡ list_all (is_phaser (names_of names.now.entries)) (outputs_of (body_of body.entry))) }
     ensures numbers { IfOk result (λ found. IfSome found (λ numbers.
-        numbers.items ≡ numbers_of (names_of names.now.entries) (outputs_of (body_of body.entry)))) }
+        numbers.items
+        ≡ numbers_of (names_of names.now.entries) (outputs_of (body_of body.entry)))) }
 {
     let words = output_words(alloc, body)?;
     numbers_of(alloc, names, &words)

@@ -20,8 +20,8 @@ use graph_base::{Kind, Parent, Place, TaskLine};
 use graph_text::{By, name_text};
 use indexmap::IndexMap;
 
-/// The parent of a task, where it has one, after so many steps; the outer `None` is a name that is no
-/// task's.
+/// The parent of a task, where it has one, after so many steps; the outer `None` is a name that is
+/// no task's.
 pub(crate) fn parent_of(
     names: &IndexMap<String, Place>,
     by: Option<By<'_>>,
@@ -142,7 +142,8 @@ impl Draft {
     pub(crate) fn is_twice(&self, name: &[u8], phasers: &[&[u8]]) -> bool
         requires { IsTrue (is_name name.now) }
         ensures { result
-            ≡ (is_some (place_of self.now.names name.now) || not (are_distinct (plain phasers.now))) }
+            ≡ (is_some (place_of self.now.names name.now)
+            || not (are_distinct (plain phasers.now))) }
     {
         place_of(&self.names, name_text(name)).is_some() || !are_distinct(phasers)
     }

@@ -52,8 +52,8 @@ fn through_comma(text: &[u8]) -> &[u8]
 /// Records are those that `csv` reads with its default settings and no header row. It answers no
 /// `ReadFault`.
 ///
-/// A record with a comma is no sample, so what stands behind the first one is not read, and takes no
-/// memory.
+/// A record with a comma is no sample, so what stands behind the first one is not read, and takes
+/// no memory.
 pub fn samples_of(alloc: Global, text: &[u8]) -> Result<Vec<i64>, SampleFault>
     ensures ok { IfOk result (λ values. AreSamples text.now values.items) }
     ensures values { IfOk result (λ values. AreSends values.items

@@ -66,7 +66,8 @@ fn bound_of(word: &[u8]) -> Option<u64>
 pub(crate) fn phaser_line(words: PhaserWords<'_>) -> Option<PhaserLine>
     requires bound { IsTrue (is_nat words.bound.now) }
     requires single { IfSome (function_words words.single) IsFunction }
-    ensures { result ≡ (if is_phaser_within words.entry.bound.now (function_words words.entry.single)
+    ensures { result
+        ≡ (if is_phaser_within words.entry.bound.now (function_words words.entry.single)
         then Some (phaser_line words.entry.operation words.entry.bound.now
         (function_words words.entry.single))
         else None) }

@@ -38,12 +38,13 @@ pub record MayEnd (words : List (List ℕ)) (status : ℕ) : Type 0 where
   pub refused : AreRefused words → (status ≡ 2) ⊎ (status ≡ 5)
   pub untaken : (AreTaken words → ⊥) → (status ≡ 0) ⊎ ((status ≡ 2) ⊎ (status ≡ 5))
 
--- how what words ask for ends: what a replay, a check, an evaluation and a drawing write, whole or up
--- to a fault, and why there is no other answer
+-- how what words ask for ends: what a replay, a check, an evaluation and a drawing write, whole or
+-- up to a fault, and why there is no other answer
 abbrev pub EndsAs : {W : Type 0} → Asked → Known → (W → Option (List ℕ)) → ℕ
     → ReaderState → ReaderState → Watched W → Watched W → WriterState → WriterState → Type 0
 EndsAs replay known contents status input rest old new before after =
-    ReplayEnds status input rest (writer_state contents old) (writer_state contents new) before after
+    ReplayEnds status input rest (writer_state contents old) (writer_state contents new)
+    before after
 EndsAs (replay_file name) known contents status input rest old new before after =
     FileReplayEnds (known name) status (writer_state contents old) (writer_state contents new)
     before after
@@ -63,8 +64,8 @@ EndsAs (eval_explained name sink) known contents status input rest old new befor
 EndsAs (draw_explained name) known contents status input rest old new before after =
     DrawEndsExplained known name status contents old new before after
 
--- a replay with no file alone reads the input, and words that ask for something of a script or a graph in
--- a file alone open files
+-- a replay with no file alone reads the input, and words that ask for something of a script or a
+-- graph in a file alone open files
 pub record LeavesAlone {R F : Type 0} (words : List (List ℕ)) (input rest : Watched R)
     (closed files : F) : Type 0 where
   pub unread : (AskReplay words → ⊥) → rest ≡ input
@@ -78,8 +79,8 @@ pub record IsUnbegun {F W : Type 0} (status : ℕ) (closed files : F) (old new :
   pub silent : new ≡ old
   pub says : Reports OutOfMemory before after
 
--- the answer to words that are not taken stopped: memory ran out, or help or the version could not be
--- written
+-- the answer to words that are not taken stopped: memory ran out, or help or the version could not
+-- be written
 pub record AnswerStops (old new before after : WriterState) : Type 0 where
   pub fault : IoFault
   pub cause : (input : ReaderState) → HasCause fault input input old new

@@ -19,7 +19,8 @@ LeavesBy (call.Draw graph explain) input rest closed files = rest ≡ input
 
 -- the status by why there is no call; what is told goes to the fault stream alone, but for help and
 -- the version
-abbrev pub IsAnswer : {W : Type 0} → NoCall → ℕ → Watched W → Watched W → WriterState → WriterState → Type 0
+abbrev pub IsAnswer : {W : Type 0} → NoCall → ℕ → Watched W → Watched W
+    → WriterState → WriterState → Type 0
 IsAnswer (no_call.Shown text) status old new before after = (status ≡ 0) ⊎ (status ≡ 5)
 IsAnswer (no_call.Refused text) status old new before after = (status ≡ 2) × (new ≡ old)
 IsAnswer no_call.OutOfMemory status old new before after =

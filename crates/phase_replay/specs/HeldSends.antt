@@ -1,4 +1,5 @@
--- The sends that tasks hold, as the parts that are kept of them: a list of task numbers with parcels.
+-- The sends that tasks hold, as the parts that are kept of them: a list of task numbers with
+-- parcels.
 use Rattle.std.specs.Prelude.{ℕ, List, nat_eq, unwrap_or}
 use Rattle.std.specs.Map.{lookup}
 use Rattle.phase_script.specs.phase_accum.Operations.{Operation}

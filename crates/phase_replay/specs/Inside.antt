@@ -14,7 +14,8 @@ pub record StopsReading (old new : ReaderState) (left most : ℕ) : Type 0 where
 abbrev pub begins_as_refusal : List ℕ → Bool
 begins_as_refusal reply = (get_or reply 0 0 == 110) || (get_or reply 0 0 == 98)
 
--- the first line of the text, which so many of its bytes are, and to which no byte behind them belongs
+-- the first line of the text, which so many of its bytes are, and to which no byte behind them
+-- belongs
 pub record IsFirstLine (text line : List ℕ) (used : ℕ) : Type 0 where
   pub some : 0 < used
   pub within : used ≤ length text

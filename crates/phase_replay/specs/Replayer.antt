@@ -25,7 +25,8 @@ pub record Owes (replayer : Replayer) (later owed : List ℕ) : Type 0 where
   pub owed_is : owed ≡ waiting_of replayer ++ replies state (lines_after prefix later)
 
 -- a prefix of `owed` was written, and with `later` still to be read the replayer owes the rest
-pub record Goes (old new : Option (List ℕ)) (replayer : Replayer) (later owed : List ℕ) : Type 0 where
+pub record Goes (old new : Option (List ℕ)) (replayer : Replayer) (later owed : List ℕ)
+    : Type 0 where
   pub sent : List ℕ
   pub rest : List ℕ
   pub whole : owed ≡ sent ++ rest

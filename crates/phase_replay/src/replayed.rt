@@ -9,9 +9,9 @@ use std::io::{Read, Write};
 use watched_io::{DONE, Watched, report};
 
 /// Replays the input, and answers the exit status: 0, or 5 after a fault, whose line then goes to
-/// the fault stream: a read, a write or a flush that failed, a script of over `SCRIPT_MAX` bytes, or
-/// want of memory, which a phaser and its tasks take. It waits for the input alone. Where the fault
-/// stream fails too, the status stands alone.
+/// the fault stream: a read, a write or a flush that failed, a script of over `SCRIPT_MAX` bytes,
+/// or want of memory, which a phaser and its tasks take. It waits for the input alone. Where the
+/// fault stream fails too, the status stands alone.
 pub fn replay_and_report<R: Read, W: Write, E: Write>(
     alloc: Global,
     input: &mut Watched<R>,

@@ -12,8 +12,8 @@ use phase_script::{Command, Outcomes, Refusal, Reply, ReplyLine, Values, read};
 use std::alloc::{AllocError, Global};
 use std::marker::Model;
 
-// The reply to a command with these values, where a phaser was made or none was yet. What a block of
-// phases gave comes into `outcomes`.
+// The reply to a command with these values, where a phaser was made or none was yet. What a block
+// of phases gave comes into `outcomes`.
 #[tactic(auto, unfolding(crate::specs::Session::MaybeStandsFor, crate::specs::Scripts::command_reply, crate::specs::Scripts::after_command))]
 fn obey(
     phaser: &mut Option<AnyPhaser>,
@@ -122,8 +122,8 @@ impl Session {
 
     /// Answers one line, given with neither its LF nor the CR before it.
     ///
-    /// Want of memory comes only from a `make`, `add`, `now` or `send` that would be answered `ok`, and
-    /// leaves the session unchanged.
+    /// Want of memory comes only from a `make`, `add`, `now` or `send` that would be answered `ok`,
+    /// and leaves the session unchanged.
     #[tactic(auto, using(crate::proofs::Scripted::state_after_push), unfolding(crate::specs::Session::Stands, crate::specs::Scripts::reply_line_of, crate::specs::Scripts::after_line))]
     pub fn line(&mut self, line: &[u8]) -> Result<ReplyLine, AllocError>
         ensures reply { IfOk result (λ reply. (state : ScriptState) → Stands self.old state
@@ -150,8 +150,8 @@ impl Session {
         Ok(reply)
     }
 
-    /// The same as `line`, with the reply in place of the line that `reply` had. Want of memory leaves
-    /// that line too.
+    /// The same as `line`, with the reply in place of the line that `reply` had. Want of memory
+    /// leaves that line too.
     #[tactic(auto, unfolding(crate::specs::Session::Stands, crate::specs::Scripts::reply_line_of, crate::specs::Scripts::after_line))]
     pub fn answer(&mut self, line: &[u8], reply: &mut ReplyLine) -> Result<(), AllocError>
         ensures reply { OnOk result ((state : ScriptState) → Stands self.old state

@@ -1,5 +1,5 @@
-//! The program behind `phase replay`: it replays a script of calls on a phaser, from its input to its
-//! output. It reads no words.
+//! The program behind `phase replay`: it replays a script of calls on a phaser, from its input to
+//! its output. It reads no words.
 #![tactic(auto)]
 
 use phase_replay::{Watched, replay_and_report};

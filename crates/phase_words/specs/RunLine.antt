@@ -48,18 +48,20 @@ AskRunVersion words = run_kinds_of words ≡ DisplayVersion ∷ []
 abbrev pub AreRunRefused : List Text → Type 0
 AreRunRefused words = Refuse (run_kinds_of words)
 
--- how many workers a word names: as many as it says, from 1 to 16, and 4 where it says none of these
+-- how many workers a word names: as many as it says, from 1 to 16, and 4 where it says none of
+-- these
 abbrev pub workers_named : Text → ℕ
 workers_named word =
-    if is_unsigned_in 1 WORKERS_MAX word then digits_value 10 (without_leading_plus word) else WORKERS
+    if is_unsigned_in 1 WORKERS_MAX word then digits_value 10 (without_leading_plus word)
+    else WORKERS
 
 -- and 4 where there is no word
 abbrev pub workers_of : Option Text → ℕ
 workers_of None = WORKERS
 workers_of (Some word) = workers_named word
 
--- a run of the graph in the file of a name by so many workers, for all its sinks, or for the one of a
--- name, with an explanation of a fault or without
+-- a run of the graph in the file of a name by so many workers, for all its sinks, or for the one of
+-- a name, with an explanation of a fault or without
 pub record Run : Type 0 where
   pub graph : Text
   pub sink : Option Text

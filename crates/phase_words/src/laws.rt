@@ -6,8 +6,8 @@ ghost use Rattle.phase_words.specs.CommandLine.{AskReplayFile, AskReplayStrictly
 ghost use Rattle.phase_words.specs.RunLine.{AreRunRefused, AskRun, AskRunExplained, AskRunHelp};
 ghost use Rattle.phase_words.specs.RunLine.{AskRunVersion, AsksRun, Run};
 
-/// `phase` and `phase replay` ask for a replay, `phase replay s` for one of the script in the file s, and
-/// `--strict` for one that ends at the first line that is refused. `-` is standard input.
+/// `phase` and `phase replay` ask for a replay, `phase replay s` for one of the script in the file
+/// s, and `--strict` for one that ends at the first line that is refused. `-` is standard input.
 pub fn words_for_replay()
     ensures none { AskReplay [] }
     ensures replay { AskReplay (codes "replay" ∷ []) }
@@ -30,7 +30,8 @@ pub fn words_for_graphs()
         (codes "g") (Some (codes "out")) }
 {}
 
-/// `phase draw g` asks for a drawing of the graph in the file g. No file, two, and a sink are refused.
+/// `phase draw g` asks for a drawing of the graph in the file g. No file, two, and a sink are
+/// refused.
 pub fn words_for_drawings()
     ensures draw { AskDraw (codes "draw" ∷ codes "g" ∷ []) (codes "g") }
     ensures path { AskDraw (codes "draw" ∷ codes "../a b.graph" ∷ []) (codes "../a b.graph") }
@@ -40,17 +41,21 @@ pub fn words_for_drawings()
     ensures sink { AreRefused (codes "draw" ∷ codes "g" ∷ codes "--sink" ∷ codes "out" ∷ []) }
 {}
 
-/// `--explain` asks of a check, of an evaluation, of a drawing and of a run that a fault is explained.
+/// `--explain` asks of a check, of an evaluation, of a drawing and of a run that a fault is
+/// explained.
 pub fn words_for_explanations()
-    ensures check { AskCheckExplained (codes "check" ∷ codes "g" ∷ codes "--explain" ∷ []) (codes "g") }
-    ensures first { AskCheckExplained (codes "check" ∷ codes "--explain" ∷ codes "g" ∷ []) (codes "g") }
+    ensures check { AskCheckExplained
+        (codes "check" ∷ codes "g" ∷ codes "--explain" ∷ []) (codes "g") }
+    ensures first { AskCheckExplained
+        (codes "check" ∷ codes "--explain" ∷ codes "g" ∷ []) (codes "g") }
     ensures eval { AskEvalExplained (codes "eval" ∷ codes "g" ∷ codes "--explain" ∷ [])
         (codes "g") None }
     ensures sink { AskEvalExplained
         (codes "eval" ∷ codes "--explain" ∷ codes "g" ∷ codes "--sink" ∷ codes "out" ∷ [])
         (codes "g") (Some (codes "out")) }
     ensures run { AskRunExplained (codes "g" ∷ codes "--explain" ∷ []) (codes "g") None 4 }
-    ensures draw { AskDrawExplained (codes "draw" ∷ codes "g" ∷ codes "--explain" ∷ []) (codes "g") }
+    ensures draw { AskDrawExplained
+        (codes "draw" ∷ codes "g" ∷ codes "--explain" ∷ []) (codes "g") }
 {}
 
 /// `--help` and `-h` ask for help, alone and behind each command.
@@ -79,12 +84,13 @@ pub fn words_refused()
     ensures flag { AreRefused (codes "--bogus" ∷ []) }
     ensures empty { AreRefused ([] ∷ []) }
     ensures no_file { AreRefused (codes "eval" ∷ []) }
-    ensures sink_of_check { AreRefused (codes "check" ∷ codes "g" ∷ codes "--sink" ∷ codes "out" ∷ []) }
+    ensures sink_of_check { AreRefused
+        (codes "check" ∷ codes "g" ∷ codes "--sink" ∷ codes "out" ∷ []) }
     ensures two_files { AreRefused (codes "check" ∷ codes "g" ∷ codes "h" ∷ []) }
 {}
 
-/// `phase run g` asks for a run of the graph in the file g by 4 workers, and `--workers` names another
-/// number of them.
+/// `phase run g` asks for a run of the graph in the file g by 4 workers, and `--workers` names
+/// another number of them.
 pub fn words_for_runs()
     ensures run { AskRun (codes "g" ∷ []) (codes "g") None 4 }
     ensures one { AskRun (codes "g" ∷ codes "--workers" ∷ codes "1" ∷ []) (codes "g") None 1 }

@@ -70,8 +70,8 @@ fn parse<'a>(alloc: Global, words: &'a [String]) -> Result<RunCall<'a>, Error>
     Ok(call_of(&matches))
 }
 
-/// Reads the words behind `phase run`. Where they ask for help or for the version, or are refused, the
-/// text is clap's.
+/// Reads the words behind `phase run`. Where they ask for help or for the version, or are refused,
+/// the text is clap's.
 pub fn read_run_words<'a>(alloc: Global, words: &'a [String]) -> Result<RunCall<'a>, NoCall>
     ensures call { IfOk result (λ call. AsksRun (texts words.now) (run_of call)) }
     ensures no_call { IfErr result (λ none. ExplainsNone (run_kinds_of (texts words.now)) none) }

@@ -35,7 +35,8 @@ pub record HasParts {A : Type 0} (op : Operation A) (parts : List A) (members : 
   pub each : (n : ℕ) (d : A) → n < length parts
       → IsPartOf op (get_or parts n d) (sends_in members n)
 
--- ---- the lists that are still read, where the phasers are gone through in the order of their lines
+-- ---- the lists that are still read, where the phasers are gone through in the order of their
+-- lines
 
 -- whether task t signals phaser p
 abbrev pub signals_on : Job → ℕ → ℕ → Bool

@@ -26,8 +26,8 @@ pub(crate) fn are_taps(taps: &[i64], shift: u32) -> bool
         && taps.iter().all(|tap| tap.unsigned_abs() <= TAP_MAX)
 }
 
-/// A filter with a finite impulse response: each answer is a weighted sum of the last samples, which
-/// stand in a window (a delay line).
+/// A filter with a finite impulse response: each answer is a weighted sum of the last samples,
+/// which stand in a window (a delay line).
 ///
 /// **Samples.** The first tap weighs the newest sample, the next the one before it, and so on.
 /// Before the first sample there are zeros.
