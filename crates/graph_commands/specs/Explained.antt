@@ -1,12 +1,13 @@
--- What is told of a graph's file that gives no job, where it is explained: the line of the fault, as it
--- is told without an explanation, and then what is said further. What is said of one that gives a job
--- and has no fault.
+-- What is told of a graph's file that gives no job, where it is explained: the line of the fault,
+-- as it is told without an explanation, and then what is said further. What is said of one that
+-- gives a job and has no fault.
 use Rattle.std.specs.Prelude.{◌≡◌, ◌≢◌, ◌⊎◌, ◌≤◌, ◌++◌, ℕ, List, [], length, map, codes, ⊤}
 use Rattle.std.specs.Io.KnownBytes.{Appends}
 use Rattle.std.specs.List.{flat_map}
 use Rattle.graph_commands.specs.FileJobs.{Explains, IsJobOf, Known}
 use Rattle.graph_commands.specs.GraphDrawings.{DrawEnds, ExplainsNoGraph}
-use Rattle.graph_commands.specs.GraphRuns.{EvalEnds, IsNoSink, IsTooBig, IsUnwritten, check_line, job_line, job_status}
+use Rattle.graph_commands.specs.GraphRuns.{EvalEnds, IsNoSink, IsTooBig, IsUnwritten, check_line}
+use Rattle.graph_commands.specs.GraphRuns.{job_line, job_status}
 use Rattle.graph_commands.specs.declared.fault.JobFault.{JobFault}
 use Rattle.graph_commands.specs.declared.fault.JobFault.TheVariants as fault
 use Rattle.graph_commands.specs.declared.graph_file.TheConstants.{GRAPH_MAX}
@@ -173,8 +174,8 @@ pub record IsNoted (known : Known) (name : List ℕ) (status : ℕ)
 
 -- ---- how commands end that explain
 
--- how a check ends that explains: its line was written with lines for a person behind it, or a prefix
--- of these, or the files tell no job
+-- how a check ends that explains: its line was written with lines for a person behind it, or a
+-- prefix of these, or the files tell no job
 abbrev pub CheckEndsExplained : {W : Type 0} → Known → List ℕ → ℕ → (W → Option (List ℕ))
     → Watched W → Watched W → WriterState → WriterState → Type 0
 CheckEndsExplained known name status contents old new before after =

@@ -1,7 +1,8 @@
 //! A check and an evaluation of a graph, and the reports of their faults.
 ghost use Rattle.std.specs.Prelude.{◌≡◌, ◌⊎◌, ℕ, List, Option, true, OnOk, OnErr, map, option_map};
 ghost use Rattle.std.specs.Io.KnownBytes.{Appends};
-ghost use Rattle.graph_commands.specs.Explained.{CheckEndsExplained, EvalEndsExplained, WritesNoted, WritesNotedPrefix};
+ghost use Rattle.graph_commands.specs.Explained.{CheckEndsExplained, EvalEndsExplained};
+ghost use Rattle.graph_commands.specs.Explained.{WritesNoted, WritesNotedPrefix};
 ghost use Rattle.graph_commands.specs.FileJobs.{IsJobOf, Known};
 ghost use Rattle.graph_commands.specs.GraphRuns.{AsksSink, CheckEnds, EvalEnds, check_line};
 ghost use Rattle.graph_commands.specs.OutputTexts.{lines_text};
@@ -49,11 +50,11 @@ pub fn check_and_report<W: Write, E: Write, F: Files>(
     }
 }
 
-/// As `check_and_report`, and the line of a refusal or a fault of the files is explained to a person
-/// behind it. Where there is none, lines for a person stand behind how many phasers and tasks there
-/// are: which phasers hang loose, which sinks take no value, which tasks have inputs that end at
-/// different lengths, and at which phasers no bound is enough. Where memory runs out over these lines,
-/// there are none.
+/// As `check_and_report`, and the line of a refusal or a fault of the files is explained to a
+/// person behind it. Where there is none, lines for a person stand behind how many phasers and
+/// tasks there are: which phasers hang loose, which sinks take no value, which tasks have inputs
+/// that end at different lengths, and at which phasers no bound is enough. Where memory runs out
+/// over these lines, there are none.
 pub fn check_and_explain<W: Write, E: Write, F: Files + Refuses>(
     alloc: Global,
     name: &str,

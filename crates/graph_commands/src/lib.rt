@@ -1,13 +1,13 @@
 //! The commands on graphs: what each reads, answers and writes, and how it ends.
 //!
 //! `check_and_report`, `eval_and_report` and `draw_and_report` run a command and answer the exit
-//! status. The first two read by `read_job` the job of a graph's file: its graph, and the samples in
-//! the files of its sources; the third reads the graph alone;
-//! `write_lines` writes what an evaluation gave each sink, and `write_values` what it gave one.
-//! `check_and_explain`, `eval_and_explain` and `draw_and_explain` do the same, and explain a fault behind
-//! its line; `check_and_explain` also says what a person may want to know of a graph without a fault.
-//! `explain_no_sink` and `explain_too_big` explain two of the faults. `find_sink`, `write_sinks` and the
-//! calls that report an end are for another command that gives the same values.
+//! status. The first two read by `read_job` the job of a graph's file: its graph, and the samples
+//! in the files of its sources; the third reads the graph alone; `write_lines` writes what an
+//! evaluation gave each sink, and `write_values` what it gave one. `check_and_explain`,
+//! `eval_and_explain` and `draw_and_explain` do the same, and explain a fault behind its line;
+//! `check_and_explain` also says what a person may want to know of a graph without a fault.
+//! `explain_no_sink` and `explain_too_big` explain two of the faults. `find_sink`, `write_sinks`
+//! and the calls that report an end are for another command that gives the same values.
 #![tactic(auto)]
 
 mod answered;

@@ -115,8 +115,9 @@ fn put_ends(alloc: Global, job: &Job, texts: &mut Vec<Vec<u8>>) -> Result<(), Al
     Ok(())
 }
 
-/// What a person may want to know of a job that has no fault, as texts: phasers that hang loose, sinks
-/// without values, inputs that end at different lengths, and rates that no bound is enough for.
+/// What a person may want to know of a job that has no fault, as texts: phasers that hang loose,
+/// sinks without values, inputs that end at different lengths, and rates that no bound is enough
+/// for.
 pub(crate) fn job_notes(alloc: Global, job: &Job) -> Result<Vec<Vec<u8>>, AllocError> {
     let mut texts = Vec::new(alloc);
     put_loose(alloc, job.graph(), &mut texts)?;

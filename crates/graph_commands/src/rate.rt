@@ -1,6 +1,7 @@
 //! How many values there are for each value of a stream.
 
-/// So many values for each value of the stream that begins on a phaser: a fraction in its lowest terms.
+/// So many values for each value of the stream that begins on a phaser: a fraction in its lowest
+/// terms.
 #[derive(Clone, Copy, Debug, PartialEq, Eq)]
 pub(crate) struct Rate {
     /// The number of the phaser on which the stream begins.

@@ -1,7 +1,8 @@
 //! Phasers whose members give and take at different rates, which no bound is enough for.
 //!
-//! A stream begins where a source signals, and where others meet that no task brings together before. A
-//! task with `until` makes no stream of every length: it has no rate, and nor has what comes of it.
+//! A stream begins where a source signals, and where others meet that no task brings together
+//! before. A task with `until` makes no stream of every length: it has no rate, and nor has what
+//! comes of it.
 
 use crate::members::{signals, takes};
 use crate::rate::Rate;
@@ -13,7 +14,7 @@ use std::alloc::{AllocError, Global};
 #[derive(Drop)]
 struct Member<'a> {
     name: &'a str,
-    does: &'static str,
+    takes: bool,
     rate: Rate,
 }
 
@@ -51,8 +52,8 @@ fn least_input(
     least
 }
 
-/// The rate at which a task takes from each of its inputs, of a stream of this number where they are of
-/// several.
+/// The rate at which a task takes from each of its inputs, of a stream of this number where they
+/// are of several.
 fn taken(task: &TaskLine, rates: &[Option<Rate>], anew: usize) -> Option<Rate> {
     if task.until.is_some() {
         return None;
@@ -60,8 +61,8 @@ fn taken(task: &TaskLine, rates: &[Option<Rate>], anew: usize) -> Option<Rate> {
     least_input(task, rates, 1, 1, anew)
 }
 
-/// The rate at which a task signals phaser number `p`, which it does. Where its inputs are of several
-/// streams, one begins there anew.
+/// The rate at which a task signals phaser number `p`, which it does. Where its inputs are of
+/// several streams, one begins there anew.
 fn given(task: &TaskLine, rates: &[Option<Rate>], p: usize) -> Option<Rate> {
     if task.until.is_some() {
         return None;
@@ -75,8 +76,8 @@ fn given(task: &TaskLine, rates: &[Option<Rate>], p: usize) -> Option<Rate> {
     }
 }
 
-/// The rate of phaser number `p`, by those of the phasers above it: the least at which a task signals
-/// it.
+/// The rate of phaser number `p`, by those of the phasers above it: the least at which a task
+/// signals it.
 fn rate_of(graph: &Graph, above: &[Option<Rate>], p: usize) -> Option<Rate> {
     let mut least = None;
     for t in 0..graph.tasks() {
@@ -102,13 +103,13 @@ fn all_rates(alloc: Global, graph: &Graph) -> Result<Vec<Option<Rate>>, AllocErr
 fn put_member<'a>(
     members: &mut Vec<Member<'a>>,
     name: &'a str,
-    does: &'static str,
+    takes: bool,
     rate: Option<Rate>,
     stream: usize,
 ) -> Result<(), AllocError> {
     if let Some(rate) = rate {
         if rate.stream == stream {
-            members.push(Member { name, does, rate })?;
+            members.push(Member { name, takes, rate })?;
         }
     }
     Ok(())
@@ -128,22 +129,23 @@ fn members_of<'a>(
         let name = graph.name(Place::Task(t));
         if signals(task, p) {
             let rate = given(task, rates, p);
-            put_member(&mut members, name, " gives ", rate, stream)?;
+            put_member(&mut members, name, false, rate, stream)?;
         }
         if takes(task, p) {
             let rate = taken(task, rates, graph.phasers());
-            put_member(&mut members, name, " takes ", rate, stream)?;
+            put_member(&mut members, name, true, rate, stream)?;
         }
     }
     Ok(members)
 }
 
-/// Whether two members have different rates.
+/// Whether two members have different rates, and one takes: where none does, nobody waits.
 fn differ(members: &[Member<'_>]) -> bool {
-    match members.first() {
-        Some(first) => members.iter().any(|member| member.rate != first.rate),
-        None => false,
-    }
+    let Some(first) = members.first() else {
+        return false;
+    };
+    members.iter().any(|member| member.takes)
+        && members.iter().any(|member| member.rate != first.rate)
 }
 
 /// Puts a rate behind a text.
@@ -165,7 +167,8 @@ fn rates_text(alloc: Global, phaser: &str, members: &[Member<'_>]) -> Result<Vec
     for member in members {
         text.extend_from_slice(between.as_bytes())?;
         text.extend_from_slice(member.name.as_bytes())?;
-        text.extend_from_slice(member.does.as_bytes())?;
+        let does = if member.takes { " takes " } else { " gives " };
+        text.extend_from_slice(does.as_bytes())?;
         put_rate(&mut text, member.rate)?;
         between = ", ";
     }

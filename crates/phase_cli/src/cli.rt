@@ -3,7 +3,8 @@ ghost use Rattle.std.specs.Prelude.{◌≡◌, ◌⊎◌, option_map};
 ghost use Rattle.phase_cli.specs.Ends.{AnswerEnds, AnswerStops, EndsAs, IsUnbegun, LeavesAlone, MayEnd, MayEndAs};
 ghost use Rattle.phase_cli.specs.Inside.{IsAnswer, LeavesBy};
 ghost use Rattle.phase_replay.specs.Replays.{ReplayEnds};
-ghost use Rattle.phase_words.specs.CommandLine.{AreTaken, AskReplay, Asked, Asks, asked_of, check_by, draw_by, eval_by, file_by, texts};
+ghost use Rattle.phase_words.specs.CommandLine.{AreTaken, AskReplay, Asked, Asks, asked_of};
+ghost use Rattle.phase_words.specs.CommandLine.{check_by, draw_by, eval_by, file_by, texts};
 ghost use Rattle.phase_replay.specs.watched_io.States.{ReaderState, reader_state, writer_state};
 
 use graph_commands::{
@@ -21,8 +22,8 @@ use std::io::{Read, Write};
 
 /// Runs the program on its words, without its own name, and answers its exit status: 0 where what
 /// was asked for is done, or help or the version was shown, 1 where a graph or its samples are
-/// refused, or no sink has the name that is asked for, or a line of a strict replay is refused, 2 where
-/// the words are refused, 3 where a value of a graph is out of range, and 5 after a fault.
+/// refused, or no sink has the name that is asked for, or a line of a strict replay is refused, 2
+/// where the words are refused, 3 where a value of a graph is out of range, and 5 after a fault.
 ///
 /// A refusal's text goes to the fault stream, and so does a fault's line. Where that stream fails
 /// too, the status stands alone.
@@ -43,8 +44,9 @@ pub fn run_cli<R: Read, W: Write, E: Write, F: Files + Refuses>(
         (writer_state W.contents output.old) (writer_state W.contents output.new)
         (writer_state E.contents faults.old) (writer_state E.contents faults.new) }
 
-    // What a replay of a file, and a check, an evaluation and a drawing of a graph wrote, whole or up
-    // to a fault, why there is no other answer, and what is said further where that is asked for.
+    // What a replay of a file, and a check, an evaluation and a drawing of a graph wrote, whole or
+    // up to a fault, why there is no other answer, and what is said further where that is asked
+    // for.
     ensures asked { (what : Asked) → Asks (texts words.now) what
         → IsUnbegun result files.old files.new output.old output.new
         (writer_state E.contents faults.old) (writer_state E.contents faults.new)
@@ -58,8 +60,8 @@ pub fn run_cli<R: Read, W: Write, E: Write, F: Files + Refuses>(
         → AnswerEnds (texts words.now) result W.contents output.old output.new
         (writer_state E.contents faults.old) (writer_state E.contents faults.new) }
 
-    // What is left alone: a replay with no file alone reads the input, and what goes by a file alone
-    // opens files.
+    // What is left alone: a replay with no file alone reads the input, and what goes by a file
+    // alone opens files.
     ensures left { LeavesAlone (texts words.now) input.old input.new files.old files.new }
     ensures quiet { result ≡ 0 → faults.new ≡ faults.old }
 {

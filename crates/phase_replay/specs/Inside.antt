@@ -1,5 +1,6 @@
 -- How a reader stops, how a refusal is told from its reply line, and the first line of a text.
-use Rattle.std.specs.Prelude.{◌≡◌, ℕ, ◌<◌, ◌≤◌, ◌⊎◌, ◌==◌, ◌||◌, Bool, true, List, [], ◌∷◌, ◌++◌, get_or, length, take}
+use Rattle.std.specs.Prelude.{◌≡◌, ℕ, ◌<◌, ◌≤◌, ◌⊎◌, ◌==◌, ◌||◌, Bool, true, List, [], ◌∷◌, ◌++◌}
+use Rattle.std.specs.Prelude.{get_or, length, take}
 use Rattle.phase_script.specs.Lines.{lines_of}
 use Rattle.watched_io.specs.States.{Gives, ReaderState}
 
@@ -14,7 +15,8 @@ pub record StopsReading (old new : ReaderState) (left most : ℕ) : Type 0 where
 abbrev pub begins_as_refusal : List ℕ → Bool
 begins_as_refusal reply = (get_or reply 0 0 == 110) || (get_or reply 0 0 == 98)
 
--- the first line of the text, which so many of its bytes are, and to which no byte behind them belongs
+-- the first line of the text, which so many of its bytes are, and to which no byte behind them
+-- belongs
 pub record IsFirstLine (text line : List ℕ) (used : ℕ) : Type 0 where
   pub some : 0 < used
   pub within : used ≤ length text

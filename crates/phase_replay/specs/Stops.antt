@@ -1,5 +1,7 @@
--- A replay of a text that is known, and where a strict one stops: at the first line that is refused.
-use Rattle.std.specs.Prelude.{◌≡◌, ◌⊎◌, ℕ, ◌+◌, Bool, true, false, List, [], ◌∷◌, ◌++◌, length, codes, decimal, ⊤}
+-- A replay of a text that is known, and where a strict one stops: at the first line that is
+-- refused.
+use Rattle.std.specs.Prelude.{◌≡◌, ◌⊎◌, ℕ, ◌+◌, Bool, true, false, List, [], ◌∷◌, ◌++◌, length}
+use Rattle.std.specs.Prelude.{codes, decimal, ⊤}
 use Rattle.std.specs.List.{concat}
 use Rattle.std.specs.Io.KnownBytes.{Appends}
 use Rattle.phase_script.specs.Commands.{command_of}
@@ -31,8 +33,8 @@ AreTaken state [] = ⊤
 AreTaken state (line ∷ lines) =
     (is_refused state line ≡ false) × AreTaken (after_line state line) lines
 
--- the script's line of this number, counted from 1, is the first that is refused, and the front is the
--- script through that line
+-- the script's line of this number, counted from 1, is the first that is refused, and the front is
+-- the script through that line
 pub record StopsAt (script front : List ℕ) (number : ℕ) : Type 0 where
   pub before : List (List ℕ)
   pub line : List ℕ
@@ -81,7 +83,8 @@ pub record StrictRefusal (script : List ℕ) (old new before after : WriterState
   pub written : Appends old.written new.written (replies_of front)
   pub says : Says (script_line number) before after
 
--- a fault was told, behind a prefix of the replies, through the line that is refused where there is one
+-- a fault was told, behind a prefix of the replies, through the line that is refused where there is
+-- one
 pub record StrictStops (script : List ℕ) (old new before after : WriterState) : Type 0 where
   pub front : List ℕ
   pub number : ℕ

@@ -9,8 +9,8 @@ use std::alloc::Global;
 use std::io::Write;
 use watched_io::{Files, IoFault, Watched, report};
 
-/// Reads the script in a file whole, replays it, and answers the exit status: 0, or 5 after a fault,
-/// whose line then goes to the fault stream. It takes memory for the script.
+/// Reads the script in a file whole, replays it, and answers the exit status: 0, or 5 after a
+/// fault, whose line then goes to the fault stream. It takes memory for the script.
 pub fn replay_file_and_report<W: Write, E: Write, F: Files>(
     alloc: Global,
     name: &str,
@@ -30,9 +30,9 @@ pub fn replay_file_and_report<W: Write, E: Write, F: Files>(
     }
 }
 
-/// Reads the script in a file whole, replays it through its first line that is refused or no command,
-/// and answers the exit status: 0 where there is none, 1 where there is one, whose number then goes to
-/// the fault stream, or 5 after a fault. It takes memory for the script.
+/// Reads the script in a file whole, replays it through its first line that is refused or no
+/// command, and answers the exit status: 0 where there is none, 1 where there is one, whose number
+/// then goes to the fault stream, or 5 after a fault. It takes memory for the script.
 pub fn replay_file_strictly<W: Write, E: Write, F: Files>(
     alloc: Global,
     name: &str,

@@ -1,4 +1,5 @@
-//! A replay of a script that is at hand, and a strict one, which ends at the first line that is refused.
+//! A replay of a script that is at hand, and a strict one, which ends at the first line that is
+//! refused.
 ghost use Rattle.std.specs.Prelude.{◌≡◌, ◌⊎◌};
 ghost use Rattle.std.specs.Io.KnownBytes.{Appends};
 ghost use Rattle.phase_replay.specs.Replies.{replies_of};
@@ -17,8 +18,8 @@ use watched_io::{DONE, IoFault, Watched, report, say};
 /// A line of a strict replay is refused.
 const LINE_REFUSED: u8 = 1;
 
-/// Replays a script, and answers the exit status: 0, or 5 after a fault, whose line then goes to the
-/// fault stream.
+/// Replays a script, and answers the exit status: 0, or 5 after a fault, whose line then goes to
+/// the fault stream.
 pub(crate) fn replay_text<W: Write, E: Write>(
     alloc: Global,
     script: &[u8],
@@ -73,8 +74,9 @@ fn replay_front<W: Write, E: Write>(
     }
 }
 
-/// Replays a script through its first line that is refused or no command, and answers the exit status:
-/// 0 where there is none, 1 where there is one, whose number is then told, or 5 after a fault.
+/// Replays a script through its first line that is refused or no command, and answers the exit
+/// status: 0 where there is none, 1 where there is one, whose number is then told, or 5 after a
+/// fault.
 ///
 /// The script is gone through twice: once for that line, and once for the replies.
 pub(crate) fn replay_strictly<W: Write, E: Write>(

@@ -111,9 +111,10 @@ Refuse kinds = (kinds ≢ []) × ((kind : ErrorKind) → IsShown kind → IsAmon
 abbrev pub AreRefused : List Text → Type 0
 AreRefused words = Refuse (kinds_of words)
 
--- what words that are taken ask for: a replay of standard input, or of the script in a file, also one
--- that ends at the first line that is refused; a check of a graph's file, its evaluation, for all
--- its sinks or for the one of a name, or its drawing; of these three also that a fault is explained
+-- what words that are taken ask for: a replay of standard input, or of the script in a file, also
+-- one that ends at the first line that is refused; a check of a graph's file, its evaluation, for
+-- all its sinks or for the one of a name, or its drawing; of these three also that a fault is
+-- explained
 pub data Asked : Type 0 where
   replay : Asked
   replay_file : Text → Asked

@@ -1,13 +1,14 @@
 //! What clap makes of the words that the program's pages name.
 ghost use Rattle.std.specs.Prelude.{◌≤◌, ℕ, List, Option, [], ◌∷◌, Some, None, codes};
 ghost use Rattle.phase_words.specs.CommandLine.{AreRefused, AskCheck, AskDraw, AskEval, AskHelp};
-ghost use Rattle.phase_words.specs.CommandLine.{AskCheckExplained, AskDrawExplained, AskEvalExplained, AskReplay};
+ghost use Rattle.phase_words.specs.CommandLine.{AskCheckExplained, AskDrawExplained};
+ghost use Rattle.phase_words.specs.CommandLine.{AskEvalExplained, AskReplay};
 ghost use Rattle.phase_words.specs.CommandLine.{AskReplayFile, AskReplayStrictly, AskVersion};
 ghost use Rattle.phase_words.specs.RunLine.{AreRunRefused, AskRun, AskRunExplained, AskRunHelp};
 ghost use Rattle.phase_words.specs.RunLine.{AskRunVersion, AsksRun, Run};
 
-/// `phase` and `phase replay` ask for a replay, `phase replay s` for one of the script in the file s, and
-/// `--strict` for one that ends at the first line that is refused. `-` is standard input.
+/// `phase` and `phase replay` ask for a replay, `phase replay s` for one of the script in the file
+/// s, and `--strict` for one that ends at the first line that is refused. `-` is standard input.
 pub fn words_for_replay()
     ensures none { AskReplay [] }
     ensures replay { AskReplay (codes "replay" ∷ []) }

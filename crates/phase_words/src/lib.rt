@@ -1,7 +1,7 @@
 //! The words of the program's command line, and what they ask for, as clap reads them.
 //!
-//! The first call is `read_words`, and `read_run_words` for the words behind `phase run`. Each answers
-//! plain data: who calls it needs nothing of clap.
+//! The first call is `read_words`, and `read_run_words` for the words behind `phase run`. Each
+//! answers plain data: who calls it needs nothing of clap.
 #![tactic(auto)]
 
 mod call;
