@@ -18,8 +18,9 @@ use Rattle.graph_commands.specs.GraphRuns.{check_line}
 use Rattle.stream_eval.specs.stream_lists.Jobs.{Job}
 
 -- both were written
-pub noted-both : (graph : Graph) (old mid new : Option (List ℕ)) (more : List ℕ) → AreFurtherLines more
-    → Appends old mid (check_line graph) → Appends mid new more → WritesNoted graph old new
+pub noted-both : (graph : Graph) (old mid new : Option (List ℕ)) (more : List ℕ)
+    → AreFurtherLines more → Appends old mid (check_line graph) → Appends mid new more
+    → WritesNoted graph old new
 noted-both graph old mid new more are counts lines = record {
   more = more;
   more_are = are;
@@ -36,8 +37,9 @@ noted-first graph old new more are prefix = record {
 }
 
 -- a prefix of the lines behind it was
-pub noted-part : (graph : Graph) (old mid new : Option (List ℕ)) (more : List ℕ) → AreFurtherLines more
-    → Appends old mid (check_line graph) → AppendsPrefix mid new more → WritesNotedPrefix graph old new
+pub noted-part : (graph : Graph) (old mid new : Option (List ℕ)) (more : List ℕ)
+    → AreFurtherLines more → Appends old mid (check_line graph) → AppendsPrefix mid new more
+    → WritesNotedPrefix graph old new
 noted-part graph old mid new more are counts prefix = record {
   more = more;
   more_are = are;
@@ -45,20 +47,24 @@ noted-part graph old mid new more are counts prefix = record {
 }
 
 -- the lines were written, or a write failed
-pub noted-written : {W A F : Type 0} (Quiet : Type 0) (contents : W → Option (List ℕ)) (known : Known)
-    (name : List ℕ) (job : Job) (written : Result A F) (status : ℕ) (old new : Watched W)
+pub noted-written : {W A F : Type 0} (Quiet : Type 0) (contents : W → Option (List ℕ))
+    (known : Known) (name : List ℕ) (job : Job) (written : Result A F) (status : ℕ)
+    (old new : Watched W)
     (before after : WriterState) → IsJobOf known name job
     → OnOk written (WritesNoted job.graph (contents old.inner) (contents new.inner))
     → OnErr written (WritesNotedPrefix job.graph (contents old.inner) (contents new.inner))
     → OnErr written (new.has_failed ≡ true)
-    → OnOk written ((status ≡ 0) × Quiet) → OnErr written ((status ≡ 5) × Reports WriteFault before after)
+    → OnOk written ((status ≡ 0) × Quiet)
+    → OnErr written ((status ≡ 5) × Reports WriteFault before after)
     → IsNoted known name status (writer_state contents old) (writer_state contents new) before after
-noted-written Quiet contents known name job (Ok done) status old new before after of whole part failed zero five =
+noted-written Quiet contents known name job (Ok done) status old new before after of whole part
+    failed zero five =
     rw zero.0 (record {
       done = λ _. record { job = job; job_of = of; noted = whole };
       stops = λ other. absurd (other refl);
     })
-noted-written Quiet contents known name job (Err fault) status old new before after of whole part failed zero five =
+noted-written Quiet contents known name job (Err fault) status old new before after of whole part
+    failed zero five =
     record {
       done = λ done. absurd (not_zero status 5 five.0 (omega arith) done);
       stops = λ _. record {

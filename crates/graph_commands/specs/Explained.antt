@@ -6,7 +6,8 @@ use Rattle.std.specs.Io.KnownBytes.{Appends}
 use Rattle.std.specs.List.{flat_map}
 use Rattle.graph_commands.specs.FileJobs.{Explains, IsJobOf, Known}
 use Rattle.graph_commands.specs.GraphDrawings.{DrawEnds, ExplainsNoGraph}
-use Rattle.graph_commands.specs.GraphRuns.{EvalEnds, IsNoSink, IsTooBig, IsUnwritten, check_line, job_line, job_status}
+use Rattle.graph_commands.specs.GraphRuns.{EvalEnds, IsNoSink, IsTooBig, IsUnwritten, check_line}
+use Rattle.graph_commands.specs.GraphRuns.{job_line, job_status}
 use Rattle.graph_commands.specs.declared.fault.JobFault.{JobFault}
 use Rattle.graph_commands.specs.declared.fault.JobFault.TheVariants as fault
 use Rattle.graph_commands.specs.declared.graph_file.TheConstants.{GRAPH_MAX}

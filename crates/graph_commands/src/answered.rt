@@ -1,7 +1,8 @@
 //! A check and an evaluation of a graph, and the reports of their faults.
 ghost use Rattle.std.specs.Prelude.{◌≡◌, ◌⊎◌, ℕ, List, Option, true, OnOk, OnErr, map, option_map};
 ghost use Rattle.std.specs.Io.KnownBytes.{Appends};
-ghost use Rattle.graph_commands.specs.Explained.{CheckEndsExplained, EvalEndsExplained, WritesNoted, WritesNotedPrefix};
+ghost use Rattle.graph_commands.specs.Explained.{CheckEndsExplained, EvalEndsExplained};
+ghost use Rattle.graph_commands.specs.Explained.{WritesNoted, WritesNotedPrefix};
 ghost use Rattle.graph_commands.specs.FileJobs.{IsJobOf, Known};
 ghost use Rattle.graph_commands.specs.GraphRuns.{AsksSink, CheckEnds, EvalEnds, check_line};
 ghost use Rattle.graph_commands.specs.OutputTexts.{lines_text};

@@ -14,7 +14,7 @@ use std::alloc::{AllocError, Global};
 #[derive(Drop)]
 struct Member<'a> {
     name: &'a str,
-    does: &'static str,
+    takes: bool,
     rate: Rate,
 }
 
@@ -103,13 +103,13 @@ fn all_rates(alloc: Global, graph: &Graph) -> Result<Vec<Option<Rate>>, AllocErr
 fn put_member<'a>(
     members: &mut Vec<Member<'a>>,
     name: &'a str,
-    does: &'static str,
+    takes: bool,
     rate: Option<Rate>,
     stream: usize,
 ) -> Result<(), AllocError> {
     if let Some(rate) = rate {
         if rate.stream == stream {
-            members.push(Member { name, does, rate })?;
+            members.push(Member { name, takes, rate })?;
         }
     }
     Ok(())
@@ -129,22 +129,23 @@ fn members_of<'a>(
         let name = graph.name(Place::Task(t));
         if signals(task, p) {
             let rate = given(task, rates, p);
-            put_member(&mut members, name, " gives ", rate, stream)?;
+            put_member(&mut members, name, false, rate, stream)?;
         }
         if takes(task, p) {
             let rate = taken(task, rates, graph.phasers());
-            put_member(&mut members, name, " takes ", rate, stream)?;
+            put_member(&mut members, name, true, rate, stream)?;
         }
     }
     Ok(members)
 }
 
-/// Whether two members have different rates.
+/// Whether two members have different rates, and one takes: where none does, nobody waits.
 fn differ(members: &[Member<'_>]) -> bool {
-    match members.first() {
-        Some(first) => members.iter().any(|member| member.rate != first.rate),
-        None => false,
-    }
+    let Some(first) = members.first() else {
+        return false;
+    };
+    members.iter().any(|member| member.takes)
+        && members.iter().any(|member| member.rate != first.rate)
 }
 
 /// Puts a rate behind a text.
@@ -166,7 +167,8 @@ fn rates_text(alloc: Global, phaser: &str, members: &[Member<'_>]) -> Result<Vec
     for member in members {
         text.extend_from_slice(between.as_bytes())?;
         text.extend_from_slice(member.name.as_bytes())?;
-        text.extend_from_slice(member.does.as_bytes())?;
+        let does = if member.takes { " takes " } else { " gives " };
+        text.extend_from_slice(does.as_bytes())?;
         put_rate(&mut text, member.rate)?;
         between = ", ";
     }

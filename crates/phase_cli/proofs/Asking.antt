@@ -4,7 +4,11 @@ use Rattle.phase_cli.specs.Ends.{IsStatus, LeavesAlone, MayEnd, MayEndAs}
 use Rattle.phase_cli.specs.Inside.{IsAnswer, LeavesBy}
 use Rattle.phase_replay.specs.watched_io.Statuses.{Reports}
 use Rattle.phase_words.proofs.NoCalls.{asked-help-not-taken, asked-version-not-taken, refusal-not-help, refusal-not-taken, refusal-not-version, shown-not-taken, taken-or-not}
-use Rattle.phase_words.specs.CommandLine.{AreRefused, AreTaken, Asked, Asks, AskFile, AskHelp, AskVersion, IsNoCall, asked_in, asked_of, check, check_explained, draw, draw_explained, eval, eval_explained, file_asked, replay, replay_file, replay_strictly}
+use Rattle.phase_words.specs.CommandLine.{AreRefused, AreTaken, Asked, Asks, AskFile, AskHelp}
+use Rattle.phase_words.specs.CommandLine.{AskVersion, IsNoCall, asked_in, asked_of, check}
+use Rattle.phase_words.specs.CommandLine.{check_explained, draw, draw_explained, eval}
+use Rattle.phase_words.specs.CommandLine.{eval_explained, file_asked, replay, replay_file}
+use Rattle.phase_words.specs.CommandLine.{replay_strictly}
 use Rattle.phase_words.specs.declared.call.Call.{Call}
 use Rattle.phase_words.specs.declared.call.Explain.TheVariants.{No, Yes}
 use Rattle.phase_words.specs.declared.call.Strict.TheVariants as strictly
@@ -44,7 +48,8 @@ leaves-asked words asked input rest closed files asks leaves = record {
     unopened-by : (asked : Call) → Asks words (asked_of asked) → LeavesBy asked input rest closed files
         → ((name : List ℕ) → AskFile words name → ⊥) → files ≡ closed
     unopened-by call.Replay asks leaves other = leaves
-    unopened-by (call.ReplayFile script strictly.No) asks leaves other = opens (replay_file script.now) script.now asks refl other
+    unopened-by (call.ReplayFile script strictly.No) asks leaves other =
+        opens (replay_file script.now) script.now asks refl other
     unopened-by (call.ReplayFile script strictly.Yes) asks leaves other =
         opens (replay_strictly script.now) script.now asks refl other
     unopened-by (call.Check graph No) asks leaves other = opens (check graph.now) graph.now asks refl other

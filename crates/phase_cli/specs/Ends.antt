@@ -8,7 +8,10 @@ use Rattle.phase_replay.specs.FileReplays.{FileReplayEnds, StrictFileReplayEnds}
 use Rattle.phase_replay.specs.Replays.{ReplayEnds}
 use Rattle.phase_replay.specs.Replay.{HasCause}
 use Rattle.phase_replay.specs.watched_io.Statuses.{Reports}
-use Rattle.phase_words.specs.CommandLine.{AreRefused, AreTaken, Asked, Asks, AskFile, AskHelp, AskReplay, AskVersion, check, check_explained, draw, draw_explained, eval, eval_explained, replay, replay_file, replay_strictly}
+use Rattle.phase_words.specs.CommandLine.{AreRefused, AreTaken, Asked, Asks, AskFile, AskHelp}
+use Rattle.phase_words.specs.CommandLine.{AskReplay, AskVersion, check, check_explained, draw}
+use Rattle.phase_words.specs.CommandLine.{draw_explained, eval, eval_explained, replay, replay_file}
+use Rattle.phase_words.specs.CommandLine.{replay_strictly}
 use Rattle.phase_replay.specs.watched_io.States.{ReaderState, WriterState, writer_state}
 use Rattle.phase_replay.specs.watched_io.declared.fault.IoFault.{IoFault}
 use Rattle.phase_replay.specs.watched_io.declared.fault.IoFault.TheVariants.{OutOfMemory}

@@ -3,7 +3,8 @@ ghost use Rattle.std.specs.Prelude.{◌≡◌, ◌⊎◌, option_map};
 ghost use Rattle.phase_cli.specs.Ends.{AnswerEnds, AnswerStops, EndsAs, IsUnbegun, LeavesAlone, MayEnd, MayEndAs};
 ghost use Rattle.phase_cli.specs.Inside.{IsAnswer, LeavesBy};
 ghost use Rattle.phase_replay.specs.Replays.{ReplayEnds};
-ghost use Rattle.phase_words.specs.CommandLine.{AreTaken, AskReplay, Asked, Asks, asked_of, check_by, draw_by, eval_by, file_by, texts};
+ghost use Rattle.phase_words.specs.CommandLine.{AreTaken, AskReplay, Asked, Asks, asked_of};
+ghost use Rattle.phase_words.specs.CommandLine.{check_by, draw_by, eval_by, file_by, texts};
 ghost use Rattle.phase_replay.specs.watched_io.States.{ReaderState, reader_state, writer_state};
 
 use graph_commands::{

@@ -1,5 +1,8 @@
 -- A script is searched for its first line that is refused.
-use Rattle.std.proofs.Common.{◌≡◌, ℕ, ◌+◌, ◌-◌, ◌<◌, ◌≤◌, Bool, true, false, List, [], ◌∷◌, ◌++◌, length, take, drop, get_or, refl, sym, ◌∙◌, ap, subst, append_assoc, append-nil, take-append-drop, length-append, length-drop, arith, inl, inr}
+use Rattle.std.proofs.Common.{◌≡◌, ℕ, ◌+◌, ◌-◌, ◌<◌, ◌≤◌, Bool, true, false, List, [], ◌∷◌, ◌++◌}
+use Rattle.std.proofs.Common.{length, take, drop, get_or, refl, sym, ◌∙◌, ap, subst, append_assoc}
+use Rattle.std.proofs.Common.{append-nil, take-append-drop, length-append, length-drop, arith, inl}
+use Rattle.std.proofs.Common.{inr}
 use Rattle.std.proofs.lemmas.Bool.{cases_lt}
 use Rattle.std.proofs.lemmas.List.{take_all, take_more, length-take-le}
 use Rattle.std.proofs.Math.Seq.{take-append-add}
@@ -7,10 +10,12 @@ use Rattle.phase_script.specs.Commands.{command_of}
 use Rattle.phase_script.specs.Cuts.{HasNoLf}
 use Rattle.phase_script.proofs.CutAtLf.{lines_after-prefix}
 use Rattle.phase_script.specs.Lines.{last_line, lines_after, lines_of}
-use Rattle.phase_script.specs.ReplyLines.{WholeReply, Accepted, Signalled, Joined, Value, Empty, TooBig, Values, Ended, Refused, BadLine, reply_text}
+use Rattle.phase_script.specs.ReplyLines.{WholeReply, Accepted, Signalled, Joined, Value, Empty}
+use Rattle.phase_script.specs.ReplyLines.{TooBig, Values, Ended, Refused, BadLine, reply_text}
 use Rattle.phase_core.specs.phase_base.Lists.{without_cr}
 use Rattle.phase_replay.specs.Inside.{IsFirstLine, begins_as_refusal}
-use Rattle.phase_replay.specs.Scripts.{ScriptState, after_line, reply_line_of, reply_of_line, start, state_after, state_from}
+use Rattle.phase_replay.specs.Scripts.{ScriptState, after_line, reply_line_of, reply_of_line, start}
+use Rattle.phase_replay.specs.Scripts.{state_after, state_from}
 use Rattle.phase_replay.specs.Session.{SessionState, Stands}
 use Rattle.phase_replay.specs.Stops.{AreTaken, StopsAt, is_refusal, is_refused}
 use Rattle.phase_replay.proofs.Scripted.{state_after_push}
@@ -33,7 +38,8 @@ begins-text BadLine = refl
 
 -- so a line is refused where its reply line begins so
 pub begins-refused : (state : ScriptState) (line reply : List ℕ) (begins : Bool)
-    → reply ≡ reply_line_of state line → begins ≡ begins_as_refusal reply → begins ≡ is_refused state line
+    → reply ≡ reply_line_of state line → begins ≡ begins_as_refusal reply
+    → begins ≡ is_refused state line
 unfolding reply_line_of
 begins-refused state line reply begins is told =
     told ∙ ap begins_as_refusal is ∙ begins-text (reply_of_line state (command_of line))
@@ -110,7 +116,8 @@ take-further : (script : List ℕ) (end used : ℕ) → end ≤ length script
     → take (end + used) script ≡ take end script ++ take used (drop end script)
 take-further script end used within =
     ap (take (end + used)) (sym (take-append-drop end script))
-    ∙ (ap (λ n. take (n + used) (take end script ++ drop end script)) (sym (length-take-le end script within))
+    ∙ (ap (λ n. take (n + used) (take end script ++ drop end script))
+    (sym (length-take-le end script within))
     ∙ take-append-add (take end script) (drop end script) used)
 
 -- the lines through the next one
@@ -144,7 +151,8 @@ searches-next script line end number used old new searches less first here stand
           ∙ ap (λ l. l ++ lines_of later) (sym lines)))));
       count = ap length lines ∙ (length-append before (line ∷ []) ∙ ap (λ n. n + 1) searches.count);
       few = omega (arith, searches.few, first.some);
-      stands = subst (Stands new) (sym (ap state_after lines ∙ state_after_push before line)) stands;
+      stands =
+          subst (Stands new) (sym (ap state_after lines ∙ state_after_push before line)) stands;
       taken = subst (AreTaken start) (sym lines) (taken-push start before line searches.taken here);
     }
 
@@ -182,7 +190,8 @@ searches-stop script line end number used session searches less first here =
 
 -- no line is left
 pub searches-end : (script : List ℕ) (end number : ℕ) (session : SessionState)
-    → Searches script end number session → (end < length script → ⊥) → AreTaken start (lines_of script)
+    → Searches script end number session → (end < length script → ⊥)
+    → AreTaken start (lines_of script)
 searches-end script end number session searches none =
     subst (λ (text : List ℕ). AreTaken start (lines_of text))
     (take_all end script (omega (arith, none))) searches.taken

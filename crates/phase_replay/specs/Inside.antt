@@ -1,5 +1,6 @@
 -- How a reader stops, how a refusal is told from its reply line, and the first line of a text.
-use Rattle.std.specs.Prelude.{◌≡◌, ℕ, ◌<◌, ◌≤◌, ◌⊎◌, ◌==◌, ◌||◌, Bool, true, List, [], ◌∷◌, ◌++◌, get_or, length, take}
+use Rattle.std.specs.Prelude.{◌≡◌, ℕ, ◌<◌, ◌≤◌, ◌⊎◌, ◌==◌, ◌||◌, Bool, true, List, [], ◌∷◌, ◌++◌}
+use Rattle.std.specs.Prelude.{get_or, length, take}
 use Rattle.phase_script.specs.Lines.{lines_of}
 use Rattle.watched_io.specs.States.{Gives, ReaderState}
 

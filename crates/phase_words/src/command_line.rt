@@ -1,6 +1,7 @@
 //! The words of the program, as clap reads them.
 ghost use Rattle.std.specs.Prelude.{◌≡◌, ◌↔◌, IfOk, IfErr, IsTrue, Some, false, option_map};
-ghost use Rattle.clap.specs.Words.{FailsBy, Shape, app_of, found_of, kind_of, rows_of, rule_of, shape_of};
+ghost use Rattle.clap.specs.Words.{FailsBy, Shape, app_of, found_of, kind_of, rows_of, rule_of};
+ghost use Rattle.clap.specs.Words.{shape_of};
 ghost use Rattle.clap.specs.Words.{subcommand_rows_of, with_subcommand};
 ghost use Rattle.clap.specs.declared.builder.command.Command.{out-Command};
 ghost use Rattle.phase_words.specs.CommandLine.{Asks, IsNoCall, IsShown};

@@ -14,7 +14,8 @@ pub returns-clause-ok : goal.returns-clause-ok
 returns-clause-ok g c =
     on_ok_weaker c.send.result
     (λ lines. noted-both c.args.job.now.graph _ _ _ _ c.further_lines-more.ensures
-    (rw c.graph.ensures.graph at c.in_ok-write_counts.ensures.ok) (rw c.deref.ensures.value at lines))
+    (rw c.graph.ensures.graph at c.in_ok-write_counts.ensures.ok)
+    (rw c.deref.ensures.value at lines))
     c.send.ensures.ok
 
 -- or a prefix of them
@@ -22,5 +23,6 @@ pub returns-clause-err : goal.returns-clause-err
 returns-clause-err g c =
     on_err_weaker c.send.result
     (λ prefix. noted-part c.args.job.now.graph _ _ _ _ c.further_lines-more.ensures
-    (rw c.graph.ensures.graph at c.in_ok-write_counts.ensures.ok) (rw c.deref.ensures.value at prefix))
+    (rw c.graph.ensures.graph at c.in_ok-write_counts.ensures.ok)
+    (rw c.deref.ensures.value at prefix))
     c.send.ensures.err

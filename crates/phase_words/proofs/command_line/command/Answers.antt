@@ -2,7 +2,8 @@
 use Rattle.std.proofs.Common.{◌∙◌, ap}
 use Rattle.std.proofs.lemmas.Result.{IfOk-weaker}
 use Rattle.clap.specs.Words.{with_subcommand}
-use Rattle.phase_words.specs.CommandLine.{check_shape, draw_shape, eval_shape, phase_app, replay_shape}
+use Rattle.phase_words.specs.CommandLine.{check_shape, draw_shape, eval_shape, phase_app}
+use Rattle.phase_words.specs.CommandLine.{replay_shape}
 use Rattle.phase_words.proofs.command_line.command.Goals as goal
 
 pub returns : goal.returns

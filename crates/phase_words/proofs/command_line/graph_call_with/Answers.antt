@@ -20,4 +20,5 @@ returns c =
     c.explain_of.ensures ∙ ap explain_of (c.get_str-3.ensures
     ∙ first_value-rows found (codes "explain")) in
     c.call_named.ensures ∙ (ap₂ (λ g s. asked_as name (Some g) s c.explain_of.result) graph sink
-    ∙ ap (λ e. asked_as name (first_of (codes "graph") rows) (first_of (codes "sink") rows) e) explain)
+    ∙ ap (λ e. asked_as name (first_of (codes "graph") rows) (first_of (codes "sink") rows) e)
+    explain)

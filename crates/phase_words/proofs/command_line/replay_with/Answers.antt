@@ -12,7 +12,8 @@ returns c =
     let rows = rows_of found in
     let script : c.unwrap_or.result.now ≡ unwrap_or (first_of (codes "script") rows) (codes "-") =
     ap (λ s. s.now) c.unwrap_or.ensures ∙ (now-unwrap_or c.get_str.result _
-    ∙ ap (λ o. unwrap_or o (codes "-")) (c.get_str.ensures ∙ first_value-rows found (codes "script"))) in
+    ∙ ap (λ o. unwrap_or o (codes "-"))
+    (c.get_str.ensures ∙ first_value-rows found (codes "script"))) in
     let strict : c.strict_of.result ≡ strict_of (first_of (codes "strict") rows) =
     c.strict_of.ensures ∙ ap strict_of (c.get_str-2.ensures
     ∙ first_value-rows found (codes "strict")) in
