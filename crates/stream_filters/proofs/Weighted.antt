@@ -1,13 +1,14 @@
 -- Weighted sums of windows.
-use Rattle.std.proofs.Common.{◌≡◌, ℕ, zero, suc, ◌+◌, ◌-◌, ◌*◌, ◌^◌, ◌<◌, ◌≤◌, List, [], ◌∷◌, ◌++◌, length, get_or, take, drop, ℤ, pos, negsuc, ◌+ℤ◌, ◌*ℤ◌, Ok, refl, sym, ap, ◌∙◌, arith}
+use Rattle.std.proofs.Common.{◌≡◌, ℕ, zero, suc, ◌+◌, ◌-◌, ◌*◌, ◌^◌, ◌<◌, ◌≤◌, List, [], ◌∷◌, ◌++◌, length, min, get_or, take, drop, ℤ, pos, negsuc, ◌+ℤ◌, ◌*ℤ◌, Ok, refl, sym, ap, ◌∙◌, arith, ◌⊎◌, inl, inr}
 use Rattle.std.specs.List.{All}
 use Rattle.std.specs.Prelude.{unsigned_abs}
 use Rattle.std.proofs.Math.IntN.{+ℤ_assoc, +ℤ_idl, +ℤ_idr, *ℤ-zero}
 use Rattle.std.proofs.lemmas.Int.{ints, unsigned_abs-mul}
-use Rattle.std.proofs.lemmas.List.{take_more, take_rest, take_all, length-take-le, length-append, get_or-append-add}
+use Rattle.std.proofs.lemmas.List.{take_more, take_rest, take_all, length-take-le, length-append, get_or-append-add, get_or-take}
 use Rattle.std.proofs.lemmas.List.Elements.{All-drop}
 use Rattle.std.proofs.lemmas.List.Sums.{sum_by-cons, sum_by_more, sum_by-take-le, sum_by-take-drop}
 use Rattle.std.proofs.lemmas.Nat.{mul-le, shr_le}
+use Rattle.std.proofs.lemmas.Bool.{cases_lt}
 use Rattle.std.proofs.lemmas.Bool.Decides.{nat_tests}
 use Rattle.stream_filters.specs.Filter.{weighted, at_place, weight, shifted_down}
 use Rattle.stream_filters.specs.Range.{ranged}
@@ -93,11 +94,10 @@ IsSumOf-none limit taps samples = record { is = sym (weighted-zero taps); small 
 
 -- one more sample
 pub IsSumOf-more : (limit : ℕ) (taps samples : List ℤ) (i : ℕ) (sum tap x : ℤ) → IsSumOf limit taps samples i sum
-    → i < length samples → length samples ≤ length taps → tap ≡ get_or taps i (pos 0)
+    → i < length samples → i < length taps → tap ≡ get_or taps i (pos 0)
     → x ≡ get_or samples i (pos 0) → unsigned_abs x ≤ limit
     → IsSumOf limit taps samples (i + 1) (sum +ℤ (tap *ℤ x))
-IsSumOf-more limit taps samples i sum tap x so_far lt short tap_is x_is x_small =
-    let few : i < length taps = omega arith in
+IsSumOf-more limit taps samples i sum tap x so_far lt few tap_is x_is x_small =
     let more : take (i + 1) samples ≡ take i samples ++ x ∷ [] =
     take_more samples i (pos 0) lt ∙ ap (λ z. take i samples ++ z ∷ []) (sym x_is) in
     let len : length (take i samples) ≡ i = length-take-le i samples (omega arith) in
@@ -132,6 +132,20 @@ pub IsSumOf-whole : (limit : ℕ) (taps samples : List ℤ) (i : ℕ) (sum : ℤ
     → length samples ≤ i → sum ≡ weighted (at_place samples) taps
 IsSumOf-whole limit taps samples i sum so_far le =
     so_far.is ∙ ap (λ z. weighted (at_place z) taps) (take_all i samples le)
+
+-- as many samples as there are taps, or all, are enough
+taken-same : (taps samples : List ℤ) (i : ℕ) → min (length taps) (length samples) ≤ i → (j : ℕ)
+    → j < length taps → at_place (take i samples) j ≡ at_place samples j
+taken-same taps samples i le j lt = by (cases_lt j i)
+  where
+    by : (j < i) ⊎ (i ≤ j) → at_place (take i samples) j ≡ at_place samples j
+    by (inl below) = get_or-take i samples j (pos 0) below
+    by (inr above) = ap (λ xs. at_place xs j) (take_all i samples (omega arith))
+
+pub IsSumOf-enough : (limit : ℕ) (taps samples : List ℤ) (i : ℕ) (sum : ℤ) → IsSumOf limit taps samples i sum
+    → min (length taps) (length samples) ≤ i → sum ≡ weighted (at_place samples) taps
+IsSumOf-enough limit taps samples i sum so_far le =
+    so_far.is ∙ weighted-same _ _ taps (taken-same taps samples i le)
 
 -- fewer taps weigh less
 pub weight-drop-le : (taps : List ℤ) (n : ℕ) → weight (drop n taps) ≤ weight taps

@@ -1,8 +1,8 @@
 -- What the fields of a filter stand for.
-use Rattle.std.specs.Prelude.{◌≡◌, ◌+◌, ◌*◌, ◌^◌, ◌<◌, ◌≤◌, unsigned_abs, ℕ, ℤ, List, ◌∷◌, length, take, Result}
+use Rattle.std.specs.Prelude.{◌≡◌, ◌+◌, ◌-◌, ◌*◌, ◌^◌, ◌<◌, ◌≤◌, unsigned_abs, ℕ, ℤ, pos, List, ◌∷◌, length, take, drop, get_or, Result}
 use Rattle.stream_filters.specs.Filter.{FirState, AreTaps, shifted_down, weighted, weight, at_place}
-use Rattle.std.specs.List.{All}
-use Rattle.stream_filters.specs.Range.{ranged}
+use Rattle.std.specs.List.{All, position_from}
+use Rattle.stream_filters.specs.Range.{ranged, is_out_of_range}
 use Rattle.stream_filters.specs.declared.fault.TooBigValue.{TooBigValue}
 use Rattle.stream_filters.specs.declared.fir.Fir.TheInside.{Inside}
 
@@ -35,3 +35,21 @@ pub record IsFir (f : Inside) : Type 0 where
   pub light : weight f.taps.items * f.limit < 2 ^ 63
   pub recent : (j : ℕ) → j + f.wide_steps_left < length f.taps.items
       → unsigned_abs (at_place f.window.items j) ≤ f.limit
+
+-- the samples from number `from` to the one before number `to` are within the limit
+abbrev pub AreSmall : ℕ → List ℤ → ℕ → ℕ → Type 0
+AreSmall limit samples from to =
+    (m : ℕ) → from ≤ m → m < to → unsigned_abs (get_or samples m (pos 0)) ≤ limit
+
+-- the samples in the windows of 16 outputs from number `at` on are small enough for these taps
+pub record AreSmallAt (taps samples : List ℤ) (at : ℕ) : Type 0 where
+  pub limit : ℕ
+  pub short : limit < 2 ^ 31
+  pub fits : weight taps * limit < 2 ^ 63
+  pub small : AreSmall limit samples (at + 1 - length taps) (at + 16)
+
+-- the list has the first n values of the whole, and they are in range
+pub record MadeSoFar (whole list : List ℤ) (n : ℕ) : Type 0 where
+  pub list_is : list ≡ take n whole
+  pub none_yet : position_from is_out_of_range 0 whole
+      ≡ position_from is_out_of_range n (drop n whole)

@@ -1,4 +1,5 @@
 pub mod Filter
 pub mod Inside
+pub mod Lanes
 pub mod Range
 pub mod Turns

@@ -19,3 +19,18 @@ pub enum FirFault {
     #[error("there was no memory for a filter")]
     OutOfMemory,
 }
+
+/// Why a list was not filtered.
+#[derive(Clone, Copy, Debug, PartialEq, Eq, Error)]
+pub enum FilterFault {
+    /// There is no tap, there are more than `TAPS_MAX`, a tap's magnitude is above `TAP_MAX`, or
+    /// the shift is above `SHIFT_MAX`.
+    #[error("a filter has 1 to {TAPS_MAX} taps up to {TAP_MAX}, and a shift up to {SHIFT_MAX}")]
+    BadTaps,
+    /// The output at this step is out of range, and no earlier one.
+    #[error("the output at step {0} is not from {VALUE_MIN} to {VALUE_MAX}")]
+    TooBig(usize),
+    /// There was no memory for the outputs.
+    #[error("there was no memory for the outputs")]
+    OutOfMemory,
+}

@@ -17,7 +17,7 @@ pub const TAP_MAX: u64 = 2_147_483_647;
 pub const SHIFT_MAX: u32 = 62;
 
 /// Whether a filter may have these taps and this shift.
-fn are_taps(taps: &[i64], shift: u32) -> bool
+pub(crate) fn are_taps(taps: &[i64], shift: u32) -> bool
     ensures { IsTrue result ↔ AreTaps taps.now shift }
 {
     !taps.is_empty()

@@ -1,6 +1,6 @@
 //! The sums of products that the filters answer.
 ghost use Rattle.std.specs.Prelude.{◌≡◌, ◌+◌, ◌*◌, ◌^◌, ◌<◌, ◌≤◌, ◌++◌, length, ◌*ℤ◌, unsigned_abs};
-ghost use Rattle.stream_filters.specs.Filter.{shifted_down, weight, weighted, at_place};
+ghost use Rattle.stream_filters.specs.Filter.{back, shifted_down, weight, weighted, at_place};
 ghost use Rattle.stream_filters.specs.Inside.{answer_at, IsNarrow};
 
 use crate::fault::TooBigValue;
@@ -29,6 +29,19 @@ fn wide_sum(taps: &[i64], samples: &[i64]) -> i128
     sum
 }
 
+/// The sum of each tap times the sample that it weighs, of any size, where the newest sample is the
+/// last.
+pub(crate) fn wide_sum_back(taps: &[i64], samples: &[i64]) -> i128
+    requires { weight taps.now ≤ 2 ^ 37 }
+    ensures { result ≡ weighted (back samples.now) taps.now }
+{
+    let mut sum = 0;
+    for j in 0..taps.len().min(samples.len()) {
+        sum += product(taps[j], samples[samples.len() - 1 - j]);
+    }
+    sum
+}
+
 /// The weighted sum of a window that lies in two slices, over samples of any size.
 // Inlined, its loops would take the registers of a step that does not run them.
 #[inline(never)]
@@ -41,7 +54,7 @@ fn wide_window_sum(taps: &[i64], front: &[i64], back: &[i64]) -> i128
 }
 
 /// The sum divided by 2 to the power `shift`, rounded down.
-fn wide_shifted(wide: i128, shift: u32) -> i128
+pub(crate) fn wide_shifted(wide: i128, shift: u32) -> i128
     requires { shift ≤ SHIFT_MAX }
     ensures { result ≡ shifted_down wide shift }
 {
@@ -97,7 +110,7 @@ fn narrow_window_sum(taps: &[i64], front: &[i64], back: &[i64]) -> i64
 }
 
 /// The sum divided by 2 to the power `shift`, rounded down.
-fn narrow_shifted(narrow: i64, shift: u32) -> i64
+pub(crate) fn narrow_shifted(narrow: i64, shift: u32) -> i64
     requires { shift ≤ SHIFT_MAX }
     ensures { result ≡ shifted_down narrow shift }
 {

@@ -38,7 +38,7 @@ more : (c : After-short_product-sum) (limit : ℕ) → All (λ x. unsigned_abs x
     (to_z w64 c.loop-i.sum-bits +ℤ (slice_index_or c.args.taps.now c.loop-i.i (pos 0) *ℤ slice_index_or c.args.samples.now c.loop-i.i (pos 0)))
 more c limit small =
     IsSumOf-more limit c.args.taps.now c.args.samples.now c.loop-i.i _ _ _
-    (c.loop-i.invariant limit small) c.loop-i-test.true c.requires.short refl refl
+    (c.loop-i.invariant limit small) c.loop-i-test.true (omega arith) refl refl
     (small c.loop-i.i (pos 0) c.loop-i-test.true)
 
 -- which the sum's type holds

@@ -30,7 +30,7 @@ more : (c : goal.After-product-sum) → IsSumOf (2 ^ 63) c.args.taps.now c.args.
 more c =
     let sample : FitsSigned w64 (slice_index_or c.args.samples.now c.loop-i.i (pos 0)) = search rules in
     IsSumOf-more _ c.args.taps.now c.args.samples.now c.loop-i.i _ _ _ c.loop-i.invariant
-    c.loop-i-test.true c.requires.short refl refl (nat_abs-le (slice_index_or c.args.samples.now c.loop-i.i (pos 0)) sample.sfits)
+    c.loop-i-test.true (omega arith) refl refl (nat_abs-le (slice_index_or c.args.samples.now c.loop-i.i (pos 0)) sample.sfits)
 
 -- which the sum's type holds
 pub overflow_add-sum : goal.overflow_add-sum

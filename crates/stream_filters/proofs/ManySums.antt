@@ -1,0 +1,158 @@
+-- Weighted sums of many windows at once.
+use Rattle.std.proofs.Common.{◌≡◌, ℕ, zero, suc, ◌+◌, ◌-◌, ◌*◌, ◌^◌, ◌<◌, ◌≤◌, List, [], ◌∷◌, length, map, take, drop, get_or, ℤ, pos, ◌+ℤ◌, ◌*ℤ◌, refl, sym, ap, ◌∙◌, zero-add, arith}
+use Rattle.std.specs.Prelude.{unsigned_abs, replicate}
+use Rattle.std.specs.List.{All, range_with_len}
+use Rattle.std.specs.Simd.Lanes.{zip2, Each1, Each2}
+use Rattle.std.proofs.Math.IntN.{+ℤ_assoc, +ℤ_idl, +ℤ_idr}
+use Rattle.std.proofs.lemmas.List.{same_lists, get_or_default, take_all}
+use Rattle.std.proofs.lemmas.List.FromFn.{length-map-range_with_len, get_or-map-range_with_len}
+use Rattle.std.proofs.lemmas.List.Sums.{sum_by-take-le}
+use Rattle.std.proofs.lemmas.Nat.{mul-le}
+use Rattle.std.proofs.lemmas.Simd.{length-chunk, get_or-chunk, zip2_of_maps}
+use Rattle.stream_filters.specs.Filter.{weighted, weight}
+use Rattle.stream_filters.specs.Inside.{IsNarrow}
+use Rattle.stream_filters.specs.Lanes.{before, IsShort, AddsUp}
+use Rattle.stream_filters.proofs.Lanes.{product-short}
+use Rattle.stream_filters.proofs.Outputs.{map-range_with_len_same}
+use Rattle.stream_filters.proofs.Weighted.{weighted-small, at_place-small}
+
+-- ---- facts of each of so many values
+
+pub Each1-maps : (P : ℤ → Type 0) (f : ℕ → ℤ) (ks : List ℕ) → ((k : ℕ) → P (f k))
+    → Each1 P (map f ks)
+Each1-maps P f [] each = tt
+Each1-maps P f (k ∷ ks) each = (each k, Each1-maps P f ks each)
+
+pub Each2-maps : (P : ℤ → ℤ → Type 0) (f g : ℕ → ℤ) (ks : List ℕ) → ((k : ℕ) → P (f k) (g k))
+    → Each2 P (map f ks) (map g ks)
+Each2-maps P f g [] each = tt
+Each2-maps P f g (k ∷ ks) each = (each k, Each2-maps P f g ks each)
+
+-- ---- one window
+
+-- one more tap
+pub weighted-take : (at : ℕ → ℤ) (taps : List ℤ) (j : ℕ) → j < length taps
+    → weighted at (take (suc j) taps)
+    ≡ weighted at (take j taps) +ℤ (get_or taps j (pos 0) *ℤ at j)
+weighted-take at [] j lt = absurd (omega arith)
+weighted-take at (tap ∷ taps) zero lt = +ℤ_idr (tap *ℤ at 0) ∙ sym (+ℤ_idl (tap *ℤ at 0))
+weighted-take at (tap ∷ taps) (suc j) lt =
+    ap (λ z. (tap *ℤ at 0) +ℤ z) (weighted-take (λ i. at (suc i)) taps j (omega arith))
+    ∙ sym (+ℤ_assoc (tap *ℤ at 0) _ _)
+
+-- the sum of the window that ends k samples after the first one, over the first j taps
+abbrev pub sum_after : List ℤ → List ℤ → ℕ → ℕ → ℤ
+sum_after taps samples j k = weighted (before samples (length taps - 1 + k)) (take j taps)
+
+-- what tap number j adds to it
+abbrev pub product_at : List ℤ → List ℤ → ℕ → ℕ → ℤ
+product_at taps samples j k = get_or taps j (pos 0) *ℤ before samples (length taps - 1 + k) j
+
+pub before-small : (taps samples : List ℤ) (narrow : IsNarrow taps samples) (n j : ℕ)
+    → unsigned_abs (before samples n j) ≤ narrow.limit
+before-small taps samples narrow n j = at_place-small narrow.limit samples narrow.small (n - j)
+
+pub before-short : (taps samples : List ℤ) → IsNarrow taps samples → (n j : ℕ) → IsShort (before samples n j)
+before-short taps samples narrow n j =
+    let small = before-small taps samples narrow n j in
+    let short = narrow.short in
+    record { short = omega arith }
+
+pub tap-short : (taps samples : List ℤ) → IsNarrow taps samples → (j : ℕ) (d : ℤ) → j < length taps
+    → IsShort (get_or taps j d)
+tap-short taps samples narrow j d lt = record { short = narrow.short_taps j d lt }
+
+pub sum_after-small : (taps samples : List ℤ) → IsNarrow taps samples → (j k : ℕ)
+    → unsigned_abs (sum_after taps samples j k) < 2 ^ 63
+sum_after-small taps samples narrow j k =
+    let n = length taps - 1 + k in
+    let small = weighted-small narrow.limit (before samples n) (take j taps) (before-small taps samples narrow n) in
+    let light = mul-le (weight (take j taps)) narrow.limit (weight taps) narrow.limit
+    (sum_by-take-le unsigned_abs taps j) (omega arith) in
+    let fits = narrow.fits in
+    omega arith
+
+pub adds_up : (taps samples : List ℤ) → IsNarrow taps samples → (j : ℕ) → j < length taps → (k : ℕ)
+    → AddsUp (sum_after taps samples j k) (product_at taps samples j k)
+adds_up taps samples narrow j lt k = record {
+  sum_fits = sum_after-small taps samples narrow j k;
+  product_fits = product-short _ _ (tap-short taps samples narrow j (pos 0) lt)
+      (before-short taps samples narrow (length taps - 1 + k) j);
+  fits = rw (← weighted-take (before samples (length taps - 1 + k)) taps j lt)
+      (sum_after-small taps samples narrow (suc j) k);
+}
+
+-- ---- 16 windows
+
+abbrev pub sums_after : List ℤ → List ℤ → ℕ → List ℤ
+sums_after taps samples j = map (sum_after taps samples j) (range_with_len 0 16)
+
+abbrev pub products_at : List ℤ → List ℤ → ℕ → List ℤ
+products_at taps samples j = map (product_at taps samples j) (range_with_len 0 16)
+
+-- the samples at tap number j
+abbrev pub lanes_at : List ℤ → List ℤ → ℕ → List ℤ
+lanes_at taps samples j = map (λ k. before samples (length taps - 1 + k) j) (range_with_len 0 16)
+
+-- so many samples from number i on
+chunk-is : (n i : ℕ) (samples : List ℤ) → i + n ≤ length samples
+    → take n (drop i samples) ≡ map (λ k. get_or samples (i + k) (pos 0)) (range_with_len 0 n)
+chunk-is n i samples le =
+    let f : ℕ → ℤ = λ k. get_or samples (i + k) (pos 0) in
+    same_lists _ _ (length-chunk i n samples le ∙ sym (length-map-range_with_len f 0 n)) (λ k d lt.
+    let below : k < n = omega (arith, length-chunk i n samples le) in
+    get_or-chunk i n samples k d below
+    ∙ (get_or_default samples (i + k) d (pos 0) (omega arith)
+    ∙ sym (get_or-map-range_with_len f 0 n k k d below (zero-add k))))
+
+pub lanes_at-is : (taps samples : List ℤ) (j : ℕ) → j < length taps → length samples ≡ length taps + 15
+    → take 16 (drop (length taps - 1 - j) samples) ≡ lanes_at taps samples j
+lanes_at-is taps samples j lt len =
+    chunk-is 16 (length taps - 1 - j) samples (omega arith)
+    ∙ map-range_with_len_same _ _ 16 (λ k below.
+    let same : length taps - 1 - j + k ≡ length taps - 1 + k - j = omega arith in
+    ap (λ i. get_or samples i (pos 0)) same)
+
+pub products_at-is : (taps samples : List ℤ) (j : ℕ)
+    → zip2 (λ x tap. tap *ℤ x) (lanes_at taps samples j) (replicate 16 (get_or taps j (pos 0)))
+    ≡ products_at taps samples j
+products_at-is taps samples j = refl
+
+pub sums_after-more : (taps samples : List ℤ) (j : ℕ) → j < length taps
+    → zip2 (λ sum product. sum +ℤ product) (sums_after taps samples j) (products_at taps samples j)
+    ≡ sums_after taps samples (suc j)
+sums_after-more taps samples j lt =
+    zip2_of_maps (λ sum product. sum +ℤ product) (sum_after taps samples j) (product_at taps samples j)
+    (range_with_len 0 16) refl refl
+    ∙ map-range_with_len_same _ _ 16 (λ k below.
+    sym (weighted-take (before samples (length taps - 1 + k)) taps j lt))
+
+pub sums_after-fit : (taps samples : List ℤ) → IsNarrow taps samples → (j : ℕ)
+    → Each1 (λ z. unsigned_abs z < 2 ^ 63) (sums_after taps samples j)
+sums_after-fit taps samples narrow j =
+    Each1-maps (λ z. unsigned_abs z < 2 ^ 63) (sum_after taps samples j) (range_with_len 0 16) (sum_after-small taps samples narrow j)
+
+pub products_at-fit : (taps samples : List ℤ) → IsNarrow taps samples → (j : ℕ) → j < length taps
+    → Each1 (λ z. unsigned_abs z < 2 ^ 63) (products_at taps samples j)
+products_at-fit taps samples narrow j lt =
+    Each1-maps (λ z. unsigned_abs z < 2 ^ 63) (product_at taps samples j) (range_with_len 0 16)
+    (λ k. (adds_up taps samples narrow j lt k).product_fits)
+
+pub lanes_at-short : (taps samples : List ℤ) → IsNarrow taps samples → (j : ℕ)
+    → Each1 IsShort (lanes_at taps samples j)
+lanes_at-short taps samples narrow j =
+    Each1-maps IsShort (λ k. before samples (length taps - 1 + k) j) (range_with_len 0 16)
+    (λ k. before-short taps samples narrow (length taps - 1 + k) j)
+
+pub lanes-add_up : (taps samples : List ℤ) → IsNarrow taps samples → (j : ℕ) → j < length taps
+    → Each2 AddsUp (sums_after taps samples j) (products_at taps samples j)
+lanes-add_up taps samples narrow j lt =
+    Each2-maps AddsUp (sum_after taps samples j) (product_at taps samples j) (range_with_len 0 16)
+    (adds_up taps samples narrow j lt)
+
+-- all taps
+pub sums_after-all : (taps samples : List ℤ) (j : ℕ) → length taps ≤ j → sums_after taps samples j
+    ≡ map (λ k. weighted (before samples (length taps - 1 + k)) taps) (range_with_len 0 16)
+sums_after-all taps samples j le =
+    ap (λ ts. map (λ k. weighted (before samples (length taps - 1 + k)) ts) (range_with_len 0 16))
+    (take_all j taps le)

@@ -1,0 +1,7 @@
+use Rattle.stream_filters.specs.Filter.{outputs}
+use Rattle.stream_filters.specs.Inside.{MadeSoFar}
+use Rattle.stream_filters.proofs.whole_list.add_each.Given as goal
+
+-- the outputs at the samples before this one
+abbrev pub invariant-loop-n : goal.invariant-loop-n
+invariant-loop-n l = MadeSoFar (outputs l.taps l.shift l.samples) l.list.items l.n

@@ -1,0 +1,16 @@
+-- What many windows at once need of their samples and sums.
+use Rattle.std.specs.Prelude.{ℕ, ◌-◌, ◌^◌, ◌<◌, List, ℤ, pos, ◌+ℤ◌, unsigned_abs, get_or}
+
+-- the sample j places before sample number n of these
+abbrev pub before : List ℤ → ℕ → ℕ → ℤ
+before samples n j = get_or samples (n - j) (pos 0)
+
+-- 32 bits hold it
+pub record IsShort (x : ℤ) : Type 0 where
+  pub short : unsigned_abs x < 2 ^ 31
+
+-- 64 bits hold a sum, a product and what they come to
+pub record AddsUp (sum product : ℤ) : Type 0 where
+  pub sum_fits : unsigned_abs sum < 2 ^ 63
+  pub product_fits : unsigned_abs product < 2 ^ 63
+  pub fits : unsigned_abs (sum +ℤ product) < 2 ^ 63

@@ -1,0 +1,161 @@
+//! A filter over a whole list of samples.
+ghost use Rattle.std.specs.Prelude.{◌≡◌, ◌↔◌, ◌+◌, ◌≤◌, ℕ, [], length, IfOk, OnOk, IsTrue, None, Some, Err, unsigned_abs};
+ghost use Rattle.std.specs.List.{All, position_from};
+ghost use Rattle.stream_filters.specs.Filter.{AreTaps, output_after, outputs};
+ghost use Rattle.stream_filters.specs.Inside.{AreSmall, AreSmallAt, MadeSoFar};
+ghost use Rattle.stream_filters.specs.Range.{is_out_of_range, ranged};
+
+use crate::blocks::block_sums;
+use crate::fault::{FilterFault, TooBigValue};
+use crate::fir::are_taps;
+use crate::range::in_range;
+use crate::sums::{narrow_limit, narrow_shifted, weight_of, wide_shifted, wide_sum_back};
+use std::alloc::{AllocError, Global};
+
+/// How many outputs are made at once, where the samples are small enough for the taps.
+const BLOCK: usize = 16;
+
+/// Whether the magnitude of each of these samples is at most `limit`.
+fn are_within(samples: &[i64], limit: u64) -> bool
+    ensures { IsTrue result ↔ All (λ x. unsigned_abs x ≤ limit) samples.now }
+{
+    samples.iter().all(|x| x.unsigned_abs() <= limit)
+}
+
+/// The output at the last of these samples.
+fn last_output(taps: &[i64], shift: u32, samples: &[i64]) -> Result<i64, TooBigValue>
+    requires { AreTaps taps.now shift }
+    ensures { result ≡ ranged (output_after taps.now shift samples.now) }
+{
+    in_range(wide_shifted(wide_sum_back(taps, samples), shift))
+}
+
+/// Adds the outputs at the samples from number `at` to the one before number `end`, which may be of
+/// any size.
+fn add_each(
+    list: &mut Vec<i64>,
+    taps: &[i64],
+    shift: u32,
+    samples: &[i64],
+    at: usize,
+    end: usize,
+) -> Result<(), FilterFault>
+    requires taps { AreTaps taps.now shift }
+    requires within { (at ≤ end) × (end ≤ length samples.now) }
+    requires made { MadeSoFar (outputs taps.now shift samples.now) list.old.items at }
+    ensures made { OnOk result (MadeSoFar (outputs taps.now shift samples.now) list.new.items end) }
+    ensures too_big { (step : ℕ) → result ≡ Err (FilterFault.TooBig step)
+        → position_from is_out_of_range 0 (outputs taps.now shift samples.now) ≡ Some step }
+    ensures taps_stand { result ≡ Err FilterFault.BadTaps → ⊥ }
+{
+    for n in at..end {
+        let Ok(y) = last_output(taps, shift, &samples[..n + 1]) else {
+            return Err(FilterFault::TooBig(n));
+        };
+        let Ok(()) = list.push(y) else {
+            return Err(FilterFault::OutOfMemory);
+        };
+    }
+    Ok(())
+}
+
+/// Adds the outputs at 16 samples from number `at` on. They and the samples that are still in the
+/// first one's window are small.
+fn add_block(
+    list: &mut Vec<i64>,
+    taps: &[i64],
+    shift: u32,
+    samples: &[i64],
+    at: usize,
+) -> Result<(), AllocError>
+    requires taps { AreTaps taps.now shift }
+    requires within { (length taps.now ≤ at + 1) × (at + 16 ≤ length samples.now) }
+    requires small { AreSmallAt taps.now samples.now at }
+    requires made { MadeSoFar (outputs taps.now shift samples.now) list.old.items at }
+    ensures made { OnOk result
+        (MadeSoFar (outputs taps.now shift samples.now) list.new.items (at + 16)) }
+{
+    let sums = block_sums(taps, &samples[at + 1 - taps.len()..at + BLOCK]);
+    for k in 0..BLOCK {
+        let Ok(()) = list.push(narrow_shifted(sums[k], shift)) else {
+            return Err(AllocError);
+        };
+    }
+    Ok(())
+}
+
+/// From which sample on those before number `end` are within the limit, where those before number
+/// `at` are so from number `since` on.
+fn small_since(samples: &[i64], limit: u64, since: usize, at: usize, end: usize) -> usize
+    requires within { (since ≤ at) × (at ≤ end) × (end ≤ length samples.now) }
+    ensures small { AreSmall limit samples.now since at → AreSmall limit samples.now result end }
+    ensures within { result ≤ end }
+{
+    if are_within(&samples[at..end], limit) { since } else { end }
+}
+
+/// Makes the outputs at all samples, or finds the first step at which one is out of range.
+fn add_all(
+    list: &mut Vec<i64>,
+    taps: &[i64],
+    shift: u32,
+    samples: &[i64],
+) -> Result<(), FilterFault>
+    requires taps { AreTaps taps.now shift }
+    requires empty { list.old.items ≡ [] }
+    ensures ok { OnOk result (list.new.items ≡ outputs taps.now shift samples.now) }
+    ensures in_range { OnOk result
+        (position_from is_out_of_range 0 (outputs taps.now shift samples.now) ≡ None) }
+    ensures too_big { (step : ℕ) → result ≡ Err (FilterFault.TooBig step)
+        → position_from is_out_of_range 0 (outputs taps.now shift samples.now) ≡ Some step }
+    ensures taps_stand { result ≡ Err FilterFault.BadTaps → ⊥ }
+{
+    let limit = narrow_limit(weight_of(taps));
+    let mut small_from = 0;
+    let mut at = 0;
+    while at < samples.len() {
+        let end = samples.len().min(at + BLOCK);
+        small_from = small_since(samples, limit, small_from, at, end);
+        if end == at + BLOCK && small_from + taps.len() <= at + 1 {
+            let Ok(()) = add_block(list, taps, shift, samples, at) else {
+                return Err(FilterFault::OutOfMemory);
+            };
+        } else {
+            add_each(list, taps, shift, samples, at, end)?;
+        }
+        at = end;
+    }
+    Ok(())
+}
+
+/// Makes the outputs of a filter with these taps and a shift in bits at each of these samples, or
+/// finds the first step at which one is out of range.
+///
+/// The answers are those of a `Fir` that is stepped over the samples. It takes memory for the list
+/// that it returns, and no other. `BadTaps` comes first.
+///
+/// **Speed.** Outputs are made 16 at once where the samples are small enough for the taps that 64
+/// bits hold each sum.
+pub fn filter_list(
+    alloc: Global,
+    taps: &[i64],
+    shift: u32,
+    samples: &[i64],
+) -> Result<Vec<i64>, FilterFault>
+    ensures ok { IfOk result (λ list. list.items ≡ outputs taps.now shift samples.now) }
+    ensures in_range { IfOk result (λ list.
+        position_from is_out_of_range 0 (outputs taps.now shift samples.now) ≡ None) }
+
+    ensures bad_taps { (result ≡ Err FilterFault.BadTaps) ↔ ¬ (AreTaps taps.now shift) }
+    ensures too_big { (step : ℕ) → result ≡ Err (FilterFault.TooBig step)
+        → position_from is_out_of_range 0 (outputs taps.now shift samples.now) ≡ Some step }
+{
+    if !are_taps(taps, shift) {
+        return Err(FilterFault::BadTaps);
+    }
+    let Ok(mut list) = Vec::with_capacity(alloc, samples.len()) else {
+        return Err(FilterFault::OutOfMemory);
+    };
+    add_all(&mut list, taps, shift, samples)?;
+    Ok(list)
+}
