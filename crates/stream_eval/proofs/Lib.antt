@@ -2,7 +2,6 @@ pub mod Agreeing
 pub mod Alone
 pub mod Composed
 pub mod Dropped
-pub mod FirSteps
 pub mod Made
 pub mod Mixing
 pub mod Sendable

@@ -1,6 +1,6 @@
 -- A list that is made value by value, each of which is checked.
 use Rattle.std.proofs.Common.{◌≡◌, ℕ, zero, suc, ◌+◌, ◌<◌, ◌≤◌, List, [], ◌∷◌, ◌++◌, length, get_or, take, drop, ℤ, pos, Bool, true, false, Some, None, Ok, Err, refl, sym, ap, subst, ◌∙◌, arith}
-use Rattle.std.specs.Prelude.{Result, unsigned_abs, nat_le, not, if◌then◌else◌}
+use Rattle.std.specs.Prelude.{Option, Result, unsigned_abs, nat_le, not, if◌then◌else◌}
 use Rattle.std.specs.List.{position_from}
 use Rattle.std.proofs.lemmas.List.{take_more, take_all}
 use Rattle.std.proofs.Math.Seq.{drop-cons}
@@ -27,7 +27,19 @@ pub position-here : {X : Type 0} (t : X → Bool) (n : ℕ) (xs : List X) (i : �
     → i < length xs → t (get_or xs i d) ≡ true → position_from t n (drop i xs) ≡ Some n
 position-here t n xs i d lt e = rw (drop-cons xs i d lt, e) refl
 
+-- where none passes, the first fails, and so do the others
+none-here : (b : Bool) (n : ℕ) (r : Option ℕ) → (if b then Some n else r) ≡ None → (b ≡ false) × (r ≡ None)
+none-here true n r e = grind (arith, e)
+none-here false n r e = (refl, e)
+
 -- ---- values that can be sent
+
+-- numbers none of which is out of range
+pub AreSends-in_range : (n : ℕ) (xs : List ℤ) → position_from is_out_of_range n xs ≡ None → AreSends xs
+AreSends-in_range n [] e = tt
+AreSends-in_range n (x ∷ xs) e =
+    let told = none-here (is_out_of_range x) n (position_from is_out_of_range (n + 1) xs) e in
+    (IsSend-in_range x told.0, AreSends-in_range (n + 1) xs told.1)
 
 pub AreSends-at : (xs : List ℤ) (n : ℕ) (d : ℤ) → AreSends xs → n < length xs
     → IsSend (get_or xs n d)

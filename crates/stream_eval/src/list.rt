@@ -9,7 +9,7 @@ ghost use Rattle.stream_eval.specs.declared.list.ListFault.TheVariants as fault;
 
 use std::alloc::{AllocError, Global};
 use stream_lists::graph_base::ENDS_MAX;
-use stream_lists::stream_filters::{Fir, Peer};
+use stream_lists::stream_filters::{FilterFault, Peer, filter_list};
 
 /// Why no list was made.
 #[derive(Clone, Copy, Debug, PartialEq, Eq)]
@@ -45,21 +45,11 @@ pub fn fir_list(
     ensures too_big { (step : ℕ) → result ≡ Err (ListFault.TooBig step)
         → position_from is_out_of_range 0 (outputs taps.now shift samples.now) ≡ Some step }
 {
-    let Ok(mut fir) = Fir::new(alloc, taps, shift) else {
-        return Err(ListFault::OutOfMemory);
-    };
-    let Ok(mut list) = Vec::with_capacity(alloc, samples.len()) else {
-        return Err(ListFault::OutOfMemory);
-    };
-    for (step, x) in samples.iter().enumerate() {
-        let Ok(y) = fir.step(*x) else {
-            return Err(ListFault::TooBig(step));
-        };
-        let Ok(()) = list.push(y) else {
-            return Err(ListFault::OutOfMemory);
-        };
+    match filter_list(alloc, taps, shift, samples) {
+        Ok(list) => Ok(list),
+        Err(FilterFault::TooBig(step)) => Err(ListFault::TooBig(step)),
+        Err(FilterFault::BadTaps | FilterFault::OutOfMemory) => Err(ListFault::OutOfMemory),
     }
-    Ok(list)
 }
 
 /// Takes the entries `j`, `j + m`, `j + 2 * m`, .. of a list.
