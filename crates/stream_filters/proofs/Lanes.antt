@@ -1,12 +1,15 @@
 -- Vectors of signed lanes, which the operations take as their bits.
-use Rattle.std.proofs.Common.{◌≡◌, ℕ, ◌^◌, ◌<◌, List, [], ◌∷◌, map, ℤ, ◌+ℤ◌, ◌*ℤ◌, w32, w64, FitsSigned, to_z, of_z, refl, sym, ap, ◌∙◌, arith}
+use Rattle.std.proofs.Common.{◌≡◌, ℕ, zero, suc, ◌^◌, ◌<◌, List, [], ◌∷◌, length, map, ℤ, pos, negsuc, ◌+ℤ◌, ◌*ℤ◌, w32, w64, FitsSigned, to_z, of_z, refl, ◌∙◌, arith}
 use Rattle.std.specs.Prelude.{unsigned_abs, replicate}
 use Rattle.std.specs.Simd.Lanes.{zip2, Each1, Each2}
+use lib.Signed.{shr_z}
 use Rattle.std.proofs.Math.IntN.{*ℤ_comm}
 use Rattle.std.proofs.lemmas.Int.{to_z-of_z, fits_signed_from_abs, unsigned_abs-mul}
 use Rattle.std.proofs.lemmas.Nat.{mul-le}
 use Rattle.std.proofs.lemmas.Simd.{Each1-weaker, Each2-splat}
+use Rattle.stream_filters.specs.Filter.{shifted_down}
 use Rattle.stream_filters.specs.Lanes.{IsShort, AddsUp}
+use Rattle.stream_filters.proofs.Weighted.{shifted_down-le}
 
 -- a fact of the bits of each lane
 pub Each1-bits : (P : ℕ → Type 0) (xs : List ℤ) → Each1 (λ x. P (of_z w64 x)) xs
@@ -55,10 +58,13 @@ short-fits x is = rw (short-64 x is) (fits_signed_from_abs w32 x is.short)
 pub short-cut : (x : ℤ) → IsShort x → to_z w32 (of_z w32 (to_z w64 (of_z w64 x))) ≡ x
 short-cut x is = rw (short-64 x is) (to_z-of_z w32 x (fits_signed_from_abs w32 x is.short))
 
-pub short-fits-again : (x : ℤ) → IsShort x → FitsSigned w64 (to_z w32 (of_z w32 (to_z w64 (of_z w64 x))))
-short-fits-again x is = let short = is.short in rw (short-cut x is) (fits_signed_from_abs w64 x (omega arith))
+pub short-fits-again : (x : ℤ) → IsShort x
+    → FitsSigned w64 (to_z w32 (of_z w32 (to_z w64 (of_z w64 x))))
+short-fits-again x is = let short = is.short in rw (short-cut x is) (fits_signed_from_abs w64 x
+    (omega arith))
 
-pub short-back : (x : ℤ) → IsShort x → to_z w64 (of_z w64 (to_z w32 (of_z w32 (to_z w64 (of_z w64 x))))) ≡ x
+pub short-back : (x : ℤ) → IsShort x
+    → to_z w64 (of_z w64 (to_z w32 (of_z w32 (to_z w64 (of_z w64 x))))) ≡ x
 short-back x is = rw (short-cut x is) (short-64 x is)
 
 -- ---- sums and products
@@ -66,23 +72,27 @@ short-back x is = rw (short-cut x is) (short-64 x is)
 pub product-short : (x tap : ℤ) → IsShort x → IsShort tap → unsigned_abs (x *ℤ tap) < 2 ^ 63
 product-short x tap x_is tap_is =
     rw (unsigned_abs-mul x tap) (
-    let le = mul-le (unsigned_abs x) (unsigned_abs tap) (2 ^ 31) (2 ^ 31) (let s = x_is.short in omega arith) (let s = tap_is.short in omega arith) in
+    let le = mul-le (unsigned_abs x) (unsigned_abs tap) (2 ^ 31) (2 ^ 31)
+    (let s = x_is.short in omega arith) (let s = tap_is.short in omega arith) in
     omega (arith, le))
 
 pub product-fits : (x tap : ℤ) → IsShort x → IsShort tap
     → FitsSigned w64 (to_z w64 (of_z w64 x) *ℤ to_z w64 (of_z w64 tap))
 product-fits x tap x_is tap_is =
-    rw (short-64 x x_is, short-64 tap tap_is) (fits_signed_from_abs w64 _ (product-short x tap x_is tap_is))
+    rw (short-64 x x_is, short-64 tap tap_is) (fits_signed_from_abs w64 _
+    (product-short x tap x_is tap_is))
 
 pub product-is : (x tap : ℤ) → IsShort x → IsShort tap
     → to_z w64 (of_z w64 (to_z w64 (of_z w64 x) *ℤ to_z w64 (of_z w64 tap))) ≡ tap *ℤ x
 product-is x tap x_is tap_is =
-    rw (short-64 x x_is, short-64 tap tap_is) (abs-fits _ (product-short x tap x_is tap_is) ∙ *ℤ_comm x tap)
+    rw (short-64 x x_is, short-64 tap tap_is) (abs-fits _ (product-short x tap x_is tap_is)
+    ∙ *ℤ_comm x tap)
 
 pub sum-fits : (sum product : ℤ) → AddsUp sum product
     → FitsSigned w64 (to_z w64 (of_z w64 sum) +ℤ to_z w64 (of_z w64 product))
 sum-fits sum product is =
-    rw (abs-fits sum is.sum_fits, abs-fits product is.product_fits) (fits_signed_from_abs w64 _ is.fits)
+    rw (abs-fits sum is.sum_fits, abs-fits product is.product_fits)
+    (fits_signed_from_abs w64 _ is.fits)
 
 pub sum-is : (sum product : ℤ) → AddsUp sum product
     → to_z w64 (of_z w64 (to_z w64 (of_z w64 sum) +ℤ to_z w64 (of_z w64 product))) ≡ sum +ℤ product
@@ -98,7 +108,11 @@ pub Each2-weaker : (P Q : ℤ → ℤ → Type 0) → ((x y : ℤ) → P x y →
     → Each2 P xs ys → Each2 Q xs ys
 Each2-weaker P Q weaker [] ys each = tt
 Each2-weaker P Q weaker (x ∷ xs) [] each = tt
-Each2-weaker P Q weaker (x ∷ xs) (y ∷ ys) each = (weaker x y each.0, Each2-weaker P Q weaker xs ys each.1)
+Each2-weaker P Q weaker (x ∷ xs) (y ∷ ys) each = (
+  weaker x y each.0,
+  Each2-weaker P Q weaker xs ys
+      each.1,
+)
 
 -- ---- numbers to bits and back
 
@@ -124,7 +138,8 @@ pub products-handed : (xs lanes products : List ℤ) (n : ℕ) (tap given : ℤ)
 products-handed xs lanes products n tap given result is tap_is e short products_are =
     rw (is, tap_is, e, short-lanes-64 lanes short) products_are
 
-pub sums-handed : (bits : List ℕ) (sums ps products : List ℤ) → bits ≡ map (of_z w64) sums → ps ≡ products
+pub sums-handed : (bits : List ℕ) (sums ps products : List ℤ) → bits ≡ map (of_z w64) sums
+    → ps ≡ products
     → Each1 (λ z. unsigned_abs z < 2 ^ 63) sums → Each1 (λ z. unsigned_abs z < 2 ^ 63) products
     → Each2 AddsUp sums products
     → Each2 AddsUp (map (to_z w64) bits) (map (to_z w64) (map (of_z w64) ps))
@@ -132,9 +147,31 @@ sums-handed bits sums ps products b e sums_fit products_fit adds =
     rw (b, e, lanes-64 sums sums_fit, lanes-64 products products_fit) adds
 
 pub added-handed : (bits : List ℕ) (sums ps products more result : List ℤ)
-    → result ≡ zip2 (λ sum product. sum +ℤ product) (map (to_z w64) bits) (map (to_z w64) (map (of_z w64) ps))
+    → result ≡ zip2 (λ sum product. sum +ℤ product) (map (to_z w64) bits) (map (to_z w64) (map
+    (of_z w64) ps))
     → bits ≡ map (of_z w64) sums → ps ≡ products
     → Each1 (λ z. unsigned_abs z < 2 ^ 63) sums → Each1 (λ z. unsigned_abs z < 2 ^ 63) products
     → zip2 (λ sum product. sum +ℤ product) sums products ≡ more → result ≡ more
 added-handed bits sums ps products more result is b e sums_fit products_fit more_is =
     rw (is, b, e, lanes-64 sums sums_fit, lanes-64 products products_fit) more_is
+
+-- ---- shifts
+
+-- an operation on the bits of each lane and of one number
+pub lanes-with : (g : ℕ → ℕ → ℕ) (f : ℤ → ℤ) (xs : List ℤ) (n b : ℕ) → length xs ≡ n
+    → Each1 (λ x. to_z w64 (g (of_z w64 x) b) ≡ f x) xs
+    → map (to_z w64) (zip2 g (map (of_z w64) xs) (replicate n b)) ≡ map f xs
+lanes-with g f [] n b len each = refl
+lanes-with g f (x ∷ xs) zero b len each = absurd (omega arith)
+lanes-with g f (x ∷ xs) (suc n) b len each = cc (each.0, lanes-with g f xs n b (omega arith) each.1)
+
+shr_z-is : (z : ℤ) (shift : ℕ) → shr_z z (2 ^ shift) ≡ shifted_down z shift
+shr_z-is (pos n) shift = refl
+shr_z-is (negsuc n) shift = refl
+
+-- what a shift to the right gives
+pub shifted-bits : (shift : ℕ) (sum : ℤ) → unsigned_abs sum < 2 ^ 63
+    → to_z w64 (of_z w64 (shr_z (to_z w64 (of_z w64 sum)) (2 ^ shift))) ≡ shifted_down sum shift
+shifted-bits shift sum fits =
+    let le = shifted_down-le sum shift in
+    rw (abs-fits sum fits, shr_z-is sum shift) (abs-fits (shifted_down sum shift) (omega arith))

@@ -1,5 +1,5 @@
 -- A list that is made value by value, each of which is checked.
-use Rattle.std.proofs.Common.{◌≡◌, ℕ, suc, ◌+◌, ◌<◌, ◌≤◌, List, [], ◌∷◌, ◌++◌, length, get_or, take, drop, ℤ, pos, Bool, true, false, Some, None, Ok, Err, refl, sym, ap, ◌∙◌, arith}
+use Rattle.std.proofs.Common.{◌≡◌, ℕ, suc, ◌+◌, ◌<◌, ◌≤◌, List, [], ◌∷◌, ◌++◌, length, get_or, take, drop, ℤ, pos, Bool, true, false, Some, None, Ok, Err, refl, sym, ap, subst, ◌∙◌, append-nil, append_assoc, arith}
 use Rattle.std.specs.Prelude.{Result, unsigned_abs, nat_le, not, if◌then◌else◌}
 use Rattle.std.specs.List.{position_from}
 use Rattle.std.proofs.lemmas.List.{take_more, take_all}
@@ -54,6 +54,26 @@ MadeSoFar-more whole list n y made lt answer =
           ∙ (ap (λ v. take n whole ++ v ∷ []) (sym told.0) ∙ sym (take_more whole n (pos 0) lt));
       none_yet = made.none_yet ∙ position-pass is_out_of_range n whole n (pos 0) lt told.1;
     }
+
+-- so are more
+pub MadeSoFar-append : (whole list ys : List ℤ) (n : ℕ) → MadeSoFar whole list n
+    → n + length ys ≤ length whole
+    → ((k : ℕ) → k < length ys → ranged (get_or whole (n + k) (pos 0)) ≡ Ok (get_or ys k (pos 0)))
+    → MadeSoFar whole (list ++ ys) (n + length ys)
+MadeSoFar-append whole list [] n made le each =
+    let none : n ≡ n + 0 = omega arith in
+    subst (λ m. MadeSoFar whole (list ++ []) m) none (subst (λ l. MadeSoFar whole l n) (sym
+    (append-nil list)) made)
+MadeSoFar-append whole list (y ∷ ys) n made le each =
+    let here : n + 0 ≡ n = omega arith in
+    let first = ap (λ m. ranged (get_or whole m (pos 0))) (sym here) ∙ each 0 (omega arith) in
+    let one = MadeSoFar-more whole list n y made (omega arith) first in
+    let rest = MadeSoFar-append whole (list ++ y ∷ []) ys (n + 1) one (omega arith) (λ k lt.
+    let next : n + 1 + k ≡ n + suc k = omega arith in
+    ap (λ m. ranged (get_or whole m (pos 0))) next ∙ each (suc k) (omega arith)) in
+    let count : n + 1 + length ys ≡ n + suc (length ys) = omega arith in
+    subst (λ m. MadeSoFar whole (list ++ y ∷ ys) m) count
+    (subst (λ l. MadeSoFar whole l (n + 1 + length ys)) (append_assoc list (y ∷ []) ys) rest)
 
 -- the next value is the first that is out of range
 pub MadeSoFar-fault : (whole list : List ℤ) (n : ℕ) (f : TooBigValue)

@@ -1,20 +1,20 @@
 -- Weighted sums of many windows at once.
-use Rattle.std.proofs.Common.{◌≡◌, ℕ, zero, suc, ◌+◌, ◌-◌, ◌*◌, ◌^◌, ◌<◌, ◌≤◌, List, [], ◌∷◌, length, map, take, drop, get_or, ℤ, pos, ◌+ℤ◌, ◌*ℤ◌, refl, sym, ap, ◌∙◌, zero-add, arith}
+use Rattle.std.proofs.Common.{◌≡◌, ℕ, zero, suc, ◌+◌, ◌-◌, ◌^◌, ◌<◌, ◌≤◌, List, [], ◌∷◌, length, map, take, drop, get_or, ℤ, pos, ◌+ℤ◌, ◌*ℤ◌, w64, of_z, to_z, refl, sym, ap, ◌∙◌, zero-add, arith}
 use Rattle.std.specs.Prelude.{unsigned_abs, replicate}
-use Rattle.std.specs.List.{All, range_with_len}
+use Rattle.std.specs.List.{range_with_len}
 use Rattle.std.specs.Simd.Lanes.{zip2, Each1, Each2}
 use Rattle.std.proofs.Math.IntN.{+ℤ_assoc, +ℤ_idl, +ℤ_idr}
-use Rattle.std.proofs.lemmas.List.{same_lists, get_or_default, take_all}
+use Rattle.std.proofs.lemmas.List.{same_lists, get_or_default, take_all, take_rest}
 use Rattle.std.proofs.lemmas.List.FromFn.{length-map-range_with_len, get_or-map-range_with_len}
 use Rattle.std.proofs.lemmas.List.Sums.{sum_by-take-le}
 use Rattle.std.proofs.lemmas.Nat.{mul-le}
-use Rattle.std.proofs.lemmas.Simd.{length-chunk, get_or-chunk, zip2_of_maps}
-use Rattle.stream_filters.specs.Filter.{weighted, weight}
+use Rattle.std.proofs.lemmas.Simd.{length-chunk, get_or-chunk, map-map, zip2_of_maps}
+use Rattle.stream_filters.specs.Filter.{shifted_down, weighted, weight}
 use Rattle.stream_filters.specs.Inside.{IsNarrow}
-use Rattle.stream_filters.specs.Lanes.{before, IsShort, AddsUp}
-use Rattle.stream_filters.proofs.Lanes.{product-short}
+use Rattle.stream_filters.specs.Lanes.{before, output_shown, IsShort, AddsUp}
+use Rattle.stream_filters.proofs.Lanes.{product-short, short-64, lanes-64, products-handed}
 use Rattle.stream_filters.proofs.Outputs.{map-range_with_len_same}
-use Rattle.stream_filters.proofs.Weighted.{weighted-small, at_place-small}
+use Rattle.stream_filters.proofs.Weighted.{weighted-small, at_place-small, shifted_down-le}
 
 -- ---- facts of each of so many values
 
@@ -52,7 +52,8 @@ pub before-small : (taps samples : List ℤ) (narrow : IsNarrow taps samples) (n
     → unsigned_abs (before samples n j) ≤ narrow.limit
 before-small taps samples narrow n j = at_place-small narrow.limit samples narrow.small (n - j)
 
-pub before-short : (taps samples : List ℤ) → IsNarrow taps samples → (n j : ℕ) → IsShort (before samples n j)
+pub before-short : (taps samples : List ℤ) → IsNarrow taps samples → (n j : ℕ)
+    → IsShort (before samples n j)
 before-short taps samples narrow n j =
     let small = before-small taps samples narrow n j in
     let short = narrow.short in
@@ -66,7 +67,8 @@ pub sum_after-small : (taps samples : List ℤ) → IsNarrow taps samples → (j
     → unsigned_abs (sum_after taps samples j k) < 2 ^ 63
 sum_after-small taps samples narrow j k =
     let n = length taps - 1 + k in
-    let small = weighted-small narrow.limit (before samples n) (take j taps) (before-small taps samples narrow n) in
+    let small = weighted-small narrow.limit (before samples n) (take j taps)
+    (before-small taps samples narrow n) in
     let light = mul-le (weight (take j taps)) narrow.limit (weight taps) narrow.limit
     (sum_by-take-le unsigned_abs taps j) (omega arith) in
     let fits = narrow.fits in
@@ -105,7 +107,7 @@ chunk-is n i samples le =
     ∙ (get_or_default samples (i + k) d (pos 0) (omega arith)
     ∙ sym (get_or-map-range_with_len f 0 n k k d below (zero-add k))))
 
-pub lanes_at-is : (taps samples : List ℤ) (j : ℕ) → j < length taps → length samples ≡ length taps + 15
+lanes_at-is : (taps samples : List ℤ) (j : ℕ) → j < length taps → length samples ≡ length taps + 15
     → take 16 (drop (length taps - 1 - j) samples) ≡ lanes_at taps samples j
 lanes_at-is taps samples j lt len =
     chunk-is 16 (length taps - 1 - j) samples (omega arith)
@@ -113,7 +115,15 @@ lanes_at-is taps samples j lt len =
     let same : length taps - 1 - j + k ≡ length taps - 1 + k - j = omega arith in
     ap (λ i. get_or samples i (pos 0)) same)
 
-pub products_at-is : (taps samples : List ℤ) (j : ℕ)
+-- the lanes that the code reads
+pub lanes-read : (taps samples : List ℤ) (j : ℕ) → j < length taps
+    → length samples ≡ length taps + 15
+    → take 16 (take (length samples - (length taps - 1 - j)) (drop (length taps - 1 - j) samples))
+    ≡ lanes_at taps samples j
+lanes-read taps samples j lt len =
+    ap (take 16) (take_rest samples (length taps - 1 - j)) ∙ lanes_at-is taps samples j lt len
+
+products_at-is : (taps samples : List ℤ) (j : ℕ)
     → zip2 (λ x tap. tap *ℤ x) (lanes_at taps samples j) (replicate 16 (get_or taps j (pos 0)))
     ≡ products_at taps samples j
 products_at-is taps samples j = refl
@@ -122,7 +132,8 @@ pub sums_after-more : (taps samples : List ℤ) (j : ℕ) → j < length taps
     → zip2 (λ sum product. sum +ℤ product) (sums_after taps samples j) (products_at taps samples j)
     ≡ sums_after taps samples (suc j)
 sums_after-more taps samples j lt =
-    zip2_of_maps (λ sum product. sum +ℤ product) (sum_after taps samples j) (product_at taps samples j)
+    zip2_of_maps (λ sum product. sum +ℤ product) (sum_after taps samples j)
+    (product_at taps samples j)
     (range_with_len 0 16) refl refl
     ∙ map-range_with_len_same _ _ 16 (λ k below.
     sym (weighted-take (before samples (length taps - 1 + k)) taps j lt))
@@ -130,7 +141,8 @@ sums_after-more taps samples j lt =
 pub sums_after-fit : (taps samples : List ℤ) → IsNarrow taps samples → (j : ℕ)
     → Each1 (λ z. unsigned_abs z < 2 ^ 63) (sums_after taps samples j)
 sums_after-fit taps samples narrow j =
-    Each1-maps (λ z. unsigned_abs z < 2 ^ 63) (sum_after taps samples j) (range_with_len 0 16) (sum_after-small taps samples narrow j)
+    Each1-maps (λ z. unsigned_abs z < 2 ^ 63) (sum_after taps samples j) (range_with_len 0 16)
+    (sum_after-small taps samples narrow j)
 
 pub products_at-fit : (taps samples : List ℤ) → IsNarrow taps samples → (j : ℕ) → j < length taps
     → Each1 (λ z. unsigned_abs z < 2 ^ 63) (products_at taps samples j)
@@ -150,9 +162,73 @@ lanes-add_up taps samples narrow j lt =
     Each2-maps AddsUp (sum_after taps samples j) (product_at taps samples j) (range_with_len 0 16)
     (adds_up taps samples narrow j lt)
 
--- all taps
-pub sums_after-all : (taps samples : List ℤ) (j : ℕ) → length taps ≤ j → sums_after taps samples j
+-- the products that the code makes of the lanes
+pub products-made : (taps samples lanes result : List ℤ) (j : ℕ) → IsNarrow taps samples
+    → j < length taps
+    → lanes ≡ lanes_at taps samples j
+    → result ≡ zip2 (λ x tap. tap *ℤ x) (map (to_z w64) (map (of_z w64) lanes))
+    (replicate 16 (to_z w64 (of_z w64 (get_or taps j (pos 0)))))
+    → result ≡ products_at taps samples j
+products-made taps samples lanes result j narrow lt lanes_are is =
+    products-handed lanes (lanes_at taps samples j) (products_at taps samples j) 16 (get_or taps j
+    (pos 0)) _ result is
+    (short-64 _ (tap-short taps samples narrow j (pos 0) lt)) lanes_are
+    (lanes_at-short taps samples narrow j)
+    (products_at-is taps samples j)
+
+-- ---- shifted down
+
+-- the sum over a window of narrow samples
+pub weighted-before-small : (taps samples : List ℤ) → IsNarrow taps samples → (n : ℕ)
+    → unsigned_abs (weighted (before samples n) taps) < 2 ^ 63
+weighted-before-small taps samples narrow n =
+    let small = weighted-small narrow.limit (before samples n) taps
+    (before-small taps samples narrow n) in
+    let fits = narrow.fits in
+    omega arith
+
+-- all taps are summed
+sums_after-all : (taps samples : List ℤ) (j : ℕ) → length taps ≤ j → sums_after taps samples j
     ≡ map (λ k. weighted (before samples (length taps - 1 + k)) taps) (range_with_len 0 16)
 sums_after-all taps samples j le =
     ap (λ ts. map (λ k. weighted (before samples (length taps - 1 + k)) ts) (range_with_len 0 16))
     (take_all j taps le)
+
+-- the sums are handed on to the shift
+pub sums-back : (taps samples : List ℤ) (j : ℕ) (bits : List ℕ) → IsNarrow taps samples
+    → bits ≡ map (of_z w64) (sums_after taps samples j) → map (to_z w64) bits
+    ≡ sums_after taps samples j
+sums-back taps samples j bits narrow is =
+    ap (map (to_z w64)) is ∙ lanes-64 (sums_after taps samples j)
+    (sums_after-fit taps samples narrow j)
+
+pub shifted-all : (taps samples : List ℤ) (shift j : ℕ) → length taps ≤ j
+    → map (λ sum. shifted_down sum shift) (sums_after taps samples j)
+    ≡ map (output_shown taps shift samples) (range_with_len 0 16)
+shifted-all taps samples shift j le =
+    ap (map (λ sum. shifted_down sum shift)) (sums_after-all taps samples j le)
+    ∙ map-map (λ sum. shifted_down sum shift) (λ k. weighted (before samples
+    (length taps - 1 + k)) taps) (range_with_len 0 16)
+
+pub output_shown-small : (taps samples : List ℤ) (shift : ℕ) → IsNarrow taps samples → (k : ℕ)
+    → unsigned_abs (output_shown taps shift samples k) < 2 ^ 63
+output_shown-small taps samples shift narrow k =
+    let sum = weighted (before samples (length taps - 1 + k)) taps in
+    let le = shifted_down-le sum shift in
+    let small = weighted-before-small taps samples narrow (length taps - 1 + k) in
+    omega arith
+
+pub outputs-handed : (taps samples : List ℤ) (shift j : ℕ) (bits : List ℕ) (result : List ℤ)
+    → IsNarrow taps samples → length taps ≤ j → bits ≡ map (of_z w64) (sums_after taps samples j)
+    → result ≡ map (λ sum. shifted_down sum shift) (map (to_z w64) bits)
+    → map (to_z w64) (map (of_z w64) result) ≡ map (output_shown taps shift samples)
+    (range_with_len 0 16)
+outputs-handed taps samples shift j bits result narrow le bits_are is =
+    let outputs_are : result ≡ map (output_shown taps shift samples) (range_with_len 0 16) =
+    is ∙ (ap (map (λ sum. shifted_down sum shift)) (sums-back taps samples j bits narrow bits_are)
+    ∙ shifted-all taps samples shift j le) in
+    ap (λ r. map (to_z w64) (map (of_z w64) r)) outputs_are
+    ∙ lanes-64 (map (output_shown taps shift samples) (range_with_len 0 16))
+    (Each1-maps (λ z. unsigned_abs z < 2 ^ 63) (output_shown taps shift samples)
+    (range_with_len 0 16)
+    (output_shown-small taps samples shift narrow))

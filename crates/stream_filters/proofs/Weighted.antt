@@ -178,7 +178,7 @@ IsNarrow-back taps front back n narrow = record {
 }
 
 -- a shift does not lead away from zero
-shifted_down-le : (z : ℤ) (shift : ℕ) → unsigned_abs (shifted_down z shift) ≤ unsigned_abs z
+pub shifted_down-le : (z : ℤ) (shift : ℕ) → unsigned_abs (shifted_down z shift) ≤ unsigned_abs z
 shifted_down-le (pos n) shift = shr_le n shift
 shifted_down-le (negsuc n) shift = let le = shr_le n shift in omega arith
 

@@ -1,11 +1,12 @@
-//! Weighted sums of many windows at once.
-ghost use Rattle.std.specs.Prelude.{◌≡◌, ◌+◌, ◌-◌, ◌≤◌, length, map, take, replicate, ◌+ℤ◌, ◌*ℤ◌};
+//! The outputs at many samples at once.
+ghost use Rattle.std.specs.Prelude.{◌≡◌, ◌+◌, ◌^◌, ◌<◌, ◌≤◌, length, map, take, replicate, ◌+ℤ◌, ◌*ℤ◌, unsigned_abs};
 ghost use Rattle.std.specs.List.{range_with_len};
 ghost use Rattle.std.specs.Simd.Lanes.{zip2, Each1, Each2};
-ghost use Rattle.stream_filters.specs.Filter.{weighted};
+ghost use Rattle.stream_filters.specs.Filter.{shifted_down};
 ghost use Rattle.stream_filters.specs.Inside.{IsNarrow};
-ghost use Rattle.stream_filters.specs.Lanes.{before, IsShort, AddsUp};
+ghost use Rattle.stream_filters.specs.Lanes.{output_shown, IsShort, AddsUp};
 
+use crate::fir::SHIFT_MAX;
 use std::simd::prelude::*;
 
 /// The first 16 of these samples, which have 32 bits each.
@@ -34,18 +35,28 @@ fn added(sums: i64x16, products: i64x16) -> i64x16
     sums.strict_add(products)
 }
 
-/// The weighted sums of 16 windows of as many samples as there are taps, each window a sample after
-/// the one before it, where 64 bits hold them.
-pub(crate) fn block_sums(taps: &[i64], samples: &[i64]) -> [i64; 16]
+/// Each sum divided by 2 to the power `shift`, rounded down.
+fn lanes_shifted(sums: i64x16, shift: u32) -> i64x16
+    requires shift { shift ≤ SHIFT_MAX }
+    requires lanes { length sums ≡ 16 }
+    requires fits { Each1 (λ sum. unsigned_abs sum < 2 ^ 63) sums }
+    ensures { result ≡ map (λ sum. shifted_down sum shift) sums }
+{
+    sums >> i64x16::splat(i64::from(shift))
+}
+
+/// The outputs at 16 samples one after the other, from the samples in their windows, where 64 bits
+/// hold the sums.
+pub(crate) fn block_outputs(taps: &[i64], shift: u32, samples: &[i64]) -> [i64; 16]
+    requires shift { shift ≤ SHIFT_MAX }
     requires enough { length samples.now ≡ length taps.now + 15 }
     requires narrow { IsNarrow taps.now samples.now }
-    ensures { result ≡ map (λ k. weighted (before samples.now (length taps.now - 1 + k)) taps.now)
-        (range_with_len 0 16) }
+    ensures { result ≡ map (output_shown taps.now shift samples.now) (range_with_len 0 16) }
 {
     let mut sums = i64x16::splat(0);
     for j in 0..taps.len() {
         let lanes = short_lanes(&samples[taps.len() - 1 - j..]);
         sums = added(sums, scaled(lanes, taps[j]));
     }
-    sums.to_array()
+    lanes_shifted(sums, shift).to_array()
 }

@@ -110,7 +110,7 @@ fn narrow_window_sum(taps: &[i64], front: &[i64], back: &[i64]) -> i64
 }
 
 /// The sum divided by 2 to the power `shift`, rounded down.
-pub(crate) fn narrow_shifted(narrow: i64, shift: u32) -> i64
+fn narrow_shifted(narrow: i64, shift: u32) -> i64
     requires { shift ≤ SHIFT_MAX }
     ensures { result ≡ shifted_down narrow shift }
 {

@@ -5,11 +5,11 @@ ghost use Rattle.stream_filters.specs.Filter.{AreTaps, output_after, outputs};
 ghost use Rattle.stream_filters.specs.Inside.{AreSmall, AreSmallAt, MadeSoFar};
 ghost use Rattle.stream_filters.specs.Range.{is_out_of_range, ranged};
 
-use crate::blocks::block_sums;
+use crate::blocks::block_outputs;
 use crate::fault::{FilterFault, TooBigValue};
 use crate::fir::are_taps;
 use crate::range::in_range;
-use crate::sums::{narrow_limit, narrow_shifted, weight_of, wide_shifted, wide_sum_back};
+use crate::sums::{narrow_limit, weight_of, wide_shifted, wide_sum_back};
 use std::alloc::{AllocError, Global};
 
 /// How many outputs are made at once, where the samples are small enough for the taps.
@@ -75,13 +75,8 @@ fn add_block(
     ensures made { OnOk result
         (MadeSoFar (outputs taps.now shift samples.now) list.new.items (at + 16)) }
 {
-    let sums = block_sums(taps, &samples[at + 1 - taps.len()..at + BLOCK]);
-    for k in 0..BLOCK {
-        let Ok(()) = list.push(narrow_shifted(sums[k], shift)) else {
-            return Err(AllocError);
-        };
-    }
-    Ok(())
+    let outputs = block_outputs(taps, shift, &samples[at + 1 - taps.len()..at + BLOCK]);
+    list.extend_from_slice(&outputs)
 }
 
 /// From which sample on those before number `end` are within the limit, where those before number
@@ -91,7 +86,11 @@ fn small_since(samples: &[i64], limit: u64, since: usize, at: usize, end: usize)
     ensures small { AreSmall limit samples.now since at → AreSmall limit samples.now result end }
     ensures within { result ≤ end }
 {
-    if are_within(&samples[at..end], limit) { since } else { end }
+    if are_within(&samples[at..end], limit) {
+        since
+    } else {
+        end
+    }
 }
 
 /// Makes the outputs at all samples, or finds the first step at which one is out of range.

@@ -8,7 +8,8 @@ pub overflow_cast-result : goal.overflow_cast-result
 overflow_cast-result c = Each1-bits _ _ (Each1-weaker IsShort _ short-fits _ c.requires.short)
 
 pub overflow_cast-result-2 : goal.overflow_cast-result-2
-overflow_cast-result-2 c = Each1-bits-map _ _ _ (Each1-weaker IsShort _ short-fits-again _ c.requires.short)
+overflow_cast-result-2 c = Each1-bits-map _ _ _ (Each1-weaker IsShort _ short-fits-again _
+    c.requires.short)
 
 -- so nothing is lost
 pub returns : goal.returns

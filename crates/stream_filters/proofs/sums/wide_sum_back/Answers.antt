@@ -1,4 +1,4 @@
-use Rattle.std.proofs.Common.{rules, arith, ◌≡◌, ℕ, ◌+◌, ◌-◌, ◌*◌, ◌^◌, ◌<◌, ◌≤◌, length, reverse, get_or, slice_index_or, pos, ◌+ℤ◌, ◌*ℤ◌, w64, FitsSigned, to_z, of_z, refl, sym, ◌∙◌}
+use Rattle.std.proofs.Common.{rules, arith, ◌≡◌, ℕ, ◌+◌, ◌-◌, ◌*◌, ◌^◌, ◌<◌, ◌≤◌, length, reverse, slice_index_or, pos, ◌+ℤ◌, ◌*ℤ◌, w64, FitsSigned, to_z, of_z, refl, sym, ◌∙◌}
 use Rattle.std.specs.Int.{w128}
 use Rattle.std.proofs.lemmas.Int.{to_z-of_z, fits_signed_from_abs}
 use Rattle.std.proofs.lemmas.List.{length-reverse, get_or-reverse}
@@ -23,21 +23,29 @@ added : (c : goal.After-product-sum) → to_z w128 (of_z w128 c.product-sum.resu
 added c =
     let tap : FitsSigned w64 (slice_index_or c.args.taps.now c.loop-j.j (pos 0)) = search rules in
     let sample : FitsSigned w64
-    (slice_index_or c.args.samples.now (length c.args.samples.now - 1 - c.loop-j.j) (pos 0)) = search rules in
+    (slice_index_or c.args.samples.now (length c.args.samples.now - 1 - c.loop-j.j)
+    (pos 0)) = search rules in
     let product : FitsSigned w128 c.product-sum.result = search rules in
     to_z-of_z w128 c.product-sum.result product ∙ simp to_z-of_z at c.product-sum.ensures.value
 
 -- the sum with one more sample
-more : (c : goal.After-product-sum) → IsSumOf (2 ^ 63) c.args.taps.now (reverse c.args.samples.now) (c.loop-j.j + 1)
+more : (c : goal.After-product-sum)
+    → IsSumOf (2 ^ 63) c.args.taps.now (reverse c.args.samples.now) (c.loop-j.j + 1)
     (to_z w128 c.loop-j.sum-bits +ℤ (slice_index_or c.args.taps.now c.loop-j.j (pos 0)
     *ℤ slice_index_or c.args.samples.now (length c.args.samples.now - 1 - c.loop-j.j) (pos 0)))
 more c =
     let samples = c.args.samples.now in
-    let sample : FitsSigned w64 (slice_index_or samples (length samples - 1 - c.loop-j.j) (pos 0)) = search rules in
-    let below : c.loop-j.j < length samples = omega (arith, c.min-j-end.ensures, c.loop-j-test.true) in
+    let sample : FitsSigned w64 (slice_index_or samples (length samples - 1 - c.loop-j.j)
+    (pos 0)) = search rules in
+    let below : c.loop-j.j < length samples = omega
+    (arith, c.min-j-end.ensures, c.loop-j-test.true) in
     IsSumOf-more _ c.args.taps.now (reverse samples) c.loop-j.j _ _ _ c.loop-j.invariant
-    (omega (arith, length-reverse samples)) (omega (arith, c.min-j-end.ensures, c.loop-j-test.true)) refl
-    (sym (get_or-reverse samples c.loop-j.j (pos 0) below)) 
+    (omega (arith, length-reverse samples)) (omega (
+      arith,
+      c.min-j-end.ensures,
+      c.loop-j-test.true,
+    )) refl
+    (sym (get_or-reverse samples c.loop-j.j (pos 0) below))
     (nat_abs-le (slice_index_or samples (length samples - 1 - c.loop-j.j) (pos 0)) sample.sfits)
 
 -- which the sum's type holds

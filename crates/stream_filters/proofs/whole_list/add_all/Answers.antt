@@ -12,9 +12,17 @@ weight_of-requires c = weight-small c.args.taps.now c.args.shift c.requires.taps
 pub returns-clause-ok : goal.returns-clause-ok
 returns-clause-ok c =
     (MadeSoFar-all _ _ _ c.loop-at.invariant.made
-    (omega (arith, outputs-length c.args.taps.now c.args.shift c.args.samples.now, c.loop-at-test.false))).0
+    (omega (
+      arith,
+      outputs-length c.args.taps.now c.args.shift c.args.samples.now,
+      c.loop-at-test.false,
+    ))).0
 
 pub returns-clause-in_range : goal.returns-clause-in_range
 returns-clause-in_range c =
     (MadeSoFar-all _ _ _ c.loop-at.invariant.made
-    (omega (arith, outputs-length c.args.taps.now c.args.shift c.args.samples.now, c.loop-at-test.false))).1
+    (omega (
+      arith,
+      outputs-length c.args.taps.now c.args.shift c.args.samples.now,
+      c.loop-at-test.false,
+    ))).1

@@ -1,4 +1,4 @@
-use Rattle.std.proofs.Common.{rules, arith, ◌≡◌, ◌<◌, length, pos, sym, ap, ◌∙◌, w64, FitsSigned}
+use Rattle.std.proofs.Common.{rules, arith, ◌<◌, length, pos, sym, ap, ◌∙◌, w64, FitsSigned}
 use Rattle.std.proofs.lemmas.Int.{to_z-of_z}
 use Rattle.stream_filters.specs.Filter.{outputs}
 use Rattle.stream_filters.specs.Range.{ranged}
@@ -14,7 +14,8 @@ returns-in_default-clause-too_big c step e =
     let n = c.loop-n.n in
     let below : n < length samples = omega (arith, c.requires.within, c.loop-n-test.true) in
     let next = outputs-entry taps c.args.shift samples n (pos 0) below in
-    let here = MadeSoFar-fault (outputs taps c.args.shift samples) _ n c.in_default.field-0 c.loop-n.invariant
+    let here = MadeSoFar-fault (outputs taps c.args.shift samples) _ n c.in_default.field-0
+    c.loop-n.invariant
     (omega (arith, outputs-length taps c.args.shift samples))
     (ap ranged next ∙ (sym c.last_output.ensures ∙ c.in_default.is)) in
     grind (arith, here, e)

@@ -1,4 +1,4 @@
-use Rattle.std.proofs.Common.{rules, arith}
+use Rattle.std.proofs.Common.{arith}
 use Rattle.stream_filters.proofs.WholeLists.{AreSmall-more}
 use Rattle.stream_filters.proofs.whole_list.small_since.Goals as goal
 

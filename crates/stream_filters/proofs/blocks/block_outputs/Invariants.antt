@@ -1,6 +1,6 @@
 use Rattle.std.proofs.Common.{◌≡◌, map, w64, of_z}
 use Rattle.stream_filters.proofs.ManySums.{sums_after}
-use Rattle.stream_filters.proofs.blocks.block_sums.Given as goal
+use Rattle.stream_filters.proofs.blocks.block_outputs.Given as goal
 
 -- the sums over the taps before number j
 abbrev pub invariant-loop-j : goal.invariant-loop-j

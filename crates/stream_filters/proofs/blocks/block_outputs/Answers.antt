@@ -1,0 +1,68 @@
+use Rattle.std.proofs.Common.{arith, ◌≡◌, ◌+◌, suc, map, w64, of_z, ap, ◌∙◌}
+use Rattle.stream_filters.proofs.Lanes.{short-handed, sums-handed, added-handed}
+use Rattle.stream_filters.proofs.ManySums.{sums_after, products_at, lanes_at, lanes-read, lanes_at-short, products-made, sums_after-fit, products_at-fit, lanes-add_up, sums_after-more, sums-back, outputs-handed}
+use Rattle.stream_filters.proofs.blocks.block_outputs.Goals as goal
+
+-- samples of 32 bits
+pub short_lanes-lanes-requires-clause-short : goal.short_lanes-lanes-requires-clause-short
+short_lanes-lanes-requires-clause-short c =
+    let taps = c.args.taps.now in
+    let samples = c.args.samples.now in
+    rw (lanes-read taps samples c.loop-j.j c.loop-j-test.true c.requires.enough)
+    (lanes_at-short taps samples c.requires.narrow c.loop-j.j)
+
+pub scaled-requires-clause-short : goal.scaled-requires-clause-short
+scaled-requires-clause-short c =
+    let taps = c.args.taps.now in
+    let samples = c.args.samples.now in
+    let j = c.loop-j.j in
+    short-handed _ (lanes_at taps samples j)
+    (c.short_lanes-lanes.ensures ∙ lanes-read taps samples j c.loop-j-test.true c.requires.enough)
+    (lanes_at-short taps samples c.requires.narrow j)
+
+-- no sum is too large
+pub added-sums-requires : goal.added-sums-requires
+added-sums-requires c =
+    let taps = c.args.taps.now in
+    let samples = c.args.samples.now in
+    let j = c.loop-j.j in
+    let lt = c.loop-j-test.true in
+    let narrow = c.requires.narrow in
+    let lanes = c.short_lanes-lanes.ensures ∙ lanes-read taps samples j lt c.requires.enough in
+    sums-handed _ (sums_after taps samples j) _ (products_at taps samples j) c.loop-j.invariant
+    (products-made taps samples _ _ j narrow lt lanes c.scaled.ensures)
+    (sums_after-fit taps samples narrow j) (products_at-fit taps samples narrow j lt)
+    (lanes-add_up taps samples narrow j lt)
+
+-- the sums with one more tap
+pub loop-j-preserved : goal.loop-j-preserved
+loop-j-preserved c =
+    let taps = c.args.taps.now in
+    let samples = c.args.samples.now in
+    let j = c.loop-j.j in
+    let lt = c.loop-j-test.true in
+    let narrow = c.requires.narrow in
+    let lanes = c.short_lanes-lanes.ensures ∙ lanes-read taps samples j lt c.requires.enough in
+    let next : suc j ≡ j + 1 = omega arith in
+    let sums : c.added-sums.result ≡ sums_after taps samples (suc j) =
+    added-handed _ (sums_after taps samples j) _ (products_at taps samples j)
+    (sums_after taps samples (suc j)) _
+    c.added-sums.ensures c.loop-j.invariant (products-made taps samples _ _ j narrow lt lanes
+    c.scaled.ensures)
+    (sums_after-fit taps samples narrow j) (products_at-fit taps samples narrow j lt)
+    (sums_after-more taps samples j lt) in
+    ap (map (of_z w64)) (sums ∙ ap (sums_after taps samples) next)
+
+-- the sums over all taps, shifted down
+pub lanes_shifted-requires-clause-fits : goal.lanes_shifted-requires-clause-fits
+lanes_shifted-requires-clause-fits c =
+    let taps = c.args.taps.now in
+    let samples = c.args.samples.now in
+    rw (sums-back taps samples c.loop-j.j c.loop-j.sums c.requires.narrow c.loop-j.invariant)
+    (sums_after-fit taps samples c.requires.narrow c.loop-j.j)
+
+pub returns : goal.returns
+returns c =
+    outputs-handed c.args.taps.now c.args.samples.now c.args.shift c.loop-j.j c.loop-j.sums _
+    c.requires.narrow
+    c.loop-j-test.false c.loop-j.invariant c.lanes_shifted.ensures
