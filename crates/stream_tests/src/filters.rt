@@ -2,7 +2,7 @@
 use std::alloc::AllocError;
 use std::test::*;
 use stream_job::stream_filters::{
-    Fir, FirFault, Join, Peer, Split, TooBigValue, VALUE_MAX, VALUE_MIN,
+    FilterFault, Fir, FirFault, Join, Peer, Split, TooBigValue, VALUE_MAX, VALUE_MIN, filter_list,
 };
 
 /// The filter, or that memory ran out.
@@ -105,6 +105,25 @@ fn a_filter_answers_its_steps(rt: HostRuntime) -> Result<(), Fail> {
     Ok(())
 }
 
+/// Forty samples, of which one may be too large for 64 bits, through a filter of two taps.
+#[test]
+fn a_filter_answers_a_list(rt: HostRuntime) -> Result<(), Fail> {
+    let mut samples = [5; 40];
+    let mut wanted = [2; 40];
+    wanted[0] = 7;
+    let found = filter_list(rt.alloc(), &[3, -2], 1, &samples).map_err(|_fault| AllocError)?;
+    assert_eq!(rt; found.as_slice(), wanted.as_slice());
+    samples[33] = VALUE_MAX;
+    let found = filter_list(rt.alloc(), &[3, -2], 1, &samples);
+    assert!(rt;
+        matches!(found, Err(FilterFault::TooBig(33))),
+        "the first output too big"
+    );
+    let found = filter_list(rt.alloc(), &[3, -2], 2, &samples);
+    assert!(rt; found.is_ok(), "a large output in range");
+    Ok(())
+}
+
 #[test]
 fn peers_and_turns(rt: HostRuntime) -> Result<(), Fail> {
     assert_eq!(rt; Peer::mix(2, 1, 11), Ok(-9));
@@ -131,5 +150,10 @@ fn bad_taps_are_refused(rt: HostRuntime) {
     for (name, taps, shift) in &BAD {
         let fir = Fir::new(rt.alloc(), taps, *shift);
         assert!(rt; matches!(fir, Err(FirFault::BadTaps)), "{name}");
+        let list = filter_list(rt.alloc(), taps, *shift, &[]);
+        assert!(rt;
+            matches!(list, Err(FilterFault::BadTaps)),
+            "{name}, of a list"
+        );
     }
 }
