@@ -12,7 +12,7 @@ use Rattle.atomic_table.specs.Table.{State, Me, step, Act, keeps, takes, gives, 
 use Rattle.turn_lock.specs.declared.seat.Doing.{Doing}
 use Rattle.turn_lock.specs.Held.{is_alone, alone_value}
 use Rattle.turn_lock.specs.Steps.{Takes, GivesBack, Looks, Forks, Merges, Busy}
-use Rattle.turn_lock.specs.Word.{doing, client, IsFree, IsTaken, Locked, tried, gave, looked}
+use Rattle.turn_lock.specs.Word.{doing, client, IsFree, IsTaken, Locked, spare, tried, gave, looked}
 
 pub within : {A : Type 0} (l : List A) (i : ℕ) (a : A) → get_elem? l i ≡ some a → i < length l
 within [] i a e = absurd (some-ne-none a (sym e))
@@ -37,16 +37,16 @@ abbrev hub : {N T V : Type 0} → List ℕ → List (mathlib.Core.Option.Option 
 hub ws hs vs = record { words = ws; homes = hs; views = vs }
 
 -- a word that is one number stays as it is
-same_word : (ws : List ℕ) (n : ℕ) → ws ≡ n ∷ [] → set ws 0 (slice_index ws 0) ≡ ws
+same_word : (ws : List ℕ) (n : ℕ) → ws ≡ n ∷ spare → set ws 0 (slice_index ws 0) ≡ ws
 same_word ws n e = subst (λ (z : List ℕ). set z 0 (slice_index z 0) ≡ z) (sym e) refl
 
 abbrev swapped : ℕ → ℕ
 swapped n = either (eqb n 0) 1 n
 
-same_tried : (ws : List ℕ) → ws ≡ 1 ∷ [] → set ws 0 (swapped (slice_index ws 0)) ≡ ws
+same_tried : (ws : List ℕ) → ws ≡ 1 ∷ spare → set ws 0 (swapped (slice_index ws 0)) ≡ ws
 same_tried ws e = subst (λ (z : List ℕ). set z 0 (swapped (slice_index z 0)) ≡ z) (sym e) refl
 
-one_not_zero : (ws : List ℕ) → ws ≡ 1 ∷ [] → slice_index ws 0 ≡ 0 → ⊥
+one_not_zero : (ws : List ℕ) → ws ≡ 1 ∷ spare → slice_index ws 0 ≡ 0 → ⊥
 one_not_zero ws e h = let p : slice_index ws 0 ≡ 1 = ap (λ (z : List ℕ). slice_index z 0) e in omega arith
 
 -- the value in a slot that is held alone
@@ -217,7 +217,7 @@ module _ {N T V : Type 0} (holds : N → Option T → List V → Type 0) (name :
       → Takes holds name id d.client (then name)
       → ((j : ℕ) (u : Doing N V) → get_elem? views j ≡ some u → u.turn ≡ false) → holds name (Some x) (map client views)
       → get_elem? views id ≡ some d
-      → Tries slots id d then (hub (0 ∷ []) (some x ∷ []) views)
+      → Tries slots id d then (hub (0 ∷ spare) (some x ∷ []) views)
   take_free slots id d then views x is asked rests kept at =
       let t = asked x (map client views) kept (at_map client views id d at) in
       let w : Doing N V = doing d.name true t.0 in (
@@ -278,7 +278,7 @@ module _ {N T V : Type 0} (holds : N → Option T → List V → Type 0) (name :
       let d : Doing N V = me.0 in
       let at_none : P (d, []) = λ s locked _ at _. ⊎_elim
       (λ (f : IsFree holds name s).
-      let is_hub : s ≡ hub (0 ∷ []) (some f.value ∷ []) s.views = λ i. hub (f.word i) (f.home i) s.views in
+      let is_hub : s ≡ hub (0 ∷ spare) (some f.value ∷ []) s.views = λ i. hub (f.word i) (f.home i) s.views in
       subst (Tries slots id d then) (sym is_hub) (take_free slots id d then s.views f.value is asked f.rests f.kept at))
       (λ (f : IsTaken holds name s). take_taken slots id d then s idle is f at)
       locked in
@@ -294,7 +294,7 @@ module _ {N T V : Type 0} (holds : N → Option T → List V → Type 0) (name :
   give_taken : (slots id : ℕ) (d : Doing N V) (y : T) (then : N → V → T → V → Type 0) (views : List (Doing N V)) → d.name ≡ Some name
       → GivesBack holds name id d.client y (then name) → get_elem? views id ≡ some d
       → ((j : ℕ) (u : Doing N V) → get_elem? views j ≡ some u → u.turn ≡ true → j ≡ id) → holds name None (map client views)
-      → Returns slots id d y then (hub (1 ∷ []) (none ∷ []) views)
+      → Returns slots id d y then (hub (1 ∷ spare) (none ∷ []) views)
   give_taken slots id d y then views is asked at only kept =
       let t = asked (map client views) kept (at_map client views id d at) in
       let w : Doing N V = doing d.name false t.0 in (
@@ -331,7 +331,7 @@ module _ {N T V : Type 0} (holds : N → Option T → List V → Type 0) (name :
       let with_slot : P (d, alone y) = λ s locked _ at _. ⊎_elim
       (λ (f : IsFree holds name s). absurd (not_both d.turn turns (f.rests id d at)))
       (λ (f : IsTaken holds name s).
-      let is_hub : s ≡ hub (1 ∷ []) (none ∷ []) s.views = λ i. hub (f.word i) (f.home i) s.views in
+      let is_hub : s ≡ hub (1 ∷ spare) (none ∷ []) s.views = λ i. hub (f.word i) (f.home i) s.views in
       let mine : id ≡ f.holder = f.only id d at turns in
       subst (Returns slots id d y then) (sym is_hub)
       (give_taken slots id d y then s.views is asked at (λ j u e h. f.only j u e h ∙ sym mine) f.kept))

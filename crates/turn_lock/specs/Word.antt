@@ -1,7 +1,7 @@
--- The rule of the lock's one word and one slot, and what each of its steps tells.
--- The word is 0 while the turn is free, and 1 while a seat has it.
+-- The rule of the lock's word and its slot, and what each of its steps tells.
+-- The word is 0 while the turn is free, and 1 while a seat has it. The words behind it are spare.
 use Rattle.std.specs.Prelude.{◌≡◌, ◌≢◌, ℕ, Bool, true, false, Option, Some, None, List, [], ◌∷◌}
-use Rattle.std.specs.Prelude.{map, ◌⊎◌}
+use Rattle.std.specs.Prelude.{map, replicate, ◌⊎◌}
 use mathlib.Core.Option.{none, some}
 use lib.ListN.{get_elem?}
 use Rattle.atomic_table.specs.Table.{State, Me, Step}
@@ -20,11 +20,15 @@ doing name turn v = record { name = name; turn = turn; client = v }
 abbrev pub client : {N V : Type 0} → Doing N V → V
 client d = d.client
 
+-- the words behind the lock's, so that its value lies on other lines of memory
+abbrev pub spare : List ℕ
+spare = replicate 16 0
+
 -- the turn is free: the value is at home, and no seat has the turn
 pub record IsFree {N T V : Type 0} (holds : N → Option T → List V → Type 0) (name : N)
     (s : State T (Doing N V)) : Type 0 where
   pub value : T
-  pub word : s.words ≡ 0 ∷ []
+  pub word : s.words ≡ 0 ∷ spare
   pub home : s.homes ≡ some value ∷ []
   pub rests : (j : ℕ) (d : Doing N V) → get_elem? s.views j ≡ some d → d.turn ≡ false
   pub kept : holds name (Some value) (map client s.views)
@@ -34,7 +38,7 @@ pub record IsTaken {N T V : Type 0} (holds : N → Option T → List V → Type 
     (s : State T (Doing N V)) : Type 0 where
   pub holder : ℕ
   pub view : Doing N V
-  pub word : s.words ≡ 1 ∷ []
+  pub word : s.words ≡ 1 ∷ spare
   pub home : s.homes ≡ none ∷ []
   pub there : get_elem? s.views holder ≡ some view
   pub turns : view.turn ≡ true

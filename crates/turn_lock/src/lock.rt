@@ -54,5 +54,5 @@ impl<T, R: TurnRule<T>> TableRule<T, Doing<R::Name, R::View>, R::Name> for Ruled
 #[derive(Drop)]
 pub struct TurnLock<T, R: TurnRule<T>> {
     pub(crate) table: Table<T, Doing<R::Name, R::View>, R::Name, Ruled<R>, Global>,
-    ghost sized: { (table.shared.table_id.words ≡ 1) × (table.shared.table_id.slots ≡ 1) },
+    ghost sized: { (table.shared.table_id.words ≡ 17) × (table.shared.table_id.slots ≡ 1) },
 }

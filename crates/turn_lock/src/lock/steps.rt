@@ -17,6 +17,10 @@ const FREE: u64 = 0;
 
 const TAKEN: u64 = 1;
 
+// The word, and spare ones behind it: then no line of memory has the word and the value, and who
+// tries in vain leaves the lines of the value where they are.
+const WORDS: [u64; 17] = [FREE; 17];
+
 impl<T, R: TurnRule<T>> TurnLock<T, R> {
     /// Makes a lock and its first seat, which has the number 0.
     ///
@@ -35,7 +39,7 @@ impl<T, R: TurnRule<T>> TurnLock<T, R> {
     {
         let mut slots = Vec::with_capacity(alloc, 1)?;
         slots.push(value)?;
-        let Ok((table, inner)) = Table::new(alloc, &[FREE], slots, name) else {
+        let Ok((table, inner)) = Table::new(alloc, &WORDS, slots, name) else {
             return Err(AllocError);
         };
         Ok((TurnLock { table }, Seat { inner }))
