@@ -2,14 +2,17 @@
  *
  * Link libphase.a or libphase.so, which scripts/bind makes. docs/BINDINGS.md begins with an example.
  *
- * A call answers PHASE_OK, or a negative status that tells why not; then it has written the fault, and
- * left what it says. A length is behind its pointer, and counts values, bytes of a text.
- * A pointer may be NULL where its length is 0.
+ * A call answers PHASE_OK, or a negative status that tells why not, of which phase_status_text has the words; and
+ * then it has left what it says. A call on a graph has then written the fault. A length is behind its pointer, and
+ * counts values, bytes of a text. A pointer may be NULL where its length is 0.
  *
  * A caller owes: pointers to as many values as their lengths say; what a call writes overlaps nothing
  * else that it is given; and a pointer with no length behind it, as counts, fault or a phaser, is not NULL. A call
- * keeps no pointer. It takes memory by malloc and realloc, and gives back all but what a phaser keeps. Calls may
- * run side by side, also on the same values where these are only read; none is made from a signal handler. */
+ * keeps no pointer. It takes memory by malloc and realloc, whose blocks begin at a multiple of 16, and gives back all
+ * but what a phaser keeps. Calls may run side by side, also on the same values where these are only read; none is made
+ * from a signal handler, or, before it calls exec, from the child that fork made of a process with several threads.
+ *
+ * The library is for Linux on x86-64 with SSE4.2, which is x86-64-v2. */
 #ifndef PHASE_H
 #define PHASE_H
 #include <stdbool.h>
@@ -234,6 +237,9 @@ typedef struct phase_phaser {
     bool live; /* whether there is a phaser */
 } phase_phaser;
 
+/* A place with no phaser. */
+#define PHASE_PHASER_INIT {NULL, false}
+
 /* What a registered task stands at: the phases that it signals and waits for next, counted from 0, and its mode. */
 typedef struct phase_standing {
     uint64_t signal_phase;
@@ -288,6 +294,66 @@ int32_t phase_phaser_wait_block(phase_phaser *phaser, uint64_t task, int64_t *va
 
 /* Writes what a task stands at. */
 int32_t phase_phaser_view(phase_phaser *phaser, uint64_t task, phase_standing *standing);
+
+/* ---- Words. They stand in this header, and not in the library. */
+
+/* What a status says, for a person; of a number that is no status, that. */
+static inline const char *phase_status_text(int32_t status)
+{
+    switch (status) {
+    case PHASE_OK: return "done";
+    case PHASE_ENDED: return "no more phases will come";
+    case PHASE_E_GRAPH: return "a fault in the graph's text";
+    case PHASE_E_COUNTS: return "not one count for each source or sink, or not those of the values";
+    case PHASE_E_SAMPLE: return "a sample is INT64_MIN";
+    case PHASE_E_TOO_BIG: return "a value out of range";
+    case PHASE_E_ROOM: return "too little room for what is to be written";
+    case PHASE_E_MEMORY: return "out of memory";
+    case PHASE_E_TAPS: return "no filter has these taps and this shift";
+    case PHASE_E_NO_PHASER: return "there is no phaser";
+    case PHASE_E_HAS_PHASER: return "there is a phaser already";
+    case PHASE_E_BAD_OPERATION: return "the number is none of an operation";
+    case PHASE_E_BAD_BOUND: return "the bound is not from 1 to 65,536";
+    case PHASE_E_BAD_PHASES: return "the number of phases is not from 1 to 2^62";
+    case PHASE_E_BAD_MODE: return "the number is none of a mode";
+    case PHASE_E_BAD_SINGLE: return "no such single, or a clamp with no range";
+    case PHASE_E_BAD_VALUE: return "a value to be sent is INT64_MIN";
+    case PHASE_E_TOO_MANY_SENDS: return "more than 65,536 values to be sent";
+    case PHASE_E_NO_TASK: return "the task, or the parent, is not registered";
+    case PHASE_E_NOT_ALLOWED: return "the parent's mode does not hold the child's";
+    case PHASE_E_NOT_NEW: return "no number is left for a child";
+    case PHASE_E_TOO_MANY_TASKS: return "1,024 tasks are registered";
+    case PHASE_E_NO_SIGNAL: return "the task's mode does not signal";
+    case PHASE_E_NOT_SINGLE: return "a single is named, and the task's mode is not PHASE_SINGLE";
+    case PHASE_E_BAD_BLOCK: return "a block of no phase, or of more than the bound";
+    case PHASE_E_SIGNAL_TWICE: return "the task has signalled since its last wait";
+    case PHASE_E_SPENT: return "the phaser was made for fewer phases";
+    case PHASE_E_AHEAD: return "the phase is the bound or more ahead of the slowest waiter";
+    case PHASE_E_SINGLE_DIFFERS: return "the first signal of the phase named another single, or none";
+    case PHASE_E_PHASE_FULL: return "more than 65,536 sends of a phase";
+    case PHASE_E_NO_WAIT: return "the task's mode does not wait";
+    case PHASE_E_SIGNAL_FIRST: return "the task has not signalled since its last wait";
+    case PHASE_E_NOT_YET: return "the phase is not complete yet";
+    default: return "no status";
+    }
+}
+
+/* The word of a kind of fault, as docs/FORMATS.md has it; of a number that is no kind, that. */
+static inline const char *phase_kind_text(int32_t kind)
+{
+    switch (kind) {
+    case PHASE_SYNTAX: return "syntax";
+    case PHASE_LIMIT: return "limit";
+    case PHASE_TWICE: return "twice";
+    case PHASE_UNKNOWN: return "unknown";
+    case PHASE_OUT_BEFORE_IN: return "out-before-in";
+    case PHASE_BAD_PARENT: return "bad-parent";
+    case PHASE_NOT_HELD: return "not-held";
+    case PHASE_OVER_BOUND: return "over-bound";
+    case PHASE_ANY_MEETS: return "any-meets";
+    default: return "no kind";
+    }
+}
 
 #ifdef __cplusplus
 }
