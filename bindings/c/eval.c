@@ -97,11 +97,13 @@ static char *place_of(const struct graph *graph, const phase_fault *fault)
     phase_fault none;
     if (phase_all_names(graph->text, graph->length, names, graph->length + 1, &needed, &none) != PHASE_OK)
         or_stop(NULL);
-    uint8_t *name = names;
-    for (; above; above--)
-        name = memchr(name, '\n', names + needed - name) + 1;
-    *(uint8_t *)memchr(name, '\n', names + needed - name) = 0;
-    memmove(names, name, strlen((char *)name) + 1);
+    uint8_t *name = names, *end = memchr(names, '\n', needed);
+    for (; above; above--) {
+        name = end + 1;
+        end = memchr(name, '\n', names + needed - name);
+    }
+    *end = 0;
+    memmove(names, name, end + 1 - name);
     return (char *)names;
 }
 
