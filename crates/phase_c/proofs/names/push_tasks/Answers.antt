@@ -1,14 +1,13 @@
 -- One more name, with its line end, stands behind those before it.
-use Rattle.std.proofs.Common.{◌++◌, [], ◌∷◌, ap, ◌∙◌}
+use Rattle.std.proofs.Common.{◌∙◌}
+use Rattle.graph_lang.specs.graph_base.declared.place.Place.TheVariants as place
+use Rattle.phase_c.specs.Names.{name_line}
 use Rattle.phase_c.proofs.Naming.{names-more}
-use Rattle.phase_c.proofs.names.push_names.Goals as goal
+use Rattle.phase_c.proofs.names.push_tasks.Goals as goal
 
 pub loop-k-preserved : goal.loop-k-preserved
 loop-k-preserved c =
     let l = c.loop-k in
-    let name = c.as_bytes.ensures.value ∙ c.name.ensures.name in
-    c.in_ok-push.ensures.items
-    ∙ ap (λ b. b ++ 10 ∷ [])
-    (c.in_ok-extend_from_slice.ensures.items ∙ ap (λ n. l.names.items ++ n) name)
-    ∙ names-more c.args.graph.now c.args.names.now.items l.names.items c.args.tasks.now l.k
-    c.loop-k-test.true l.invariant
+    c.in_ok-push_name.ensures
+    ∙ names-more (λ t. name_line c.args.graph.now (place.Task t)) c.args.names.now.items
+    l.names.items c.args.tasks.now l.k c.loop-k-test.true l.invariant
