@@ -1,4 +1,4 @@
-/* phase.h: graphs of whole-number filters, evaluated exactly, and phasers for one thread, from C and C++.
+/* phase.h: graphs of whole-number filters, evaluated exactly, and phasers for one thread at a time, from C and C++.
  *
  * Link libphase.a or libphase.so, which scripts/bind makes. docs/BINDINGS.md begins with an example.
  *
@@ -21,6 +21,9 @@
 #ifdef __cplusplus
 extern "C" {
 #endif
+
+/* The version, 0.1.0: 10,000 times the first number, 100 times the second, and the third. */
+#define PHASE_VERSION 100
 
 /* The statuses. Those of phasers stand further below. */
 enum {
@@ -91,6 +94,9 @@ typedef struct phase_counts {
     size_t sinks;
 } phase_counts;
 
+/* The version of the library that is linked, which may be another than the PHASE_VERSION of this header. */
+uint32_t phase_version(void);
+
 /* How many phasers, tasks, sources and sinks a graph has. A refusal leaves counts as it was. */
 int32_t phase_check(const uint8_t *text, size_t text_len, phase_counts *counts, phase_fault *fault);
 
@@ -101,6 +107,11 @@ int32_t phase_check(const uint8_t *text, size_t text_len, phase_counts *counts, 
  * right: so a first call with NULL, 0 asks. Any other refusal leaves out and needed as they were. */
 int32_t phase_names(const uint8_t *text, size_t text_len, uint8_t *out, size_t out_len,
                     size_t *needed, phase_fault *fault);
+
+/* The names of all phasers and then of all tasks, else as phase_names. At PHASE_E_TOO_BIG the name of a phaser is line
+ * fault->number of them, counted from 0 on; and that of a task is so many lines behind those of the phasers. */
+int32_t phase_all_names(const uint8_t *text, size_t text_len, uint8_t *out, size_t out_len,
+                        size_t *needed, phase_fault *fault);
 
 /* The values of each sink, one sink behind the other in the order of the lines; how many each has; and
  * where each begins that joins now, at the least start. What stands behind the values stays.
@@ -121,26 +132,34 @@ int32_t phase_eval(const uint8_t *text, size_t text_len,
 /* A filter over a block of samples, as the line `fir` of a graph has it, which goes on where the block before it
  * ended: state has the last taps_len - 1 samples before the block, the oldest first, and zeros where there were
  * none. At PHASE_OK out has a value for each sample, and state has the last samples. What stands behind the values
- * stays.
+ * stays. out may not overlap block: phase_fir_in_place writes the values over the samples.
  *
  * done tells how many values of out are right: all, or at PHASE_E_TOO_BIG those before the first that is out of
  * range, and else none. A refusal leaves state as it was. Taps have a magnitude of at most 2^31 - 1, and shift is
- * at most 62; a sample may be any number. PHASE_E_COUNTS says that state is not one shorter than taps. */
+ * at most 62; a sample may be any number. PHASE_E_COUNTS says that state is not one shorter than taps. Of two
+ * refusals the first of these is told: PHASE_E_TAPS, PHASE_E_COUNTS, PHASE_E_ROOM, PHASE_E_MEMORY, PHASE_E_TOO_BIG. */
 int32_t phase_fir(const int64_t *taps, size_t taps_len, uint32_t shift,
                   int64_t *state, size_t state_len,
                   const int64_t *block, size_t block_len,
                   int64_t *out, size_t out_len, size_t *done);
 
-/* ---- A phaser for one thread.
+/* The same, but each value is written over its sample, so that there is no PHASE_E_ROOM. At PHASE_E_TOO_BIG the first
+ * done places of block have values, and those behind them still have samples. */
+int32_t phase_fir_in_place(const int64_t *taps, size_t taps_len, uint32_t shift,
+                           int64_t *state, size_t state_len,
+                           int64_t *block, size_t block_len, size_t *done);
+
+/* ---- A phaser for one thread at a time.
  *
  * Tasks meet at a phaser, phase by phase. A signaller is a registered task whose mode signals, a waiter one whose
  * mode waits. A phase is complete when each signaller has signalled it, and its value is what the sends of its
  * signals come to. docs/DEFINITIONS.md says what each word means.
  *
- * A phaser stands in a struct of the caller's, which has none while all of it is zero: `phase_phaser phaser = {0};`.
- * Beside what is said above a caller owes: nobody else writes into the struct, and it is not copied; every call on a
- * phaser is made by the thread that made it; and a phaser that was made is freed once, for its memory. Any number may
- * be given for a task, an operation, a mode, a single, or a limit.
+ * A phaser stands in a struct of the caller's, which has none while it is PHASE_PHASER_INIT, or all zero.
+ * Any thread may make a call on it, also the one that frees it, but one at a time: a lock, or the end or start of a
+ * thread, puts each call behind the one before it. Beside what is said above a caller owes: nobody else writes into
+ * the struct, and it is not copied; and a phaser that was made is freed once, for its memory. Any number may be given
+ * for a task, an operation, a mode, a single, or a limit.
  *
  * Where a call answers a negative status, the phaser and what the call writes are as they were. */
 
