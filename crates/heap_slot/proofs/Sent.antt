@@ -21,6 +21,7 @@ owned_keyless T A g s f a (block_ptr b o) (Some x) =
     (part_keyless T s full_share x b o, f.frees a (raw (lone T.mir)) (block_ptr b o))
 
 -- what is made of fields leaves nothing behind that they do not
-pub leaves_nothing : {D X : Type 0} (to : D → X) (e : Exit X) → Quiet e → Quiet (hidden (under to e))
+pub leaves_nothing : {D X : Type 0} (to : D → X) (e : Exit X) → Quiet e
+    → Quiet (hidden (under to e))
 leaves_nothing to unchanged quiet = λ x w. tt
 leaves_nothing to (leaves L l S s r) quiet = λ d. quiet (to d)

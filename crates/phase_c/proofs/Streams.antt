@@ -27,20 +27,20 @@ one_more before samples i d less =
     ∙ ap (λ xs. before ++ xs) (sym (take_more samples i d less))
 
 -- and one more output
-pub outputs_more : (taps : List ℤ) (shift : ℕ) (before block : List ℤ) (n : ℕ)
+outputs_more : (taps : List ℤ) (shift : ℕ) (before block : List ℤ) (n : ℕ)
     → first_outputs taps shift before block (n + 1)
     ≡ first_outputs taps shift before block n ++ output_behind taps shift before block n ∷ []
 outputs_more taps shift before block n =
     map-range_with_len_more (output_behind taps shift before block) 0 n n (omega arith)
 
 -- a value that was answered is the output, and in range
-pub answered : (z v : ℤ) → ranged z ≡ Ok v → (v ≡ z) × IsSend v
+answered : (z v : ℤ) → ranged z ≡ Ok v → (v ≡ z) × IsSend v
 answered z v e =
     let is = ranged-ok z v e in
     (sym is.0, subst IsSend is.0 (IsSend-in_range z is.1))
 
 -- a value that was not is out of range
-pub unanswered : (z : ℤ) (f : TooBigValue) → ranged z ≡ Err f → IsSend z → ⊥
+unanswered : (z : ℤ) (f : TooBigValue) → ranged z ≡ Err f → IsSend z → ⊥
 unanswered z f e is =
     let inside : nat_le (unsigned_abs z) value_max ≡ true =
     le-leb (unsigned_abs z) value_max is.small in
@@ -67,10 +67,12 @@ module _ (old now : FirState) (before block : List ℤ) (n : ℕ) (less : n < le
 
     answer_is : answer ≡ ranged output
     answer_is =
+        let was = before ++ take n block in
         let samples = before ++ take (n + 1) block in
         told
-        ∙ (ap (λ z. ranged (output_after now.taps now.shift ((before ++ take n block) ++ z ∷ []))) next
-        ∙ (ap (λ xs. ranged (output_after now.taps now.shift xs)) (one_more before block n (pos 0) less)
+        ∙ (ap (λ z. ranged (output_after now.taps now.shift (was ++ z ∷ []))) next
+        ∙ (ap (λ xs. ranged (output_after now.taps now.shift xs))
+        (one_more before block n (pos 0) less)
         ∙ (ap (λ ts. ranged (output_after ts now.shift samples)) taps
         ∙ ap (λ k. ranged (output_after old.taps k samples)) shift)))
 
@@ -120,7 +122,7 @@ behind_more out was n v behind =
 -- ---- what a state shows
 
 -- the same samples behind both are shown too
-pub shows_behind : (m : ℕ) (xs ys block : List ℤ)
+shows_behind : (m : ℕ) (xs ys block : List ℤ)
     → ((j : ℕ) → j < m → back xs j ≡ back ys j)
     → (j : ℕ) → j < m + length block → back (xs ++ block) j ≡ back (ys ++ block) j
 shows_behind m xs ys block same j less = by (nat_lt j (length block)) refl
@@ -148,7 +150,7 @@ shows_behind m xs ys block same j less = by (nat_lt j (length block)) refl
         ∙ sym (apart ys))))
 
 -- the output behind a state is the one behind the samples that it shows
-pub output_same : (taps : List ℤ) (shift : ℕ) (state before block : List ℤ) (n : ℕ)
+output_same : (taps : List ℤ) (shift : ℕ) (state before block : List ℤ) (n : ℕ)
     → length state + 1 ≡ length taps → Shows state before → n < length block
     → output_behind taps shift state block n ≡ output_behind taps shift before block n
 output_same taps shift state before block n long shows less =
@@ -160,7 +162,7 @@ output_same taps shift state before block n long shows less =
     (omega (arith, some, long, lt))))
 
 -- so are the first ones
-pub outputs_same : (taps : List ℤ) (shift : ℕ) (state before block : List ℤ) (n : ℕ)
+outputs_same : (taps : List ℤ) (shift : ℕ) (state before block : List ℤ) (n : ℕ)
     → length state + 1 ≡ length taps → Shows state before → n ≤ length block
     → first_outputs taps shift state block n ≡ first_outputs taps shift before block n
 outputs_same taps shift state before block n long shows few =
@@ -168,7 +170,7 @@ outputs_same taps shift state before block n long shows few =
     (λ k less. output_same taps shift state before block k long shows (omega (arith, few, less)))
 
 -- the last of these samples show all of them
-pub drop_shows : (samples : List ℤ) (n j : ℕ) → n + j < length samples
+drop_shows : (samples : List ℤ) (n j : ℕ) → n + j < length samples
     → back (drop n samples) j ≡ back samples j
 drop_shows samples n j less =
     let short : length (drop n samples) ≡ length samples - n = length-drop n samples in
@@ -180,7 +182,7 @@ drop_shows samples n j less =
     ∙ sym (get_or-reverse samples j (pos 0) (omega (arith, less)))))
 
 -- a state that keeps the last samples shows those of the block too
-pub keeps_shows : (state before block new : List ℤ) → Shows state before
+keeps_shows : (state before block new : List ℤ) → Shows state before
     → new ≡ drop (length block) (state ++ block) → Shows new (before ++ block)
 keeps_shows state before block new shows is j less =
     let all : length (state ++ block) ≡ length state + length block = length-append state block in
@@ -201,7 +203,7 @@ drop_past state block le =
     ∙ drop-append-add state block (length block - length state))
 
 -- what a filter with these taps gives behind a state are the outputs behind what the state shows
-pub outputs_are : (taps other : List ℤ) (shift moved : ℕ) (state before block : List ℤ) (n : ℕ)
+outputs_are : (taps other : List ℤ) (shift moved : ℕ) (state before block : List ℤ) (n : ℕ)
     → other ≡ taps → moved ≡ shift → length state + 1 ≡ length taps → Shows state before
     → n ≤ length block
     → first_outputs other moved state block n ≡ first_outputs taps shift before block n
@@ -211,7 +213,7 @@ outputs_are taps other shift moved state before block n same unmoved long shows 
     ∙ outputs_same taps shift state before block n long shows few)
 
 -- an output behind the state that is out of range is so behind what the state shows
-pub too_big_is : (taps other : List ℤ) (shift moved : ℕ) (state before block : List ℤ) (n : ℕ)
+too_big_is : (taps other : List ℤ) (shift moved : ℕ) (state before block : List ℤ) (n : ℕ)
     → other ≡ taps → moved ≡ shift → length state + 1 ≡ length taps → Shows state before
     → n < length block → ¬ (IsSend (output_behind other moved state block n))
     → ¬ (IsSend (output_behind taps shift before block n))
@@ -232,7 +234,7 @@ module _ (taps : List ℤ) (shift : ℕ) (state block old new : List ℤ) (count
     (behind : drop count new ≡ drop count old)
   where
     -- what it wrote of a block is what the definition gives
-    pub filters_are : Filters taps shift state block old new count
+    filters_are : Filters taps shift state block old new count
     filters_are = record {
       of_filter = of_filter;
       room = room;

@@ -95,8 +95,11 @@ pub extern "C" fn phase_names(
     }
 }
 
-/// Answers 0 with the names of all phasers of a graph and then of all its tasks, as `phase_names`
-/// has those of sources and sinks.
+/// Answers 0 with the names of all phasers of a graph and then of all its tasks, each in the order
+/// of their lines and followed by a line end, or a status that tells why not, and the fault.
+///
+/// What is told of room, and what stays, is as at `phase_names`. It takes memory for the graph and
+/// for the names, and gives it back.
 #[unsafe(no_mangle)]
 pub extern "C" fn phase_all_names(
     alloc: Global,
@@ -160,6 +163,9 @@ pub extern "C" fn phase_eval(
 /// The state has the last samples before the block, one less than there are taps, the oldest first,
 /// and zeros where there were none; at 0 it has those of the block too. What stands behind the
 /// values stays. `done` is how many of them are right.
+///
+/// It takes memory for the filter, and gives it back. What is refused is looked at in this order:
+/// the taps and the shift, the length of the state, room, memory, the range of each value.
 #[unsafe(no_mangle)]
 pub extern "C" fn phase_fir(
     alloc: Global,
@@ -186,7 +192,8 @@ pub extern "C" fn phase_fir(
 /// status that tells why not.
 ///
 /// The state is as `phase_fir` has it. `done` is how many values are right, in the first places of
-/// the block; behind them it has its samples still.
+/// the block; behind them it has its samples still. It takes memory and refuses as `phase_fir`,
+/// but wants no room.
 #[unsafe(no_mangle)]
 pub extern "C" fn phase_fir_in_place(
     alloc: Global,

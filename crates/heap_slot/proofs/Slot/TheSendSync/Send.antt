@@ -1,4 +1,4 @@
--- A slot may go to another thread where its value may, and where its memory may be given back there.
+-- A slot may go to another thread where its value may, and where its memory may be given back.
 use denote.RattleType.{RattleType}
 use denote.RawPtr.{RawPtr}
 use denote.Param.Send.{IsSend, AllSend, Frees, owning_send, struct_send, sendable}

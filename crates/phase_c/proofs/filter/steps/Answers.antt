@@ -16,8 +16,8 @@ returns-in-Err-clause-too_big c before s less is =
     let x : ℤ = get_or block n (pos 0) in
     let fits : FitsSigned w64 x = search rules in
     step_fails c.args.fir.now c.loop-n.fir before block n less (to_z w64 (of_z w64 x))
-    (to_z-of_z w64 x fits) c.step.result l.taps l.shift (c.step.ensures.answer _ (l.stands before s))
-    c.in-Err.field-0 c.in-Err.is is
+    (to_z-of_z w64 x fits) c.step.result l.taps l.shift
+    (c.step.ensures.answer _ (l.stands before s)) c.in-Err.field-0 c.in-Err.is is
 
 -- one more output was written
 pub loop-n-preserved : goal.loop-n-preserved

@@ -18,5 +18,6 @@ send =
     let pointer : IsSend RawPtr = search sendable in
     let all : AllSend (fields O) = (pointer, (heap_sent.the_field_send, tt)) in
     owning_send O all
-    (λ d. owned_keyless value.the_row heap.the_row ghosts value_sent.the_send frees d.alloc d.at d.phaser)
+    (λ d. owned_keyless value.the_row heap.the_row ghosts value_sent.the_send frees d.alloc d.at
+    d.phaser)
     (λ k. leaves_nothing (to O) (exits_of k (fields O)) ((struct_send (shape O) all).leaving k))
