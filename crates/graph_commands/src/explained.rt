@@ -20,14 +20,18 @@ use std::alloc::{AllocError, Global};
 use std::io::Write;
 use stream_eval::stream_lists::Job;
 
+/// What is told where memory runs out over an explanation.
+const NO_MEMORY: &str = "  no memory to explain it\n";
+
 /// Makes the job of a graph's file, as `read_job` does. Where there is none it tells why, and then
 /// explains it to a person, and answers the status: 1 where the graph or the samples are refused,
 /// and else 5.
 ///
 /// A fault of the graph is explained by its line, a mark under the word that is at fault, and what
 /// was expected there; a record that is no sample by where it stands, why it is none, and what a
-/// sample is; a file that was refused by its name and why, as far as the files tell. A file of
-/// samples is read again for that. Where memory runs out nothing more is said.
+/// sample is; a file that was refused by its name and why, as far as the files tell. The file of
+/// the record is read again for that, and the files of all sources where tasks meet. Where memory
+/// runs out over it, that is told.
 pub fn read_job_or_explain<E: Write, F: Files + Refuses>(
     alloc: Global,
     files: &mut F,
@@ -93,9 +97,6 @@ fn job_of_text<F: Files>(alloc: Global, files: &mut F, text: &[u8]) -> Result<Jo
     let graph = read_graph(alloc, text)?;
     job_of_graph(alloc, files, graph)
 }
-
-/// What is told where memory runs out over an explanation.
-const NO_MEMORY: &str = "  no memory to explain it\n";
 
 /// Tells why there is no job, and explains it, by the graph's text where that was read; and answers
 /// the status.
