@@ -3,7 +3,7 @@ mod Decimals
 pub mod DrawingEnds
 pub mod Ends
 pub mod Explaining
-mod Needed
+pub mod Needed
 mod Noting
 pub mod Places
 mod Putting

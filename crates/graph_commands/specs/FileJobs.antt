@@ -64,11 +64,13 @@ pub record IsReached (known : Known) (name : List ℕ) (graph : Graph) (t : ℕ)
 
 -- ---- the job
 
--- the job is the one that the files tell
+-- the job is the one that the files tell: its sinks that join now begin at the least phase that they
+-- may
 pub record IsJobOf (known : Known) (name : List ℕ) (job : Job) : Type 0 where
   pub graph_of : IsGraphOf known name job.graph
   pub samples_of : AreSamples known job.graph job.samples
   pub apart : meeting_line job ≡ None
+  pub least : job.starts ≡ []
 
 -- the files tell a job of which the task of this line meets one of an earlier line
 pub record MeetsAt (known : Known) (name : List ℕ) (line : ℕ) : Type 0 where

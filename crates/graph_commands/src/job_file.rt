@@ -38,7 +38,10 @@ pub(crate) fn job_of_graph<F: Files>(
 {
     let samples = read_sources(alloc, files, &graph)?;
     match Job::new(alloc, graph, samples) {
-        Ok(job) => Ok(job),
+        Ok(job) => {
+            let _graph = job.graph();
+            Ok(job)
+        }
         Err(JobRefusal::AnyMeets { line }) => Err(JobFault::Graph(GraphFault {
             line,
             kind: FaultKind::AnyMeets,

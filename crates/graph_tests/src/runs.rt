@@ -234,3 +234,33 @@ fn sinks_have_their_values_at_the_end(rt: HostRuntime) -> Result<(), Fail> {
     }
     Ok(())
 }
+
+// The filter gives a sample and the one before it.
+const LONG_BLOCKS: Case = Case {
+    name: "blocks of 65, and of as many as a phaser may have",
+    graph: "graph 2\nphaser X sum 65536\nphaser Y sum 65\nsource s s.csv -> X block=65536\n\
+        fir f X -> Y shift 0 taps 1 1 block=65\nsink out Y block=65\n",
+    samples: &[
+        "0\n1\n2\n3\n4\n5\n6\n7\n8\n9\n10\n11\n12\n13\n14\n15\n16\n17\n18\n19\n20\n\
+        21\n22\n23\n24\n25\n26\n27\n28\n29\n30\n31\n32\n33\n34\n35\n36\n37\n38\n39\n40\n41\n\
+        42\n43\n44\n45\n46\n47\n48\n49\n50\n51\n52\n53\n54\n55\n56\n57\n58\n59\n60\n61\n62\n\
+        63\n64\n65\n",
+    ],
+    lines: "2: 0 1 3 5 7 9 11 13 15 17 19 21 23 25 27 29 31 33 35 37 39 41 43 45 47 49 51 53 \
+        55 57 59 61 63 65 67 69 71 73 75 77 79 81 83 85 87 89 91 93 95 97 99 101 103 105 107 \
+        109 111 113 115 117 119 121 123 125 127 129\n",
+};
+
+#[test]
+fn long_blocks_have_their_places(rt: HostRuntime) -> Result<(), Fail> {
+    for way in &WAYS {
+        let lines = lines_by(*way, rt.alloc(), &LONG_BLOCKS, 1)?;
+        assert_eq!(rt;
+            lines.as_str(),
+            LONG_BLOCKS.lines,
+            "{}: {way:?}",
+            LONG_BLOCKS.name
+        );
+    }
+    Ok(())
+}

@@ -8,7 +8,7 @@ use stream_job::{Job, Lines};
 use stream_workers::{Gate, RunFault, run};
 
 /// The numbers of workers of each test.
-pub const WORKERS: [usize; 3] = [1, 2, 16];
+pub const WORKERS: [usize; 4] = [1, 2, 4, 16];
 
 /// The job of a graph, on samples of these texts, one for each source.
 pub fn job_of(alloc: Global, graph: &str, samples: &[&str]) -> Result<Job, Fail> {

@@ -19,7 +19,7 @@ struct Case {
     taken: u64,
 }
 
-const CASES: [Case; 15] = [
+const CASES: [Case; 16] = [
     Case {
         name: "a chain of bound 1 is done",
         number: 7,
@@ -46,6 +46,16 @@ const CASES: [Case; 15] = [
         workers: &[1, 2, 16],
         end: None,
         taken: 1000,
+    },
+    // The source is put back after as many turns as a worker makes in a row, and is full then.
+    Case {
+        name: "what was put by the last turn in a row is told",
+        number: 7,
+        bound: 1024,
+        tasks: &[Task::Sink(2000), Task::Source(2000)],
+        workers: &[1, 2, 16],
+        end: None,
+        taken: 2000,
     },
     Case {
         name: "a sink without a source stands still",

@@ -36,7 +36,11 @@ pub fn last_run<R: Threads + Wait + Sync>(
     Ok(last)
 }
 
-const CASES: [Case; 25] = [
+const ROOM_FOR_ONE: &str = "phaser X sum 4\nphaser Y sum 2\nphaser Z sum 2\nphaser V sum 9\n\
+    phaser W sum 9\nsource s s.csv -> X\nfir f X -> Y shift 0 taps 1\nsplit e Y -> Z V\n\
+    join j Y Z -> W\nsink w W\n";
+
+const CASES: [Case; 27] = [
     Case {
         name: "a filter",
         graph: "phaser X sum 4\nphaser Y sum 4\nsource s s.csv -> X\n\
@@ -78,6 +82,22 @@ const CASES: [Case; 25] = [
             fir g X -> S shift 0 taps 1\nsink out S\n",
         samples: &["1\n2\n3\n4\n5\n6\n7\n"],
         runs: 100,
+        wanted: "stalled\n",
+    },
+    // The joiner takes from Y and Z by turns, and Z has each second value of Y: it takes phase 3 of
+    // Y once phase 4 is signalled. So the filter may signal that, but never a block of 4 and 5.
+    Case {
+        name: "a filter signals one phase where there is no room for two",
+        graph: ROOM_FOR_ONE,
+        samples: &["1\n2\n3\n4\n5\n6\n"],
+        runs: 10,
+        wanted: "w 7\n1\n1\n2\n3\n3\n5\n4\n",
+    },
+    Case {
+        name: "a filter has no room for the seventh sample",
+        graph: ROOM_FOR_ONE,
+        samples: &["1\n2\n3\n4\n5\n6\n7\n"],
+        runs: 10,
         wanted: "stalled\n",
     },
     Case {
