@@ -285,6 +285,36 @@ def threads():
     look("two threads at a phaser", sorted(got) == sorted([(at, 2 * at) for at in range(1000)] * 2))
 
 
+def blocks_of_threads():
+    """A thread that signals blocks of many phases, beside one that gets what is complete."""
+    phaser, got = sums(phase.BOUND_MAX, 10**6), []
+    signaller, waiter = phaser.register(0, phase.SIG), phaser.register(0, phase.WAIT)
+    phaser.drop(0)
+
+    def signals():
+        for at in range(0, 400000, 8000):
+            while True:
+                try:
+                    phaser.signal_block(signaller, numpy.arange(at, at + 8000))
+                    break
+                except phase.Ahead:
+                    time.sleep(0)
+        phaser.drop(signaller)
+
+    thread = threading.Thread(target=signals)
+    thread.start()
+    while True:
+        try:
+            block = phaser.wait_block(waiter, phase.BOUND_MAX)
+        except phase.NotYet:
+            continue
+        if block is None:
+            break
+        got.append(block.values)
+    thread.join()
+    look("blocks between two threads", numpy.array_equal(numpy.concatenate(got), numpy.arange(400000)))
+
+
 def resident():
     """The memory that this process holds, in bytes."""
     with open("/proc/self/statm") as file:
@@ -313,6 +343,6 @@ def shown():
     look("numbers are operations and modes", phase.Phaser(1, 2, 100).register(0, 1) == 1)
 
 
-for part in (made, operations, singles, sends, registrations, phases, blocks, closed, threads, memory, shown):
+for part in (made, operations, singles, sends, registrations, phases, blocks, closed, threads, blocks_of_threads, memory, shown):
     part()
 sys.exit(failed != 0)
