@@ -40,9 +40,9 @@ fn name_of_meeting(
     Ok(None)
 }
 
-/// The name of the phaser on which the task at fault meets one of an earlier line, where that is the
-/// fault of a graph's text. The files of its sources are read again for that; where one is refused
-/// now, or they changed, it may not be known.
+/// The name of the phaser on which the task at fault meets one of an earlier line, where that is
+/// the fault of a graph's text. The files of its sources are read again for that; where one is
+/// refused now, or they changed, it may not be known.
 pub(crate) fn meeting_name<F: Files>(
     alloc: Global,
     files: &mut F,
