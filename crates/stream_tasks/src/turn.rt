@@ -133,9 +133,6 @@ impl<'a> TaskState<'a> {
         ensures { Keeps job.now self.old self.new }
     {
         let p = input_of(job, self.number, 1);
-        if self.outcomes.is_empty() {
-            return self.meet(Went::Stuck);
-        }
         let out = &mut self.outcomes[..1];
         match self.holds[1].get(out) {
             Ok(Given::Values(_)) => {
@@ -205,9 +202,6 @@ impl<'a> TaskState<'a> {
         ensures { Keeps job.now self.old self.new }
     {
         let steps = self.steps(job, gate) as usize;
-        if steps > self.outcomes.len() {
-            return self.meet(Went::Stuck);
-        }
         if self.begun.checked_add(steps as u64).is_none() {
             return self.meet(Went::Stuck);
         }

@@ -29,16 +29,14 @@ index_mut-requires c =
     let long : s.holds.len ≡ length s.holds.items = s.holds.ok.0 in
     omega arith
 
-pub returns-then-is_empty : goal.returns-then-is_empty
-returns-then-is_empty c = λ spots task. c.meet.ensures.keeps c.args.job.now spots task.whole
-
 pub returns-then-is_too_big : goal.returns-then-is_too_big
 returns-then-is_too_big c = λ spots task.
     let s = c.args.self.now in
     let job = c.args.job.now in
-    c.meet-then-is_too_big.ensures.keeps job spots
+    c.meet.ensures.keeps job spots
     (whole_moves job s 1 c.get.new.self (record (as_it_is s) { outcomes = c.self-in-Ok-Values-1.given })
-    (fits job s s.lines s.entered c.self-in-Ok-Values-1.given s.places task.whole) task.whole)
+    (fits job s s.lines s.entered c.self-in-Ok-Values-1.given s.places (search rules) (λ op. refl) task.whole)
+    task.whole)
 
 pub returns-else-is_too_big : goal.returns-else-is_too_big
 returns-else-is_too_big c = λ spots task.
@@ -54,7 +52,10 @@ returns-else-is_too_big c = λ spots task.
     to_z-of_z fit ∙ c.number_taken.ensures in
     let places = c.deref_mut.result.now in
     let many = c.deref_mut.ensures.len in
-    let full : 1 ≤ vec_len s.outcomes = some_of (vec_len s.outcomes) (sym c.is_empty.ensures ∙ c.if-is_empty.false) in
+    let enough = task.whole.places.outcomes in
+    let own = task.whole.places.own in
+    let own_few = task.whole.places.own_few in
+    let full : vec_len s.outcomes ≡ length s.outcomes.items = s.outcomes.ok.0 in
     let some : 1 ≤ length places = omega arith in
     let long : length out ≡ 1 = c.get.ensures.out ∙ length-take-le 1 places some in
     let few = subst (IsAtMost (length (take 1 places))) c.in-Ok-Values.field-0-is c.in-Ok-Values.ensures.few in
@@ -70,7 +71,7 @@ returns-else-is_too_big c = λ spots task.
     (subst (λ y. owed_of owed ≡ owed_after_exchange (task_at job.graph t) (turns.exchange y) (to_z w64 (of_z w64 c.number_taken.result)))
     (to_z-of_z c.ranges.x) c.owed_after_exchange-self.ensures))
     (sym c.is_too_big.ensures ∙ c.if-is_too_big.false)
-    (exchange_fits job s c.args.x owed c.self-in-Ok-Values-1.given task.whole c.requires.owed)
+    (exchange_fits job s c.args.x owed c.self-in-Ok-Values-1.given (omega arith) task.whole c.requires.owed)
     c.index_mut.ensures.value given task
 
 pub returns-in-Ok-Ended : goal.returns-in-Ok-Ended
@@ -79,7 +80,8 @@ returns-in-Ok-Ended c = λ spots task.
     let job = c.args.job.now in
     c.meet-in-Ok-Ended.ensures.keeps job spots
     (whole_moves job s 1 c.get.new.self (record (as_it_is s) { outcomes = c.self-in-Ok-Ended-1.given })
-    (fits job s s.lines s.entered c.self-in-Ok-Ended-1.given s.places task.whole) task.whole)
+    (fits job s s.lines s.entered c.self-in-Ok-Ended-1.given s.places c.self-in-Ok-Ended-1.nope (λ op. refl) task.whole)
+    task.whole)
 
 pub returns-in-Err : goal.returns-in-Err
 returns-in-Err c = λ spots task.
@@ -89,6 +91,6 @@ returns-in-Err c = λ spots task.
     let on = exchange_on job spots s c.args.x c.requires.met c.requires.over owes task in
     let none : length s.lefts.items ≡ 0 = task.whole.staying c.requires.over in
     task_sees job spots s 1 c.input_of-p.result c.index_mut.result.now c.get.new.self s.lines s.entered
-    c.in-Err.self-in-Err-1-own.given s.places
+    c.in-Err.self-in-Err-1-own.given s.places c.in-Err.self-in-Err-1-own.nope (λ op. refl)
     on.1 (on.2 ∙ sym c.input_of-p.ensures.phaser) (omega arith) c.index_mut.ensures.value refl
     (subst (λ r. GoesOn (HasGot r c.get.new.out) c.index_mut.result.now c.get.new.self) c.in-Err.is c.get.ensures.call) task
