@@ -7,9 +7,6 @@
 #include <stdlib.h>
 #include <string.h>
 
-static const char *kinds[] = {"",           "syntax",   "limit",    "twice",     "unknown", "out-before-in",
-                              "bad-parent", "not-held", "over-bound", "any-meets"};
-
 static void *or_stop(void *memory)
 {
     if (!memory) {
@@ -84,15 +81,43 @@ static size_t put_numbers(const char *name, struct samples *samples)
     return samples->used - before;
 }
 
-static int stop(int32_t status, const phase_fault *fault)
+/* A graph's text, and how many of each it has. */
+struct graph {
+    const uint8_t *text;
+    size_t length;
+    phase_counts all;
+};
+
+/* The name of the phaser or task of a value that is out of range, with a 0 behind it. */
+static char *place_of(const struct graph *graph, const phase_fault *fault)
 {
-    if (status == PHASE_E_GRAPH)
-        fprintf(stderr, "phase: graph line %" PRIu64 ": %s\n", fault->line, kinds[fault->kind]);
-    else if (status == PHASE_E_TOO_BIG)
-        fprintf(stderr, "phase: too big at %s %" PRIu64 " %" PRIu64 "\n",
-                fault->place == PHASE_AT_PHASER ? "phaser" : "task", fault->number, fault->at);
-    else
-        fprintf(stderr, "phase: status %" PRId32 "\n", status);
+    /* Each name stands in the text with a byte behind it, but for one at its end. */
+    uint8_t *names = or_stop(malloc(graph->length + 1));
+    size_t needed, above = fault->number + (fault->place == PHASE_AT_TASK ? graph->all.phasers : 0);
+    phase_fault none;
+    if (phase_all_names(graph->text, graph->length, names, graph->length + 1, &needed, &none) != PHASE_OK)
+        or_stop(NULL);
+    uint8_t *name = names, *end = memchr(names, '\n', needed);
+    for (; above; above--) {
+        name = end + 1;
+        end = memchr(name, '\n', names + needed - name);
+    }
+    *end = 0;
+    memmove(names, name, end + 1 - name);
+    return (char *)names;
+}
+
+static int stop(int32_t status, const struct graph *graph, const phase_fault *fault)
+{
+    if (status == PHASE_E_GRAPH) {
+        fprintf(stderr, "phase: graph line %" PRIu64 ": %s\n", fault->line, phase_kind_text(fault->kind));
+    } else if (status == PHASE_E_TOO_BIG) {
+        char *place = place_of(graph, fault);
+        fprintf(stderr, "phase: too big at %s %" PRIu64 "\n", place, fault->at);
+        free(place);
+    } else {
+        fprintf(stderr, "phase: %s\n", phase_status_text(status));
+    }
     return status == PHASE_E_TOO_BIG ? 3 : status == PHASE_E_MEMORY ? 5 : 1;
 }
 
@@ -102,18 +127,18 @@ int main(int argc, char **argv)
         fprintf(stderr, "eval GRAPH\n");
         return 2;
     }
-    size_t length;
-    char *text = bytes_of(argv[1], &length);
-    const uint8_t *graph = (const uint8_t *)text;
-    phase_counts all;
+    struct graph graph;
+    char *text = bytes_of(argv[1], &graph.length);
+    graph.text = (const uint8_t *)text;
+    const phase_counts *all = &graph.all;
     phase_fault fault;
-    int32_t status = phase_check(graph, length, &all, &fault);
+    int32_t status = phase_check(graph.text, graph.length, &graph.all, &fault);
     if (status != PHASE_OK)
-        return stop(status, &fault);
+        return stop(status, &graph, &fault);
 
-    char *copy = or_stop(malloc(length + 1));
+    char *copy = or_stop(malloc(graph.length + 1));
     struct named named;
-    memcpy(copy, text, length + 1);
+    memcpy(copy, text, graph.length + 1);
     names_of(copy, &named);
     struct samples samples = {or_stop(malloc(8 * 1024)), 1024, 0};
     size_t counts[PHASE_TASKS_MAX], sink_counts[PHASE_TASKS_MAX], total = 0;
@@ -122,19 +147,19 @@ int main(int argc, char **argv)
         counts[source] = put_numbers(named.files[source], &samples);
 
     /* The first call has no room, and tells how much it takes. */
-    status = phase_eval(graph, length, samples.values, samples.used, counts, all.sources, NULL, 0, sink_counts,
-                        all.sinks, sink_starts, all.sinks, &fault);
+    status = phase_eval(graph.text, graph.length, samples.values, samples.used, counts, all->sources, NULL, 0,
+                        sink_counts, all->sinks, sink_starts, all->sinks, &fault);
     if (status == PHASE_E_ROOM) {
-        for (size_t sink = 0; sink < all.sinks; sink++)
+        for (size_t sink = 0; sink < all->sinks; sink++)
             total += sink_counts[sink];
         out = or_stop(malloc(sizeof(int64_t) * total));
-        status = phase_eval(graph, length, samples.values, samples.used, counts, all.sources, out, total,
-                            sink_counts, all.sinks, sink_starts, all.sinks, &fault);
+        status = phase_eval(graph.text, graph.length, samples.values, samples.used, counts, all->sources, out,
+                            total, sink_counts, all->sinks, sink_starts, all->sinks, &fault);
     }
     if (status != PHASE_OK)
-        return stop(status, &fault);
+        return stop(status, &graph, &fault);
     int64_t *at = out;
-    for (size_t sink = 0; sink < all.sinks; sink++) {
+    for (size_t sink = 0; sink < all->sinks; sink++) {
         printf("%s", named.sinks[sink]);
         if (sink_starts[sink] != PHASE_NO_START)
             printf(" from %" PRId64, sink_starts[sink]);

@@ -1,15 +1,18 @@
-/* phase.h: graphs of whole-number filters, evaluated exactly, and phasers for one thread, from C and C++.
+/* phase.h: graphs of whole-number filters, evaluated exactly, and phasers for one thread at a time, from C and C++.
  *
  * Link libphase.a or libphase.so, which scripts/bind makes. docs/BINDINGS.md begins with an example.
  *
- * A call answers PHASE_OK, or a negative status that tells why not; then it has written the fault, and
- * left what it says. A length is behind its pointer, and counts values, bytes of a text.
- * A pointer may be NULL where its length is 0.
+ * A call answers PHASE_OK, or a negative status that tells why not, of which phase_status_text has the words; and
+ * then it has left what it says. A call on a graph has then written the fault. A length is behind its pointer, and
+ * counts values, bytes of a text. A pointer may be NULL where its length is 0.
  *
  * A caller owes: pointers to as many values as their lengths say; what a call writes overlaps nothing
  * else that it is given; and a pointer with no length behind it, as counts, fault or a phaser, is not NULL. A call
- * keeps no pointer. It takes memory by malloc and realloc, and gives back all but what a phaser keeps. Calls may
- * run side by side, also on the same values where these are only read; none is made from a signal handler. */
+ * keeps no pointer. It takes memory by malloc and realloc, whose blocks begin at a multiple of 16, and gives back all
+ * but what a phaser keeps. Calls may run side by side, also on the same values where these are only read; none is made
+ * from a signal handler, or, before it calls exec, from the child that fork made of a process with several threads.
+ *
+ * The library is for Linux on x86-64 with SSE4.2, which is x86-64-v2. */
 #ifndef PHASE_H
 #define PHASE_H
 #include <stdbool.h>
@@ -18,6 +21,9 @@
 #ifdef __cplusplus
 extern "C" {
 #endif
+
+/* The version, 0.1.0: 10,000 times the first number, 100 times the second, and the third. */
+#define PHASE_VERSION 100
 
 /* The statuses. Those of phasers stand further below. */
 enum {
@@ -88,6 +94,9 @@ typedef struct phase_counts {
     size_t sinks;
 } phase_counts;
 
+/* The version of the library that is linked, which may be another than the PHASE_VERSION of this header. */
+uint32_t phase_version(void);
+
 /* How many phasers, tasks, sources and sinks a graph has. A refusal leaves counts as it was. */
 int32_t phase_check(const uint8_t *text, size_t text_len, phase_counts *counts, phase_fault *fault);
 
@@ -98,6 +107,11 @@ int32_t phase_check(const uint8_t *text, size_t text_len, phase_counts *counts, 
  * right: so a first call with NULL, 0 asks. Any other refusal leaves out and needed as they were. */
 int32_t phase_names(const uint8_t *text, size_t text_len, uint8_t *out, size_t out_len,
                     size_t *needed, phase_fault *fault);
+
+/* The names of all phasers and then of all tasks, else as phase_names. At PHASE_E_TOO_BIG the name of a phaser is line
+ * fault->number of them, counted from 0 on; and that of a task is so many lines behind those of the phasers. */
+int32_t phase_all_names(const uint8_t *text, size_t text_len, uint8_t *out, size_t out_len,
+                        size_t *needed, phase_fault *fault);
 
 /* The values of each sink, one sink behind the other in the order of the lines; how many each has; and
  * where each begins that joins now, at the least start. What stands behind the values stays.
@@ -118,26 +132,34 @@ int32_t phase_eval(const uint8_t *text, size_t text_len,
 /* A filter over a block of samples, as the line `fir` of a graph has it, which goes on where the block before it
  * ended: state has the last taps_len - 1 samples before the block, the oldest first, and zeros where there were
  * none. At PHASE_OK out has a value for each sample, and state has the last samples. What stands behind the values
- * stays.
+ * stays. out may not overlap block: phase_fir_in_place writes the values over the samples.
  *
  * done tells how many values of out are right: all, or at PHASE_E_TOO_BIG those before the first that is out of
  * range, and else none. A refusal leaves state as it was. Taps have a magnitude of at most 2^31 - 1, and shift is
- * at most 62; a sample may be any number. PHASE_E_COUNTS says that state is not one shorter than taps. */
+ * at most 62; a sample may be any number. PHASE_E_COUNTS says that state is not one shorter than taps. Of two
+ * refusals the first of these is told: PHASE_E_TAPS, PHASE_E_COUNTS, PHASE_E_ROOM, PHASE_E_MEMORY, PHASE_E_TOO_BIG. */
 int32_t phase_fir(const int64_t *taps, size_t taps_len, uint32_t shift,
                   int64_t *state, size_t state_len,
                   const int64_t *block, size_t block_len,
                   int64_t *out, size_t out_len, size_t *done);
 
-/* ---- A phaser for one thread.
+/* The same, but each value is written over its sample, so that there is no PHASE_E_ROOM. At PHASE_E_TOO_BIG the first
+ * done places of block have values, and those behind them still have samples. */
+int32_t phase_fir_in_place(const int64_t *taps, size_t taps_len, uint32_t shift,
+                           int64_t *state, size_t state_len,
+                           int64_t *block, size_t block_len, size_t *done);
+
+/* ---- A phaser for one thread at a time.
  *
  * Tasks meet at a phaser, phase by phase. A signaller is a registered task whose mode signals, a waiter one whose
  * mode waits. A phase is complete when each signaller has signalled it, and its value is what the sends of its
  * signals come to. docs/DEFINITIONS.md says what each word means.
  *
- * A phaser stands in a struct of the caller's, which has none while all of it is zero: `phase_phaser phaser = {0};`.
- * Beside what is said above a caller owes: nobody else writes into the struct, and it is not copied; every call on a
- * phaser is made by the thread that made it; and a phaser that was made is freed once, for its memory. Any number may
- * be given for a task, an operation, a mode, a single, or a limit.
+ * A phaser stands in a struct of the caller's, which has none while it is PHASE_PHASER_INIT, or all zero.
+ * Any thread may make a call on it, also the one that frees it, but one at a time: a lock, or the end or start of a
+ * thread, puts each call behind the one before it. Beside what is said above a caller owes: nobody else writes into
+ * the struct, and it is not copied; and a phaser that was made is freed once, for its memory. Any number may be given
+ * for a task, an operation, a mode, a single, or a limit.
  *
  * Where a call answers a negative status, the phaser and what the call writes are as they were. */
 
@@ -234,6 +256,9 @@ typedef struct phase_phaser {
     bool live; /* whether there is a phaser */
 } phase_phaser;
 
+/* A place with no phaser. */
+#define PHASE_PHASER_INIT {NULL, false}
+
 /* What a registered task stands at: the phases that it signals and waits for next, counted from 0, and its mode. */
 typedef struct phase_standing {
     uint64_t signal_phase;
@@ -288,6 +313,66 @@ int32_t phase_phaser_wait_block(phase_phaser *phaser, uint64_t task, int64_t *va
 
 /* Writes what a task stands at. */
 int32_t phase_phaser_view(phase_phaser *phaser, uint64_t task, phase_standing *standing);
+
+/* ---- Words. They stand in this header, and not in the library. */
+
+/* What a status says, for a person; of a number that is no status, that. */
+static inline const char *phase_status_text(int32_t status)
+{
+    switch (status) {
+    case PHASE_OK: return "done";
+    case PHASE_ENDED: return "no more phases will come";
+    case PHASE_E_GRAPH: return "a fault in the graph's text";
+    case PHASE_E_COUNTS: return "not one count for each source or sink, or not those of the values";
+    case PHASE_E_SAMPLE: return "a sample is INT64_MIN";
+    case PHASE_E_TOO_BIG: return "a value out of range";
+    case PHASE_E_ROOM: return "too little room for what is to be written";
+    case PHASE_E_MEMORY: return "out of memory";
+    case PHASE_E_TAPS: return "no filter has these taps and this shift";
+    case PHASE_E_NO_PHASER: return "there is no phaser";
+    case PHASE_E_HAS_PHASER: return "there is a phaser already";
+    case PHASE_E_BAD_OPERATION: return "the number is none of an operation";
+    case PHASE_E_BAD_BOUND: return "the bound is not from 1 to 65,536";
+    case PHASE_E_BAD_PHASES: return "the number of phases is not from 1 to 2^62";
+    case PHASE_E_BAD_MODE: return "the number is none of a mode";
+    case PHASE_E_BAD_SINGLE: return "no such single, or a clamp with no range";
+    case PHASE_E_BAD_VALUE: return "a value to be sent is INT64_MIN";
+    case PHASE_E_TOO_MANY_SENDS: return "more than 65,536 values to be sent";
+    case PHASE_E_NO_TASK: return "the task, or the parent, is not registered";
+    case PHASE_E_NOT_ALLOWED: return "the parent's mode does not hold the child's";
+    case PHASE_E_NOT_NEW: return "no number is left for a child";
+    case PHASE_E_TOO_MANY_TASKS: return "1,024 tasks are registered";
+    case PHASE_E_NO_SIGNAL: return "the task's mode does not signal";
+    case PHASE_E_NOT_SINGLE: return "a single is named, and the task's mode is not PHASE_SINGLE";
+    case PHASE_E_BAD_BLOCK: return "a block of no phase, or of more than the bound";
+    case PHASE_E_SIGNAL_TWICE: return "the task has signalled since its last wait";
+    case PHASE_E_SPENT: return "the phaser was made for fewer phases";
+    case PHASE_E_AHEAD: return "the phase is the bound or more ahead of the slowest waiter";
+    case PHASE_E_SINGLE_DIFFERS: return "the first signal of the phase named another single, or none";
+    case PHASE_E_PHASE_FULL: return "more than 65,536 sends of a phase";
+    case PHASE_E_NO_WAIT: return "the task's mode does not wait";
+    case PHASE_E_SIGNAL_FIRST: return "the task has not signalled since its last wait";
+    case PHASE_E_NOT_YET: return "the phase is not complete yet";
+    default: return "no status";
+    }
+}
+
+/* The word of a kind of fault, as docs/FORMATS.md has it; of a number that is no kind, that. */
+static inline const char *phase_kind_text(int32_t kind)
+{
+    switch (kind) {
+    case PHASE_SYNTAX: return "syntax";
+    case PHASE_LIMIT: return "limit";
+    case PHASE_TWICE: return "twice";
+    case PHASE_UNKNOWN: return "unknown";
+    case PHASE_OUT_BEFORE_IN: return "out-before-in";
+    case PHASE_BAD_PARENT: return "bad-parent";
+    case PHASE_NOT_HELD: return "not-held";
+    case PHASE_OVER_BOUND: return "over-bound";
+    case PHASE_ANY_MEETS: return "any-meets";
+    default: return "no kind";
+    }
+}
 
 #ifdef __cplusplus
 }

@@ -11,18 +11,43 @@
 >>> phase.eval(graph, s=[2, 4, 6])["out"]
 array([1, 3, 5])
 
-The file behind a source's name is not read: its samples are the array that is given. `Phaser` is a
-phaser for one thread. The library is libphase.so in the folder lib beside this one, which
-scripts/bind makes, or the one that PHASE_LIB names.
+The file behind a source's name is not read: its samples are the array that is given. `Fir` is a
+filter over blocks of samples, and `Phaser` a phaser whose calls never block. The library is
+libphase.so in the folder lib beside this one, which scripts/bind makes, or the one that PHASE_LIB
+names.
+
+What is refused raises an `Error`; want of memory is a MemoryError, and what is no whole number, or
+no text, a TypeError.
 """
+from __future__ import annotations
+
 import collections
 import ctypes
+import enum
 import operator
 import os
 import threading
 import weakref
+from collections.abc import Mapping, Sequence
+from typing import Any, NamedTuple, Optional, Union
 
 import numpy
+from numpy.typing import ArrayLike, NDArray
+
+__all__ = [
+    "check", "names", "eval", "Counts", "Names", "Values",
+    "Fir",
+    "Phaser", "Operation", "Mode", "Single", "Clamp", "Got", "GotBlock", "Standing",
+    "SUM", "PRODUCT", "LEAST", "GREATEST", "ANY",
+    "SIG", "WAIT", "SIG_WAIT", "SINGLE",
+    "NO_SINGLE", "NEG", "ABS", "HALVE",
+    "PHASERS_MAX", "TASKS_MAX", "TAPS_MAX", "SAMPLES_MAX", "BOUND_MAX", "PHASES_MAX", "MEMBERS_MAX", "SENDS_MAX",
+    "Error", "GraphError", "SamplesError", "TooBig", "TapsError", "PhaserError",
+]
+
+# The version of this file, as 10,000 * major + 100 * minor + patch. The library has to have it, too.
+VERSION = 100
+__version__ = f"{VERSION // 10000}.{VERSION // 100 % 100}.{VERSION % 100}"
 
 OK = 0
 E_GRAPH = -1
@@ -74,23 +99,6 @@ E_NO_WAIT = -41
 E_SIGNAL_FIRST = -42
 E_NOT_YET = -43
 
-SUM = 1
-PRODUCT = 2
-LEAST = 3
-GREATEST = 4
-ANY = 5
-
-SIG = 1
-WAIT = 2
-SIG_WAIT = 3
-SINGLE = 4
-
-NO_SINGLE = 0
-NEG = 1
-ABS = 2
-HALVE = 3
-CLAMP = 4
-
 PHASERS_MAX = 64
 TASKS_MAX = 64
 TAPS_MAX = 64
@@ -113,39 +121,113 @@ KINDS = {
     ANY_MEETS: "any-meets",
 }
 
-Counts = collections.namedtuple("Counts", "phasers tasks sources sinks")
-Names = collections.namedtuple("Names", "sources sinks")
 
 
-class GraphError(ValueError):
+class Operation(enum.IntEnum):
+    """What the sends of a phase come to: their sum, product, least, greatest, or the first of them."""
+
+    SUM = 1
+    PRODUCT = 2
+    LEAST = 3
+    GREATEST = 4
+    ANY = 5
+
+
+class Mode(enum.IntEnum):
+    """What a task does at a phaser. SIG_WAIT and SINGLE signal and wait in turn; SINGLE may name a single.
+    A mode holds itself and those before it, but WAIT does not hold SIG."""
+
+    SIG = 1
+    WAIT = 2
+    SIG_WAIT = 3
+    SINGLE = 4
+
+
+class Single(enum.IntEnum):
+    """What is done once with the value of a phase. A clamp has two ends: `Clamp(low, high)`."""
+
+    NO_SINGLE = 0
+    NEG = 1
+    ABS = 2
+    HALVE = 3
+    CLAMP = 4
+
+
+SUM, PRODUCT, LEAST, GREATEST, ANY = Operation
+SIG, WAIT, SIG_WAIT, SINGLE = Mode
+NO_SINGLE, NEG, ABS, HALVE, CLAMP = Single
+
+
+class Counts(NamedTuple):
+    """How many phasers, tasks, sources and sinks a graph has; sources and sinks are tasks, too."""
+
+    phasers: int
+    tasks: int
+    sources: int
+    sinks: int
+
+
+class Names(NamedTuple):
+    """The names of a graph's sources and sinks, each in the order of their lines."""
+
+    sources: list[str]
+    sinks: list[str]
+
+
+class Error(Exception):
+    """What is refused. An error can be pickled, so that it comes back from another process."""
+
+
+class GraphError(Error, ValueError):
     """The text of a graph has a fault: its first line with one, from 1 on, and its kind, a word."""
 
-    def __init__(self, line, kind):
-        super().__init__(f"graph line {line}: {kind}")
+    def __init__(self, line: int, kind: str):
+        super().__init__(line, kind)
         self.line, self.kind = line, kind
 
+    def __str__(self) -> str:
+        return f"graph line {self.line}: {self.kind}"
 
-class TooBig(OverflowError):
-    """A value is out of range: that of phase `at` of the phaser `name`, or of step `at` of the task."""
 
-    def __init__(self, name, at):
-        super().__init__(f"too big at {name} {at}")
+class SamplesError(Error, ValueError):
+    """The samples are not those of the graph's sources: a list too few or too many, a name that is none, a
+    list that is too long, or a sample that is none."""
+
+
+class TooBig(Error, OverflowError):
+    """A value is out of range: that of phase `at` of the phaser `name`, or of step `at` of the task; or of
+    sample `at` of a block of a `Fir`, where `values` has the values before it, which are right."""
+
+    values: Optional[NDArray[numpy.int64]] = None
+
+    def __init__(self, name: str, at: int):
+        super().__init__(name, at)
         self.name, self.at = name, at
 
+    def __str__(self) -> str:
+        return f"too big at {self.name} {self.at}"
 
-class Values(dict):
+
+class TapsError(Error, ValueError):
+    """A filter has 1 to 64 taps of at most 2**31 - 1, and a shift of at most 62."""
+
+    def __str__(self) -> str:
+        return "a filter has 1 to 64 taps of at most 2**31 - 1, and a shift of at most 62"
+
+
+class Values(dict[str, NDArray[numpy.int64]]):
     """The values of each sink by its name. `starts` has the starts of those that join now."""
 
-    starts = {}
+    starts: dict[str, int] = {}
 
 
-class PhaserError(Exception):
+class PhaserError(Error):
     """Why a call on a phaser was refused: the class says it, and `status` is its number."""
 
-    status = None
+    status: Optional[int] = None
 
-    def __init__(self):
-        super().__init__(self.__doc__)
+    def __str__(self) -> str:
+        return self.__doc__ or ""
 
 
 class NoPhaser(PhaserError):
@@ -288,10 +370,35 @@ class NotYet(PhaserError):
 
 _REFUSALS = {it.status: it for it in PhaserError.__subclasses__()}
 
-Got = collections.namedtuple("Got", "phase value")
-GotBlock = collections.namedtuple("GotBlock", "phase values")
-Standing = collections.namedtuple("Standing", "signal_phase wait_phase mode")
-Clamp = collections.namedtuple("Clamp", "low high")
+
+
+class Got(NamedTuple):
+    """A phase that is complete, and its value, or None where it has none."""
+
+    phase: int
+    value: Optional[int]
+
+
+class GotBlock(NamedTuple):
+    """The first of some phases in a row that are complete, and the value of each."""
+
+    phase: int
+    values: NDArray[numpy.int64]
+
+
+class Standing(NamedTuple):
+    """The phases that a task signals and waits for next, and its mode."""
+
+    signal_phase: int
+    wait_phase: int
+    mode: Mode
+
+
+class Clamp(NamedTuple):
+    """The single that takes the nearest value from `low` to `high`."""
+
+    low: int
+    high: int
 
 
 class _Fault(ctypes.Structure):
@@ -326,14 +433,20 @@ def _load():
     if not os.path.exists(name):
         raise ImportError(f"there is no {name}: make it by scripts/bind, or name it in PHASE_LIB")
     lib = ctypes.CDLL(name)
+    lib.phase_version.argtypes, lib.phase_version.restype = [], ctypes.c_uint32
+    if lib.phase_version() != VERSION:
+        raise ImportError(f"{name} has the version {lib.phase_version()}, and phase.py {VERSION}")
     array, fault = [ctypes.c_void_p, ctypes.c_size_t], [ctypes.POINTER(_Fault)]
     text = [ctypes.c_char_p, ctypes.c_size_t]
     lib.phase_check.argtypes = text + [ctypes.POINTER(_Counts)] + fault
     lib.phase_eval.argtypes = text + array * 5 + fault
-    lib.phase_fir.argtypes = array + [ctypes.c_uint32] + array * 3 + [ctypes.POINTER(ctypes.c_size_t)]
+    filtered = array + [ctypes.c_uint32] + array * 2
+    lib.phase_fir.argtypes = filtered + array + [ctypes.POINTER(ctypes.c_size_t)]
+    lib.phase_fir_in_place.argtypes = filtered + [ctypes.POINTER(ctypes.c_size_t)]
     lib.phase_names.argtypes = text + array + [ctypes.POINTER(ctypes.c_size_t)] + fault
-    for call in (lib.phase_check, lib.phase_eval, lib.phase_fir, lib.phase_names):
-        call.restype = ctypes.c_int32
+    lib.phase_all_names.argtypes = lib.phase_names.argtypes
+    for name in ("check", "eval", "fir", "fir_in_place", "names", "all_names"):
+        getattr(lib, "phase_" + name).restype = ctypes.c_int32
     _load_phasers(lib, array)
     return lib
 
@@ -354,22 +467,24 @@ def _load_phasers(lib, array):
         "view": place + [whole, ctypes.POINTER(_Standing)],
     }
     for name, arguments in calls.items():
-        # A call that the library lacks is an AttributeError where it is made.
-        if hasattr(lib, "phase_phaser_" + name):
-            call = getattr(lib, "phase_phaser_" + name)
-            call.argtypes, call.restype = arguments, ctypes.c_int32
+        call = getattr(lib, "phase_phaser_" + name)
+        call.argtypes, call.restype = arguments, ctypes.c_int32
     lib.phase_phaser_free.argtypes, lib.phase_phaser_free.restype = place, None
 
 
 _lib = _load()
 
 
-def check(graph):
-    """How many phasers, tasks, sources and sinks a graph has."""
+# The text of a graph, or the path of its file.
+Text = Union[str, bytes, bytearray, memoryview, "os.PathLike[str]"]
+
+
+def check(graph: Text) -> Counts:
+    """How many phasers, tasks, sources and sinks a graph has: its text, or the path of its file."""
     return _check(_bytes(graph))
 
 
-def names(graph):
+def names(graph: Text) -> Names:
     """The names of a graph's sources and sinks, each in the order of their lines.
 
     >>> import phase
@@ -380,12 +495,15 @@ def names(graph):
     return _ends(text, _check(text))
 
 
-def eval(graph, samples=(), **named):
+def eval(
+    graph: Text, samples: Union[Sequence[ArrayLike], Mapping[str, ArrayLike], NDArray[Any]] = (), /, **named: ArrayLike
+) -> Values:
     """The values of each sink by its name, over the samples of each source: a list for each in the order
-    of their lines, or by their names. A sink that joins now begins at the least phase that it may, which
-    `starts` of the answer tells.
+    of their lines, or by their names; of one source also its array alone. A sink that joins now begins at
+    the least phase that it may, which `starts` of the answer tells.
 
-    Samples are whole numbers, in arrays or lists. Values are arrays of int64.
+    Samples are whole numbers, in arrays or lists. Values are arrays of int64. It raises GraphError,
+    SamplesError, TooBig, OverflowError for a number that is no int64, TypeError or MemoryError.
 
     >>> import phase
     >>> phase.eval("phaser x sum 4\\nsource s s.csv -> x\\nsink out x", s=[2**63 - 1, -5])["out"]
@@ -394,7 +512,7 @@ def eval(graph, samples=(), **named):
     text = _bytes(graph)
     counts = _check(text)
     ends = _ends(text, counts)
-    lists = [_whole(it) for it in (_by_name(ends.sources, named) if named else samples)]
+    lists = _in_order(ends.sources, samples, named)
     joined = numpy.concatenate(lists) if len(lists) > 1 else (lists + [_none()])[0]
     lent = numpy.array([len(it) for it in lists], numpy.uintp)
     sinks = numpy.zeros(counts.sinks, numpy.uintp)
@@ -405,13 +523,19 @@ def eval(graph, samples=(), **named):
     if status == E_ROOM:
         out = numpy.empty(sum(int(it) for it in sinks), numpy.int64)
         status, fault = _eval(text, joined, lent, out, sinks, starts)
+    if status == E_SAMPLE:
+        raise SamplesError(_sample_text(ends.sources, lists, fault.at))
     _stop(status, fault, text)
     return _values(ends.sinks, out, sinks, starts)
 
 
 class Fir:
     """A filter that goes on where the block before ended: the sum of each tap times the sample so far back,
-    divided by 2 to the power of the shift and rounded down.
+    divided by 2 to the power of the shift and rounded down. Calls may come from any thread, and go one by
+    one.
+
+    It raises TapsError where there is no such filter. A block raises TooBig, whose `values` are right, and
+    the filter then stands where it stood.
 
     >>> import phase
     >>> sums = phase.Fir([1, 1])
@@ -421,28 +545,57 @@ class Fir:
     array([7])
     """
 
-    def __init__(self, taps, shift=0):
-        self.taps, self.shift = _whole(taps), shift
+    def __init__(self, taps: ArrayLike, shift: int = 0):
+        self.taps, self.shift = _whole(taps).copy(), operator.index(shift)
+        self.taps.flags.writeable = False
+        if not 0 <= self.shift < 2**32:
+            raise TapsError
         self._state = numpy.zeros(max(len(self.taps) - 1, 0), numpy.int64)
+        self._lock = threading.Lock()
+        # A block of no sample tells whether there is such a filter.
+        self([])
 
-    def __call__(self, samples):
+    def __call__(self, samples: ArrayLike) -> NDArray[numpy.int64]:
+        """The value at each sample of a block."""
         block = _whole(samples)
-        out, done = numpy.empty_like(block), ctypes.c_size_t()
-        arrays = [(it.ctypes.data, len(it)) for it in (self.taps, self._state, block, out)]
-        status = _lib.phase_fir(*arrays[0], self.shift, *arrays[1], *arrays[2], *arrays[3], done)
-        if status == E_TAPS:
-            raise ValueError("a filter has 1 to 64 taps up to 2**31 - 1, and a shift up to 62")
-        if status == E_TOO_BIG:
-            raise TooBig("a block", done.value)
-        if status == E_MEMORY:
-            raise MemoryError
-        if status != OK:
-            raise RuntimeError(f"libphase answered a status that is none: {status}")
+        out = numpy.empty_like(block)
+        self._filter(_lib.phase_fir, block, out)
         return out
+
+    def in_place(self, block: NDArray[numpy.int64]) -> None:
+        """Filters a row of int64 without gaps, and writes the values over its samples. At TooBig the values
+        before it are written, and the samples behind them stay."""
+        self._filter(_lib.phase_fir_in_place, _row(block))
+
+    def _filter(self, call, *rows):
+        done = ctypes.c_size_t()
+        lent = [word for row in rows for word in (row.ctypes.data, len(row))]
+        with self._lock:
+            state = self._state.ctypes.data, len(self._state)
+            status = call(self.taps.ctypes.data, len(self.taps), self.shift, *state, *lent, done)
+        if status == E_TAPS:
+            raise TapsError
+        if status == E_TOO_BIG:
+            why = TooBig("a block", done.value)
+            why.values = rows[-1][: done.value]
+            raise why
+        _done(status)
+
+    def __repr__(self) -> str:
+        return f"Fir({self.taps.tolist()}, shift={self.shift})"
+
+    def __getstate__(self):
+        with self._lock:
+            return self.taps, self.shift, self._state.copy()
+
+    def __setstate__(self, whole):
+        self.taps, self.shift, self._state = whole
+        self.taps.flags.writeable = False
+        self._lock = threading.Lock()
 
 
 class Phaser:
-    """A phaser for one thread, at which tasks meet phase by phase: a phase is complete when each
+    """A phaser, at which tasks meet phase by phase: a phase is complete when each
     registered task whose mode signals has signalled it, and its value is what the sends of these
     signals come to. Tasks are numbers, and number 0 is there, in the mode SINGLE.
 
@@ -460,17 +613,18 @@ class Phaser:
     `bound` phases ahead of the slowest waiter, from 1 to 65,536; the phases are 1 to 2**62. No call
     blocks. What is refused raises the PhaserError of its reason, and leaves the phaser as it was;
     want of memory is a MemoryError. The phaser is closed at the end of `with`, by `close`, or with
-    the object. It stays on the thread that made it: elsewhere a call is a RuntimeError.
+    the object. Calls may come from any thread, and go one by one.
     """
 
-    def __init__(self, operation, bound, phases):
+    def __init__(self, operation: int, bound: int, phases: int):
         operation = _numbered(operation, 32, BadOperation)
         bound, phases = _numbered(bound, 64, BadBound), _numbered(phases, 64, BadPhases)
-        self._place, self._thread = _Place(), threading.get_ident()
+        self._place, self._lock = _Place(), threading.Lock()
         _done(_lib.phase_phaser_new(operation, bound, phases, self._place))
-        weakref.finalize(self, _free, self._place, self._thread)
+        self._made = Operation(operation), bound, phases
+        weakref.finalize(self, _free, self._place, self._lock)
 
-    def register(self, parent, mode):
+    def register(self, parent: int, mode: int) -> int:
         """Registers a task in a mode that the mode of the parent holds, at both phases of the
         parent, and returns its number: 1 more than the greatest before. The modes are SIG, WAIT,
         SIG_WAIT and SINGLE; each holds itself and those before it, but WAIT does not hold SIG.
@@ -479,21 +633,21 @@ class Phaser:
         """
         task = ctypes.c_uint64()
         mode = _numbered(mode, 32, BadMode)
-        _done(_lib.phase_phaser_register(self._here(), _task(parent), mode, task))
+        _done(self._call(_lib.phase_phaser_register, _task(parent), mode, task))
         return task.value
 
-    def register_now(self, parent):
+    def register_now(self, parent: int) -> tuple[int, int]:
         """Registers a task in the mode WAIT at the first phase that is not complete, and returns its
         number and that phase. It raises what `register` does."""
         task, phase = ctypes.c_uint64(), ctypes.c_uint64()
-        _done(_lib.phase_phaser_register_now(self._here(), _task(parent), task, phase))
+        _done(self._call(_lib.phase_phaser_register_now, _task(parent), task, phase))
         return task.value, phase.value
 
-    def drop(self, task):
+    def drop(self, task: int) -> None:
         """Ends a task's registration. It raises NoTask."""
-        _done(_lib.phase_phaser_drop(self._here(), _task(task)))
+        _done(self._call(_lib.phase_phaser_drop, _task(task)))
 
-    def signal(self, task, values, single=None):
+    def signal(self, task: int, values: ArrayLike, single: Union[int, Clamp, None] = None) -> int:
         """Signals the task's phase with these sends, a row of whole numbers as of `eval`, and returns
         that phase. A single is done once with the value of the phase: NEG, ABS, HALVE, which rounds
         down, or Clamp(low, high).
@@ -508,23 +662,23 @@ class Phaser:
         """
         sends, phase = _whole(values), ctypes.c_uint64()
         row = sends.ctypes.data, len(sends)
-        _done(_lib.phase_phaser_signal(self._here(), _task(task), *row, *_single(single), phase))
+        _done(self._call(_lib.phase_phaser_signal, _task(task), *row, *_single(single), phase))
         return phase.value
 
-    def wait(self, task):
+    def wait(self, task: int) -> Optional[Got]:
         """The task's phase and its value, or None where no more will come. The value is None where a
         sum or a product is out of range, and under the other operations where the phase has no send.
 
         It raises NoTask, NoWait, SignalFirst, or NotYet where it would have to block.
         """
         phase, value = ctypes.c_uint64(), ctypes.c_int64()
-        status = _lib.phase_phaser_wait(self._here(), _task(task), phase, value)
+        status = self._call(_lib.phase_phaser_wait, _task(task), phase, value)
         if status == ENDED:
             return None
         _done(status)
         return Got(phase.value, value.value if value.value != _NO_VALUE else None)
 
-    def signal_block(self, task, values, single=None):
+    def signal_block(self, task: int, values: ArrayLike, single: Union[int, Clamp, None] = None) -> int:
         """Signals as many phases in a row as there are values, the first the task's, with one send
         each and the single or none for all of them, and returns the first phase.
 
@@ -533,10 +687,10 @@ class Phaser:
         """
         sends, phase = _whole(values), ctypes.c_uint64()
         row = sends.ctypes.data, len(sends)
-        _done(_lib.phase_phaser_signal_block(self._here(), _task(task), *row, *_single(single), phase))
+        _done(self._call(_lib.phase_phaser_signal_block, _task(task), *row, *_single(single), phase))
         return phase.value
 
-    def wait_block(self, task, out):
+    def wait_block(self, task: int, out: Union[int, NDArray[numpy.int64]]) -> Optional[GotBlock]:
         """The first of the task's phases that are complete, in a row, and their values; or None where
         no more will come. Where a phase has no value, -2**63 stands.
 
@@ -556,46 +710,48 @@ class Phaser:
         values = _places(out)
         phase, count = ctypes.c_uint64(), ctypes.c_size_t()
         row = values.ctypes.data, len(values)
-        status = _lib.phase_phaser_wait_block(self._here(), _task(task), *row, phase, count)
+        status = self._call(_lib.phase_phaser_wait_block, _task(task), *row, phase, count)
         if status == ENDED:
             return None
         _done(status)
         return GotBlock(phase.value, values[: count.value])
 
-    def view(self, task):
+    def view(self, task: int) -> Standing:
         """What a task stands at: the phases that it signals and waits for next, and its mode.
         It raises NoTask."""
         standing = _Standing()
-        _done(_lib.phase_phaser_view(self._here(), _task(task), standing))
-        return Standing(*(getattr(standing, it) for it in Standing._fields))
+        _done(self._call(_lib.phase_phaser_view, _task(task), standing))
+        return Standing(standing.signal_phase, standing.wait_phase, Mode(standing.mode))
 
-    def close(self):
+    def close(self) -> None:
         """Ends the phaser and gives its memory back. Later calls raise NoPhaser; to close it again
         does nothing."""
-        _lib.phase_phaser_free(self._here())
+        _free(self._place, self._lock)
 
-    def __enter__(self):
+    def __enter__(self) -> Phaser:
         return self
 
-    def __exit__(self, *_):
+    def __exit__(self, *_: object) -> None:
         self.close()
+
+    def __repr__(self) -> str:
+        operation, bound, phases = self._made
+        return f"<phase.Phaser {operation.name}, bound {bound}, {phases} phases>"
 
     def __reduce__(self):
         raise TypeError("a phaser is not copied")
 
-    def _here(self):
-        if self._thread != threading.get_ident():
-            raise RuntimeError("a phaser stays on the thread that made it")
-        return self._place
+    def _call(self, call, *words):
+        with self._lock:
+            return call(self._place, *words)
 
 
 # What stands for a value where a phase has none.
 _NO_VALUE = -(2**63)
 
 
-def _free(place, thread):
-    # Where another thread lets go of a phaser, its memory stays taken.
-    if thread == threading.get_ident():
+def _free(place, lock):
+    with lock:
         _lib.phase_phaser_free(place)
 
 
@@ -612,7 +768,12 @@ def _places(out):
     if not isinstance(out, numpy.ndarray):
         # More than any bound allows are refused as one more is.
         return numpy.empty(min(_numbered(out, 64, BadBlock), BOUND_MAX + 1), numpy.int64)
-    if out.ndim != 1 or out.dtype != numpy.int64 or not out.flags.carray:
+    return _row(out)
+
+
+def _row(out):
+    """A row into which C may write."""
+    if not isinstance(out, numpy.ndarray) or out.ndim != 1 or out.dtype != numpy.int64 or not out.flags.carray:
         raise TypeError("values are written into one row of int64 without gaps")
     return out
 
@@ -645,7 +806,14 @@ def _done(status):
 
 
 def _bytes(graph):
-    return graph.encode() if isinstance(graph, str) else bytes(graph)
+    if isinstance(graph, str):
+        return graph.encode()
+    if isinstance(graph, os.PathLike):
+        with open(graph, "rb") as file:
+            return file.read()
+    if not isinstance(graph, (bytes, bytearray, memoryview)):
+        raise TypeError(f"a graph is a text, bytes or the path of its file, and not {type(graph).__name__}")
+    return bytes(graph)
 
 
 def _none():
@@ -677,30 +845,53 @@ def _values(names, out, sinks, starts):
 
 def _ends(text, counts):
     """The names of the sources and sinks of a text that is known to be good."""
+    names = _named(_lib.phase_names, text)
+    return Names(names[: counts.sources], names[counts.sources :])
+
+
+def _named(call, text):
+    """The names that a call writes, a line each, of a text that is known to be good."""
     # Each name stands in the text with a byte behind it, but for one at its end.
     room, needed, fault = ctypes.create_string_buffer(len(text) + 1), ctypes.c_size_t(), _Fault()
-    _stop(_lib.phase_names(text, len(text), room, len(room), needed, fault), fault, text)
-    names = room.raw[: needed.value].decode("latin-1").split("\n")
-    return Names(names[: counts.sources], names[counts.sources : -1])
+    _stop(call(text, len(text), room, len(room), needed, fault), fault, text)
+    return room.raw[: needed.value].decode("ascii").splitlines()
 
 
-def _names(text, *kinds):
-    """The names that lines of these kinds declare, of a text that is known to be good."""
-    lines = (line.split() for line in text.decode("latin-1").split("\n"))
-    return [words[1] for words in lines if words and words[0] in kinds]
+def _in_order(names, samples, named):
+    """The samples of each source in the order of the lines: from a list of them, by name, or one array of one source."""
+    if isinstance(samples, Mapping):
+        samples, named = (), {**samples, **named}
+    if named and len(samples):
+        raise TypeError("samples are given in order or by name, and not both")
+    if named:
+        if set(names) != set(named):
+            raise SamplesError(f"the sources are {' '.join(names) or 'none'}, and not {' '.join(map(str, named))}")
+        samples = [named[it] for it in names]
+    elif isinstance(samples, numpy.ndarray) and samples.ndim == 1 and samples.dtype != object:
+        samples = [samples]
+    if len(samples) != len(names):
+        raise SamplesError(f"there are {len(names)} sources, and samples of {len(samples)}")
+    lists = [_whole(it) for it in samples]
+    for name, row in zip(names, lists):
+        if len(row) > SAMPLES_MAX:
+            raise SamplesError(f"{name} has {len(row)} samples, and a source at most {SAMPLES_MAX}")
+    return lists
 
 
-def _by_name(names, named):
-    if set(names) != set(named):
-        raise ValueError(f"the sources are {' '.join(names) or 'none'}, and not {' '.join(named)}")
-    return [named[it] for it in names]
+def _sample_text(names, lists, at):
+    """What is told of the sample at this place among all, which is none."""
+    for name, row in zip(names, lists):
+        if at < len(row):
+            return f"sample {at} of {name} is -2**63, which is none"
+        at -= len(row)
+    return "a sample is -2**63, which is none"
 
 
 def _whole(values):
     """Whole numbers as one row of int64 without gaps, where C may read it."""
     given = numpy.asarray(values)
     if given.ndim != 1 or given.size and given.dtype.kind not in "iu":
-        raise TypeError(f"samples are one row of whole numbers, and not {given.dtype} in {given.ndim} rows")
+        raise TypeError(f"one row of whole numbers is wanted, and not {given.dtype} of {given.ndim} dimensions")
     # numpy compares a uint64 with a number of Python as floats.
     if given.dtype.kind == "u" and given.size and int(given.max()) > 2**63 - 1:
         raise OverflowError("a sample is above 2**63 - 1")
@@ -712,14 +903,8 @@ def _stop(status, fault, text):
         return
     if status == E_GRAPH:
         raise GraphError(fault.line, KINDS[fault.kind])
-    if status == E_COUNTS:
-        raise ValueError("not one list of samples for each source")
-    if status == E_SAMPLE:
-        raise OverflowError(f"sample {fault.at} of all is -2**63, which is none")
     if status == E_TOO_BIG:
-        tasks = ("source", "fir", "split", "join", "peer", "sink")
-        names = _names(text, "phaser") if fault.place == AT_PHASER else _names(text, *tasks)
-        raise TooBig(names[fault.number], fault.at)
-    if status == E_MEMORY:
-        raise MemoryError
-    raise RuntimeError(f"libphase answered a status that is none: {status}")
+        # Phasers stand before tasks.
+        at = fault.number if fault.place == AT_PHASER else _check(text).phasers + fault.number
+        raise TooBig(_named(_lib.phase_all_names, text)[at], fault.at)
+    _done(status)

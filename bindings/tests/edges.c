@@ -1,5 +1,6 @@
 /* What libphase answers at its edges: NULL with 0, lengths that do not fit, SIZE_MAX, INT64_MIN, values out of
- * range, sinks that join now; what a refusal leaves; and four threads of a caller side by side. */
+ * range, sinks that join now; which refusal comes first, and what one leaves; streams by blocks; and four threads of a
+ * caller side by side. */
 #define _GNU_SOURCE
 #include "phase.h"
 #include <limits.h>
@@ -99,20 +100,33 @@ static void check_edges(void)
                  && is_fault(&fault, lines[kind - 1], kind, 0, 0, 0));
 }
 
-/* The names of a text with so much room: whether the answer is this status, the names these, and what stands behind
- * them as it was. Where the status is not PHASE_OK no name is written. */
-static int are_names(const char *text, size_t room, int32_t status, size_t wanted_bytes, const char *wanted)
+typedef int32_t names_of(const uint8_t *, size_t, uint8_t *, size_t, size_t *, phase_fault *);
+
+/* The names that a call writes of a text with so much room: whether the answer is this status, the names these, and
+ * what stands behind them as it was. Where the status is not PHASE_OK no name is written. */
+static int are_written(names_of *call, const char *text, size_t room, int32_t status, size_t wanted_bytes,
+                       const char *wanted)
 {
     uint8_t out[32];
     size_t needed = 77;
     phase_fault fault;
     memset(out, '.', sizeof out);
     memset(&fault, 0x55, sizeof fault);
-    int is_right = phase_names(TEXT(text), room > 0 ? out : NULL, room, &needed, &fault) == status
+    int is_right = call(TEXT(text), room > 0 ? out : NULL, room, &needed, &fault) == status
                    && needed == wanted_bytes && !memcmp(out, wanted, strlen(wanted));
     for (size_t at = strlen(wanted); at < sizeof out; at++)
         is_right = is_right && out[at] == '.';
     return is_right && (status == PHASE_OK ? fault.line == 0x5555555555555555 : fault.line != 0x5555555555555555);
+}
+
+static int are_names(const char *text, size_t room, int32_t status, size_t wanted_bytes, const char *wanted)
+{
+    return are_written(phase_names, text, room, status, wanted_bytes, wanted);
+}
+
+static int are_all_names(const char *text, size_t room, int32_t status, size_t wanted_bytes, const char *wanted)
+{
+    return are_written(phase_all_names, text, room, status, wanted_bytes, wanted);
 }
 
 static void names(void)
@@ -129,6 +143,50 @@ static void names(void)
     look("a graph of nothing has no names", are_names("", 0, PHASE_OK, 0, ""));
     look("a fault has no names", are_names("phaser x mean 2\n", 32, PHASE_E_GRAPH, 77, ""));
     look("two sources meet in an evaluation alone", are_names(twice, 32, PHASE_OK, 8, "s\nt\nout\n"));
+}
+
+static void all_names(void)
+{
+    /* Phasers stand below tasks, and a sink above a source. */
+    const char *mixed = "phaser x sum 4\nsource s s.csv -> x\nsink first x\nphaser y sum 4\nsource t t.csv -> y\n"
+                        "fir d x -> y shift 0 taps 1\n";
+    look("phasers before tasks, each in the order of the lines",
+         are_all_names(mixed, 32, PHASE_OK, 16, "x\ny\ns\nfirst\nt\nd\n"));
+    look("all names that just fit", are_all_names(mixed, 16, PHASE_OK, 16, "x\ny\ns\nfirst\nt\nd\n"));
+    look("all names that are one too long", are_all_names(mixed, 15, PHASE_E_ROOM, 16, ""));
+    look("how long all names are is asked", are_all_names(mixed, 0, PHASE_E_ROOM, 16, ""));
+    look("a filter is named", are_all_names(sums, 32, PHASE_OK, 12, "x\ny\ns\nf\nout\n"));
+    look("phasers alone", are_all_names("phaser b sum 1\nphaser a any 1\n", 32, PHASE_OK, 4, "b\na\n"));
+    look("a graph of nothing has no names at all", are_all_names("", 0, PHASE_OK, 0, ""));
+    look("a fault has no names at all", are_all_names("phaser x mean 2\n", 32, PHASE_E_GRAPH, 77, ""));
+}
+
+/* The name of the place where a value is too big, by its line among all names. */
+static void named_fault(const char *text, const int64_t *samples, const size_t *counts, size_t sources,
+                        const char *wanted)
+{
+    uint8_t out[32];
+    size_t needed = 0, line = 0, at = 0;
+    struct room room = fresh();
+    phase_counts found;
+    int is_told = phase_check(TEXT(text), &found, &room.fault) == PHASE_OK
+                  && phase_eval(TEXT(text), samples, sources * 2, counts, sources, room.out, 8, room.counts, 1,
+                                room.starts, 1, &room.fault) == PHASE_E_TOO_BIG
+                  && phase_all_names(TEXT(text), out, sizeof out, &needed, &room.fault) == PHASE_OK;
+    size_t place = room.fault.number + (room.fault.place == PHASE_AT_TASK ? found.phasers : 0);
+    for (; at < needed && line < place; at++)
+        line += out[at] == '\n';
+    look(wanted, is_told && line == place && at + strlen(wanted) < needed && !memcmp(out + at, wanted, strlen(wanted))
+                     && out[at + strlen(wanted)] == '\n');
+}
+
+static void named_faults(void)
+{
+    const int64_t most[4] = {INT64_MAX, INT64_MAX, INT64_MAX, INT64_MAX};
+    const size_t two[2] = {2, 2};
+    /* At the filter's second step two samples come to too much, and on the phaser the sources' first ones. */
+    named_fault(sums, most, two, 1, "f");
+    named_fault(both, most, two, 2, "x");
 }
 
 static void lengths(void)
@@ -270,6 +328,113 @@ static void blocks(void)
     look("no taps", phase_fir(NULL, 0, 0, NULL, 0, most, 3, out, 5, &done) == PHASE_E_TAPS && last[0] == 3);
 }
 
+static void blocks_in_place(void)
+{
+    int64_t taps[3] = {1, 2, 1}, state[2] = {0, 0}, block[4] = {-1, -1, 0, 4}, ones[2] = {1, 1}, one[1] = {1};
+    int64_t last[1] = {3}, most[4] = {0, INT64_MAX, 1, 5};
+    size_t done = 77;
+    look("a block over its samples, rounded down",
+         phase_fir_in_place(taps, 3, 2, state, 2, block, 4, &done) == PHASE_OK && done == 4 && block[0] == -1
+             && block[1] == -1 && block[2] == -1 && block[3] == 0 && state[0] == 0 && state[1] == 4);
+    look("the next goes on in place, in a block shorter than the state",
+         phase_fir_in_place(taps, 3, 0, state, 2, one, 1, &done) == PHASE_OK && done == 1 && one[0] == 9
+             && state[0] == 4 && state[1] == 1);
+    look("an empty block in place, NULL with 0",
+         phase_fir_in_place(taps, 3, 0, state, 2, NULL, 0, &done) == PHASE_OK && done == 0 && state[0] == 4
+             && state[1] == 1);
+    look("one tap in place has no state, NULL with 0",
+         phase_fir_in_place(taps + 1, 1, 0, NULL, 0, block, 4, &done) == PHASE_OK && done == 4 && block[0] == -2
+             && block[3] == 0);
+    look("too big in place: so many values, then samples, and the state stays",
+         phase_fir_in_place(ones, 2, 0, last, 1, most, 4, &done) == PHASE_E_TOO_BIG && done == 2 && most[0] == 3
+             && most[1] == INT64_MAX && most[2] == 1 && most[3] == 5 && last[0] == 3);
+    look("too big in place at the first sample",
+         phase_fir_in_place(ones, 2, 0, last, 1, most + 1, 2, &done) == PHASE_E_TOO_BIG && done == 0
+             && most[1] == INT64_MAX && most[2] == 1 && last[0] == 3);
+}
+
+/* What both calls of a filter refuse where more than one thing is wrong, and leave all as it was. The first value of
+ * each row is too big, so that none is written. */
+static void refusals(void)
+{
+    static const struct {
+        const char *name;
+        size_t taps;
+        uint32_t shift;
+        size_t state, room;
+        int32_t wanted, in_place;
+    } rows[] = {
+        {"taps before all", 0, 0, 3, 0, PHASE_E_TAPS, PHASE_E_TAPS},
+        {"a shift before all", 2, 63, 3, 0, PHASE_E_TAPS, PHASE_E_TAPS},
+        {"taps before the state", 0, 0, 3, 2, PHASE_E_TAPS, PHASE_E_TAPS},
+        {"taps before the room", 2, 63, 1, 0, PHASE_E_TAPS, PHASE_E_TAPS},
+        {"the state before the room", 2, 0, 3, 0, PHASE_E_COUNTS, PHASE_E_COUNTS},
+        {"a state that is one too short", 2, 0, 0, 1, PHASE_E_COUNTS, PHASE_E_COUNTS},
+        {"the room before a value", 2, 0, 1, 1, PHASE_E_ROOM, PHASE_E_TOO_BIG},
+        {"a value", 2, 0, 1, 2, PHASE_E_TOO_BIG, PHASE_E_TOO_BIG},
+    };
+    const int64_t taps[2] = {1, 1};
+    for (size_t i = 0; i < sizeof rows / sizeof *rows; i++) {
+        int64_t state[3] = {INT64_MAX, 4, 5}, block[2] = {1, 2}, out[2] = {-77, -77};
+        size_t done = 77;
+        look(rows[i].name, phase_fir(taps, rows[i].taps, rows[i].shift, state, rows[i].state, block, 2, out,
+                                     rows[i].room, &done) == rows[i].wanted
+                               && done == 0 && out[0] == -77 && out[1] == -77 && state[0] == INT64_MAX
+                               && state[1] == 4);
+        done = 77;
+        look(rows[i].name, phase_fir_in_place(taps, rows[i].taps, rows[i].shift, state, rows[i].state, block, 2, &done)
+                                   == rows[i].in_place
+                               && done == 0 && block[0] == 1 && block[1] == 2 && state[0] == INT64_MAX
+                               && state[1] == 4);
+    }
+}
+
+#define SAMPLES 200
+
+/* A stream by both calls, in blocks of so many, beside the sums as they are written down: each value is the sum of the
+ * last samples times their taps, by 2 to the power of the shift, rounded down. */
+static void streams(const char *name, size_t taps_len, uint32_t shift, size_t each)
+{
+    int64_t samples[SAMPLES], out[SAMPLES], taps[PHASE_TAPS_MAX];
+    int64_t state[PHASE_TAPS_MAX] = {0}, other[PHASE_TAPS_MAX] = {0};
+    int is_right = 1;
+    for (int64_t n = 0; n < SAMPLES; n++)
+        samples[n] = (n * 7919 + 13) % 2003 - 1000;
+    for (int64_t j = 0; j < (int64_t)taps_len; j++)
+        taps[j] = j * 31 % 17 - 8;
+    int64_t in_place[SAMPLES];
+    memcpy(in_place, samples, sizeof in_place);
+    for (size_t at = 0; at < SAMPLES; at += each) {
+        size_t count = at + each < SAMPLES ? each : SAMPLES - at, done = 0, done_in_place = 0;
+        is_right = is_right
+                   && phase_fir(taps, taps_len, shift, state, taps_len - 1, samples + at, count, out + at,
+                                SAMPLES - at, &done) == PHASE_OK
+                   && phase_fir_in_place(taps, taps_len, shift, other, taps_len - 1, in_place + at, count,
+                                         &done_in_place) == PHASE_OK
+                   && done == count && done_in_place == count && !memcmp(state, other, sizeof state);
+    }
+    for (size_t n = 0; n < SAMPLES; n++) {
+        int64_t sum = 0, whole = INT64_C(1) << shift;
+        for (size_t j = 0; j < taps_len && j <= n; j++)
+            sum += taps[j] * samples[n - j];
+        int64_t wanted = (sum - (sum % whole + whole) % whole) / whole;
+        is_right = is_right && out[n] == wanted && in_place[n] == wanted;
+    }
+    for (size_t j = 0; j + 1 < taps_len; j++)
+        is_right = is_right && state[j] == samples[SAMPLES - taps_len + 1 + j];
+    look(name, is_right);
+}
+
+static void all_streams(void)
+{
+    static const size_t each[] = {1, 3, 64, SAMPLES};
+    for (size_t i = 0; i < sizeof each / sizeof *each; i++) {
+        streams("a stream through one tap", 1, 0, each[i]);
+        streams("a stream through three taps", 3, 2, each[i]);
+        streams("a stream through the most taps", PHASE_TAPS_MAX, 3, each[i]);
+    }
+}
+
 static const int64_t shared[3] = {1, 2, 3};
 
 static void *evaluates(void *right)
@@ -299,12 +464,18 @@ static void four_threads(void)
 
 int main(void)
 {
+    look("the version of the header", phase_version() == PHASE_VERSION && phase_version() == 100);
     check_edges();
     names();
+    all_names();
+    named_faults();
     lengths();
     values();
     sinks_that_join_now();
     blocks();
+    blocks_in_place();
+    refusals();
+    all_streams();
     four_threads();
     printf("edges: %d passed, %d failed\n", passed, failed);
     return failed != 0;

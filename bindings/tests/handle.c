@@ -1,7 +1,11 @@
 /* What the calls of a phaser answer and write, beside values worked out by hand and the replies that examples/replay
- * keeps of the scripts members, late, singles and ending; and each refusal, which leaves all as it was. */
+ * keeps of the scripts members, late, singles and ending; each refusal, which leaves all as it was; and a phaser that
+ * goes from thread to thread. */
 #include "phase.h"
+#include <pthread.h>
+#include <sched.h>
 #include <stdio.h>
+#include <stdlib.h>
 #include <string.h>
 
 static int passed, failed;
@@ -438,6 +442,109 @@ static void refused_blocks(void)
     phase_phaser_free(&phaser);
 }
 
+/* What a thread of its own makes of a phaser: the first makes it and signals, the second gets the phase, registers a
+ * waiter and signals again, the third gets that phase by the waiter and frees the phaser. */
+static void *makes(void *phaser)
+{
+    const int64_t values[2] = {4, 5};
+    uint64_t phase = 77;
+    IS(phase_phaser_new(PHASE_SUM, 1000, 100, phaser), PHASE_OK);
+    IS(signals(phaser, 0, values, 2, &phase), PHASE_OK);
+    IS(phase, 0);
+    return NULL;
+}
+
+static void *uses(void *phaser)
+{
+    const int64_t values[2] = {6, -1};
+    uint64_t phase = 77, task = 77;
+    IS(phase_phaser_register(phaser, 0, PHASE_WAIT, &task), PHASE_OK);
+    IS(task, 1);
+    GETS(phaser, 0, 0, 9);
+    IS(signals(phaser, 0, values, 2, &phase), PHASE_OK);
+    IS(phase, 1);
+    return NULL;
+}
+
+static void *frees(void *phaser)
+{
+    GETS(phaser, 1, 0, 9);
+    GETS(phaser, 1, 1, 5);
+    GETS_NONE(phaser, 1, PHASE_E_NOT_YET);
+    phase_phaser_free(phaser);
+    IS(((phase_phaser *)phaser)->live, false);
+    return NULL;
+}
+
+/* Each thread ends before the next begins, so that the calls come one at a time. */
+static void three_threads(void)
+{
+    void *(*const threads[3])(void *) = {makes, uses, frees};
+    phase_phaser phaser = {0};
+    for (int i = 0; i < 3; i++) {
+        pthread_t thread;
+        int begun = pthread_create(&thread, NULL, threads[i], &phaser);
+        IS(begun || pthread_join(thread, NULL), 0);
+    }
+}
+
+/* Two threads that take turns on one phaser by a lock: each signals, and gets the sum of one send of either. */
+static struct turns {
+    phase_phaser phaser;
+    pthread_mutex_t lock;
+    bool stopped;
+    int right[2];
+} turns = {.lock = PTHREAD_MUTEX_INITIALIZER};
+
+#define TURNS 2000
+
+/* A signal, or a wait, behind the call before it; PHASE_ENDED where the other thread stopped. */
+static int32_t in_turn(bool waits, uint64_t task, uint64_t *phase, int64_t *value)
+{
+    pthread_mutex_lock(&turns.lock);
+    int32_t status = turns.stopped ? PHASE_ENDED
+                     : waits       ? phase_phaser_wait(&turns.phaser, task, phase, value)
+                                   : signals(&turns.phaser, task, value, 1, phase);
+    pthread_mutex_unlock(&turns.lock);
+    return status;
+}
+
+static void *takes_turns(void *right)
+{
+    uint64_t task = (uint64_t)((int *)right - turns.right), phase = 77;
+    bool is_right = true;
+    for (uint64_t at = 0; at < TURNS && is_right; at++) {
+        int64_t value = (int64_t)task + 1;
+        is_right = in_turn(false, task, &phase, &value) == PHASE_OK && phase == at;
+        int32_t status = PHASE_E_NOT_YET;
+        while (is_right && (status = in_turn(true, task, &phase, &value)) == PHASE_E_NOT_YET)
+            sched_yield();
+        is_right = is_right && status == PHASE_OK && phase == at && value == 3;
+        *(int *)right += is_right;
+    }
+    pthread_mutex_lock(&turns.lock);
+    turns.stopped = turns.stopped || !is_right;
+    pthread_mutex_unlock(&turns.lock);
+    return NULL;
+}
+
+static void two_threads_in_turn(void)
+{
+    pthread_t threads[2];
+    uint64_t task = 77;
+    IS(phase_phaser_new(PHASE_SUM, 2, TURNS, &turns.phaser), PHASE_OK);
+    IS(phase_phaser_register(&turns.phaser, 0, PHASE_SIG_WAIT, &task), PHASE_OK);
+    IS(task, 1);
+    for (int i = 0; i < 2; i++)
+        if (pthread_create(threads + i, NULL, takes_turns, turns.right + i))
+            exit(1);
+    for (int i = 0; i < 2; i++)
+        pthread_join(threads[i], NULL);
+    IS(turns.right[0], TURNS);
+    IS(turns.right[1], TURNS);
+    phase_phaser_free(&turns.phaser);
+}
+
 int main(void)
 {
     operations();
@@ -450,6 +557,8 @@ int main(void)
     blocks();
     blocks_that_meet();
     refused_blocks();
+    three_threads();
+    two_threads_in_turn();
     printf("handle: %d passed, %d failed\n", passed, failed);
     return failed != 0 || passed == 0;
 }

@@ -1,6 +1,6 @@
-/* Each request for memory of an evaluation, of a filter and of a phaser refused in turn: the answer is PHASE_E_MEMORY
- * with the output as it was, or right all the same, and all memory is given back. Linked with --wrap of malloc,
- * realloc and free. */
+/* Each request for memory of an evaluation, of names, of a filter and of a phaser refused in turn: the answer is
+ * PHASE_E_MEMORY with the output as it was, or right all the same, and all memory is given back. Linked with --wrap of
+ * malloc, realloc and free. */
 #include "phase.h"
 #include <stdio.h>
 #include <string.h>
@@ -77,6 +77,39 @@ static int evaluates(long request)
     return is_done;
 }
 
+typedef int32_t names_of(const uint8_t *, size_t, uint8_t *, size_t, size_t *, phase_fault *);
+
+/* The same of names. */
+static int writes_names(long request, names_of *call, const char *wanted)
+{
+    uint8_t out[40], was[40];
+    size_t needed = 77;
+    phase_fault fault;
+    memset(out, 0x55, sizeof out);
+    memcpy(was, out, sizeof was);
+    granted = request;
+    int32_t status = call((const uint8_t *)graph, strlen(graph), out, sizeof out, &needed, &fault);
+    int is_done = granted >= 0;
+    granted = -1;
+    if (status == PHASE_E_MEMORY && !is_done && needed == 77 && !memcmp(out, was, sizeof was))
+        refused++;
+    else if (status == PHASE_OK && needed == strlen(wanted) && !memcmp(out, wanted, needed))
+        right++;
+    else
+        wrong++, printf("memory: status %d of names after request %ld was refused\n", (int)status, request);
+    return is_done;
+}
+
+static int names(long request)
+{
+    return writes_names(request, phase_names, "s\nt\nout\nall\nlate\n");
+}
+
+static int all_names(long request)
+{
+    return writes_names(request, phase_all_names, "x\ny\ns\nt\nf\nout\nall\nlate\n");
+}
+
 /* The same of a block through a filter. */
 static int filters(long request)
 {
@@ -96,8 +129,56 @@ static int filters(long request)
     return is_done;
 }
 
-/* The same of a phaser with 40 waiters: what was refused is done when it is asked for again, and neither signals nor
- * waits ask for memory. */
+/* The same of a block through a filter, each value over its sample. */
+static int filters_in_place(long request)
+{
+    const int64_t taps[2] = {1, 1};
+    int64_t state[1] = {4}, block[2] = {1, 2};
+    size_t done = 77;
+    granted = request;
+    int32_t status = phase_fir_in_place(taps, 2, 0, state, 1, block, 2, &done);
+    int is_done = granted >= 0;
+    granted = -1;
+    if (status == PHASE_E_MEMORY && !is_done && done == 0 && state[0] == 4 && block[0] == 1 && block[1] == 2)
+        refused++;
+    else if (status == PHASE_OK && done == 2 && state[0] == 2 && block[0] == 5 && block[1] == 3)
+        right++;
+    else
+        wrong++, printf("memory: status %d in place after request %ld was refused\n", (int)status, request);
+    return is_done;
+}
+
+/* With no memory at all a filter tells of its taps, its state and its room all the same, and of memory behind them. */
+static void without_memory(void)
+{
+    const int64_t taps[2] = {1, 1};
+    int64_t state[2] = {4, 4}, block[2] = {1, 2}, out[2] = {-77, -77};
+    size_t done = 77;
+    const int32_t wanted[6] = {PHASE_E_TAPS,   PHASE_E_COUNTS, PHASE_E_ROOM,
+                               PHASE_E_MEMORY, PHASE_E_COUNTS, PHASE_E_MEMORY};
+    int32_t found[6];
+    granted = 0;
+    found[0] = phase_fir(taps, 2, 63, state, 2, block, 2, out, 1, &done);
+    granted = 0;
+    found[1] = phase_fir(taps, 2, 0, state, 2, block, 2, out, 1, &done);
+    granted = 0;
+    found[2] = phase_fir(taps, 2, 0, state, 1, block, 2, out, 1, &done);
+    granted = 0;
+    found[3] = phase_fir(taps, 2, 0, state, 1, block, 2, out, 2, &done);
+    granted = 0;
+    found[4] = phase_fir_in_place(taps, 2, 0, state, 2, block, 2, &done);
+    granted = 0;
+    found[5] = phase_fir_in_place(taps, 2, 0, state, 1, block, 2, &done);
+    granted = -1;
+    for (int i = 0; i < 6; i++)
+        if (found[i] != wanted[i])
+            wrong++, printf("memory: status %d of row %d with no memory\n", (int)found[i], i);
+    if (done != 0 || state[0] != 4 || block[0] != 1 || block[1] != 2 || out[0] != -77)
+        wrong++, printf("memory: a filter wrote with no memory\n");
+}
+
+/* Each request of a phaser with 40 waiters: what was refused is done when it is asked for again, and neither signals
+ * nor waits ask for memory. */
 static int phasers(long request)
 {
     phase_phaser phaser = {0};
@@ -200,11 +281,15 @@ static void all_refused(int (*call)(long))
 int main(void)
 {
     all_refused(evaluates);
+    all_refused(names);
+    all_refused(all_names);
     all_refused(filters);
+    all_refused(filters_in_place);
     all_refused(phasers);
     all_refused(blocks);
+    without_memory();
     /* With no request refused each has answered once. */
     printf("memory: %ld requests, each refused in turn: %ld told, %ld answered all the same, %ld wrong\n", requests,
-           refused, right - 4, wrong);
-    return wrong != 0 || refused == 0 || right < 4;
+           refused, right - 7, wrong);
+    return wrong != 0 || refused == 0 || right < 7;
 }

@@ -1,10 +1,11 @@
 """What a phaser of phase.py answers at its edges: each refusal, which leaves it as it was; each operation and single;
-numbers past 64 bits; and a phaser that was closed, copied, or is used by another thread."""
+numbers past 64 bits; a phaser that was closed or copied; and phasers that go from thread to thread, and are let go of there."""
 import copy
 import gc
 import pickle
 import sys
 import threading
+import time
 
 import numpy
 
@@ -246,19 +247,72 @@ def closed():
         look(f"{call.__name__} of a phaser", refused(TypeError, call, sums()))
 
 
-def threads():
-    phaser, said = sums(), []
-
-    def elsewhere():
-        for call, *words in ((phaser.signal, 0, [1]), (phaser.wait, 0), (phaser.view, 0), (phaser.close,)):
-            said.append(refused(RuntimeError, call, *words))
-        said.append(sums().signal(0, [1]) == 0)
-
-    thread = threading.Thread(target=elsewhere)
+def on_a_thread(call):
+    thread = threading.Thread(target=call)
     thread.start()
     thread.join()
-    look("another thread", said == [True] * 5)
-    look("after which it is as it was", phaser.view(0) == (0, 0, phase.SINGLE))
+
+
+def threads():
+    """A phaser that one thread makes, others use, and another closes; and one that two use at a time."""
+    made = []
+    on_a_thread(lambda: made.append(sums()))
+    phaser, said = made.pop(), []
+    on_a_thread(lambda: said.append((phaser.signal(0, [7]), phaser.wait(0))))
+    look("a phaser of another thread", said == [(0, (0, 7))] and phaser.view(0) == (1, 1, phase.SINGLE))
+    on_a_thread(phaser.close)
+    look("a phaser that another thread closed", refused(phase.NoPhaser, phaser.view, 0))
+
+    phaser, got = sums(16, 20000), []
+    tasks = [phaser.register(0, phase.SIG_WAIT) for _ in range(2)]
+    phaser.drop(0)
+
+    def phases_of(task):
+        for at in range(1000):
+            phaser.signal(task, [at])
+            while True:
+                try:
+                    got.append(phaser.wait(task))
+                    break
+                except phase.NotYet:
+                    time.sleep(0)
+
+    pair = [threading.Thread(target=phases_of, args=(it,)) for it in tasks]
+    for it in pair:
+        it.start()
+    for it in pair:
+        it.join()
+    look("two threads at a phaser", sorted(got) == sorted([(at, 2 * at) for at in range(1000)] * 2))
+
+
+def blocks_of_threads():
+    """A thread that signals blocks of many phases, beside one that gets what is complete."""
+    phaser, got = sums(phase.BOUND_MAX, 10**6), []
+    signaller, waiter = phaser.register(0, phase.SIG), phaser.register(0, phase.WAIT)
+    phaser.drop(0)
+
+    def signals():
+        for at in range(0, 400000, 8000):
+            while True:
+                try:
+                    phaser.signal_block(signaller, numpy.arange(at, at + 8000))
+                    break
+                except phase.Ahead:
+                    time.sleep(0)
+        phaser.drop(signaller)
+
+    thread = threading.Thread(target=signals)
+    thread.start()
+    while True:
+        try:
+            block = phaser.wait_block(waiter, phase.BOUND_MAX)
+        except phase.NotYet:
+            continue
+        if block is None:
+            break
+        got.append(block.values)
+    thread.join()
+    look("blocks between two threads", numpy.array_equal(numpy.concatenate(got), numpy.arange(400000)))
 
 
 def resident():
@@ -275,8 +329,20 @@ def memory():
         sums(phase.BOUND_MAX).signal(0, [1])
     gc.collect()
     look("phasers that were let go of keep no memory", resident() - before < 2**25)
+    kept = []
+    for _ in range(200):
+        kept.append(sums(phase.BOUND_MAX))
+        kept[0].signal(0, [1])
+        on_a_thread(kept.clear)
+    look("nor those that another thread let go of", resident() - before < 2**25)
 
 
-for part in (made, operations, singles, sends, registrations, phases, blocks, closed, threads, memory):
+def shown():
+    look("how a phaser is shown", repr(sums()) == "<phase.Phaser SUM, bound 2, 100 phases>")
+    look("how a mode is shown", repr(sums().view(0).mode) == "<Mode.SINGLE: 4>")
+    look("numbers are operations and modes", phase.Phaser(1, 2, 100).register(0, 1) == 1)
+
+
+for part in (made, operations, singles, sends, registrations, phases, blocks, closed, threads, blocks_of_threads, memory, shown):
     part()
 sys.exit(failed != 0)

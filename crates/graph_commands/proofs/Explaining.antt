@@ -11,7 +11,7 @@ use Rattle.graph_show.specs.watched_io.States.{WriterState}
 use Rattle.graph_show.specs.watched_io.declared.watched.Watched.{Watched}
 use Rattle.stream_eval.specs.stream_lists.Jobs.{Job}
 use Rattle.stream_eval.specs.stream_lists.Ranges.{first_too_big}
-use Rattle.graph_commands.specs.Explained.{AreFurtherLines, IsFurther, IsRefusedExplained, IsTextOf, SaysFurther, Tells, further_line}
+use Rattle.graph_commands.specs.Explained.{AreFurtherLines, Explained, IsRefusedExplained, IsTextOf, SaysFurther, Tells, further_line}
 use Rattle.graph_commands.specs.FileJobs.{IsGraphOf, IsJobOf, Known}
 use Rattle.graph_commands.specs.GraphRuns.{job_status, no_sink_line, sink_named, too_big_line}
 use Rattle.graph_commands.specs.declared.fault.JobFault.{JobFault}
@@ -32,11 +32,18 @@ pub graph-of-text : (known : Known) (name text : List ℕ) (graph : Graph) → I
 graph-of-text known name text graph of reads =
     record { text = text; bytes = of.bytes; short = of.short; reads = reads }
 
--- what explains a fault is said further of it
-pub further-of : (text more : List ℕ) (found known : JobFault) → found ≡ known → Tells text known more
-    → IsFurther text found more
-further-of text more found known is tells =
-    inr (subst (λ (found : JobFault). Tells text found more) (sym is) tells)
+-- what explains a fault explains the same fault
+pub tells-of : (known : Known) (text more : List ℕ) (found same : JobFault) → found ≡ same
+    → Tells known text same more → Tells known text found more
+tells-of known text more found same is tells =
+    subst (λ (found : JobFault). Tells known text found more) (sym is) tells
+
+-- what was explained by files of which the same is known
+pub explained-same : (one other : Known) (text : List ℕ) (found : JobFault)
+    (before after : WriterState) → one ≡ other → Explained one text found before after
+    → Explained other text found before after
+explained-same one other text found before after same explained =
+    subst (λ (known : Known). Explained known text found before after) same explained
 
 -- ---- lines for a person
 

@@ -1,22 +1,30 @@
 -- What is told of a graph's file that gives no job, where it is explained: the line of the fault,
 -- as it is told without an explanation, and then what is said further. What is said of one that
 -- gives a job and has no fault.
-use Rattle.std.specs.Prelude.{◌≡◌, ◌≢◌, ◌⊎◌, ◌≤◌, ◌++◌, ℕ, List, [], length, map, codes, ⊤}
+use Rattle.std.specs.Prelude.{◌≡◌, ◌≢◌, ◌⊎◌, ◌≤◌, ◌++◌, ◌&&◌, ℕ, List, [], length, map, codes, decimal, ⊤, Ok, Some, None, IfOk, string_bytes}
+use Rattle.std.specs.declared.result.Result.{Result}
 use Rattle.std.specs.Io.KnownBytes.{Appends}
-use Rattle.std.specs.List.{flat_map}
-use Rattle.graph_commands.specs.FileJobs.{Explains, IsJobOf, Known}
+use Rattle.std.specs.List.{find, flat_map, range_with_len}
+use Rattle.std.specs.Str.{bytes_eq}
+use Rattle.graph_commands.specs.FileJobs.{Explains, IsJobOf, Known, file_of}
 use Rattle.graph_commands.specs.GraphDrawings.{DrawEnds, ExplainsNoGraph}
 use Rattle.graph_commands.specs.GraphRuns.{EvalEnds, IsNoSink, IsTooBig, IsUnwritten, check_line}
 use Rattle.graph_commands.specs.GraphRuns.{job_line, job_status}
 use Rattle.graph_commands.specs.declared.fault.JobFault.{JobFault}
 use Rattle.graph_commands.specs.declared.fault.JobFault.TheVariants as fault
 use Rattle.graph_commands.specs.declared.graph_file.TheConstants.{GRAPH_MAX}
-use Rattle.graph_show.specs.Explanations.{ExplainsLine, shown}
-use Rattle.graph_show.specs.graph_base.Graphs.{Graph}
+use Rattle.graph_commands.specs.Records.{IsStart, line_at}
+use Rattle.graph_show.specs.Explanations.{ExplainsFault, shown}
+use Rattle.graph_show.specs.graph_base.Graphs.{Graph, is_source, name_at, task_at}
+use Rattle.graph_show.specs.graph_base.declared.place.Place.TheVariants as place
+use Rattle.graph_show.specs.graph_lang.Reads.{ReadsText}
+use Rattle.graph_show.specs.graph_lang.declared.fault.GraphFault.{GraphFault}
+use Rattle.graph_show.specs.graph_lang.declared.sample.TheConstants.{TEXT_MAX}
+use Rattle.graph_show.specs.graph_text.Texts.{lines_of}
 use Rattle.graph_show.specs.watched_io.Statuses.{Says}
 use Rattle.std.specs.declared.option.Option.{Option}
 use Rattle.stream_eval.specs.stream_lists.Jobs.{Job}
-use Rattle.graph_show.specs.watched_io.Files.{HasBytes}
+use Rattle.graph_show.specs.watched_io.Files.{HasBytes, MayBeRefused}
 use Rattle.graph_show.specs.watched_io.Prefix.{AppendsPrefix}
 use Rattle.graph_show.specs.watched_io.States.{WriterState, writer_state}
 use Rattle.graph_show.specs.watched_io.declared.watched.Watched.{Watched}
@@ -42,10 +50,68 @@ abbrev pub record_wanted : List ℕ
 record_wanted =
     codes "  expected: one whole number, from -9223372036854775807 to 9223372036854775807\n"
 
--- where a record stands and why it is no sample, as far as that is known, and what a sample is
-pub record TellsRecord (more : List ℕ) : Type 0 where
+-- the line of the record of this number in a file, and what is shown of the record
+pub record TellsLine (known : Option (List ℕ)) (number : ℕ) (place : List ℕ) : Type 0 where
+  pub samples : List ℕ
+  pub bytes : HasBytes known samples
+  pub at : ℕ
+  pub start : IsStart samples number at
+  pub shown : List ℕ
+  pub is : place ≡ codes ", line " ++ decimal (line_at samples at) ++ codes ": " ++ shown
+
+-- a file has no record of this number
+pub record HasNoRecord (known : Option (List ℕ)) (number : ℕ) : Type 0 where
+  pub samples : List ℕ
+  pub bytes : HasBytes known samples
+  pub none : (at : ℕ) → IsStart samples number at → ⊥
+
+-- it was read again: its line is told, or nothing, where it is refused now or has no such record
+abbrev pub IsPlace : Option (List ℕ) → ℕ → List ℕ → Type 0
+IsPlace known number place = TellsLine known number place
+    ⊎ ((place ≡ []) × (MayBeRefused TEXT_MAX known ⊎ HasNoRecord known number))
+
+-- a line with the file, the number of the record and its place, and further ones
+pub record TellsPlace (known : Option (List ℕ)) (file : List ℕ) (number : ℕ) (front : List ℕ)
+    : Type 0 where
+  pub place : List ℕ
+  pub place_is : IsPlace known number place
+  pub more : List ℕ
+  pub more_are : AreFurtherLines more
+  pub is : front ≡ further_line (file ++ codes ", record " ++ decimal number ++ place) ++ more
+
+-- the source of this name, by its task's number, where a graph has one
+abbrev pub source_named : Graph → List ℕ → Option ℕ
+source_named graph name =
+    find (λ t. is_source (task_at graph t).kind && bytes_eq (name_at graph (place.Task t)) name)
+    (range_with_len 0 (length graph.tasks))
+
+-- the file is that of the source of this name
+pub record IsSourceFile (graph : Graph) (name file : List ℕ) : Type 0 where
+  pub task : ℕ
+  pub named : source_named graph name ≡ Some task
+  pub file_is : file ≡ file_of graph task
+
+-- the place of a record of that file in the graph of this text
+pub record TellsSource (known : Known) (text name : List ℕ) (number : ℕ) (front : List ℕ)
+    : Type 0 where
+  pub graph : Graph
+  pub reads : ReadsText (lines_of text) (Ok graph)
+  pub file : List ℕ
+  pub source : IsSourceFile graph name file
+  pub tells : TellsPlace (known file) file number front
+
+-- the text gives no graph with a source of this name
+pub record HasNoSource (text name : List ℕ) : Type 0 where
+  pub answer : Result Graph GraphFault
+  pub reads : ReadsText (lines_of text) answer
+  pub none : IfOk answer (λ graph. source_named graph name ≡ None)
+
+-- where a record stands, and why it is no sample, and what a sample is
+pub record TellsRecord (known : Known) (text name : List ℕ) (number : ℕ) (more : List ℕ)
+    : Type 0 where
   pub front : List ℕ
-  pub front_are : AreFurtherLines front
+  pub tells : TellsSource known text name number front
+      ⊎ ((front ≡ []) × HasNoSource text name)
   pub is : more ≡ front ++ record_wanted
 
 -- the name of a file, and why it was refused
@@ -54,23 +120,26 @@ pub record TellsRefusal (more : List ℕ) : Type 0 where
   pub why : List ℕ
   pub is : more ≡ codes "  " ++ file ++ codes ": " ++ why ++ codes "\n"
 
--- the text explains a fault; of the graph, by the line of that
-abbrev pub Tells : List ℕ → JobFault → List ℕ → Type 0
-Tells text (fault.Graph found) more = ExplainsLine text found more
-Tells text (fault.BadSample name number) more = TellsRecord more
-Tells text fault.ReadFault more = TellsRefusal more
-Tells text fault.OutOfMemory more = ⊥
+-- the text explains a fault; of the graph, by the line of that. Of a file that was refused it says
+-- nothing where no more is known, and nothing of want of memory
+abbrev pub Tells : Known → List ℕ → JobFault → List ℕ → Type 0
+Tells known text (fault.Graph found) more = ExplainsFault text found more
+Tells known text (fault.BadSample name number) more =
+    TellsRecord known text (string_bytes name) number more
+Tells known text fault.ReadFault more = (more ≡ []) ⊎ TellsRefusal more
+Tells known text fault.OutOfMemory more = more ≡ []
 
--- what is said further explains the fault; it is nothing where memory ran out or nothing is known
-abbrev pub IsFurther : List ℕ → JobFault → List ℕ → Type 0
-IsFurther text found more = (more ≡ []) ⊎ Tells text found more
+-- what is said where memory runs out over that
+abbrev pub no_memory_line : List ℕ
+no_memory_line = codes "  no memory to explain it\n"
 
--- the line of a fault was told, and then what is said further
-pub record Explained (text : List ℕ) (found : JobFault) (before after : WriterState) : Type 0 where
+-- the line of a fault was told, and then what explains it, or that memory ran out over that
+pub record Explained (known : Known) (text : List ℕ) (found : JobFault)
+    (before after : WriterState) : Type 0 where
   pub told : WriterState
   pub says : Says (job_line found) before told
   pub more : List ℕ
-  pub more_is : IsFurther text found more
+  pub more_is : Tells known text found more ⊎ (more ≡ no_memory_line)
   pub further : Says more told after
 
 -- ---- why there is no job
@@ -90,7 +159,7 @@ pub record ExplainsNoJob (known : Known) (name : List ℕ) (status : ℕ)
   pub status_is : status ≡ job_status found
   pub text : List ℕ
   pub text_of : IsOfText found → IsTextOf known name text
-  pub explained : Explained text found before after
+  pub explained : Explained known text found before after
 
 -- the file tells no graph, or memory ran out; its line was told, and then an explanation
 pub record ToldNoGraph (known : Known) (name : List ℕ) (status : ℕ)
@@ -100,7 +169,7 @@ pub record ToldNoGraph (known : Known) (name : List ℕ) (status : ℕ)
   pub status_is : status ≡ job_status found
   pub text : List ℕ
   pub text_of : IsOfText found → IsTextOf known name text
-  pub explained : Explained text found before after
+  pub explained : Explained known text found before after
 
 -- and nothing was written to the output
 pub record IsNoGraphExplained {W : Type 0} (known : Known) (name : List ℕ) (status : ℕ)

@@ -64,8 +64,8 @@ pub record IsReached (known : Known) (name : List ℕ) (graph : Graph) (t : ℕ)
 
 -- ---- the job
 
--- the job is the one that the files tell: its sinks that join now begin at the least phase that they
--- may
+-- the job is the one that the files tell: its sinks that join now begin at the least phase that
+-- they may
 pub record IsJobOf (known : Known) (name : List ℕ) (job : Job) : Type 0 where
   pub graph_of : IsGraphOf known name job.graph
   pub samples_of : AreSamples known job.graph job.samples

@@ -5,5 +5,6 @@ pub mod GraphDrawings
 pub mod GraphRuns
 pub mod Inside
 pub mod OutputTexts
+pub mod Records
 pub use Rattle.stream_eval.specs.stream_lists as stream_lists
 pub use Rattle.graph_show.specs.watched_io as watched_io

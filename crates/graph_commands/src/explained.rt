@@ -1,16 +1,17 @@
 //! The job of a graph's file, or why there is none, told and explained.
-ghost use Rattle.std.specs.Prelude.{◌≡◌, ◌⊎◌, ◌++◌, ℕ, List, [], IfOk, IfErr, OnOk};
-ghost use Rattle.graph_commands.specs.Explained.{Explained, ExplainsNoJob, IsFurther, IsTextOf, TellsRecord, TellsRefusal, ToldNoGraph, record_wanted};
+ghost use Rattle.std.specs.Prelude.{◌≡◌, ◌⊎◌, ℕ, List, IfOk, IfErr, OnOk};
+ghost use Rattle.graph_commands.specs.Explained.{Explained, ExplainsNoJob, IsTextOf, Tells, TellsRefusal, ToldNoGraph};
 ghost use Rattle.graph_commands.specs.FileJobs.{Explains, IsGraphOf, IsJobOf, Known};
 ghost use Rattle.graph_commands.specs.GraphDrawings.{ExplainsNoGraph};
 ghost use Rattle.graph_commands.specs.GraphRuns.{job_status};
 ghost use Rattle.graph_show.specs.watched_io.States.{writer_state};
 
 use crate::controls::without_controls;
-use crate::further::{further_lines, tell_bytes};
+use crate::further::tell_bytes;
 use crate::graph_faults::report_job_fault;
 use crate::job_file::job_of_graph;
-use crate::records::record_texts;
+use crate::meeting::meeting_name;
+use crate::records::record_explained;
 use crate::{FileRefusal, GRAPH_MAX, JobFault, Refuses};
 use graph_show::explanation;
 use graph_show::graph_lang::{Graph, read_graph};
@@ -19,14 +20,18 @@ use std::alloc::{AllocError, Global};
 use std::io::Write;
 use stream_eval::stream_lists::Job;
 
+/// What is told where memory runs out over an explanation.
+const NO_MEMORY: &str = "  no memory to explain it\n";
+
 /// Makes the job of a graph's file, as `read_job` does. Where there is none it tells why, and then
 /// explains it to a person, and answers the status: 1 where the graph or the samples are refused,
 /// and else 5.
 ///
 /// A fault of the graph is explained by its line, a mark under the word that is at fault, and what
 /// was expected there; a record that is no sample by where it stands, why it is none, and what a
-/// sample is; a file that was refused by its name and why, as far as the files tell. A file of
-/// samples is read again for that. Where memory runs out nothing more is said.
+/// sample is; a file that was refused by its name and why, as far as the files tell. The file of
+/// the record is read again for that, and the files of all sources where tasks meet. Where memory
+/// runs out over it, that is told.
 pub fn read_job_or_explain<E: Write, F: Files + Refuses>(
     alloc: Global,
     files: &mut F,
@@ -87,6 +92,7 @@ fn job_of_text<F: Files>(alloc: Global, files: &mut F, text: &[u8]) -> Result<Jo
         → IsTextOf (F.file files.old) name text.now → IsJobOf (F.file files.old) name job) }
     ensures fault { IfErr result (λ fault. (name : List ℕ)
         → IsTextOf (F.file files.old) name text.now → Explains (F.file files.old) name fault) }
+    ensures same { (other : List ℕ) → F.file files.new other ≡ F.file files.old other }
 {
     let graph = read_graph(alloc, text)?;
     job_of_graph(alloc, files, graph)
@@ -102,44 +108,33 @@ fn report_explained<E: Write, F: Files + Refuses>(
     faults: &mut Watched<E>,
 ) -> u8
     ensures status { result ≡ job_status fault.now }
-    ensures told { Explained text.now fault.now
+    ensures told { Explained (F.file files.old) text.now fault.now
         (writer_state E.contents faults.old) (writer_state E.contents faults.new) }
 {
     let status = report_job_fault(fault, faults);
-    let more = further(alloc, text, fault, files);
-    tell_bytes(&more, faults);
+    match further(alloc, text, fault, files) {
+        Ok(more) => tell_bytes(&more, faults),
+        Err(_) => tell_bytes(NO_MEMORY.as_bytes(), faults),
+    }
     status
 }
 
-/// What is said of a fault further: nothing where memory runs out.
+/// What is said of a fault further.
 fn further<F: Files + Refuses>(
     alloc: Global,
     text: &[u8],
     fault: &JobFault,
     files: &mut F,
-) -> Vec<u8>
-    ensures { IsFurther text.now fault.now result.items }
-{
-    match try_further(alloc, text, fault, files) {
-        Ok(more) => more,
-        Err(_) => Vec::new(alloc),
-    }
-}
-
-/// What is said of a fault further.
-fn try_further<F: Files + Refuses>(
-    alloc: Global,
-    text: &[u8],
-    fault: &JobFault,
-    files: &mut F,
 ) -> Result<Vec<u8>, AllocError>
-    ensures { IfOk result (λ more. IsFurther text.now fault.now more.items) }
+    ensures { IfOk result (λ more. Tells (F.file files.old) text.now fault.now more.items) }
 {
     match fault {
-        JobFault::Graph(found) => explanation(alloc, text, *found),
+        JobFault::Graph(found) => {
+            let meeting = meeting_name(alloc, files, text, *found)?;
+            explanation(alloc, text, *found, meeting.as_deref())
+        }
         JobFault::BadSample { name, number } => {
-            let texts = record_texts(alloc, files, text, name.as_str(), *number);
-            record_explained(alloc, texts)
+            record_explained(alloc, files, text, name.as_str(), *number)
         }
         JobFault::ReadFault => match files.refused() {
             Some((name, why)) => refusal_explained(alloc, name, why),
@@ -147,27 +142,6 @@ fn try_further<F: Files + Refuses>(
         },
         JobFault::OutOfMemory => Ok(Vec::new(alloc)),
     }
-}
-
-/// Puts what a sample is behind a text.
-fn put_wanted(more: &mut Vec<u8>) -> Result<(), AllocError>
-    ensures { OnOk result (more.new.items ≡ more.old.items ++ record_wanted) }
-{
-    more.extend_from_slice(
-        b"  expected: one whole number, from -9223372036854775807 to 9223372036854775807\n",
-    )
-}
-
-/// These texts, each as a line, and what a sample is.
-fn record_explained(
-    alloc: Global,
-    texts: Result<Vec<Vec<u8>>, AllocError>,
-) -> Result<Vec<u8>, AllocError>
-    ensures { IfOk result (λ more. TellsRecord more.items) }
-{
-    let mut more = further_lines(alloc, texts);
-    put_wanted(&mut more)?;
-    Ok(more)
 }
 
 /// The name of a file, without control bytes, and why it was refused.

@@ -26,7 +26,7 @@ fn shown_text(alloc: Global, text: &[u8]) -> Result<Vec<u8>, AllocError>
 }
 
 /// Puts a line for a person behind others.
-fn put_line(alloc: Global, more: &mut Vec<u8>, text: &[u8]) -> Result<(), AllocError>
+pub(crate) fn put_line(alloc: Global, more: &mut Vec<u8>, text: &[u8]) -> Result<(), AllocError>
     ensures ok { OnOk result (more.new.items ≡ more.old.items ++ further_line text.now) }
 {
     let shown = shown_text(alloc, text)?;

@@ -23,6 +23,7 @@ mod hints;
 mod job_file;
 pub mod laws;
 mod lines;
+mod meeting;
 mod members;
 mod notes;
 mod output_buffer;

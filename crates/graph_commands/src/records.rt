@@ -1,10 +1,19 @@
 //! What is said of a record that is no sample, from the text that it stands in.
+ghost use Rattle.std.specs.Prelude.{◌≡◌, ◌⊎◌, ◌<◌, ◌≤◌, ◌++◌, ◌&&◌, ℕ, List, [], Option, length, codes, decimal, IfOk, IfSome, OnOk, None};
+ghost use Rattle.graph_commands.specs.Explained.{HasNoSource, IsSourceFile, TellsPlace, TellsRecord, TellsSource, further_line, record_wanted, source_named};
+ghost use Rattle.graph_commands.specs.Records.{IsStart, begins_at, is_end, line_at};
+ghost use Rattle.graph_show.specs.graph_base.Graphs.{is_source, name_at, task_at};
+ghost use Rattle.graph_show.specs.graph_base.declared.place.Place.TheVariants as place;
+ghost use Rattle.graph_show.specs.watched_io.Files.{HasBytes};
+ghost use Rattle.std.specs.Str.{bytes_eq};
 
-use graph_show::graph_lang::TEXT_MAX;
-use graph_show::graph_lang::graph_text::{lines_of, without_cr, words_of};
-use graph_show::watched_io::Files;
+use crate::further::put_line;
+use csv::{ByteRecord, ReaderBuilder};
+use graph_show::graph_lang::{Graph, GraphRefusal, Kind, Place, TEXT_MAX, read_graph};
+use graph_show::watched_io::{FileFault, Files};
 use itoa::Buffer;
 use std::alloc::{AllocError, Global};
+use stream_eval::stream_lists::number_of_source;
 
 /// The most bytes that are shown of a record or of a line.
 const SHOWN_MAX: usize = 60;
@@ -15,71 +24,76 @@ pub(crate) fn front_of(text: &[u8]) -> &[u8] {
     &text[..end]
 }
 
-/// A record of a text: its bytes up to a line end, and the number of its line, counted from 1.
-#[derive(Clone, Copy)]
-struct Found<'a> {
-    record: &'a [u8],
-    line: usize,
-}
-
 /// Whether the byte ends a record.
-fn is_end(b: u8) -> bool {
+fn is_end(b: u8) -> bool
+    ensures { result ≡ is_end b }
+{
     b == b'\n' || b == b'\r'
 }
 
-/// The bytes before the first that ends a record.
-fn up_to_end(text: &[u8]) -> &[u8] {
-    for at in 0..text.len() {
-        if is_end(text[at]) {
-            return &text[..at];
-        }
-    }
-    text
+/// Whether a record begins at this byte: it ends none, and is the first or stands behind one that
+/// does.
+fn begins_at(text: &[u8], at: usize) -> bool
+    requires { at < length text.now }
+    ensures { result ≡ begins_at text.now at }
+{
+    !is_end(text[at]) && (at == 0 || is_end(text[at - 1]))
 }
 
-/// Record number `number` of a text, counted from 1, where no record before it has a line end
-/// within.
-fn record_at(text: &[u8], number: usize) -> Option<Found<'_>> {
-    let mut records = 0usize;
-    let mut line = 1usize;
-    let mut is_within = false;
+/// Where record number `number` of a text begins, counted from 1, where no record before it has a
+/// line end within.
+fn start_of(text: &[u8], number: usize) -> Option<usize>
+    ensures some { IfSome result (λ at. IsStart text.now number at) }
+    ensures none { result ≡ None → (at : ℕ) → IsStart text.now number at → ⊥ }
+{
+    let mut records = 0;
     for at in 0..text.len() {
-        let b = text[at];
-        if !is_end(b) && !is_within {
-            records = records.saturating_add(1);
+        if begins_at(text, at) {
+            records += 1;
             if records == number {
-                let record = up_to_end(&text[at..]);
-                return Some(Found { record, line });
+                return Some(at);
             }
-        }
-        is_within = !is_end(b);
-        if b == b'\n' {
-            line = line.saturating_add(1);
         }
     }
     None
 }
 
-/// Whether the record has a comma outside of quotes.
-fn has_two_fields(record: &[u8]) -> bool {
-    let mut is_quoted = false;
-    for b in record {
-        if *b == b',' && !is_quoted {
-            return true;
-        }
-        if *b == b'"' {
-            is_quoted = !is_quoted;
+/// The number of the line of a byte, counted from 1.
+fn line_at(text: &[u8], at: usize) -> usize
+    requires { at ≤ length text.now }
+    ensures { result ≡ line_at text.now at }
+{
+    let mut line = 1;
+    for b in &text[..at] {
+        if *b == b'\n' {
+            line += 1;
         }
     }
-    false
+    line
 }
 
-/// The record without a quote at either end.
-fn unquoted(record: &[u8]) -> &[u8] {
-    match record {
-        [b'"', field @ .., b'"'] => field,
-        [b'"', field @ ..] => field,
-        _ => record,
+/// How many bytes a text has before the first that ends a record.
+fn up_to_end(text: &[u8]) -> usize
+    ensures { result ≤ length text.now }
+{
+    for at in 0..text.len() {
+        if is_end(text[at]) {
+            return at;
+        }
+    }
+    text.len()
+}
+
+/// The fields of the record that a text begins with, as `csv` reads them.
+fn fields_of(alloc: Global, text: &[u8]) -> Result<ByteRecord, AllocError> {
+    let mut records = ReaderBuilder::new()
+        .has_headers(false)
+        .flexible(true)
+        .from_reader(alloc, text);
+    let mut fields = ByteRecord::new(alloc);
+    match records.read_byte_record(&mut fields) {
+        Ok(_) => Ok(fields),
+        Err(_) => Err(AllocError),
     }
 }
 
@@ -116,78 +130,181 @@ fn begins_with_letter(text: &[u8]) -> bool {
     }
 }
 
-/// Why record number `number`, counted from 1, is no sample.
-fn record_fault(record: &[u8], number: usize) -> &'static str {
-    if has_two_fields(record) {
-        return "two fields";
+/// Why record number `number`, counted from 1, is no sample. The text is its first line, with the
+/// byte that ends it. A field has that byte where a quote of the line is open.
+fn record_fault(alloc: Global, text: &[u8], number: usize) -> Result<&'static str, AllocError> {
+    let fields = fields_of(alloc, text)?;
+    if fields.len() > 1 {
+        return Ok("two fields");
     }
-    let field = unquoted(record);
+    let field = fields.get(0).unwrap_or(b"".as_slice());
+    if up_to_end(field) < field.len() {
+        return Ok("a quote that is not closed on its line");
+    }
     if number == 1 && begins_with_letter(field) {
-        return "a header is no sample";
+        return Ok("a header is no sample");
     }
-    field_fault(field)
+    Ok(field_fault(field))
 }
 
-/// The file on the line of a graph that declares the source of a name.
-fn file_on<'a>(words: &[&'a [u8]], name: &[u8]) -> Option<&'a [u8]> {
-    match words {
-        [kind, own, file, ..] if *kind == b"source".as_slice() && *own == name => Some(*file),
-        _ => None,
-    }
+/// Whether task number `t` is the source of this name.
+fn is_source_of(graph: &Graph, t: usize, name: &str) -> bool
+    requires { t < length graph.now.tasks }
+    ensures { result ≡ (is_source (task_at graph.now t).kind
+        && bytes_eq (name_at graph.now (place.Task t)) name.now) }
+{
+    matches!(graph.task(t).kind, Kind::Source) && graph.name(Place::Task(t)) == name
 }
 
-/// The file of the source of a name, as a graph's text declares it.
-fn file_of<'a>(alloc: Global, text: &'a [u8], name: &[u8]) -> Result<Option<&'a str>, AllocError> {
-    let lines = lines_of(alloc, text)?;
-    for line in &lines {
-        let words = words_of(alloc, without_cr(*line))?;
-        if let Some(file) = file_on(&words, name) {
-            return Ok(str::from_utf8(file).ok());
+/// The number of the task that is the source of this name, where a graph has one.
+fn find_source(graph: &Graph, name: &str) -> Option<usize>
+    ensures { result ≡ source_named graph.now name.now }
+{
+    for t in 0..graph.tasks() {
+        if is_source_of(graph, t, name) {
+            return Some(t);
         }
     }
-    Ok(None)
+    None
 }
 
-/// Where a record of a file stands, as a text for a person.
-fn place_text(
+/// The file of the source of this name, where a graph has one.
+fn source_file<'a>(graph: &'a Graph, name: &str) -> Option<&'a str>
+    ensures some { IfSome result (λ file. IsSourceFile graph.now name.now file.now) }
+    ensures none { result ≡ None → source_named graph.now name.now ≡ None }
+{
+    match find_source(graph, name) {
+        Some(t) => Some(graph.file(number_of_source(graph, t))),
+        None => None,
+    }
+}
+
+/// Puts the number of a record and its place behind the name of its file, as a line for a person.
+fn put_place(
     alloc: Global,
+    more: &mut Vec<u8>,
     file: &str,
     number: usize,
-    found: Found<'_>,
-) -> Result<Vec<u8>, AllocError> {
-    let mut record = Buffer::new();
-    let mut line = Buffer::new();
+    place: &[u8],
+) -> Result<(), AllocError>
+    ensures { OnOk result (more.new.items ≡ more.old.items
+        ++ further_line (file.now ++ codes ", record " ++ decimal number ++ place.now)) }
+{
+    let mut buffer = Buffer::new();
     let mut text = Vec::new(alloc);
     text.extend_from_slice(file.as_bytes())?;
     text.extend_from_slice(b", record ")?;
-    text.extend_from_slice(record.format(number).as_bytes())?;
+    text.extend_from_slice(buffer.format(number).as_bytes())?;
+    text.extend_from_slice(place)?;
+    put_line(alloc, more, &text)
+}
+
+/// The line of a record, and what is shown of it.
+fn line_text(alloc: Global, line: usize, shown: &[u8]) -> Result<Vec<u8>, AllocError>
+    ensures { IfOk result (λ place.
+        place.items ≡ codes ", line " ++ decimal line ++ codes ": " ++ shown.now) }
+{
+    let mut buffer = Buffer::new();
+    let mut text = Vec::new(alloc);
     text.extend_from_slice(b", line ")?;
-    text.extend_from_slice(line.format(found.line).as_bytes())?;
+    text.extend_from_slice(buffer.format(line).as_bytes())?;
     text.extend_from_slice(b": ")?;
-    text.extend_from_slice(front_of(found.record))?;
+    text.extend_from_slice(shown)?;
     Ok(text)
 }
 
-/// Where record number `number` of a source stands and why it is no sample, as texts for a person:
-/// none where its file is refused now.
-pub(crate) fn record_texts<F: Files>(
+/// Tells the place of a record in these samples and why it is no sample, as lines for a person.
+fn place_told(
+    alloc: Global,
+    file: &str,
+    number: usize,
+    samples: &[u8],
+) -> Result<Vec<u8>, AllocError>
+    ensures { IfOk result (λ front. (known : Option (List ℕ)) → HasBytes known samples.now
+        → TellsPlace known file.now number front.items) }
+{
+    let mut front = Vec::new(alloc);
+    let Some(at) = start_of(samples, number) else {
+        put_place(alloc, &mut front, file, number, b"")?;
+        return Ok(front);
+    };
+    let text = &samples[at..];
+    let end = up_to_end(text);
+    let place = line_text(alloc, line_at(samples, at), front_of(&text[..end]))?;
+    put_place(alloc, &mut front, file, number, &place)?;
+    let through = text.len().min(end.saturating_add(1));
+    let fault = record_fault(alloc, &text[..through], number)?;
+    put_line(alloc, &mut front, fault.as_bytes())?;
+    Ok(front)
+}
+
+/// Tells the place of a record in a file, which is read for that, as lines for a person.
+fn place_in_file<F: Files>(
     alloc: Global,
     files: &mut F,
-    graph: &[u8],
+    file: &str,
+    number: usize,
+) -> Result<Vec<u8>, AllocError>
+    ensures { IfOk result (λ front.
+        TellsPlace (F.file files.old file.now) file.now number front.items) }
+{
+    match files.read(alloc, file, TEXT_MAX) {
+        Ok(samples) => place_told(alloc, file, number, &samples),
+        Err(FileFault::ReadFault) => {
+            let mut front = Vec::new(alloc);
+            put_place(alloc, &mut front, file, number, b"")?;
+            Ok(front)
+        }
+        Err(FileFault::OutOfMemory) => Err(AllocError),
+    }
+}
+
+/// Tells the place of a record of a source, whose file the graph's text declares, as lines for a
+/// person: nothing where it declares no such source.
+fn place_of_source<F: Files>(
+    alloc: Global,
+    files: &mut F,
+    text: &[u8],
     source: &str,
     number: usize,
-) -> Result<Vec<Vec<u8>>, AllocError> {
-    let mut texts = Vec::new(alloc);
-    let Some(file) = file_of(alloc, graph, source.as_bytes())? else {
-        return Ok(texts);
-    };
-    let Ok(samples) = files.read(alloc, file, TEXT_MAX) else {
-        return Ok(texts);
-    };
-    if let Some(found) = record_at(&samples, number) {
-        texts.push(place_text(alloc, file, number, found)?)?;
-        let fault = record_fault(found.record, number);
-        texts.push(Vec::from_slice(alloc, fault.as_bytes())?)?;
+) -> Result<Vec<u8>, AllocError>
+    ensures { IfOk result (λ front.
+        TellsSource (F.file files.old) text.now source.now number front.items
+        ⊎ ((front.items ≡ []) × HasNoSource text.now source.now)) }
+{
+    match read_graph(alloc, text) {
+        Ok(graph) => match source_file(&graph, source) {
+            Some(file) => place_in_file(alloc, files, file, number),
+            None => Ok(Vec::new(alloc)),
+        },
+        Err(GraphRefusal::Fault(_)) => Ok(Vec::new(alloc)),
+        Err(GraphRefusal::OutOfMemory) => Err(AllocError),
     }
-    Ok(texts)
+}
+
+/// Puts what a sample is behind a text.
+fn put_wanted(more: &mut Vec<u8>) -> Result<(), AllocError>
+    ensures { OnOk result (more.new.items ≡ more.old.items ++ record_wanted) }
+{
+    more.extend_from_slice(
+        b"  expected: one whole number, from -9223372036854775807 to 9223372036854775807\n",
+    )
+}
+
+/// Explains that record number `number` of a source is no sample, as lines for a person: the file,
+/// the record and its line, why it is none, and what a sample is. The file is read again for that.
+/// Where it is refused now, or has no such record, its line is not told.
+pub(crate) fn record_explained<F: Files>(
+    alloc: Global,
+    files: &mut F,
+    text: &[u8],
+    source: &str,
+    number: usize,
+) -> Result<Vec<u8>, AllocError>
+    ensures { IfOk result (λ more.
+        TellsRecord (F.file files.old) text.now source.now number more.items) }
+{
+    let mut more = place_of_source(alloc, files, text, source, number)?;
+    put_wanted(&mut more)?;
+    Ok(more)
 }

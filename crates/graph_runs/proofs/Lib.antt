@@ -26,6 +26,7 @@ pub mod Nexts
 pub mod Opened
 pub mod OwnEvents
 pub mod OwnLeaves
+pub mod OwnPlaces
 pub mod OwnSignals
 pub mod OwnWaits
 pub mod Registering

@@ -14,6 +14,7 @@ use Rattle.stream_lists.specs.Lists.{number}
 use Rattle.graph_runs.specs.Moments.{one, Moment, input_at, value_at, TaskRan, HasEnded, OnOutput, OnInput, OnPhaser, PutOn, TakenOn, SilentOn, OnLine, HasNotPassed}
 use Rattle.graph_runs.specs.Moves.{HasGrown, Leaves}
 use Rattle.graph_runs.proofs.Framed.{ListsRan, lists_later, ended_later}
+use Rattle.graph_runs.proofs.OwnPlaces.{outputs_later, inputs_later}
 use Rattle.graph_runs.proofs.OwnEvents.{eq_case, history_by, joined_later}
 
 pub own_leave : (job : Job) (before after : Moment) (t p n : ℕ) → IsGraph job.graph
@@ -25,11 +26,15 @@ own_leave job before after t p n is there grown s ran = record {
   takes = lists.takes;
   samples = lists.samples;
   cut = lists.cut;
-  outputs =
-      λ q qq. outputs q qq (index_in (signalled_by (task_at job.graph t)) q) refl
-      (before.number q t) refl;
-  inputs = λ i lt.
-      inputs i lt (before.number (input_at (task_at job.graph t) i) t) refl (ran.inputs i lt);
+  outputs = outputs_later s.moved (λ h a. refl) ran (λ q a num gone. ended)
+      (λ q a e silent. history_by job before after t p (Dropped n) (λ h. IsSilent h a) q s.moved
+      (λ same. record { nothing = silent.nothing; from_0 = silent.from_0 }) (λ apart. silent))
+      (λ q i a e num sent. history_by job before after t p (Dropped n) (λ h. sent_by h a ≡ map one (after.put t i)) q s.moved
+      (λ same. sent ∙ ap (λ l. map one l) (sym (s.same.put i))) (λ apart. sent ∙ ap (λ l. map one l) (sym (s.same.put i))));
+  inputs = inputs_later s.moved (λ h a. refl) ran (λ q a num gone. ended) (λ k none. s.same.taken k)
+      (λ k a lt num taken. s.same.taken k ∙ history_by job before after t p (Dropped n)
+      (λ h. before.taken t k ≡ map number (received_by (value_at job (input_at (task_at job.graph t) k)) h a))
+      (input_at (task_at job.graph t) k) s.moved (λ same. taken) (λ apart. taken));
   lines = λ q a at. ran.lines q a (sym (s.moved.numbers q t) ∙ at);
   joined = λ q a at.
       joined_later job before after t p (Dropped n) is there s.moved
@@ -43,87 +48,8 @@ own_leave job before after t p n is there grown s ran = record {
     lists : ListsRan job after t
     lists = lists_later job before after t s.same ran
 
-    event : Event
-    event = Dropped n
-
     ended : HasEnded job after t
     ended = ended_later job before after t is there grown s.same s.ended
-
-    outputs : (q : ℕ) → q < length job.graph.phasers → (place : Option ℕ)
-        → index_in (signalled_by (task_at job.graph t)) q ≡ place → (x : Option ℕ)
-        → before.number q t ≡ x
-        → OnPhaser job after t q (index_in (signalled_by (task_at job.graph t)) q)
-    outputs q qq None e None at =
-        let O : Option ℕ → Type 0 = λ o. OnPhaser job after t q o in
-        let S : Option ℕ → Type 0 = λ x. SilentOn after q x in
-        subst O (sym e) (subst S (sym (s.moved.numbers q t ∙ at)) tt)
-    outputs q qq None e (Some a) at =
-        let O : Option ℕ → Type 0 = λ o. OnPhaser job after t q o in
-        let B : Option ℕ → Type 0 = λ o. OnPhaser job before t q o in
-        let S : Option ℕ → Type 0 = λ x. SilentOn after q x in
-        let T : Option ℕ → Type 0 = λ x. SilentOn before q x in
-        let silent : IsSilent (before.history q) a = subst T at (subst B e (ran.outputs q qq)) in
-        subst O (sym e) (subst S (sym (s.moved.numbers q t ∙ at))
-        (history_by job before after t p event (λ h. IsSilent h a) q s.moved
-        (λ same. record { nothing = silent.nothing; from_0 = silent.from_0 })
-        (λ apart. silent)))
-    outputs q qq (Some i) e None at =
-        let O : Option ℕ → Type 0 = λ o. OnPhaser job after t q o in
-        let B : Option ℕ → Type 0 = λ o. OnPhaser job before t q o in
-        let S : Option ℕ → Type 0 = λ x. PutOn job after t i q x in
-        let T : Option ℕ → Type 0 = λ x. PutOn job before t i q x in
-        subst O (sym e)
-        (subst S (sym (s.moved.numbers q t ∙ at)) (subst T at (subst B e (ran.outputs q qq))))
-    outputs q qq (Some i) e (Some a) at =
-        let O : Option ℕ → Type 0 = λ o. OnPhaser job after t q o in
-        let B : Option ℕ → Type 0 = λ o. OnPhaser job before t q o in
-        let S : Option ℕ → Type 0 = λ x. PutOn job after t i q x in
-        let T : Option ℕ → Type 0 = λ x. PutOn job before t i q x in
-        let on : OnOutput job before t i q a = subst T at (subst B e (ran.outputs q qq)) in
-        subst O (sym e) (subst S (sym (s.moved.numbers q t ∙ at)) (record {
-          start = on.start;
-          start_is =
-              history_by job before after t p event (λ h. start_of h a ≡ Some on.start) q s.moved
-              (λ same. on.start_is) (λ apart. on.start_is);
-          signals = on.signals;
-          at = on.at ∙ sym s.moved.offset;
-          sent = history_by job before after t p event (λ h. sent_by h a ≡ map one (after.put t i))
-              q s.moved
-              (λ same. on.sent ∙ ap (λ l. map one l) (sym (s.same.put i)))
-              (λ apart. on.sent ∙ ap (λ l. map one l) (sym (s.same.put i)));
-          left = λ gone. ended;
-        }))
-
-    inputs : (k : ℕ) → k < length (task_at job.graph t).inputs → (x : Option ℕ)
-        → before.number (input_at (task_at job.graph t) k) t ≡ x
-        → TakenOn job before t k (input_at (task_at job.graph t) k)
-        (before.number (input_at (task_at job.graph t) k) t)
-        → TakenOn job after t k (input_at (task_at job.graph t) k)
-        (after.number (input_at (task_at job.graph t) k) t)
-    inputs k lt None at on =
-        let q = input_at (task_at job.graph t) k in
-        let S : Option ℕ → Type 0 = λ x. TakenOn job after t k q x in
-        let B : Option ℕ → Type 0 = λ x. TakenOn job before t k q x in
-        let b = subst B at on in
-        subst S (sym (s.moved.numbers q t ∙ at)) (s.same.taken k ∙ b.0, b.1)
-    inputs k lt (Some a) at on =
-        let q = input_at (task_at job.graph t) k in
-        let S : Option ℕ → Type 0 = λ x. TakenOn job after t k q x in
-        let B : Option ℕ → Type 0 = λ x. TakenOn job before t k q x in
-        let b : OnInput job before t k q a = subst B at on in
-        subst S (sym (s.moved.numbers q t ∙ at)) (record {
-          start = b.start;
-          start_is =
-              history_by job before after t p event (λ h. start_of h a ≡ Some b.start) q s.moved
-              (λ same. b.start_is) (λ apart. b.start_is);
-          waits = b.waits;
-          at = b.at ∙ sym s.moved.offset;
-          taken = s.same.taken k
-              ∙ history_by job before after t p event
-              (λ h. before.taken t k ≡ map number (received_by (value_at job q) h a)) q s.moved
-              (λ same. b.taken) (λ apart. b.taken);
-          left = λ gone. ended;
-        })
 
     children : (c q a : ℕ) (u : Parent) → c < length job.graph.tasks
         → (task_at job.graph c).parent ≡ Some u → u.task ≡ t

@@ -18,10 +18,17 @@ use Rattle.stream_lists.specs.Jobs.{Job, samples_at, index_in}
 use Rattle.stream_lists.specs.Spans.{signalled_by}
 use Rattle.stream_lists.specs.Lists.{number}
 use Rattle.stream_lists.proofs.Ordered.{place-at}
-use Rattle.graph_runs.specs.Moments.{one, Moment, input_at, made_now, value_at, TaskRan, OnOutput, OnInput, OnPhaser, PutOn, TakenOn, SilentOn, OnLine, HasNotPassed, AtMost, HasTaken, HasSamples, HasExchanged}
+use Rattle.graph_runs.specs.Moments.{one, Moment, input_at, made_now, value_at, TaskRan, OnOutput, OnInput, OnPhaser, PutOn, TakenOn, SilentOn, OnLine, HasNotPassed, AtMost, HasTaken, HasSamples, HasExchanged, HasEnded}
 use Rattle.graph_runs.specs.Moves.{further, MayBeginTo, SignalsAll, Signals}
 use Rattle.graph_runs.proofs.StepsLemmas.{no_inputs}
+use Rattle.graph_runs.proofs.OwnPlaces.{outputs_later, inputs_later}
 use Rattle.graph_runs.proofs.OwnEvents.{eq_case, history_by, joined_later, made_still}
+
+-- the signal begins as many of a source's steps as it has values, or none
+abbrev Begins : Job → Moment → Moment → ℕ → List ℤ → Type 0
+Begins job before after t vs =
+    ((task_at job.graph t).kind ≡ Source) × (after.begun t ≡ further (before.begun t) vs)
+    × MayBeginTo job before t (further (before.begun t) vs) ⊎ (after.begun t ≡ before.begun t)
 
 pub own_signals : (job : Job) (before after : Moment) (t j p n : ℕ) (vs : List ℤ)
     → IsGraph job.graph
@@ -33,8 +40,15 @@ own_signals job before after t j p n vs is there s ran = record {
   takes = λ k lt. takes k lt s.begun;
   samples = samples s.begun;
   cut = cut s.begun;
-  outputs = λ q qq. outputs q qq (index_in (signalled_by task) q) refl (before.number q t) refl;
-  inputs = λ k lt. inputs k lt (before.number (input_at task k) t) refl (ran.inputs k lt);
+  outputs = outputs_later s.moved (λ h a. refl) ran left (λ q a e silent. history_by job before after t p event (λ h. IsSilent h a) q s.moved
+      (λ same. absurd
+      (let none : Some j ≡ None = sym s.place ∙ ap (λ x. index_in (signalled_by (task_at job.graph t)) x) (sym same) ∙ e in cc))
+      (λ apart. silent))
+      (λ q i a e num was. sent q i a e num was (eq_case q p));
+  inputs = inputs_later s.moved (λ h a. refl) ran left (λ k none. s.taken k)
+      (λ k a lt num was. s.taken k ∙ history_by job before after t p event
+      (λ h. before.taken t k ≡ map number (received_by (value_at job (input_at (task_at job.graph t) k)) h a))
+      (input_at (task_at job.graph t) k) s.moved (λ same. was) (λ apart. was));
   lines = λ q a at. ran.lines q a (sym (s.moved.numbers q t) ∙ at);
   joined = λ q a at.
       joined_later job before after t p event is there s.moved
@@ -64,15 +78,10 @@ own_signals job before after t j p n vs is there s ran = record {
 
     puts : (i : ℕ) → i < length (signalled_by (task_at job.graph t)) → (i ≡ j) ⊎ (i ≢ j)
         → IsPrefix (after.put t i) (made_now job after t i)
-    puts i lt (inl same) =
-        let P : ℕ → Type 0 = λ i. IsPrefix (after.put t i) (made_now job after t i) in
-        subst P (sym same) s.made
+    puts i lt (inl same) = rw same s.made
     puts i lt (inr apart) = by s.begun
       where
-        by : ((task_at job.graph t).kind ≡ Source) × (after.begun t ≡ further (before.begun t) vs)
-            × MayBeginTo job before t (further (before.begun t) vs)
-            ⊎ (after.begun t ≡ before.begun t)
-            → IsPrefix (after.put t i) (made_now job after t i)
+        by : Begins job before after t vs → IsPrefix (after.put t i) (made_now job after t i)
         by (inl b) =
             let H : Kind → Type 0 =
             λ kind. HasEnds kind (length (task_at job.graph t).inputs)
@@ -85,176 +94,64 @@ own_signals job before after t j p n vs is there s ran = record {
             let a : length (task_at job.graph t).outputs ≡ 1 = both.1 in
             let c : j < length (signalled_by (task_at job.graph t)) = at_p.0 in
             absurd (apart (let same : i ≡ j = omega arith in same))
-        by (inr b) =
-            let A : List ℤ → Type 0 = λ l. IsPrefix l (made_now job after t i) in
-            let B : List ℤ → Type 0 = λ l. IsPrefix (before.put t i) l in
-            subst A (sym (s.other_puts i apart))
-            (subst B (sym (made_still job before after t i s.taken b)) (ran.puts i lt))
+        by (inr b) = rw (s.other_puts i apart, made_still job before after t i s.taken b) (ran.puts i lt)
 
     exchanged : (i : ℕ) → (i ≡ j) ⊎ (i ≢ j)
-        → HasExchanged (task_at job.graph t).kind i (length (after.put t i))
-        (length (after.taken t 1))
-    exchanged i (inl same) =
-        let P : ℕ → Type 0 =
-        λ i. HasExchanged (task_at job.graph t).kind i (length (after.put t i))
-        (length (after.taken t 1)) in subst P (sym same) s.exchanged
-    exchanged i (inr apart) =
-        let A : List ℤ → Type 0 =
-        λ l. HasExchanged (task_at job.graph t).kind i (length l) (length (after.taken t 1)) in
-        let B : List ℤ → Type 0 =
-        λ l. HasExchanged (task_at job.graph t).kind i (length (before.put t i)) (length l) in
-        subst A (sym (s.other_puts i apart)) (subst B (sym (s.taken 1)) (ran.exchanged i))
+        → HasExchanged (task_at job.graph t).kind i (length (after.put t i)) (length (after.taken t 1))
+    exchanged i (inl same) = rw same s.exchanged
+    exchanged i (inr apart) = rw (s.other_puts i apart, s.taken 1) (ran.exchanged i)
 
-    takes : (k : ℕ) → k < length (task_at job.graph t).inputs
-        → ((task_at job.graph t).kind ≡ Source) × (after.begun t ≡ further (before.begun t) vs)
-        × MayBeginTo job before t (further (before.begun t) vs) ⊎ (after.begun t ≡ before.begun t)
+    takes : (k : ℕ) → k < length (task_at job.graph t).inputs → Begins job before after t vs
         → HasTaken (task_at job.graph t) (after.begun t) k (length (after.taken t k))
     takes k lt (inl b) =
         let none : length (task_at job.graph t).inputs ≡ 0 =
         no_inputs (task_at job.graph t).kind _ _ line.ends b.0 in absurd (omega arith)
-    takes k lt (inr b) =
-        let A : List ℤ → Type 0 =
-        λ l. HasTaken (task_at job.graph t) (after.begun t) k (length l) in
-        let D : ℕ → Type 0 = λ b. HasTaken (task_at job.graph t) b k (length (before.taken t k)) in
-        subst A (sym (s.taken k)) (subst D (sym b) (ran.takes k lt))
+    takes k lt (inr b) = rw (s.taken k, b) (ran.takes k lt)
 
-    samples : ((task_at job.graph t).kind ≡ Source) × (after.begun t ≡ further (before.begun t) vs)
-        × MayBeginTo job before t (further (before.begun t) vs) ⊎ (after.begun t ≡ before.begun t)
-        → HasSamples (task_at job.graph t).kind (after.begun t) (length (samples_at job t))
-    samples (inl b) =
-        let D : ℕ → Type 0 =
-        λ b. HasSamples (task_at job.graph t).kind b (length (samples_at job t)) in
-        subst D (sym b.1) b.2.samples
-    samples (inr b) =
-        let D : ℕ → Type 0 =
-        λ b. HasSamples (task_at job.graph t).kind b (length (samples_at job t)) in
-        subst D (sym b) ran.samples
+    samples : Begins job before after t vs → HasSamples (task_at job.graph t).kind (after.begun t) (length (samples_at job t))
+    samples (inl b) = rw b.1 b.2.samples
+    samples (inr b) = rw b ran.samples
 
-    cut : ((task_at job.graph t).kind ≡ Source) × (after.begun t ≡ further (before.begun t) vs)
-        × MayBeginTo job before t (further (before.begun t) vs) ⊎ (after.begun t ≡ before.begun t)
-        → AtMost (after.begun t) (task_at job.graph t).until
-    cut (inl b) =
-        let D : ℕ → Type 0 = λ b. AtMost b (task_at job.graph t).until in subst D (sym b.1) b.2.cut
-    cut (inr b) =
-        let D : ℕ → Type 0 = λ b. AtMost b (task_at job.graph t).until in subst D (sym b) ran.cut
+    cut : Begins job before after t vs → AtMost (after.begun t) (task_at job.graph t).until
+    cut (inl b) = rw b.1 b.2.cut
+    cut (inr b) = rw b ran.cut
 
     stays_dropped : (q a : ℕ) → before.number q t ≡ Some a → has_dropped (after.history q) a ≡ false
     stays_dropped q a at =
         history_by job before after t p event (λ h. has_dropped h a ≡ false) q s.moved
         (λ same. s.staying q a at) (λ apart. s.staying q a at)
 
-    outputs : (q : ℕ) → q < length job.graph.phasers → (place : Option ℕ)
-        → index_in (signalled_by (task_at job.graph t)) q ≡ place → (x : Option ℕ)
-        → before.number q t ≡ x
-        → OnPhaser job after t q (index_in (signalled_by (task_at job.graph t)) q)
-    outputs q qq None e None at =
-        let O : Option ℕ → Type 0 = λ o. OnPhaser job after t q o in
-        let S : Option ℕ → Type 0 = λ x. SilentOn after q x in
-        subst O (sym e) (subst S (sym (s.moved.numbers q t ∙ at)) tt)
-    outputs q qq None e (Some a) at =
-        let O : Option ℕ → Type 0 = λ o. OnPhaser job after t q o in
-        let B : Option ℕ → Type 0 = λ o. OnPhaser job before t q o in
-        let S : Option ℕ → Type 0 = λ x. SilentOn after q x in
-        let T : Option ℕ → Type 0 = λ x. SilentOn before q x in
-        let silent : IsSilent (before.history q) a = subst T at (subst B e (ran.outputs q qq)) in
-        subst O (sym e) (subst S (sym (s.moved.numbers q t ∙ at))
-        (history_by job before after t p event (λ h. IsSilent h a) q s.moved
-        (λ same. absurd
-        (let none : Some j ≡ None =
-        sym s.place ∙ ap (λ x. index_in (signalled_by (task_at job.graph t)) x) (sym same)
-        ∙ e in cc))
-        (λ apart. silent)))
-    outputs q qq (Some i) e None at =
-        let O : Option ℕ → Type 0 = λ o. OnPhaser job after t q o in
-        let B : Option ℕ → Type 0 = λ o. OnPhaser job before t q o in
-        let S : Option ℕ → Type 0 = λ x. PutOn job after t i q x in
-        let T : Option ℕ → Type 0 = λ x. PutOn job before t i q x in
-        subst O (sym e)
-        (subst S (sym (s.moved.numbers q t ∙ at)) (subst T at (subst B e (ran.outputs q qq))))
-    outputs q qq (Some i) e (Some a) at =
-        let O : Option ℕ → Type 0 = λ o. OnPhaser job after t q o in
-        let B : Option ℕ → Type 0 = λ o. OnPhaser job before t q o in
-        let S : Option ℕ → Type 0 = λ x. PutOn job after t i q x in
-        let T : Option ℕ → Type 0 = λ x. PutOn job before t i q x in
-        let on : OnOutput job before t i q a = subst T at (subst B e (ran.outputs q qq)) in
-        subst O (sym e) (subst S (sym (s.moved.numbers q t ∙ at)) (record {
-          start = on.start;
-          start_is =
-              history_by job before after t p event (λ h. start_of h a ≡ Some on.start) q s.moved
-              (λ same. on.start_is) (λ apart. on.start_is);
-          signals = on.signals;
-          at = on.at ∙ sym s.moved.offset;
-          sent = sent i a e at on.sent (eq_case q p);
-          left = λ gone. absurd (let f : true ≡ false = sym gone ∙ stays_dropped q a at in cc);
-        }))
-      where
-        sent : (i a : ℕ) → index_in (signalled_by (task_at job.graph t)) q ≡ Some i
-            → before.number q t ≡ Some a → sent_by (before.history q) a ≡ map one (before.put t i)
-            → (q ≡ p) ⊎ (q ≢ p) → sent_by (after.history q) a ≡ map one (after.put t i)
-        sent i a e at is_sent (inl same) =
-            let at_j : i ≡ j =
-            same_Some i j
-            (sym e ∙ ap (λ x. index_in (signalled_by (task_at job.graph t)) x) same
-            ∙ s.place) in
-            let me : a ≡ n =
-            same_Some a n (sym at ∙ ap (λ x. before.number x t) same ∙ s.numbered) in
-            let mine : eqb n a ≡ true = eq-eqb n a (sym me) in
-            let now : after.history q ≡ event ∷ before.history q =
-            ap (λ x. after.history x) same ∙ s.moved.here
-            ∙ ap (λ x. event ∷ before.history x) (sym same) in
-            let more : sent_by (event ∷ before.history q) a
-            ≡ sent_by (before.history q) a ++ map one vs = rw mine refl in
-            let put : after.put t i ≡ before.put t i ++ vs =
-            ap (λ x. after.put t x) at_j ∙ s.put
-            ∙ ap (λ x. before.put t x ++ vs) (sym at_j) in
-            ap (λ h. sent_by h a) now ∙ more ∙ ap (λ l. l ++ map one vs) is_sent
-            ∙ sym (ap (λ l. map one l) put ∙ map-append one (before.put t i) vs)
-        sent i a e at is_sent (inr apart) =
-            let other : i ≢ j =
-            λ same. apart
-            (sym (place-at (signalled_by (task_at job.graph t)) q i e).1
-            ∙ ap (λ x. get_or (signalled_by (task_at job.graph t)) x 0) same
-            ∙ at_p.1) in
-            ap (λ h. sent_by h a) (s.moved.elsewhere q apart) ∙ is_sent
-            ∙ ap (λ l. map one l) (sym (s.other_puts i other))
+    left : (q a : ℕ) → before.number q t ≡ Some a → has_dropped (after.history q) a ≡ true → HasEnded job after t
+    left q a at gone = absurd (let f : true ≡ false = sym gone ∙ stays_dropped q a at in cc)
 
-    inputs : (k : ℕ) → k < length (task_at job.graph t).inputs → (x : Option ℕ)
-        → before.number (input_at (task_at job.graph t) k) t ≡ x
-        → TakenOn job before t k (input_at (task_at job.graph t) k)
-        (before.number (input_at (task_at job.graph t) k) t)
-        → TakenOn job after t k (input_at (task_at job.graph t) k)
-        (after.number (input_at (task_at job.graph t) k) t)
-    inputs k lt None at on =
-        let q = input_at (task_at job.graph t) k in
-        let S : Option ℕ → Type 0 = λ x. TakenOn job after t k q x in
-        let B : Option ℕ → Type 0 = λ x. TakenOn job before t k q x in
-        let b = subst B at on in
-        subst S (sym (s.moved.numbers q t ∙ at)) (s.taken k ∙ b.0, b.1)
-    inputs k lt (Some a) at on =
-        let q = input_at (task_at job.graph t) k in
-        let S : Option ℕ → Type 0 = λ x. TakenOn job after t k q x in
-        let B : Option ℕ → Type 0 = λ x. TakenOn job before t k q x in
-        let b : OnInput job before t k q a = subst B at on in
-        subst S (sym (s.moved.numbers q t ∙ at)) (record {
-          start = b.start;
-          start_is =
-              history_by job before after t p event (λ h. start_of h a ≡ Some b.start) q s.moved
-              (λ same. b.start_is) (λ apart. b.start_is);
-          waits = b.waits;
-          at = b.at ∙ sym s.moved.offset;
-          taken = s.taken k
-              ∙ history_by job before after t p event
-              (λ h. before.taken t k ≡ map number (received_by (value_at job q) h a)) q s.moved
-              (λ same. b.taken) (λ apart. b.taken);
-          left = λ gone. absurd (let f : true ≡ false = sym gone ∙ stays_dropped q a at in cc);
-        })
+    sent : (q i a : ℕ) → index_in (signalled_by (task_at job.graph t)) q ≡ Some i
+        → before.number q t ≡ Some a → sent_by (before.history q) a ≡ map one (before.put t i)
+        → (q ≡ p) ⊎ (q ≢ p) → sent_by (after.history q) a ≡ map one (after.put t i)
+    sent q i a e at is_sent (inl same) =
+        let at_j : i ≡ j =
+        same_Some i j (sym e ∙ ap (λ x. index_in (signalled_by (task_at job.graph t)) x) same ∙ s.place) in
+        let me : a ≡ n = same_Some a n (sym at ∙ ap (λ x. before.number x t) same ∙ s.numbered) in
+        let mine : eqb n a ≡ true = eq-eqb n a (sym me) in
+        let now : after.history q ≡ event ∷ before.history q =
+        ap (λ x. after.history x) same ∙ s.moved.here ∙ ap (λ x. event ∷ before.history x) (sym same) in
+        let more : sent_by (event ∷ before.history q) a ≡ sent_by (before.history q) a ++ map one vs = rw mine refl in
+        let put : after.put t i ≡ before.put t i ++ vs =
+        ap (λ x. after.put t x) at_j ∙ s.put ∙ ap (λ x. before.put t x ++ vs) (sym at_j) in
+        ap (λ h. sent_by h a) now ∙ more ∙ ap (λ l. l ++ map one vs) is_sent
+        ∙ sym (ap (λ l. map one l) put ∙ map-append one (before.put t i) vs)
+    sent q i a e at is_sent (inr apart) =
+        let other : i ≢ j =
+        λ same. apart
+        (sym (place-at (signalled_by (task_at job.graph t)) q i e).1
+        ∙ ap (λ x. get_or (signalled_by (task_at job.graph t)) x 0) same
+        ∙ at_p.1) in
+        ap (λ h. sent_by h a) (s.moved.elsewhere q apart) ∙ is_sent
+        ∙ ap (λ l. map one l) (sym (s.other_puts i other))
 
     children : (c q a : ℕ) (u : Parent) → c < length job.graph.tasks
         → (task_at job.graph c).parent ≡ Some u → u.task ≡ t
         → before.number q t ≡ Some a → before.number q c ≡ None → OnLine (task_at job.graph c) q
-        → ((task_at job.graph t).kind ≡ Source) × (after.begun t ≡ further (before.begun t) vs)
-        × MayBeginTo job before t (further (before.begun t) vs) ⊎ (after.begun t ≡ before.begun t)
-        → HasNotPassed after q a u
+        → Begins job before after t vs → HasNotPassed after q a u
     children c q a u there_c e same at none on (inl b) =
         let less : further (before.begun t) vs ≤ u.at =
         b.2.children q c a u there_c e same at none on in

@@ -18,13 +18,14 @@ use Rattle.stream_lists.specs.graph_base.TaskLines.{IsGraph, IsTaskLine, HasEnds
 use Rattle.stream_lists.specs.Jobs.{Job, samples_at, index_in}
 use Rattle.stream_lists.specs.Spans.{signalled_by}
 use Rattle.stream_lists.specs.Lists.{number}
-use Rattle.graph_runs.specs.Moments.{one, Moment, input_at, taken_now, made_now, value_at, TaskRan, first_input, OnOutput, OnInput, OnPhaser, PutOn, TakenOn, SilentOn, OnLine, HasNotPassed, AtMost, HasTaken, HasSamples, HasExchanged}
+use Rattle.graph_runs.specs.Moments.{one, Moment, input_at, taken_now, made_now, value_at, TaskRan, first_input, OnOutput, OnInput, OnPhaser, PutOn, TakenOn, SilentOn, OnLine, HasNotPassed, AtMost, HasTaken, HasSamples, HasExchanged, HasEnded}
 use Rattle.graph_runs.specs.Moves.{further, MayBeginTo, IsBlock, WaitsAll, Waits}
 use Rattle.graph_runs.proofs.Entries.{IsPrefix-refl, prefix_length}
 use Rattle.graph_runs.proofs.Nexts.{further-length, has_taken-block, has_taken-else, has_taken-peer}
 use Rattle.graph_runs.proofs.OutputLists.{outputs_begin}
 use Rattle.graph_runs.proofs.Tasks.{now_counts, now_at, exchanged_as}
 use Rattle.stream_lists.proofs.Ordered.{place_of_input}
+use Rattle.graph_runs.proofs.OwnPlaces.{outputs_later, inputs_later}
 use Rattle.graph_runs.proofs.OwnEvents.{eq_case, history_by, joined_later}
 
 -- a later exchange leaves room for what was put before
@@ -68,6 +69,16 @@ made_more job before after t j put line ran lt le grows exchanged begins =
     exchanged)
     begins
 
+-- the wait begins as many steps as it has outcomes, or is a peer's second
+abbrev Begins : Job → Moment → Moment → ℕ → ℕ → List Outcome → Type 0
+Begins job before after t k outcomes =
+    (k ≡ first_input (task_at job.graph t) (before.begun t))
+    × (after.begun t ≡ further (before.begun t) outcomes)
+    × IsBlock (task_at job.graph t).kind (length outcomes)
+    × MayBeginTo job before t (further (before.begun t) outcomes)
+    ⊎ ((task_at job.graph t).kind ≡ Peer) × (k ≡ 1) × (length outcomes ≡ 1)
+    × (after.begun t ≡ before.begun t) × (length (before.taken t 1) < before.begun t)
+
 pub own_waits : (job : Job) (before after : Moment) (t k p n : ℕ) (outcomes : List Outcome)
     → IsGraph job.graph → t < length job.graph.tasks
     → WaitsAll job before after t k p n outcomes → TaskRan job before t → TaskRan job after t
@@ -89,12 +100,13 @@ own_waits job before after t k p n outcomes is there s ran = record {
   takes = λ i lt. takes i lt (eq_case i k) s.begun;
   samples = samples s.begun;
   cut = cut s.begun;
-  outputs =
-      λ q qq. outputs q qq (index_in (signalled_by (task_at job.graph t)) q) refl
-      (before.number q t) refl;
-  inputs = λ i lt.
-      inputs i lt (before.number (input_at (task_at job.graph t) i) t) refl (ran.inputs i lt)
-      (eq_case i k);
+  outputs = outputs_later s.moved (λ h a. refl) ran left
+      (λ q a e silent. history_by job before after t p event (λ h. IsSilent h a) q s.moved
+      (λ same. record { nothing = silent.nothing; from_0 = silent.from_0 }) (λ apart. silent))
+      (λ q i a e num was. history_by job before after t p event (λ h. sent_by h a ≡ map one (after.put t i)) q s.moved
+      (λ same. was ∙ ap (λ l. map one l) (sym (s.put i))) (λ apart. was ∙ ap (λ l. map one l) (sym (s.put i))));
+  inputs = inputs_later s.moved (λ h a. refl) ran left (λ i none. absent i none (eq_case i k))
+      (λ i a lt num was. taken i a lt num was (eq_case i k));
   lines = λ q a at. ran.lines q a (sym (s.moved.numbers q t) ∙ at);
   joined = λ q a at.
       joined_later job before after t p (Waited n (length outcomes)) is there s.moved
@@ -111,13 +123,7 @@ own_waits job before after t k p n outcomes is there s ran = record {
     event : Event
     event = Waited n (length outcomes)
 
-    begun_grows : (k ≡ first_input (task_at job.graph t) (before.begun t))
-        × (after.begun t ≡ further (before.begun t) outcomes)
-        × IsBlock (task_at job.graph t).kind (length outcomes)
-        × MayBeginTo job before t (further (before.begun t) outcomes)
-        ⊎ ((task_at job.graph t).kind ≡ Peer) × (k ≡ 1) × (length outcomes ≡ 1)
-        × (after.begun t ≡ before.begun t) × (length (before.taken t 1) < before.begun t)
-        → before.begun t ≤ after.begun t
+    begun_grows : Begins job before after t k outcomes → before.begun t ≤ after.begun t
     begun_grows (inl b) =
         let e : after.begun t ≡ further (before.begun t) outcomes = b.1 in
         let many = further-length (before.begun t) outcomes in omega arith
@@ -137,13 +143,7 @@ own_waits job before after t k p n outcomes is there s ran = record {
         ∙ ap (λ x. length (before.taken t k) + x) (length-map outcomes number)
 
     takes : (i : ℕ) → i < length (task_at job.graph t).inputs → (i ≡ k) ⊎ (i ≢ k)
-        → (k ≡ first_input (task_at job.graph t) (before.begun t))
-        × (after.begun t ≡ further (before.begun t) outcomes)
-        × IsBlock (task_at job.graph t).kind (length outcomes)
-        × MayBeginTo job before t (further (before.begun t) outcomes)
-        ⊎ ((task_at job.graph t).kind ≡ Peer) × (k ≡ 1) × (length outcomes ≡ 1)
-        × (after.begun t ≡ before.begun t) × (length (before.taken t 1) < before.begun t)
-        → HasTaken (task_at job.graph t) (after.begun t) i (length (after.taken t i))
+        → Begins job before after t k outcomes → HasTaken (task_at job.graph t) (after.begun t) i (length (after.taken t i))
     takes i lt (inl same) (inl b) =
         let task = task_at job.graph t in
         let K : ℕ → Type 0 = λ i. HasTaken task (after.begun t) i (length (after.taken t i)) in
@@ -190,170 +190,62 @@ own_waits job before after t k p n outcomes is there s ran = record {
         let L : List ℤ → Type 0 = λ l. HasTaken task (before.begun t) i (length l) in
         subst B (sym b.3) (subst L (sym (s.other_takes i apart)) (ran.takes i lt))
 
-    samples : (k ≡ first_input (task_at job.graph t) (before.begun t))
-        × (after.begun t ≡ further (before.begun t) outcomes)
-        × IsBlock (task_at job.graph t).kind (length outcomes)
-        × MayBeginTo job before t (further (before.begun t) outcomes)
-        ⊎ ((task_at job.graph t).kind ≡ Peer) × (k ≡ 1) × (length outcomes ≡ 1)
-        × (after.begun t ≡ before.begun t) × (length (before.taken t 1) < before.begun t)
-        → HasSamples (task_at job.graph t).kind (after.begun t) (length (samples_at job t))
-    samples (inl b) =
-        let D : ℕ → Type 0 =
-        λ b. HasSamples (task_at job.graph t).kind b (length (samples_at job t)) in
-        subst D (sym b.1) b.3.samples
-    samples (inr b) =
-        let D : ℕ → Type 0 =
-        λ b. HasSamples (task_at job.graph t).kind b (length (samples_at job t)) in
-        subst D (sym b.3) ran.samples
+    samples : Begins job before after t k outcomes → HasSamples (task_at job.graph t).kind (after.begun t) (length (samples_at job t))
+    samples (inl b) = rw b.1 b.3.samples
+    samples (inr b) = rw b.3 ran.samples
 
-    cut : (k ≡ first_input (task_at job.graph t) (before.begun t))
-        × (after.begun t ≡ further (before.begun t) outcomes)
-        × IsBlock (task_at job.graph t).kind (length outcomes)
-        × MayBeginTo job before t (further (before.begun t) outcomes)
-        ⊎ ((task_at job.graph t).kind ≡ Peer) × (k ≡ 1) × (length outcomes ≡ 1)
-        × (after.begun t ≡ before.begun t) × (length (before.taken t 1) < before.begun t)
-        → AtMost (after.begun t) (task_at job.graph t).until
-    cut (inl b) =
-        let D : ℕ → Type 0 = λ b. AtMost b (task_at job.graph t).until in subst D (sym b.1) b.3.cut
-    cut (inr b) =
-        let D : ℕ → Type 0 = λ b. AtMost b (task_at job.graph t).until in subst D (sym b.3) ran.cut
+    cut : Begins job before after t k outcomes → AtMost (after.begun t) (task_at job.graph t).until
+    cut (inl b) = rw b.1 b.3.cut
+    cut (inr b) = rw b.3 ran.cut
 
     stays_dropped : (q a : ℕ) → before.number q t ≡ Some a → has_dropped (after.history q) a ≡ false
     stays_dropped q a at =
         history_by job before after t p event (λ h. has_dropped h a ≡ false) q s.moved
         (λ same. s.staying q a at) (λ apart. s.staying q a at)
 
-    outputs : (q : ℕ) → q < length job.graph.phasers → (place : Option ℕ)
-        → index_in (signalled_by (task_at job.graph t)) q ≡ place → (x : Option ℕ)
-        → before.number q t ≡ x
-        → OnPhaser job after t q (index_in (signalled_by (task_at job.graph t)) q)
-    outputs q qq None e None at =
-        let O : Option ℕ → Type 0 = λ o. OnPhaser job after t q o in
-        let S : Option ℕ → Type 0 = λ x. SilentOn after q x in
-        subst O (sym e) (subst S (sym (s.moved.numbers q t ∙ at)) tt)
-    outputs q qq None e (Some a) at =
-        let O : Option ℕ → Type 0 = λ o. OnPhaser job after t q o in
-        let B : Option ℕ → Type 0 = λ o. OnPhaser job before t q o in
-        let S : Option ℕ → Type 0 = λ x. SilentOn after q x in
-        let T : Option ℕ → Type 0 = λ x. SilentOn before q x in
-        let silent : IsSilent (before.history q) a = subst T at (subst B e (ran.outputs q qq)) in
-        subst O (sym e) (subst S (sym (s.moved.numbers q t ∙ at))
-        (history_by job before after t p event (λ h. IsSilent h a) q s.moved
-        (λ same. record { nothing = silent.nothing; from_0 = silent.from_0 })
-        (λ apart. silent)))
-    outputs q qq (Some i) e None at =
-        let O : Option ℕ → Type 0 = λ o. OnPhaser job after t q o in
-        let B : Option ℕ → Type 0 = λ o. OnPhaser job before t q o in
-        let S : Option ℕ → Type 0 = λ x. PutOn job after t i q x in
-        let T : Option ℕ → Type 0 = λ x. PutOn job before t i q x in
-        subst O (sym e)
-        (subst S (sym (s.moved.numbers q t ∙ at)) (subst T at (subst B e (ran.outputs q qq))))
-    outputs q qq (Some i) e (Some a) at =
-        let O : Option ℕ → Type 0 = λ o. OnPhaser job after t q o in
-        let B : Option ℕ → Type 0 = λ o. OnPhaser job before t q o in
-        let S : Option ℕ → Type 0 = λ x. PutOn job after t i q x in
-        let T : Option ℕ → Type 0 = λ x. PutOn job before t i q x in
-        let on : OnOutput job before t i q a = subst T at (subst B e (ran.outputs q qq)) in
-        subst O (sym e) (subst S (sym (s.moved.numbers q t ∙ at)) (record {
-          start = on.start;
-          start_is =
-              history_by job before after t p event (λ h. start_of h a ≡ Some on.start) q s.moved
-              (λ same. on.start_is) (λ apart. on.start_is);
-          signals = on.signals;
-          at = on.at ∙ sym s.moved.offset;
-          sent = history_by job before after t p event (λ h. sent_by h a ≡ map one (after.put t i))
-              q s.moved
-              (λ same. on.sent ∙ ap (λ l. map one l) (sym (s.put i)))
-              (λ apart. on.sent ∙ ap (λ l. map one l) (sym (s.put i)));
-          left = λ gone. absurd (let f : true ≡ false = sym gone ∙ stays_dropped q a at in cc);
-        }))
+    left : (q a : ℕ) → before.number q t ≡ Some a → has_dropped (after.history q) a ≡ true → HasEnded job after t
+    left q a at gone = absurd (let f : true ≡ false = sym gone ∙ stays_dropped q a at in cc)
 
-    inputs : (i : ℕ) → i < length (task_at job.graph t).inputs → (x : Option ℕ)
-        → before.number (input_at (task_at job.graph t) i) t ≡ x
-        → TakenOn job before t i (input_at (task_at job.graph t) i)
-        (before.number (input_at (task_at job.graph t) i) t)
-        → (i ≡ k) ⊎ (i ≢ k)
-        → TakenOn job after t i (input_at (task_at job.graph t) i)
-        (after.number (input_at (task_at job.graph t) i) t)
-    inputs i lt None at on (inl same) =
-        let none : Some n ≡ None =
-        sym s.numbered
-        ∙ ap (λ x. before.number x t)
-        (sym s.place ∙ ap (λ x. input_at (task_at job.graph t) x) (sym same)) ∙ at in
+    absent : (i : ℕ) → before.number (input_at (task_at job.graph t) i) t ≡ None → (i ≡ k) ⊎ (i ≢ k) → after.taken t i ≡ before.taken t i
+    absent i none (inl same) =
+        let not_there : Some n ≡ None =
+        sym s.numbered ∙ ap (λ x. before.number x t) (sym s.place ∙ ap (λ x. input_at (task_at job.graph t) x) (sym same)) ∙ none in
         absurd (cc)
-    inputs i lt None at on (inr apart) =
+    absent i none (inr apart) = s.other_takes i apart
+
+    taken : (i a : ℕ) → i < length (task_at job.graph t).inputs → before.number (input_at (task_at job.graph t) i) t ≡ Some a
+        → let q = input_at (task_at job.graph t) i in
+        before.taken t i ≡ map number (received_by (value_at job q) (before.history q) a) → (i ≡ k) ⊎ (i ≢ k)
+        → after.taken t i ≡ map number (received_by (value_at job q) (after.history q) a)
+    taken i a lt at was (inl same) =
         let q = input_at (task_at job.graph t) i in
-        let S : Option ℕ → Type 0 = λ x. TakenOn job after t i q x in
-        let B : Option ℕ → Type 0 = λ x. TakenOn job before t i q x in
-        let b = subst B at on in
-        subst S (sym (s.moved.numbers q t ∙ at)) (s.other_takes i apart ∙ b.0, b.1)
-    inputs i lt (Some a) at on (inl same) =
-        let q = input_at (task_at job.graph t) i in
-        let S : Option ℕ → Type 0 = λ x. TakenOn job after t i q x in
-        let B : Option ℕ → Type 0 = λ x. TakenOn job before t i q x in
-        let b : OnInput job before t i q a = subst B at on in
         let here : q ≡ p = ap (λ x. input_at (task_at job.graph t) x) same ∙ s.place in
         let me : a ≡ n = same_Some a n (sym at ∙ ap (λ x. before.number x t) here ∙ s.numbered) in
-        let now : after.history q ≡ Waited n (length outcomes) ∷ before.history q =
-        ap (λ x. after.history x) here ∙ s.moved.here
-        ∙ ap (λ x. Waited n (length outcomes) ∷ before.history x) (sym here) in
-        let V : ℕ → ℕ → Type 0 =
-        λ x y. received_by (value_at job x) (Waited n (length outcomes) ∷ before.history x) y
+        let now : after.history q ≡ event ∷ before.history q =
+        ap (λ x. after.history x) here ∙ s.moved.here ∙ ap (λ x. event ∷ before.history x) (sym here) in
+        let V : ℕ → ℕ → Type 0 = λ x y. received_by (value_at job x) (Waited n (length outcomes) ∷ before.history x) y
         ≡ received_by (value_at job x) (before.history x) y ++ outcomes in
-        let Q : ℕ → Type 0 = λ x. V x a in
-        let N : ℕ → Type 0 = λ y. V p y in
-        let answer : received_by (value_at job q) (Waited n (length outcomes) ∷ before.history q) a
-        ≡ received_by (value_at job q) (before.history q) a ++ outcomes =
-        subst Q (sym here) (subst N (sym me) s.answered) in
-        let taken : after.taken t i ≡ before.taken t i ++ map number outcomes =
-        ap (λ x. after.taken t x) same ∙ s.taken
-        ∙ ap (λ x. before.taken t x ++ map number outcomes) (sym same) in
-        subst S (sym (s.moved.numbers q t ∙ at)) (record {
-          start = b.start;
-          start_is =
-              history_by job before after t p event (λ h. start_of h a ≡ Some b.start) q s.moved
-              (λ same. b.start_is) (λ apart. b.start_is);
-          waits = b.waits;
-          at = b.at ∙ sym s.moved.offset;
-          taken = taken ∙ ap (λ l. l ++ map number outcomes) b.taken
-              ∙ sym (ap (λ h. map number (received_by (value_at job q) h a)) now
-              ∙ ap (λ l. map number l) answer
-              ∙ map-append number (received_by (value_at job q) (before.history q) a)
-              outcomes);
-          left = λ gone. absurd (let f : true ≡ false = sym gone ∙ stays_dropped q a at in cc);
-        })
-    inputs i lt (Some a) at on (inr apart) =
+        let answer : V q a = subst (λ x. V x a) (sym here) (subst (V p) (sym me) s.answered) in
+        let more_taken : after.taken t i ≡ before.taken t i ++ map number outcomes =
+        ap (λ x. after.taken t x) same ∙ s.taken ∙ ap (λ x. before.taken t x ++ map number outcomes) (sym same) in
+        more_taken ∙ ap (λ l. l ++ map number outcomes) was
+        ∙ sym (ap (λ h. map number (received_by (value_at job q) h a)) now ∙ ap (λ l. map number l) answer
+        ∙ map-append number (received_by (value_at job q) (before.history q) a) outcomes)
+    taken i a lt at was (inr apart) =
         let q = input_at (task_at job.graph t) i in
-        let S : Option ℕ → Type 0 = λ x. TakenOn job after t i q x in
-        let B : Option ℕ → Type 0 = λ x. TakenOn job before t i q x in
-        let b : OnInput job before t i q a = subst B at on in
         let there_i : q ≢ p =
         λ same. apart
         (same_Some i k
         (sym (place_of_input job.graph t i is there lt)
         ∙ ap (λ x. index_in (task_at job.graph t).inputs x) (same ∙ sym s.place)
         ∙ place_of_input job.graph t k is there s.few)) in
-        let still : after.history q ≡ before.history q = s.moved.elsewhere q there_i in
-        subst S (sym (s.moved.numbers q t ∙ at)) (record {
-          start = b.start;
-          start_is = ap (λ h. start_of h a) still ∙ b.start_is;
-          waits = b.waits;
-          at = b.at ∙ sym s.moved.offset;
-          taken = s.other_takes i apart ∙ b.taken
-              ∙ ap (λ h. map number (received_by (value_at job q) h a)) (sym still);
-          left = λ gone. absurd (let f : true ≡ false = sym gone ∙ stays_dropped q a at in cc);
-        })
+        s.other_takes i apart ∙ was
+        ∙ ap (λ h. map number (received_by (value_at job q) h a)) (sym (s.moved.elsewhere q there_i))
 
     children : (c q a : ℕ) (u : Parent) → c < length job.graph.tasks
         → (task_at job.graph c).parent ≡ Some u → u.task ≡ t
         → before.number q t ≡ Some a → before.number q c ≡ None → OnLine (task_at job.graph c) q
-        → (k ≡ first_input (task_at job.graph t) (before.begun t))
-        × (after.begun t ≡ further (before.begun t) outcomes)
-        × IsBlock (task_at job.graph t).kind (length outcomes)
-        × MayBeginTo job before t (further (before.begun t) outcomes)
-        ⊎ ((task_at job.graph t).kind ≡ Peer) × (k ≡ 1) × (length outcomes ≡ 1)
-        × (after.begun t ≡ before.begun t) × (length (before.taken t 1) < before.begun t)
-        → HasNotPassed after q a u
+        → Begins job before after t k outcomes → HasNotPassed after q a u
     children c q a u there_c e same at none on (inl b) =
         let less : further (before.begun t) outcomes ≤ u.at =
         b.3.children q c a u there_c e same at none on in

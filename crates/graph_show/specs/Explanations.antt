@@ -1,6 +1,6 @@
 -- What a person is told of the first fault of a graph's text: the faulty line, a mark under a place
 -- of it, and what was expected there.
-use Rattle.std.specs.Prelude.{◌≡◌, ◌≤◌, ◌+◌, ◌==◌, ℕ, List, [], ◌∷◌, length, map, take, replicate, codes, Some, if◌then◌else◌, slice_get}
+use Rattle.std.specs.Prelude.{◌≡◌, ◌⊎◌, ◌<◌, ◌≤◌, ◌+◌, ◌==◌, ℕ, List, [], ◌∷◌, length, map, take, replicate, codes, Some, if◌then◌else◌, slice_get}
 use Rattle.std.specs.List.{concat}
 use Rattle.graph_lang.specs.declared.fault.GraphFault.{GraphFault}
 use Rattle.graph_lang.specs.graph_text.Texts.{is_printable, lines_of}
@@ -35,3 +35,8 @@ pub record ExplainsLine (text : List ℕ) (found : GraphFault) (more : List ℕ)
   pub numbered : index + 1 ≡ found.line
   pub line_is : slice_get (lines_of text) index ≡ Some line
   pub marks : Marks line more
+
+-- the text explains this fault, or is nothing where the graph's text has no line of that number
+abbrev pub ExplainsFault : List ℕ → GraphFault → List ℕ → Type 0
+ExplainsFault text found more = ExplainsLine text found more
+    ⊎ ((more ≡ []) × ((found.line ≡ 0) ⊎ (length (lines_of text) < found.line)))

@@ -1,7 +1,7 @@
 //! The explanation of a graph's fault.
-ghost use Rattle.std.specs.Prelude.{◌≡◌, ◌⊎◌, ◌≤◌, [], length, map, take, replicate, IfOk};
+ghost use Rattle.std.specs.Prelude.{◌≡◌, ◌≤◌, length, map, take, replicate, IfOk};
 ghost use Rattle.std.specs.List.{flat_map};
-ghost use Rattle.graph_show.specs.Explanations.{ExplainsLine, Marks, blank_under, marked_text, shown};
+ghost use Rattle.graph_show.specs.Explanations.{ExplainsFault, Marks, blank_under, marked_text, shown};
 
 use crate::above::Above;
 use crate::below::Below;
@@ -120,13 +120,15 @@ fn wanted_at(alloc: Global, line: &[u8], mark: Mark<'_>) -> Result<Vec<u8>, Allo
     Ok(wanted)
 }
 
-/// Explains a fault of a line, by the lines above it and those below.
+/// Explains a fault of a line, by the lines above it and those below, and by the phaser on which
+/// tasks meet.
 fn line_explained<'a>(
     alloc: Global,
     above: &[&'a [u8]],
     below: &Below<'_, 'a>,
     line: &'a [u8],
     kind: FaultKind,
+    meeting: Option<&str>,
 ) -> Result<Vec<u8>, AllocError>
     ensures { IfOk result (λ text. Marks line.now text.items) }
 {
@@ -137,7 +139,7 @@ fn line_explained<'a>(
     let words = words_of(alloc, line)?;
     let above = Above::of(alloc, above)?;
     let reading = Reading::of(alloc, &words, above.known)?;
-    let mark = mark_of(alloc, kind, &reading, &above, below)?;
+    let mark = mark_of(alloc, kind, &reading, &above, below, meeting)?;
     let count = match words.get(mark.word) {
         Some(word) => word.len(),
         None => 1,
@@ -150,13 +152,21 @@ fn line_explained<'a>(
 /// at fault, and what was expected there, a line each. Where the text has no line of that number,
 /// it gives nothing. It takes memory.
 ///
+/// Where tasks meet on a phaser with `any`, the text alone does not tell on which of several
+/// outputs; `meeting` is the name of that phaser, where it is known. Else the task is marked.
+///
 /// ```text
 ///   fir f X -> Q shift 0 taps 1
 ///              ^
 ///   expected: a phaser that a line above declares
 /// ```
-pub fn explanation(alloc: Global, text: &[u8], fault: GraphFault) -> Result<Vec<u8>, AllocError>
-    ensures { IfOk result (λ more. (more.items ≡ []) ⊎ ExplainsLine text.now fault more.items) }
+pub fn explanation(
+    alloc: Global,
+    text: &[u8],
+    fault: GraphFault,
+    meeting: Option<&str>,
+) -> Result<Vec<u8>, AllocError>
+    ensures { IfOk result (λ more. ExplainsFault text.now fault more.items) }
 {
     let lines = lines_of(alloc, text)?;
     if fault.line == 0 || fault.line > lines.len() as u64 {
@@ -173,5 +183,6 @@ pub fn explanation(alloc: Global, text: &[u8], fault: GraphFault) -> Result<Vec<
         &below,
         without_cr(lines[index]),
         fault.kind,
+        meeting,
     )
 }

@@ -27,13 +27,15 @@ impl<'a> Mark<'a> {
     }
 }
 
-/// The first word of these that fails a test of words, or the first word of the line.
+/// The first word of these that fails a test of words, or the first word of the line. Where tasks
+/// meet, `meeting` is the phaser on which they do, if it is known.
 pub(crate) fn mark_of<'a>(
     alloc: Global,
     kind: FaultKind,
     reading: &Reading<'_, 'a>,
     above: &Above<'a>,
     below: &Below<'_, 'a>,
+    meeting: Option<&str>,
 ) -> Result<Mark<'a>, AllocError> {
     let found = reading.found.as_slice();
     let mark = match kind {
@@ -45,7 +47,7 @@ pub(crate) fn mark_of<'a>(
         FaultKind::BadParent => parent_mark(found, parent_wanted(above.version())),
         FaultKind::NotHeld => held_mark(found, above),
         FaultKind::OverBound => block_mark(found),
-        FaultKind::AnyMeets => meeting_mark(found, above),
+        FaultKind::AnyMeets => meeting_mark(found, above, meeting),
     };
     Ok(mark)
 }
@@ -302,14 +304,34 @@ fn held_mark<'a>(found: &[Known<'a>], above: &Above<'_>) -> Mark<'a> {
     )
 }
 
-/// The first output on which the task may meet another.
-fn meeting_mark<'a>(found: &[Known<'a>], above: &Above<'_>) -> Mark<'a> {
-    let wanted = "a phaser that no task of a line above signals in the same phase";
+/// How many outputs of a task there are on which it may meet another.
+fn meeting_count(found: &[Known<'_>], above: &Above<'_>) -> usize {
+    let mut count = 0usize;
+    for (part, name) in found {
+        if part.is_output() && above.may_meet(*name) {
+            count = count.saturating_add(1);
+        }
+    }
+    count
+}
+
+/// The output on which the task meets another, where it is known, or the only one on which it may;
+/// else the task.
+fn meeting_mark<'a>(found: &[Known<'a>], above: &Above<'_>, meeting: Option<&str>) -> Mark<'a> {
+    let is_only = meeting_count(found, above) == 1;
     for word in 0..found.len() {
         let (part, name) = found[word];
-        if part.is_output() && above.may_meet(name) {
+        let is_known = match meeting {
+            Some(phaser) => phaser.as_bytes() == name,
+            None => is_only && above.may_meet(name),
+        };
+        if part.is_output() && is_known {
+            let wanted = "a phaser that no task of a line above signals in the same phase";
             return Mark::text(word, wanted);
         }
     }
-    Mark::text(1, wanted)
+    Mark::text(
+        1,
+        "outputs that no task of a line above signals in the same phase",
+    )
 }

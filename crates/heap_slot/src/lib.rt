@@ -25,6 +25,9 @@ impl<T, A: Allocator> Model for Slot<T, A> {
     ghost also_owns = { λ s. slot_owns (A.dealloc_token s.alloc) T.row s.at s.value };
 }
 
+// It may go to another thread where its value may, and where its memory may be given back there.
+unsafe impl<T: Send, A: Allocator + Send> Send for Slot<T, A> {}
+
 impl<T: Drop, A: Allocator> Slot<T, A> {
     /// Makes a slot with no value. It takes no memory.
     pub fn empty(alloc: A) -> Slot<T, A>

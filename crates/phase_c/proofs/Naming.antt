@@ -1,20 +1,27 @@
--- The names of tasks, one behind the other.
-use Rattle.std.proofs.Common.{◌≡◌, ℕ, ◌+◌, ◌<◌, List, [], ◌∷◌, ◌++◌, length, take, get_or, sym, ap, ◌∙◌}
-use Rattle.std.specs.List.{flat_map}
-use Rattle.std.proofs.lemmas.List.{append_assoc, flat_map_more, take_more}
-use Rattle.graph_lang.specs.graph_base.Graphs.{Graph, name_at}
-use Rattle.graph_lang.specs.graph_base.declared.place.Place.TheVariants as place
-use Rattle.phase_c.specs.Names.{name_line}
+-- The names of phasers and tasks, one behind the other.
+use Rattle.std.proofs.Common.{◌≡◌, ℕ, ◌+◌, ◌<◌, List, [], ◌∷◌, ◌++◌, length, take, get_or, sym, ap, ◌∙◌, arith}
+use Rattle.std.specs.List.{flat_map, range_with_len}
+use Rattle.std.proofs.lemmas.List.{flat_map_more, take_more}
+use Rattle.stream_eval.proofs.stream_lists_lemmas.Firsts.{range_more}
 
 -- one more name with its line end
-pub names-more : (graph : Graph) (before items tasks : List ℕ) (k : ℕ) → k < length tasks
-    → items ≡ before ++ flat_map (name_line graph) (take k tasks)
-    → (items ++ name_at graph (place.Task (get_or tasks k 0))) ++ 10 ∷ []
-    ≡ before ++ flat_map (name_line graph) (take (k + 1) tasks)
-names-more graph before items tasks k within is =
-    let f = name_line graph in
-    let t = get_or tasks k 0 in
-    append_assoc items (name_at graph (place.Task t)) (10 ∷ [])
-    ∙ ap (λ l. l ++ f t) is
-    ∙ flat_map_more f before (take k tasks) t
-    ∙ ap (λ l. before ++ flat_map f l) (sym (take_more tasks k 0 within))
+pub names-more : (line : ℕ → List ℕ) (before items numbers : List ℕ) (k : ℕ) → k < length numbers
+    → items ≡ before ++ flat_map line (take k numbers)
+    → items ++ line (get_or numbers k 0) ≡ before ++ flat_map line (take (k + 1) numbers)
+names-more line before items numbers k within is =
+    let n = get_or numbers k 0 in
+    ap (λ l. l ++ line n) is
+    ∙ flat_map_more line before (take k numbers) n
+    ∙ ap (λ l. before ++ flat_map line l) (sym (take_more numbers k 0 within))
+
+-- one more name of all
+pub names-next : (line : ℕ → List ℕ) (before items : List ℕ) (n : ℕ)
+    → items ≡ before ++ flat_map line (range_with_len 0 n)
+    → items ++ line n ≡ before ++ flat_map line (range_with_len 0 (n + 1))
+names-next line before items n is =
+    let all = range_with_len 0 n in
+    let more : range_with_len 0 (n + 1) ≡ all ++ n ∷ [] =
+    range_more 0 n ∙ ap (λ k. all ++ k ∷ []) (omega arith) in
+    ap (λ l. l ++ line n) is
+    ∙ flat_map_more line before all n
+    ∙ ap (λ l. before ++ flat_map line l) (sym more)

@@ -1,19 +1,21 @@
 -- Samples that a filter takes one after the other, and a state that shows the last of them.
-use Rattle.std.proofs.Common.{◌≡◌, ℕ, ◌+◌, ◌-◌, ◌<◌, ◌≤◌, Bool, true, false, not, List, [], ◌∷◌, ◌++◌, ℤ, pos, length, take, drop, reverse, get_or, Ok, Err, refl, sym, ap, subst, ◌∙◌, arith, append_assoc, length-append}
+use Rattle.std.proofs.Common.{◌≡◌, ℕ, ◌+◌, ◌-◌, ◌<◌, ◌≤◌, Bool, true, false, not, List, [], ◌∷◌, ◌++◌, ℤ, pos, length, take, drop, reverse, get_or, Ok, Err, refl, sym, ap, subst, ◌∙◌, arith, append_assoc, length-append, set}
 use Rattle.std.specs.Prelude.{Result, nat_le, nat_lt, unsigned_abs}
 use Rattle.std.proofs.Math.Seq.{drop-append-add}
 use Rattle.std.proofs.lemmas.Bool.{le-leb, ltb-false, ltb-true}
-use Rattle.std.proofs.lemmas.List.{take_more, reverse-append, length-reverse, get_or_append_left, get_or-append_right, get_or-drop, get_or-reverse, length-drop, length-take-le}
+use Rattle.std.proofs.lemmas.Grind.{drop_more_same}
+use Rattle.std.proofs.lemmas.List.{drop-set-lt, take_more, take_more_set, reverse-append, length-reverse, get_or_append_left, get_or-append_right, get_or-drop, get_or-reverse, length-drop, length-take-le}
 use Rattle.std.proofs.lemmas.List.FromFn.{map-range_with_len_more}
-use Rattle.graph_lang.specs.phase_accum.Sends.{IsSend, value_max}
-use Rattle.stream_eval.specs.stream_filters.Filter.{back, output_after, shifted_down}
+use Rattle.graph_lang.specs.phase_accum.Sends.{AreSends, IsSend, value_max}
+use Rattle.stream_eval.specs.stream_filters.Filter.{FirState, StandsFor, back, output_after, shifted_down}
 use Rattle.stream_eval.specs.stream_filters.Range.{ranged}
 use Rattle.stream_eval.specs.stream_filters.declared.fault.TooBigValue.{TooBigValue}
 use Rattle.stream_eval.proofs.Made.{ranged-err, ranged-ok}
 use Rattle.stream_eval.proofs.stream_lists_lemmas.Growing.{map-same}
 use Rattle.stream_eval.proofs.stream_lists_lemmas.InRange.{IsSend-in_range}
 use Rattle.stream_eval.proofs.stream_lists_lemmas.stream_filters_lemmas.Weighted.{weighted-same}
-use Rattle.phase_c.specs.Filtered.{Shows, first_outputs, output_behind}
+use Rattle.phase_c.specs.Filtered.{AreOfFilter, Filters, FiltersAll, FiltersTo, Shows, first_outputs, output_behind}
+use Rattle.phase_c.proofs.Cuts.{AreSends-append}
 
 -- ---- one sample after the other
 
@@ -25,42 +27,102 @@ one_more before samples i d less =
     ∙ ap (λ xs. before ++ xs) (sym (take_more samples i d less))
 
 -- and one more output
-pub outputs_more : (taps : List ℤ) (shift : ℕ) (before block : List ℤ) (n : ℕ)
+outputs_more : (taps : List ℤ) (shift : ℕ) (before block : List ℤ) (n : ℕ)
     → first_outputs taps shift before block (n + 1)
     ≡ first_outputs taps shift before block n ++ output_behind taps shift before block n ∷ []
 outputs_more taps shift before block n =
     map-range_with_len_more (output_behind taps shift before block) 0 n n (omega arith)
 
--- what a filter with these taps and this shift answers there
-pub answer_is : (taps other : List ℤ) (shift moved : ℕ) (before block : List ℤ) (n : ℕ) (d : ℤ)
-    (answer : Result ℤ TooBigValue) → other ≡ taps → moved ≡ shift → n < length block
-    → answer ≡ ranged (output_after other moved ((before ++ take n block) ++ get_or block n d ∷ []))
-    → answer ≡ ranged (output_behind taps shift before block n)
-answer_is taps other shift moved before block n d answer same unmoved less is =
-    let samples = (before ++ take n block) ++ get_or block n d ∷ [] in
-    is
-    ∙ (ap (λ ts. ranged (output_after ts moved samples)) same
-    ∙ (ap (λ k. ranged (output_after taps k samples)) unmoved
-    ∙ ap (λ xs. ranged (output_after taps shift xs)) (one_more before block n d less)))
-
 -- a value that was answered is the output, and in range
-pub answered : (z v : ℤ) → ranged z ≡ Ok v → (v ≡ z) × IsSend v
+answered : (z v : ℤ) → ranged z ≡ Ok v → (v ≡ z) × IsSend v
 answered z v e =
     let is = ranged-ok z v e in
     (sym is.0, subst IsSend is.0 (IsSend-in_range z is.1))
 
 -- a value that was not is out of range
-pub unanswered : (z : ℤ) (f : TooBigValue) → ranged z ≡ Err f → IsSend z → ⊥
+unanswered : (z : ℤ) (f : TooBigValue) → ranged z ≡ Err f → IsSend z → ⊥
 unanswered z f e is =
     let inside : nat_le (unsigned_abs z) value_max ≡ true =
     le-leb (unsigned_abs z) value_max is.small in
     let no : not true ≡ true = sym (ap not inside) ∙ ranged-err z f e in
     absurd (cc)
 
+-- ---- a step of a filter that took the first samples of a block
+
+-- it has taken the next one, x
+pub step_stands : (now : FirState) (before block : List ℤ) (n : ℕ) → n < length block → (x : ℤ)
+    → x ≡ get_or block n (pos 0) → StandsFor now ((before ++ take n block) ++ x ∷ [])
+    → StandsFor now (before ++ take (n + 1) block)
+step_stands now before block n less x next stands =
+    subst (StandsFor now) (one_more before block n (pos 0) less)
+    (subst (λ z. StandsFor now ((before ++ take n block) ++ z ∷ [])) next stands)
+
+module _ (old now : FirState) (before block : List ℤ) (n : ℕ) (less : n < length block) (x : ℤ)
+    (next : x ≡ get_or block n (pos 0)) (answer : Result ℤ TooBigValue)
+    (taps : now.taps ≡ old.taps) (shift : now.shift ≡ old.shift)
+    (told : answer ≡ ranged (output_after now.taps now.shift ((before ++ take n block) ++ x ∷ [])))
+  where
+    abbrev output : ℤ
+    output = output_behind old.taps old.shift before block n
+
+    answer_is : answer ≡ ranged output
+    answer_is =
+        let was = before ++ take n block in
+        let samples = before ++ take (n + 1) block in
+        told
+        ∙ (ap (λ z. ranged (output_after now.taps now.shift (was ++ z ∷ []))) next
+        ∙ (ap (λ xs. ranged (output_after now.taps now.shift xs))
+        (one_more before block n (pos 0) less)
+        ∙ (ap (λ ts. ranged (output_after ts now.shift samples)) taps
+        ∙ ap (λ k. ranged (output_after old.taps k samples)) shift)))
+
+    -- a value that it answers is the output there, and in range
+    pub step_gives : (v : ℤ) → answer ≡ Ok v → (v ≡ output) × IsSend v
+    step_gives v is = answered output v (sym answer_is ∙ is)
+
+    -- where it answers none, the output is out of range
+    pub step_fails : (f : TooBigValue) → answer ≡ Err f → IsSend output → ⊥
+    step_fails f is = unanswered output f (sym answer_is ∙ is)
+
+-- ---- an output that is written
+
+-- what stands at a place from which on two lists are the same
+pub same_behind : (xs ys : List ℤ) (n : ℕ) (d : ℤ) → drop n xs ≡ drop n ys
+    → get_or xs n d ≡ get_or ys n d
+same_behind xs ys n d same =
+    ap (λ k. get_or xs k d) (omega arith)
+    ∙ (sym (get_or-drop n xs 0 d)
+    ∙ (ap (λ zs. get_or zs 0 d) same
+    ∙ (get_or-drop n ys 0 d ∙ ap (λ k. get_or ys k d) (omega arith))))
+
+-- one more output was written
+pub written_more : (taps : List ℤ) (shift : ℕ) (before block out : List ℤ) (n : ℕ) (v : ℤ)
+    → n < length out → take n out ≡ first_outputs taps shift before block n
+    → v ≡ output_behind taps shift before block n
+    → take (n + 1) (set out n v) ≡ first_outputs taps shift before block (n + 1)
+written_more taps shift before block out n v room written is =
+    take_more_set out n v room
+    ∙ (ap (λ vs. vs ++ v ∷ []) written
+    ∙ (ap (λ z. first_outputs taps shift before block n ++ z ∷ []) is
+    ∙ sym (outputs_more taps shift before block n)))
+
+-- and is in range
+pub fits_more : (out : List ℤ) (n : ℕ) (v : ℤ) → n < length out → AreSends (take n out) → IsSend v
+    → AreSends (take (n + 1) (set out n v))
+fits_more out n v room fits is =
+    subst AreSends (sym (take_more_set out n v room))
+    (AreSends-append (take n out) (v ∷ []) fits (is, tt))
+
+-- what stands behind it stays
+pub behind_more : (out was : List ℤ) (n : ℕ) (v : ℤ) → drop n out ≡ drop n was
+    → drop (n + 1) (set out n v) ≡ drop (n + 1) was
+behind_more out was n v behind =
+    drop-set-lt (n + 1) out n v (omega arith) ∙ drop_more_same out was n behind
+
 -- ---- what a state shows
 
 -- the same samples behind both are shown too
-pub shows_behind : (m : ℕ) (xs ys block : List ℤ)
+shows_behind : (m : ℕ) (xs ys block : List ℤ)
     → ((j : ℕ) → j < m → back xs j ≡ back ys j)
     → (j : ℕ) → j < m + length block → back (xs ++ block) j ≡ back (ys ++ block) j
 shows_behind m xs ys block same j less = by (nat_lt j (length block)) refl
@@ -88,7 +150,7 @@ shows_behind m xs ys block same j less = by (nat_lt j (length block)) refl
         ∙ sym (apart ys))))
 
 -- the output behind a state is the one behind the samples that it shows
-pub output_same : (taps : List ℤ) (shift : ℕ) (state before block : List ℤ) (n : ℕ)
+output_same : (taps : List ℤ) (shift : ℕ) (state before block : List ℤ) (n : ℕ)
     → length state + 1 ≡ length taps → Shows state before → n < length block
     → output_behind taps shift state block n ≡ output_behind taps shift before block n
 output_same taps shift state before block n long shows less =
@@ -100,7 +162,7 @@ output_same taps shift state before block n long shows less =
     (omega (arith, some, long, lt))))
 
 -- so are the first ones
-pub outputs_same : (taps : List ℤ) (shift : ℕ) (state before block : List ℤ) (n : ℕ)
+outputs_same : (taps : List ℤ) (shift : ℕ) (state before block : List ℤ) (n : ℕ)
     → length state + 1 ≡ length taps → Shows state before → n ≤ length block
     → first_outputs taps shift state block n ≡ first_outputs taps shift before block n
 outputs_same taps shift state before block n long shows few =
@@ -108,7 +170,7 @@ outputs_same taps shift state before block n long shows few =
     (λ k less. output_same taps shift state before block k long shows (omega (arith, few, less)))
 
 -- the last of these samples show all of them
-pub drop_shows : (samples : List ℤ) (n j : ℕ) → n + j < length samples
+drop_shows : (samples : List ℤ) (n j : ℕ) → n + j < length samples
     → back (drop n samples) j ≡ back samples j
 drop_shows samples n j less =
     let short : length (drop n samples) ≡ length samples - n = length-drop n samples in
@@ -120,7 +182,7 @@ drop_shows samples n j less =
     ∙ sym (get_or-reverse samples j (pos 0) (omega (arith, less)))))
 
 -- a state that keeps the last samples shows those of the block too
-pub keeps_shows : (state before block new : List ℤ) → Shows state before
+keeps_shows : (state before block new : List ℤ) → Shows state before
     → new ≡ drop (length block) (state ++ block) → Shows new (before ++ block)
 keeps_shows state before block new shows is j less =
     let all : length (state ++ block) ≡ length state + length block = length-append state block in
@@ -141,7 +203,7 @@ drop_past state block le =
     ∙ drop-append-add state block (length block - length state))
 
 -- what a filter with these taps gives behind a state are the outputs behind what the state shows
-pub outputs_are : (taps other : List ℤ) (shift moved : ℕ) (state before block : List ℤ) (n : ℕ)
+outputs_are : (taps other : List ℤ) (shift moved : ℕ) (state before block : List ℤ) (n : ℕ)
     → other ≡ taps → moved ≡ shift → length state + 1 ≡ length taps → Shows state before
     → n ≤ length block
     → first_outputs other moved state block n ≡ first_outputs taps shift before block n
@@ -151,7 +213,7 @@ outputs_are taps other shift moved state before block n same unmoved long shows 
     ∙ outputs_same taps shift state before block n long shows few)
 
 -- an output behind the state that is out of range is so behind what the state shows
-pub too_big_is : (taps other : List ℤ) (shift moved : ℕ) (state before block : List ℤ) (n : ℕ)
+too_big_is : (taps other : List ℤ) (shift moved : ℕ) (state before block : List ℤ) (n : ℕ)
     → other ≡ taps → moved ≡ shift → length state + 1 ≡ length taps → Shows state before
     → n < length block → ¬ (IsSend (output_behind other moved state block n))
     → ¬ (IsSend (output_behind taps shift before block n))
@@ -159,3 +221,54 @@ too_big_is taps other shift moved state before block n same unmoved long shows l
     big (subst IsSend (sym (ap (λ ts. output_behind ts moved state block n) same
     ∙ (ap (λ k. output_behind taps k state block n) unmoved
     ∙ output_same taps shift state before block n long shows less))) is)
+
+-- ---- a filter that has taken the samples of a state
+
+module _ (taps : List ℤ) (shift : ℕ) (state block old new : List ℤ) (count : ℕ) (fir : FirState)
+    (of_filter : AreOfFilter taps shift state) (same : fir.taps ≡ taps)
+    (unmoved : fir.shift ≡ shift) (stands : StandsFor fir state) (room : length block ≤ length old)
+    (few : count ≤ length block)
+    (written : (before : List ℤ) → StandsFor fir before
+    → take count new ≡ first_outputs fir.taps fir.shift before block count)
+    (fits : (before : List ℤ) → StandsFor fir before → AreSends (take count new))
+    (behind : drop count new ≡ drop count old)
+  where
+    -- what it wrote of a block is what the definition gives
+    filters_are : Filters taps shift state block old new count
+    filters_are = record {
+      of_filter = of_filter;
+      room = room;
+      written = λ before shows. written state stands
+          ∙ outputs_are taps fir.taps shift fir.shift state before block count same unmoved
+          of_filter.long shows few;
+      fits = fits state stands;
+      behind = behind;
+    }
+
+    -- and where it met a value out of range, it was the first
+    pub filters_to : count < length block
+        → ((before : List ℤ) → StandsFor fir before → count < length block
+        → ¬ (IsSend (output_behind fir.taps fir.shift before block count)))
+        → FiltersTo taps shift state block old new count
+    filters_to less too_big = record {
+      filters = filters_are;
+      less = less;
+      too_big = λ before shows. too_big_is taps fir.taps shift fir.shift state before block count
+          same unmoved of_filter.long shows less (too_big state stands less);
+    }
+
+    -- and where it wrote all, a state that keeps the last samples goes on behind it
+    pub filters_all : (kept : List ℤ) → count ≡ length block
+        → kept ≡ drop (length block) (state ++ block)
+        → FiltersAll taps shift state kept block old new count
+    filters_all kept all is = record {
+      filters = subst (Filters taps shift state block old new) all filters_are;
+      shows = λ before shows. keeps_shows state before block kept shows is;
+      long = omega (
+        arith,
+        ap length is,
+        length-drop (length block) (state ++ block),
+        length-append state block,
+      );
+      done_is = all;
+    }

@@ -1,5 +1,5 @@
 -- A block of a stream of samples through a filter, and the samples before it that it weighs too.
-use Rattle.std.specs.Prelude.{◌≡◌, ◌<◌, ◌+◌, ℕ, ℤ, negsuc, List, ◌++◌, length, map, take, drop}
+use Rattle.std.specs.Prelude.{◌≡◌, ◌<◌, ◌≤◌, ◌+◌, ℕ, ℤ, negsuc, List, ◌++◌, length, map, take, drop}
 use Rattle.std.specs.List.{range_with_len}
 use Rattle.graph_lang.specs.phase_accum.Sends.{AreSends, IsSend}
 use Rattle.stream_eval.specs.stream_filters.Filter.{AreTaps, back, output_after}
@@ -24,12 +24,17 @@ Shows state samples = (j : ℕ) → j < length state → back state j ≡ back s
 
 -- ---- a block
 
--- of a block behind any samples that the state shows the first outputs were written, so many. Each
--- is in range, and what stands behind them stays
-pub record Filters (taps : List ℤ) (shift : ℕ) (state block old new : List ℤ) (count : ℕ)
-    : Type 0 where
+-- a filter may have these taps and this shift, and the state is as long as one of its is
+pub record AreOfFilter (taps : List ℤ) (shift : ℕ) (state : List ℤ) : Type 0 where
   pub are_taps : AreTaps taps shift
   pub long : length state + 1 ≡ length taps
+
+-- of a block behind any samples that the state shows the first outputs were written, so many, where
+-- there is room for as many as the block has. Each is in range, and what stands behind them stays
+pub record Filters (taps : List ℤ) (shift : ℕ) (state block old new : List ℤ) (count : ℕ)
+    : Type 0 where
+  pub of_filter : AreOfFilter taps shift state
+  pub room : length block ≤ length old
   pub written : (before : List ℤ) → Shows state before
       → take count new ≡ first_outputs taps shift before block count
   pub fits : AreSends (take count new)
@@ -59,17 +64,17 @@ pub record FiltersNone (Why : Type 0) (old new : List ℤ) (done : ℕ) : Type 0
   pub same : new ≡ old
   pub none : done ≡ 0
 
--- why a block was not filtered, or not to its end
+-- why a block was not filtered, or not to its end. Of each reason those above it do not hold
 abbrev pub RefusesBlock : List ℤ → ℕ → List ℤ → List ℤ → List ℤ → List ℤ → ℕ → FilterRefusal
     → Type 0
 RefusesBlock taps shift state block old new done refusal.Taps =
     FiltersNone (¬ (AreTaps taps shift)) old new done
 RefusesBlock taps shift state block old new done refusal.Counts =
-    FiltersNone (¬ (length state + 1 ≡ length taps)) old new done
+    FiltersNone (AreTaps taps shift × ¬ (length state + 1 ≡ length taps)) old new done
 RefusesBlock taps shift state block old new done refusal.Room =
-    FiltersNone (length old < length block) old new done
+    FiltersNone (AreOfFilter taps shift state × (length old < length block)) old new done
 RefusesBlock taps shift state block old new done refusal.OutOfMemory =
-    FiltersNone (Unit {0}) old new done
+    FiltersNone (AreOfFilter taps shift state × (length block ≤ length old)) old new done
 RefusesBlock taps shift state block old new done refusal.TooBig =
     FiltersTo taps shift state block old new done
 

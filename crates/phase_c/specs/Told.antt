@@ -1,5 +1,5 @@
 -- What a caller is told of a call, in numbers.
-use Rattle.std.specs.Prelude.{◌≡◌, ℕ, ℤ, pos, negsuc, List, length, Ok}
+use Rattle.std.specs.Prelude.{◌≡◌, ◌+◌, ◌*◌, ℕ, ℤ, pos, negsuc, List, length, Ok}
 use Rattle.graph_lang.specs.Reads.{ReadsText}
 use Rattle.graph_lang.specs.graph_base.Graphs.{Graph, sources_of}
 use Rattle.graph_lang.specs.graph_base.declared.place.Place.TheVariants as place
@@ -13,6 +13,10 @@ use Rattle.phase_c.specs.declared.refusal.Refusal.{Refusal}
 use Rattle.phase_c.specs.declared.refusal.Refusal.TheVariants as refusal
 use Rattle.phase_c.specs.declared.fault.PhaseFault.{PhaseFault}
 use Rattle.phase_c.specs.declared.fault.PhaseCounts.{PhaseCounts}
+
+-- the version of the library, 0.1.0, as a number
+abbrev pub version : ℕ
+version = 0 * 10000 + 1 * 100 + 0
 
 -- the number of a kind of fault
 abbrev pub kind_number : FaultKind → ℕ
@@ -72,10 +76,10 @@ pub record CheckStops (text : List ℕ) (status : ℤ) (fault : PhaseFault) : Ty
   pub says : Says why status fault
 
 -- names were not written: it is told why
-pub record NamesStop (text : List ℕ) (room old_needed new_needed : ℕ) (status : ℤ)
-    (fault : PhaseFault) : Type 0 where
+pub record NamesStop (names_of : Graph → List ℕ) (text : List ℕ)
+    (room old_needed new_needed : ℕ) (status : ℤ) (fault : PhaseFault) : Type 0 where
   pub why : Refusal
-  pub refuses : RefusesNames text room old_needed new_needed why
+  pub refuses : RefusesNames names_of text room old_needed new_needed why
   pub says : Says why status fault
 
 -- the counts are those of the graph that the text declares

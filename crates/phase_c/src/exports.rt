@@ -1,19 +1,28 @@
 //! The exports, which `phase.h` declares. None requires anything.
 ghost use Rattle.std.specs.Prelude.{◌≡◌, ◌≢◌, pos, length, IfOk, IfErr};
 ghost use Rattle.phase_c.specs.Filtered.{FilterStops, FiltersAll};
-ghost use Rattle.phase_c.specs.Names.{WritesNames};
+ghost use Rattle.phase_c.specs.Names.{WritesNames, all_names_text, names_text};
 ghost use Rattle.phase_c.specs.Refusals.{IsDone, RefusesText};
-ghost use Rattle.phase_c.specs.Told.{CheckStops, Counted, EvalStops, NamesStop};
+ghost use Rattle.phase_c.specs.Told.{CheckStops, Counted, EvalStops, NamesStop, version};
 
 use crate::evaluate::evaluate;
 use crate::fault::{PhaseCounts, PhaseFault};
 use crate::filter::{filter_block, filter_status_of};
-use crate::names::write_names;
+use crate::in_place::filter_in_place;
+use crate::names::{write_all_names, write_names};
 use crate::refusal::Refusal;
 use crate::sinks::sinks_of;
-use crate::told::{fault_of, status_of};
+use crate::told::{VERSION, fault_of, status_of};
 use graph_lang::read_graph;
 use std::alloc::Global;
+
+/// Answers the version of the library.
+#[unsafe(no_mangle)]
+pub extern "C" fn phase_version() -> u32
+    ensures { result ≡ version }
+{
+    VERSION
+}
 
 /// The counts of a graph's text.
 fn counts_of_text(alloc: Global, text: &[u8]) -> Result<PhaseCounts, Refusal>
@@ -70,14 +79,44 @@ pub extern "C" fn phase_names(
     needed: &mut usize,
     fault: &mut PhaseFault,
 ) -> i32
-    ensures done { result ≡ pos 0 → WritesNames text.now out.old out.new needed.new }
+    ensures done { result ≡ pos 0 → WritesNames names_text text.now out.old out.new needed.new }
     ensures quiet { result ≡ pos 0 → fault.new ≡ fault.old }
 
-    ensures stops { result ≢ pos 0 → NamesStop text.now (length out.old)
+    ensures stops { result ≢ pos 0 → NamesStop names_text text.now (length out.old)
         needed.old needed.new result fault.new }
     ensures same { result ≢ pos 0 → out.new ≡ out.old }
 {
     match write_names(alloc, text, out, needed) {
+        Ok(()) => 0,
+        Err(why) => {
+            *fault = fault_of(why);
+            status_of(why)
+        }
+    }
+}
+
+/// Answers 0 with the names of all phasers of a graph and then of all its tasks, each in the order
+/// of their lines and followed by a line end, or a status that tells why not, and the fault.
+///
+/// What is told of room, and what stays, is as at `phase_names`. It takes memory for the graph and
+/// for the names, and gives it back.
+#[unsafe(no_mangle)]
+pub extern "C" fn phase_all_names(
+    alloc: Global,
+    text: &[u8],
+    out: &mut [u8],
+    needed: &mut usize,
+    fault: &mut PhaseFault,
+) -> i32
+    ensures done { result ≡ pos 0 → WritesNames all_names_text text.now out.old out.new
+        needed.new }
+    ensures quiet { result ≡ pos 0 → fault.new ≡ fault.old }
+
+    ensures stops { result ≢ pos 0 → NamesStop all_names_text text.now (length out.old)
+        needed.old needed.new result fault.new }
+    ensures same { result ≢ pos 0 → out.new ≡ out.old }
+{
+    match write_all_names(alloc, text, out, needed) {
         Ok(()) => 0,
         Err(why) => {
             *fault = fault_of(why);
@@ -124,6 +163,9 @@ pub extern "C" fn phase_eval(
 /// The state has the last samples before the block, one less than there are taps, the oldest first,
 /// and zeros where there were none; at 0 it has those of the block too. What stands behind the
 /// values stays. `done` is how many of them are right.
+///
+/// It takes memory for the filter, and gives it back. What is refused is looked at in this order:
+/// the taps and the shift, the length of the state, room, memory, the range of each value.
 #[unsafe(no_mangle)]
 pub extern "C" fn phase_fir(
     alloc: Global,
@@ -141,6 +183,33 @@ pub extern "C" fn phase_fir(
     ensures same { result ≢ pos 0 → state.new ≡ state.old }
 {
     match filter_block(alloc, taps, shift, state, block, out, done) {
+        Ok(()) => 0,
+        Err(why) => filter_status_of(why),
+    }
+}
+
+/// Answers 0 with what a filter gives at each sample of a block, written over the sample, or a
+/// status that tells why not.
+///
+/// The state is as `phase_fir` has it. `done` is how many values are right, in the first places of
+/// the block; behind them it has its samples still. It takes memory and refuses as `phase_fir`,
+/// but wants no room.
+#[unsafe(no_mangle)]
+pub extern "C" fn phase_fir_in_place(
+    alloc: Global,
+    taps: &[i64],
+    shift: u32,
+    state: &mut [i64],
+    block: &mut [i64],
+    done: &mut usize,
+) -> i32
+    ensures all { result ≡ pos 0 → FiltersAll taps.now shift state.old state.new block.old
+        block.old block.new done.new }
+    ensures stops { result ≢ pos 0 → FilterStops taps.now shift state.old block.old
+        block.old block.new done.new result }
+    ensures same { result ≢ pos 0 → state.new ≡ state.old }
+{
+    match filter_in_place(alloc, taps, shift, state, block, done) {
         Ok(()) => 0,
         Err(why) => filter_status_of(why),
     }

@@ -1,8 +1,8 @@
 //! A filter over a block of samples, which goes on where the block before it ended.
 ghost use Rattle.std.specs.Prelude.{◌≡◌, ◌≤◌, ◌<◌, ◌+◌, ◌++◌, ℤ, List, length, take, drop, OnOk, OnErr, IfOk, IfErr};
 ghost use Rattle.graph_lang.specs.phase_accum.Sends.{AreSends, IsSend};
-ghost use Rattle.stream_eval.specs.stream_filters.Filter.{AreTaps, StandsFor};
-ghost use Rattle.phase_c.specs.Filtered.{FiltersAll, RefusesBlock, filter_status_of, first_outputs, output_behind};
+ghost use Rattle.stream_eval.specs.stream_filters.Filter.{StandsFor};
+ghost use Rattle.phase_c.specs.Filtered.{AreOfFilter, FiltersAll, RefusesBlock, filter_status_of, first_outputs, output_behind};
 
 use std::alloc::Global;
 use stream_eval::stream_lists::stream_filters::{Fir, FirFault};
@@ -35,7 +35,7 @@ pub(crate) fn filter_status_of(why: FilterRefusal) -> i32
     }
 }
 
-/// Has a filter take these samples, whatever it answers.
+/// Has a filter take these samples.
 fn take_in(fir: &mut Fir, samples: &[i64])
     ensures stands { (before : List ℤ) → StandsFor fir.old before
         → StandsFor fir.new (before ++ samples.now) }
@@ -43,7 +43,7 @@ fn take_in(fir: &mut Fir, samples: &[i64])
     ensures shift { fir.new.shift ≡ fir.old.shift }
 {
     for x in samples {
-        let _ = fir.step(*x);
+        fir.take(*x);
     }
 }
 
@@ -70,7 +70,7 @@ fn steps(fir: &mut Fir, block: &[i64], out: &mut [i64]) -> usize
 }
 
 /// Keeps the last samples, as many as there were.
-fn keep(state: &mut [i64], block: &[i64])
+pub(crate) fn keep(state: &mut [i64], block: &[i64])
     ensures { state.new ≡ drop (length block.now) (state.old ++ block.now) }
 {
     let kept = state.len();
@@ -83,29 +83,38 @@ fn keep(state: &mut [i64], block: &[i64])
     state[kept - count..].copy_from_slice(block);
 }
 
-/// A filter that has taken the samples of a state, where the state is one of its.
-fn filter_behind(
+/// A filter that has taken the samples of a state, where the state is one of its, and where so many
+/// samples have room for their values. Whether there is memory is told last.
+pub(crate) fn filter_behind(
     alloc: Global,
     taps: &[i64],
     shift: u32,
     state: &[i64],
+    samples: usize,
+    room: usize,
 ) -> Result<Fir, FilterRefusal>
     ensures stands { IfOk result (λ fir. StandsFor fir state.now) }
     ensures taps { IfOk result (λ fir. fir.taps ≡ taps.now) }
     ensures shift { IfOk result (λ fir. fir.shift ≡ shift) }
-    ensures are_taps { OnOk result (AreTaps taps.now shift) }
-    ensures long { OnOk result (length state.now + 1 ≡ length taps.now) }
-    ensures refused { (block old : List ℤ) → IfErr result (λ why.
-        RefusesBlock taps.now shift state.now block old old 0 why) }
+    ensures of_filter { OnOk result (AreOfFilter taps.now shift state.now) }
+    ensures room { OnOk result (samples ≤ room) }
+    ensures refused { (block old : List ℤ) → length block ≡ samples → length old ≡ room
+        → IfErr result (λ why. RefusesBlock taps.now shift state.now block old old 0 why) }
 {
-    let mut fir = match Fir::new(alloc, taps, shift) {
-        Ok(fir) => fir,
+    let made = match Fir::new(alloc, taps, shift) {
+        Ok(fir) => Some(fir),
         Err(FirFault::BadTaps) => return Err(FilterRefusal::Taps),
-        Err(FirFault::OutOfMemory) => return Err(FilterRefusal::OutOfMemory),
+        Err(FirFault::OutOfMemory) => None,
     };
     if state.len() + 1 != taps.len() {
         return Err(FilterRefusal::Counts);
     }
+    if room < samples {
+        return Err(FilterRefusal::Room);
+    }
+    let Some(mut fir) = made else {
+        return Err(FilterRefusal::OutOfMemory);
+    };
     take_in(&mut fir, state);
     Ok(fir)
 }
@@ -128,13 +137,10 @@ pub(crate) fn filter_block(
     ensures same { OnErr result (state.new ≡ state.old) }
 {
     *done = 0;
-    let mut fir = match filter_behind(alloc, taps, shift, state) {
+    let mut fir = match filter_behind(alloc, taps, shift, state, block.len(), out.len()) {
         Ok(fir) => fir,
         Err(why) => return Err(why),
     };
-    if out.len() < block.len() {
-        return Err(FilterRefusal::Room);
-    }
     *done = steps(&mut fir, block, out);
     if *done < block.len() {
         return Err(FilterRefusal::TooBig);

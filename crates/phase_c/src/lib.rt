@@ -10,6 +10,7 @@ mod evaluate;
 mod exports;
 mod fault;
 mod filter;
+mod in_place;
 mod names;
 mod refusal;
 mod samples;

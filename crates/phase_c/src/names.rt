@@ -1,8 +1,9 @@
-//! The names of a graph's sources and sinks, as a text.
-ghost use Rattle.std.specs.Prelude.{◌≡◌, ◌<◌, ◌++◌, length, IfOk, IfErr, OnOk, OnErr};
-ghost use Rattle.std.specs.List.{All, flat_map};
-ghost use Rattle.graph_lang.specs.graph_base.Graphs.{is_source, task_at};
-ghost use Rattle.phase_c.specs.Names.{HasNames, RefusesNames, WritesNames, name_line, names_text, sources_in};
+//! The names of a graph's sources and sinks, or of all its phasers and tasks, as a text.
+ghost use Rattle.std.specs.Prelude.{◌≡◌, ◌<◌, ◌++◌, length, drop, IfOk, IfErr, OnOk, OnErr};
+ghost use Rattle.std.specs.List.{All, range_with_len};
+ghost use Rattle.graph_lang.specs.graph_base.Graphs.{IsPlace, is_source, task_at};
+ghost use Rattle.phase_c.specs.Names.{HasNames, RefusesNames, WritesNames, all_names_text, name_line, names_text, phasers_text, sources_in, tasks_text};
+ghost use Rattle.phase_c.specs.declared.refusal.Refusal.TheVariants.{Room};
 ghost use Rattle.phase_c.specs.Refusals.{RefusesText};
 
 use crate::refusal::Refusal;
@@ -33,15 +34,45 @@ fn sources_of(alloc: Global, graph: &Graph) -> Result<Vec<usize>, AllocError>
     Ok(sources)
 }
 
+/// Appends a name and a line end.
+fn push_name(names: &mut Vec<u8>, graph: &Graph, at: Place) -> Result<(), AllocError>
+    requires { IsPlace graph.now at }
+    ensures { OnOk result (names.new.items ≡ names.old.items ++ name_line graph.now at) }
+{
+    names.extend_from_slice(graph.name(at).as_bytes())?;
+    names.push(b'\n')?;
+    Ok(())
+}
+
 /// Appends the names of these tasks, each followed by a line end.
-fn push_names(names: &mut Vec<u8>, graph: &Graph, tasks: &[usize]) -> Result<(), AllocError>
+fn push_tasks(names: &mut Vec<u8>, graph: &Graph, tasks: &[usize]) -> Result<(), AllocError>
     requires { All (λ t. t < length graph.now.tasks) tasks.now }
     ensures { OnOk result (names.new.items
-        ≡ names.old.items ++ flat_map (name_line graph.now) tasks.now) }
+        ≡ names.old.items ++ tasks_text graph.now tasks.now) }
 {
     for k in 0..tasks.len() {
-        names.extend_from_slice(graph.name(Place::Task(tasks[k])).as_bytes())?;
-        names.push(b'\n')?;
+        push_name(names, graph, Place::Task(tasks[k]))?;
+    }
+    Ok(())
+}
+
+/// Appends the names of all phasers, each followed by a line end.
+fn push_phasers(names: &mut Vec<u8>, graph: &Graph) -> Result<(), AllocError>
+    ensures { OnOk result (names.new.items ≡ names.old.items ++ phasers_text graph.now) }
+{
+    for p in 0..graph.phasers() {
+        push_name(names, graph, Place::Phaser(p))?;
+    }
+    Ok(())
+}
+
+/// Appends the names of all tasks, each followed by a line end.
+fn push_all_tasks(names: &mut Vec<u8>, graph: &Graph) -> Result<(), AllocError>
+    ensures { OnOk result (names.new.items ≡ names.old.items
+        ++ tasks_text graph.now (range_with_len 0 (length graph.now.tasks))) }
+{
+    for t in 0..graph.tasks() {
+        push_name(names, graph, Place::Task(t))?;
     }
     Ok(())
 }
@@ -53,14 +84,24 @@ fn names_of(alloc: Global, graph: &Graph) -> Result<Vec<u8>, AllocError>
     let sources = sources_of(alloc, graph)?;
     let sinks = sinks_of(alloc, graph)?;
     let mut names = Vec::new(alloc);
-    push_names(&mut names, graph, &sources)?;
-    push_names(&mut names, graph, &sinks)?;
+    push_tasks(&mut names, graph, &sources)?;
+    push_tasks(&mut names, graph, &sinks)?;
     Ok(names)
 }
 
-/// The names of the graph of a text.
+/// The names of all phasers and then of all tasks, each followed by a line end.
+fn all_names_of(alloc: Global, graph: &Graph) -> Result<Vec<u8>, AllocError>
+    ensures { IfOk result (λ names. names.items ≡ all_names_text graph.now) }
+{
+    let mut names = Vec::new(alloc);
+    push_phasers(&mut names, graph)?;
+    push_all_tasks(&mut names, graph)?;
+    Ok(names)
+}
+
+/// The names of the sources and sinks of the graph of a text.
 fn names_in_text(alloc: Global, text: &[u8]) -> Result<Vec<u8>, Refusal>
-    ensures names { IfOk result (λ names. HasNames text.now names.items) }
+    ensures names { IfOk result (λ names. HasNames names_text text.now names.items) }
     ensures refused { IfErr result (λ why. RefusesText text.now why) }
 {
     let graph = read_graph(alloc, text)?;
@@ -68,26 +109,64 @@ fn names_in_text(alloc: Global, text: &[u8]) -> Result<Vec<u8>, Refusal>
     Ok(names)
 }
 
-/// Writes the names of the graph of a text, and how many bytes they are.
+/// The names of all phasers and tasks of the graph of a text.
+fn all_names_in_text(alloc: Global, text: &[u8]) -> Result<Vec<u8>, Refusal>
+    ensures names { IfOk result (λ names. HasNames all_names_text text.now names.items) }
+    ensures refused { IfErr result (λ why. RefusesText text.now why) }
+{
+    let graph = read_graph(alloc, text)?;
+    let names = all_names_of(alloc, &graph)?;
+    Ok(names)
+}
+
+/// Writes these names where they have room, and how many bytes they are.
+fn write(names: &[u8], out: &mut [u8], needed: &mut usize) -> Result<(), Refusal>
+    ensures done { OnOk result (out.new ≡ names.now ++ drop (length names.now) out.old) }
+    ensures needed { needed.new ≡ length names.now }
+    ensures refused { IfErr result (λ why.
+        (why ≡ Room) × (length out.old < length names.now)) }
+    ensures same { OnErr result (out.new ≡ out.old) }
+{
+    *needed = names.len();
+    if names.len() > out.len() {
+        return Err(Refusal::Room);
+    }
+    out[..names.len()].copy_from_slice(names);
+    Ok(())
+}
+
+/// Writes the names of the sources and sinks of the graph of a text, and how many bytes they are.
 pub(crate) fn write_names(
     alloc: Global,
     text: &[u8],
     out: &mut [u8],
     needed: &mut usize,
 ) -> Result<(), Refusal>
-    ensures done { OnOk result (WritesNames text.now out.old out.new needed.new) }
+    ensures done { OnOk result (WritesNames names_text text.now out.old out.new needed.new) }
     ensures refused { IfErr result (λ why.
-        RefusesNames text.now (length out.old) needed.old needed.new why) }
+        RefusesNames names_text text.now (length out.old) needed.old needed.new why) }
     ensures same { OnErr result (out.new ≡ out.old) }
 {
-    let names = match names_in_text(alloc, text) {
-        Ok(names) => names,
-        Err(why) => return Err(why),
-    };
-    *needed = names.len();
-    if names.len() > out.len() {
-        return Err(Refusal::Room);
+    match names_in_text(alloc, text) {
+        Ok(names) => write(&names, out, needed),
+        Err(why) => Err(why),
     }
-    out[..names.len()].copy_from_slice(&names);
-    Ok(())
+}
+
+/// Writes the names of all phasers and tasks of the graph of a text, and how many bytes they are.
+pub(crate) fn write_all_names(
+    alloc: Global,
+    text: &[u8],
+    out: &mut [u8],
+    needed: &mut usize,
+) -> Result<(), Refusal>
+    ensures done { OnOk result (WritesNames all_names_text text.now out.old out.new needed.new) }
+    ensures refused { IfErr result (λ why.
+        RefusesNames all_names_text text.now (length out.old) needed.old needed.new why) }
+    ensures same { OnErr result (out.new ≡ out.old) }
+{
+    match all_names_in_text(alloc, text) {
+        Ok(names) => write(&names, out, needed),
+        Err(why) => Err(why),
+    }
 }

@@ -6,6 +6,9 @@ use crate::fault::PhaseFault;
 use crate::refusal::Refusal;
 use graph_lang::{FaultKind, Place};
 
+/// The version of the library: 10,000 times its first number, 100 times its second, and its third.
+pub const VERSION: u32 = 100;
+
 /// The number of a kind of fault.
 fn kind_number(kind: FaultKind) -> i32
     ensures { result ≡ pos (kind_number kind) }

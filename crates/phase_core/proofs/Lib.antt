@@ -1,3 +1,4 @@
+pub mod Admitting
 pub mod Boarded
 pub mod CoreSteps
 pub mod Joining

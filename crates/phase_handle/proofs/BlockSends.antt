@@ -1,5 +1,5 @@
 -- The sends of a block, one for each value.
-use Rattle.std.proofs.Common.{◌≡◌, ℕ, ◌+◌, ◌<◌, List, [], ◌∷◌, ◌++◌, ℤ, map, length, take, get_or, set, sym, subst}
+use Rattle.std.proofs.Common.{ℕ, ◌+◌, ◌<◌, List, [], ◌∷◌, ◌++◌, ℤ, map, length, take, get_or, set, sym, subst}
 use Rattle.std.proofs.lemmas.List.{map_more, take_more_set}
 use Rattle.phase_core.specs.phase_accum.Operations.{Operation}
 use Rattle.phase_core.specs.phase_accum.Parcels.{Parcel, StandsForSends}

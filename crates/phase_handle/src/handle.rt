@@ -16,6 +16,13 @@ pub struct Handle {
     ghost fits: { live ≡ is_some place.phaser },
 }
 
+/// Answers the value, which may go to another thread: C may hand on what it keeps.
+fn kept_by_c<T: Send>(value: T) -> T
+    ensures { result ≡ value }
+{
+    value
+}
+
 impl Handle {
     /// Takes the phaser out. The handle has none then.
     pub fn take(&mut self, alloc: Global) -> Box<AnyPhaser, Global>
@@ -40,7 +47,7 @@ impl Handle {
             place: Place::of(Slot::of(phaser)),
             live: true,
         };
-        let Handle { place, live: _ } = mem::replace(self, one);
+        let Handle { place, live: _ } = mem::replace(self, kept_by_c(one));
         place.close();
     }
 }

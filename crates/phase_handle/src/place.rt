@@ -22,6 +22,9 @@ impl Model for Place {
     ghost also_owns = { λ p. place_owns p.alloc p.at p.phaser };
 }
 
+// Any thread may have a phaser, one at a time.
+unsafe impl Send for Place {}
+
 impl Place {
     /// Makes a place of a slot.
     pub fn of(slot: Slot<AnyPhaser, Global>) -> Place

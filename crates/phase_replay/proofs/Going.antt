@@ -1,5 +1,6 @@
 -- A replayer on its way: what is written, and what it owes still.
 use Rattle.std.proofs.Common.{◌≡◌, ℕ, ◌+◌, ◌<◌, ◌≤◌, List, ◌∷◌, ◌++◌, length, take, drop, get_or, sym, ◌∙◌, ap, subst, append_assoc, take-append-drop, add-one, drop-cons, arith, length-drop, Some, None, refl, MatchOption}
+use Rattle.std.specs.Io.KnownBytes.{Appends}
 use Rattle.std.proofs.KnownBytes.{Appends-trans}
 use Rattle.std.proofs.lemmas.List.{length-take}
 use Rattle.std.specs.declared.option.Option.{Option}
@@ -70,3 +71,10 @@ length-left n i limit bytes h = omega (arith, length-take n (drop i bytes), leng
 pub none_said : {A : Type 0} (o : Option A) (P : Type 0) (Q : A → Type 0) → MatchOption o P Q → ((x : A) → o ≡ Some x → ⊥) → P
 none_said None P Q p none = p
 none_said (Some x) P Q p none = absurd (none x refl)
+
+-- a step that writes all that was left
+pub goes_ended : (a b c : Option (List ℕ)) (replayer : Replayer) (later owed : List ℕ) → Goes a b replayer later owed
+    → ((rest : List ℕ) → Owes replayer later rest → Appends b c rest) → Appends a c owed
+goes_ended a b c replayer later owed goes step =
+    subst (Appends a c) (sym goes.whole)
+    (Appends-trans a b c goes.sent goes.rest goes.appends (step goes.rest goes.owes))

@@ -130,3 +130,8 @@ pub owes_prefix : (old new : Option (List ℕ)) (replayer : Replayer) (waiting l
 owes_prefix old new replayer waiting later owed e owes =
     prefix_of_prefix old new waiting (replies owes.state (lines_after owes.prefix later)) owed
     (owes.owed_is ∙ ap (λ l. l ++ replies owes.state (lines_after owes.prefix later)) (sym e))
+
+-- a replayer that has read nothing, of a script that comes in one piece
+pub owes_piece : (replayer : Replayer) (script : List ℕ) → ((script : List ℕ) → Owes replayer script (replies_of script))
+    → Owes replayer (script ++ []) (replies_of script)
+owes_piece replayer script owes = subst (λ later. Owes replayer later (replies_of script)) (sym (append-nil script)) (owes script)

@@ -11,7 +11,7 @@ use Rattle.watched_io.specs.Prefix.{AppendsPrefix}
 use Rattle.watched_io.specs.States.{WriterState}
 use Rattle.watched_io.specs.Statuses.{Reports, Says}
 use Rattle.watched_io.specs.declared.fault.IoFault.{IoFault}
-use Rattle.watched_io.specs.declared.fault.IoFault.TheVariants.{ReadFault, WriteFault, OutOfMemory}
+use Rattle.phase_replay.specs.Replayer.{FaultIsNoted}
 use Rattle.phase_replay.specs.Replies.{replies_of}
 use Rattle.phase_replay.specs.Scripts.{ScriptState, after_line, reply_of_line, start, state_after}
 
@@ -51,16 +51,11 @@ pub record StopsAt (script front : List ℕ) (number : ℕ) : Type 0 where
 abbrev pub script_line : ℕ → List ℕ
 script_line number = concat (codes "phase: script line " ∷ decimal number ∷ codes "\n" ∷ [])
 
--- a note of a failed write is set by this fault alone
-abbrev pub IsNotedBy : IoFault → WriterState → WriterState → Type 0
-IsNotedBy ReadFault old new = new.failed ≡ old.failed
-IsNotedBy WriteFault old new = new.failed ≡ true
-IsNotedBy OutOfMemory old new = new.failed ≡ old.failed
-
--- the output grew by a prefix of these replies, and a fault was told
+-- the output grew by a prefix of these replies, and a fault was told: a write failed or memory ran
+-- out, since nothing is read
 pub record TextStops (owed : List ℕ) (old new before after : WriterState) : Type 0 where
   pub fault : IoFault
-  pub noted : IsNotedBy fault old new
+  pub noted : FaultIsNoted fault old.failed new.failed
   pub prefix : AppendsPrefix old.written new.written owed
   pub says : Reports fault before after
 

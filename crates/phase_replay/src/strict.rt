@@ -1,14 +1,16 @@
 //! A replay of a script that is at hand, and a strict one, which ends at the first line that is
 //! refused.
-ghost use Rattle.std.specs.Prelude.{◌≡◌, ◌⊎◌};
+ghost use Rattle.std.specs.Prelude.{◌≡◌, ◌⊎◌, OnErr, OnOk};
 ghost use Rattle.std.specs.Io.KnownBytes.{Appends};
+ghost use Rattle.phase_replay.specs.Replayer.{IsNoted};
 ghost use Rattle.phase_replay.specs.Replies.{replies_of};
 ghost use Rattle.phase_replay.specs.Stops.{StrictEnds, TextEnds, TextStops, script_line};
+ghost use Rattle.watched_io.specs.Prefix.{AppendsPrefix};
 ghost use Rattle.watched_io.specs.States.{writer_state};
 ghost use Rattle.watched_io.specs.Statuses.{Says};
-ghost use Rattle.watched_io.specs.Watched.{inner_of};
+ghost use Rattle.watched_io.specs.Watched.{has_failed_of, inner_of};
 
-use crate::replay;
+use crate::replayer::Replayer;
 use crate::stop::first_refused;
 use itoa::Buffer;
 use std::alloc::Global;
@@ -17,6 +19,23 @@ use watched_io::{DONE, IoFault, Watched, report, say};
 
 /// A line of a strict replay is refused.
 const LINE_REFUSED: u8 = 1;
+
+/// Replays a text that is at hand: nothing is read, so its fault is one of writing, or of memory.
+fn replay_at_hand<W: Write>(
+    alloc: Global,
+    text: &[u8],
+    output: &mut Watched<W>,
+) -> Result<(), IoFault>
+    ensures ok { OnOk result (Appends (W.contents (inner_of output.old))
+        (W.contents (inner_of output.new)) (replies_of text.now)) }
+    ensures err { OnErr result (AppendsPrefix (W.contents (inner_of output.old))
+        (W.contents (inner_of output.new)) (replies_of text.now)) }
+    ensures noted { IsNoted result (has_failed_of output.old) (has_failed_of output.new) }
+{
+    let mut replayer = Replayer::new(alloc);
+    replayer.piece(text, output)?;
+    replayer.finish(output)
+}
 
 /// Replays a script, and answers the exit status: 0, or 5 after a fault, whose line then goes to
 /// the fault stream.
@@ -32,7 +51,7 @@ pub(crate) fn replay_text<W: Write, E: Write>(
         (writer_state E.contents faults.old) (writer_state E.contents faults.new) }
     ensures quiet { result ≡ 0 → faults.new ≡ faults.old }
 {
-    match replay(alloc, &mut Watched::new(script), output) {
+    match replay_at_hand(alloc, script, output) {
         Ok(()) => DONE,
         Err(fault) => report(fault, faults),
     }
@@ -68,7 +87,7 @@ fn replay_front<W: Write, E: Write>(
         (writer_state W.contents output.old) (writer_state W.contents output.new)
         (writer_state E.contents faults.old) (writer_state E.contents faults.new) }
 {
-    match replay(alloc, &mut Watched::new(front), output) {
+    match replay_at_hand(alloc, front, output) {
         Ok(()) => report_line(number, faults),
         Err(fault) => report(fault, faults),
     }

@@ -1,16 +1,27 @@
 -- How a run of a graph ends: its status, and what stands on its streams then.
-use Rattle.std.specs.Prelude.{◌≡◌, ◌≢◌, ◌⊎◌, ℕ, List, codes}
+use Rattle.std.specs.Prelude.{◌≡◌, ◌≢◌, ◌⊎◌, ◌≤◌, ℕ, List, codes, get_or, Some}
+use Rattle.std.specs.List.{All}
 use Rattle.std.specs.declared.option.Option.{Option}
 use Rattle.stream_workers.specs.graph_commands.Explained.{IsNoJobExplained, IsRefusedExplained, SaysFurther}
 use Rattle.stream_workers.specs.graph_commands.FileJobs.{IsJobOf, Known}
 use Rattle.stream_workers.specs.graph_commands.GraphRuns.{AsksSink, IsNoJob, IsNoSink, IsTooBig, IsUnwritten, sinks_text}
 use Rattle.stream_workers.specs.graph_commands.watched_io.Statuses.{Says}
+use Rattle.stream_workers.specs.graph_commands.stream_lists.graph_base.Graphs.{task_at}
 use Rattle.stream_workers.specs.graph_commands.stream_lists.Jobs.{Job, with_starts}
+use Rattle.stream_workers.specs.graph_commands.stream_lists.Lists.{lines_of, start_in}
 use Rattle.stream_workers.specs.graph_commands.stream_lists.Ranges.{Fits}
+use Rattle.stream_workers.specs.graph_commands.stream_lists.Spans.{lengths_of}
 use Rattle.stream_workers.specs.graph_commands.watched_io.Prefix.{AppendsPrefix}
 use Rattle.std.specs.Io.KnownBytes.{Appends}
 use Rattle.stream_workers.specs.graph_commands.watched_io.States.{WriterState, writer_state}
 use Rattle.stream_workers.specs.graph_commands.watched_io.declared.watched.Watched.{Watched}
+
+-- each sink that joins now begins at most one phase behind the last of its phaser's list
+abbrev pub BeginInTime : List ℕ → Job → Type 0
+BeginInTime starts job =
+    All (λ line. (start : ℕ) → start_in (with_starts starts job) line.0 ≡ Some start
+    → start ≤ get_or (lengths_of job) (get_or (task_at job.graph line.0).inputs 0 0) 0)
+    (lines_of (with_starts starts job))
 
 -- the files tell a job whose values fit for some starts of its sinks that join now, and the lists
 -- of the sinks that were asked for were written, with these starts
@@ -19,6 +30,7 @@ pub record Runs (known : Known) (name : List ℕ) (asked : Option (List ℕ))
   pub job : Job
   pub job_of : IsJobOf known name job
   pub starts : List ℕ
+  pub in_time : BeginInTime starts job
   pub fits : Fits (with_starts starts job)
   pub sink : Option ℕ
   pub asks : AsksSink job asked sink
@@ -30,6 +42,7 @@ pub record RunsPrefix (known : Known) (name : List ℕ) (asked : Option (List �
   pub job : Job
   pub job_of : IsJobOf known name job
   pub starts : List ℕ
+  pub in_time : BeginInTime starts job
   pub fits : Fits (with_starts starts job)
   pub sink : Option ℕ
   pub asks : AsksSink job asked sink

@@ -43,6 +43,10 @@ pub record FirState : Type 0 where
   pub shift : ℕ
   pub window : List ℤ
 
+-- with the sample x in front of the window, which holds as many samples as there are taps
+abbrev pub after_sample : FirState → ℤ → FirState
+after_sample fir x = record fir { window = take (length fir.taps) (x ∷ fir.window) }
+
 -- the window stands for these samples: it shows the last ones, and 0 before the first
 pub record StandsFor (fir : FirState) (samples : List ℤ) : Type 0 where
   pub shows : (j : ℕ) → j < length fir.taps → at_place fir.window j ≡ back samples j

@@ -1,5 +1,5 @@
 -- What the fields of a filter stand for.
-use Rattle.std.specs.Prelude.{◌≡◌, ◌+◌, ◌-◌, ◌*◌, ◌^◌, ◌<◌, ◌≤◌, unsigned_abs, ℕ, ℤ, pos, List, ◌∷◌, length, take, drop, get_or, Result}
+use Rattle.std.specs.Prelude.{◌≡◌, ◌+◌, ◌-◌, ◌*◌, ◌^◌, ◌<◌, ◌≤◌, unsigned_abs, ℕ, ℤ, pos, List, length, take, drop, get_or, Result}
 use Rattle.stream_filters.specs.Filter.{FirState, AreTaps, shifted_down, weighted, weight, at_place}
 use Rattle.std.specs.List.{All, position_from}
 use Rattle.stream_filters.specs.Range.{ranged, is_out_of_range}
@@ -13,10 +13,6 @@ fir_view f = record { taps = f.taps.items; shift = f.shift; window = f.window.it
 -- the answer that a window gives
 abbrev pub answer_at : List ℤ → ℕ → List ℤ → Result ℤ TooBigValue
 answer_at taps shift window = ranged (shifted_down (weighted (at_place window) taps) shift)
-
--- with the sample x in front of the window, which holds as many samples as there are taps
-abbrev pub after_sample : FirState → ℤ → FirState
-after_sample fir x = record fir { window = take (length fir.taps) (x ∷ fir.window) }
 
 -- taps and samples have 32 bits, and no sum over samples of at most this limit leaves 64 bits
 pub record IsNarrow (taps samples : List ℤ) : Type 0 where

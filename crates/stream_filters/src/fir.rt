@@ -1,6 +1,6 @@
 //! The filter with a finite window.
 ghost use Rattle.std.specs.Prelude.{◌≡◌, ◌↔◌, ◌^◌, ◌<◌, ◌≤◌, List, [], ◌∷◌, ◌++◌, ℤ, IsTrue, IfOk};
-ghost use Rattle.stream_filters.specs.Filter.{AreTaps, StandsFor, output_after, weight};
+ghost use Rattle.stream_filters.specs.Filter.{AreTaps, StandsFor, after_sample, output_after, weight};
 ghost use Rattle.stream_filters.specs.Range.{ranged};
 
 use crate::fault::{FirFault, TooBigValue};
@@ -65,7 +65,7 @@ impl Model for Fir {
 }
 
 impl Fir {
-    ghost use Rattle.stream_filters.specs.Inside.{after_sample, answer_at};
+    ghost use Rattle.stream_filters.specs.Inside.{answer_at};
 
     /// Makes a filter with these taps and a shift in bits, before its first sample.
     ///
@@ -111,9 +111,16 @@ impl Fir {
         self.answer()
     }
 
-    /// Puts the sample `x` in front of the window, which gives up its oldest one where it is full.
-    fn take(&mut self, x: i64)
-        ensures { self.new ≡ after_sample self.old x }
+    /// Takes the sample `x` into the window, which gives up its oldest one where it is full, and
+    /// answers nothing: less work than `step`, for samples whose sums nobody wants. It takes no
+    /// memory.
+    pub fn take(&mut self, x: i64)
+        ensures window { self.new ≡ after_sample self.old x }
+        ensures stands { (samples : List ℤ) → StandsFor self.old samples
+            → StandsFor self.new (samples ++ x ∷ []) }
+
+        ensures taps { self.new.taps ≡ self.old.taps }
+        ensures shift { self.new.shift ≡ self.old.shift }
     {
         self.window.push_front(x);
         self.wide_steps_left = if x.unsigned_abs() > self.limit {

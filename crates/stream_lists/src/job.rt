@@ -193,8 +193,9 @@ fn is_source_line(graph: &Graph, t: usize) -> bool
     matches!(graph.task(t).kind, Kind::Source)
 }
 
-/// The number of a source among the sources: how many stand above it.
-pub(crate) fn number_of_source(graph: &Graph, t: usize) -> usize
+/// Returns the number of a source among the sources: how many stand above task number `t`. It takes
+/// no memory.
+pub fn number_of_source(graph: &Graph, t: usize) -> usize
     requires { t ≤ length graph.now.tasks }
     ensures { result ≡ source_number graph.now.tasks t }
 {

@@ -1,14 +1,17 @@
 //! Which tasks signal in one phase of a phaser with `any`.
-ghost use Rattle.std.specs.Prelude.{◌≡◌, ◌<◌, length, get_or};
+ghost use Rattle.std.specs.Prelude.{◌≡◌, ◌<◌, ◌≤◌, length, get_or, IfOk};
 ghost use Rattle.std.specs.List.{All, list_any, range_with_len};
 ghost use Rattle.graph_base.specs.Graphs.{phaser_at};
-ghost use Rattle.stream_lists.specs.Inside.{IsShort};
+ghost use Rattle.stream_lists.specs.Inside.{IsShort, given};
 ghost use Rattle.stream_lists.specs.Meetings.{is_any, meet_on, meeting_at, meets_above, meets_on};
-ghost use Rattle.stream_lists.specs.Spans.{nowhere};
+ghost use Rattle.stream_lists.specs.Spans.{nowhere, spans_of};
 
-use crate::lengths::end_on;
+use crate::SAMPLES_MAX;
+use crate::lengths::{all_lengths, end_on};
 use crate::span::Span;
+use crate::task_spans::all_spans;
 use graph_base::{Graph, Op};
+use std::alloc::{AllocError, Global};
 
 /// The offset of task number `t`.
 fn offset_at(spans: &[Span], t: usize) -> u128
@@ -91,4 +94,28 @@ pub(crate) fn first_meeting(graph: &Graph, spans: &[Span]) -> Option<u64>
         }
     }
     None
+}
+
+/// Returns whether task number `t` meets a task of an earlier line on phaser number `p`, in a graph
+/// with these samples of its sources, one list for each in the order of their lines: the phaser is
+/// one with `any`, and both signal in one of its phases. So it tells where a task meets one, of
+/// which `Job::new` told the line.
+///
+/// It takes memory for a span of each task and a length of each phaser. No list is composed.
+pub fn meets_on(
+    alloc: Global,
+    graph: &Graph,
+    samples: &[Vec<i64>],
+    t: usize,
+    p: usize,
+) -> Result<bool, AllocError>
+    requires task { t < length graph.now.tasks }
+    requires phaser { p < length graph.now.phasers }
+    requires few { All (λ list. length list.items ≤ SAMPLES_MAX) samples.now }
+    ensures { IfOk result (λ is. is
+        ≡ meets_on graph.now (spans_of (given graph.now samples.now)) t p) }
+{
+    let lengths = all_lengths(alloc, graph, samples)?;
+    let spans = all_spans(alloc, graph, samples, &lengths)?;
+    Ok(meets(graph, &spans, t, p))
 }

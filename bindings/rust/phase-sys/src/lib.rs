@@ -3,6 +3,8 @@
 
 use core::ffi::c_void;
 
+pub const PHASE_VERSION: u32 = 100;
+
 pub const PHASE_OK: i32 = 0;
 pub const PHASE_E_GRAPH: i32 = -1;
 pub const PHASE_E_COUNTS: i32 = -2;
@@ -132,6 +134,9 @@ pub struct PhaseStanding {
 }
 
 unsafe extern "C" {
+    /// The version of the library that is linked.
+    pub safe fn phase_version() -> u32;
+
     /// # Safety
     /// Each pointer is to as many values as its length says, and what is written overlaps nothing
     /// else.
@@ -145,6 +150,17 @@ unsafe extern "C" {
     /// # Safety
     /// As of `phase_check`.
     pub fn phase_names(
+        text: *const u8,
+        text_len: usize,
+        out: *mut u8,
+        out_len: usize,
+        needed: *mut usize,
+        fault: *mut PhaseFault,
+    ) -> i32;
+
+    /// # Safety
+    /// As of `phase_check`.
+    pub fn phase_all_names(
         text: *const u8,
         text_len: usize,
         out: *mut u8,
@@ -186,8 +202,22 @@ unsafe extern "C" {
         done: *mut usize,
     ) -> i32;
 
-    /// # Safety As of `phase_check`. The place is all zero or as the last call left it, and on the
-    /// thread of the call that made its phaser; the same goes for the calls below.
+    /// # Safety
+    /// As of `phase_check`.
+    pub fn phase_fir_in_place(
+        taps: *const i64,
+        taps_len: usize,
+        shift: u32,
+        state: *mut i64,
+        state_len: usize,
+        block: *mut i64,
+        block_len: usize,
+        done: *mut usize,
+    ) -> i32;
+
+    /// # Safety
+    /// As of `phase_check`. The place is all zero or as the last call left it, and no other call on
+    /// it is running; the same goes for the calls below.
     pub fn phase_phaser_new(
         operation: u32,
         bound: u64,

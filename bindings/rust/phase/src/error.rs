@@ -12,8 +12,13 @@ pub enum Error {
         /// The kind.
         kind: FaultKind,
     },
-    /// There is not one list of samples for each source, or one has more than 67,108,864.
+    /// There is not one list of samples for each source.
     Counts,
+    /// A source has more than 67,108,864 samples.
+    TooManySamples {
+        /// The source, from 0 on in the order of the lines.
+        source: usize,
+    },
     /// A sample is `i64::MIN`, which is none: its source, and its place there.
     Sample {
         /// The source, from 0 on in the order of the lines.
@@ -32,7 +37,8 @@ pub enum Error {
     OutOfMemory,
 }
 
-/// A phaser or a task of a graph, each numbered from 0 on in the order of their lines.
+/// A phaser or a task of a graph, each numbered from 0 on in the order of their lines, as
+/// [`all_names`](crate::all_names) has them.
 #[derive(Clone, Copy, Debug, PartialEq, Eq)]
 pub enum Place {
     /// A phaser.
@@ -85,6 +91,9 @@ impl fmt::Display for Error {
         match self {
             Error::Graph { line, kind } => write!(f, "graph line {line}: {kind}"),
             Error::Counts => f.write_str("not one list of samples for each source"),
+            Error::TooManySamples { source } => {
+                write!(f, "source {source}: more than {PHASE_SAMPLES_MAX} samples")
+            }
             Error::Sample { source, at } => write!(f, "source {source}: sample {at} is i64::MIN"),
             Error::TooBig { place: Place::Phaser(p), at } => {
                 write!(f, "too big at phaser {p} {at}")

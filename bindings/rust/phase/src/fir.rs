@@ -2,7 +2,7 @@
 use phase_sys::*;
 use std::fmt;
 
-/// Why a block was not filtered, or not to its end.
+/// Why there is no such filter, or a block was not filtered, or not to its end.
 #[derive(Clone, Copy, Debug, PartialEq, Eq)]
 pub enum FirError {
     /// There are 1 to 64 taps of a magnitude of at most 2^31 - 1, and a shift is at most 62.
@@ -37,12 +37,13 @@ impl std::error::Error for FirError {}
 /// the shift and rounded down.
 ///
 /// ```
-/// let mut sums = phase::Fir::new(&[1, 1], 0);
+/// let mut sums = phase::Fir::new(&[1, 1], 0)?;
 /// let mut out = [0; 3];
 /// sums.filter(&[1, 2, 3], &mut out)?;
 /// assert_eq!(out, [1, 3, 5]);
 /// sums.filter(&[4], &mut out)?;
 /// assert_eq!(out, [7, 3, 5]);
+/// assert_eq!(phase::Fir::new(&[1], 63), Err(phase::FirError::Taps));
 /// # Ok::<(), phase::FirError>(())
 /// ```
 #[derive(Clone, Debug, PartialEq, Eq)]
@@ -53,9 +54,13 @@ pub struct Fir {
 }
 
 impl Fir {
-    /// Returns a filter before its first sample. Whether there is one with these taps is told with a block.
-    pub fn new(taps: &[i64], shift: u32) -> Fir {
-        Fir { taps: taps.to_vec(), shift, state: vec![0; taps.len().saturating_sub(1)] }
+    /// Returns a filter before its first sample. It is refused as `Taps` or `OutOfMemory`.
+    pub fn new(taps: &[i64], shift: u32) -> Result<Fir, FirError> {
+        let state = vec![0; taps.len().saturating_sub(1)];
+        let mut fir = Fir { taps: taps.to_vec(), shift, state };
+        // A block of no sample tells whether there is such a filter.
+        fir.filter_in_place(&mut [])?;
+        Ok(fir)
     }
 
     /// Filters a block, one value for each sample. After an error the filter stands where it stood.
@@ -77,13 +82,46 @@ impl Fir {
                 &mut done,
             )
         };
-        match status {
-            PHASE_OK => Ok(()),
-            PHASE_E_TAPS => Err(FirError::Taps),
-            PHASE_E_ROOM => Err(FirError::Room),
-            PHASE_E_TOO_BIG => Err(FirError::TooBig { done }),
-            PHASE_E_MEMORY => Err(FirError::OutOfMemory),
-            other => unreachable!("libphase answered a status that is none: {other}"),
-        }
+        told(status, done)
+    }
+
+    /// Filters a block, and writes each value over its sample. After an error the filter stands where it
+    /// stood; at `TooBig` the values that are right are written, and the samples behind them stay.
+    ///
+    /// ```
+    /// let mut sums = phase::Fir::new(&[1, 1], 0)?;
+    /// let mut block = [1, 2, 3];
+    /// sums.filter_in_place(&mut block)?;
+    /// assert_eq!(block, [1, 3, 5]);
+    /// # Ok::<(), phase::FirError>(())
+    /// ```
+    pub fn filter_in_place(&mut self, block: &mut [i64]) -> Result<(), FirError> {
+        let mut done = 0;
+        // SAFETY: as above.
+        let status = unsafe {
+            phase_fir_in_place(
+                self.taps.as_ptr(),
+                self.taps.len(),
+                self.shift,
+                self.state.as_mut_ptr(),
+                self.state.len(),
+                block.as_mut_ptr(),
+                block.len(),
+                &mut done,
+            )
+        };
+        told(status, done)
+    }
+}
+
+/// What a status says, of a block of which so many values are right.
+fn told(status: i32, done: usize) -> Result<(), FirError> {
+    match status {
+        PHASE_OK => Ok(()),
+        PHASE_E_TAPS => Err(FirError::Taps),
+        PHASE_E_ROOM => Err(FirError::Room),
+        PHASE_E_TOO_BIG => Err(FirError::TooBig { done }),
+        PHASE_E_MEMORY => Err(FirError::OutOfMemory),
+        other => unreachable!("libphase answered a status that is none: {other}"),
     }
 }

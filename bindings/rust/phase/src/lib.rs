@@ -1,5 +1,5 @@
 //! Graphs of whole-number filters: the values of each sink, exactly, or the first that is out of
-//! range; and [phasers](Phaser) for one thread.
+//! range; [filters](Fir) over blocks of samples; and [phasers](Phaser) whose calls never block.
 //!
 //! ```
 //! let graph = "phaser x sum 4\n\
@@ -24,8 +24,8 @@ pub use error::{Error, FaultKind, Place};
 pub use fir::{Fir, FirError};
 pub use phase_sys::PhaseCounts as Counts;
 use phase_sys::{
-    PHASE_E_ROOM, PHASE_NO_START, PHASE_OK, PhaseCounts, PhaseFault, phase_check, phase_eval,
-    phase_names,
+    PHASE_E_ROOM, PHASE_NO_START, PHASE_OK, PHASE_SAMPLES_MAX, PhaseCounts, PhaseFault,
+    phase_all_names, phase_check, phase_eval, phase_names,
 };
 pub use phaser::{Got, GotBlock, Mode, Operation, Phaser, Single, Standing};
 pub use phaser_error::PhaserError;
@@ -77,7 +77,46 @@ pub struct Names {
 /// ```
 pub fn names(graph: impl AsRef<[u8]>) -> Result<Names, Error> {
     let text = graph.as_ref();
-    let sources = check(text)?.sources;
+    let mut names = named(phase_names, text)?.into_iter();
+    Ok(Names { sources: names.by_ref().take(check(text)?.sources).collect(), sinks: names.collect() })
+}
+
+/// The names of all phasers and tasks of a graph, each in the order of their lines.
+#[derive(Clone, Debug, Default, PartialEq, Eq)]
+pub struct AllNames {
+    /// The names of the phasers.
+    pub phasers: Vec<String>,
+    /// The names of the tasks, sources and sinks among them.
+    pub tasks: Vec<String>,
+}
+
+/// Returns the names of all phasers and tasks of a graph, as a [`Place`] counts them.
+///
+/// ```
+/// let names = phase::all_names("phaser x sum 4\nsource s s.csv -> x\nsink a x")?;
+/// assert_eq!(names.phasers, ["x"]);
+/// assert_eq!(names.tasks, ["s", "a"]);
+/// # Ok::<(), phase::Error>(())
+/// ```
+pub fn all_names(graph: impl AsRef<[u8]>) -> Result<AllNames, Error> {
+    let text = graph.as_ref();
+    let mut names = named(phase_all_names, text)?.into_iter();
+    let phasers = names.by_ref().take(check(text)?.phasers).collect();
+    Ok(AllNames { phasers, tasks: names.collect() })
+}
+
+/// A call that writes names of a graph.
+type NamesCall = unsafe extern "C" fn(
+    *const u8,
+    usize,
+    *mut u8,
+    usize,
+    *mut usize,
+    *mut PhaseFault,
+) -> i32;
+
+/// The names that a call writes, a line each.
+fn named(call: NamesCall, text: &[u8]) -> Result<Vec<String>, Error> {
     let mut fault = PhaseFault::default();
     let mut needed = 0;
     // Each name stands in the text with a byte behind it, but for one at its end.
@@ -85,7 +124,7 @@ pub fn names(graph: impl AsRef<[u8]>) -> Result<Names, Error> {
     // SAFETY: each pointer and length are those of one slice, and the others are to values of this
     // function.
     let status = unsafe {
-        phase_names(
+        call(
             text.as_ptr(),
             text.len(),
             room.as_mut_ptr(),
@@ -98,8 +137,7 @@ pub fn names(graph: impl AsRef<[u8]>) -> Result<Names, Error> {
         return Err(error::of(status, &fault, &[]));
     }
     let written = String::from_utf8_lossy(&room[..needed]);
-    let mut names = written.lines().map(str::to_string);
-    Ok(Names { sources: names.by_ref().take(sources).collect(), sinks: names.collect() })
+    Ok(written.lines().map(str::to_string).collect())
 }
 
 /// Returns what each sink got, in the order of the lines, from the samples of each source in theirs.
@@ -148,6 +186,9 @@ struct Lent<'a> {
 impl<'a> Lent<'a> {
     fn new(sources: &[&'a [i64]]) -> Result<Lent<'a>, Error> {
         let counts: Vec<usize> = sources.iter().map(|it| it.len()).collect();
+        if let Some(source) = counts.iter().position(|it| *it > PHASE_SAMPLES_MAX) {
+            return Err(Error::TooManySamples { source });
+        }
         if let [one] = sources {
             return Ok(Lent { samples: (*one).into(), counts });
         }

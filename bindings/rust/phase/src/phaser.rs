@@ -1,4 +1,4 @@
-//! A phaser for one thread.
+//! A phaser whose calls never block.
 use crate::phaser_error::{self, PhaserError};
 use phase_sys::*;
 use std::{cell::UnsafeCell, ptr};
@@ -106,12 +106,21 @@ pub struct Standing {
 /// # Ok::<(), phase::PhaserError>(())
 /// ```
 ///
-/// It stays on the thread that made it:
+/// It may go to another thread, and threads may share it behind a lock:
 ///
-/// ```compile_fail,E0277
-/// let phaser = phase::Phaser::new(phase::Operation::Sum, 2, 100).unwrap();
-/// std::thread::spawn(move || drop(phaser));
 /// ```
+/// use phase::{Got, Operation, Phaser};
+/// use std::sync::{Arc, Mutex};
+/// use std::thread;
+/// let phaser = Arc::new(Mutex::new(Phaser::new(Operation::Sum, 2, 100)?));
+/// let other = Arc::clone(&phaser);
+/// let signalled = thread::spawn(move || other.lock().unwrap().signal(0, &[7], None));
+/// assert_eq!(signalled.join().unwrap()?, 0);
+/// assert_eq!(phaser.lock().unwrap().wait(0)?, Got::Value { phase: 0, value: Some(7) });
+/// # Ok::<(), phase::PhaserError>(())
+/// ```
+///
+/// Two threads make no call on it at a time:
 ///
 /// ```compile_fail,E0277
 /// let phaser = phase::Phaser::new(phase::Operation::Sum, 2, 100).unwrap();
@@ -119,9 +128,13 @@ pub struct Standing {
 /// ```
 #[derive(Debug)]
 pub struct Phaser {
-    // A place with a phaser, which no other value has. Its pointer keeps it on its thread.
+    // A place with a phaser, which no other value has.
     place: UnsafeCell<PhasePhaser>,
 }
+
+// SAFETY: a phaser may go from one thread to another, as phase.h says, and it is no `Sync`, so that calls
+// go one by one.
+unsafe impl Send for Phaser {}
 
 impl Phaser {
     /// Makes a phaser of `phases` phases, from 1 to 2^62, whose signallers may be `bound` phases
@@ -370,8 +383,8 @@ impl Phaser {
     /// ```
     pub fn view(&self, task: u64) -> Option<Standing> {
         let mut standing = PhaseStanding::default();
-        // SAFETY: as in `register`; no other call is under way, since each is made by this thread
-        // and returns before the next.
+        // SAFETY: as in `register`; no other call is under way, since a phaser is not `Sync`, and each
+        // returns before the next.
         let status = unsafe { phase_phaser_view(self.place.get(), task, &mut standing) };
         if status == PHASE_E_NO_TASK {
             return None;

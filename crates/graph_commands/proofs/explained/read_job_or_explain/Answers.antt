@@ -1,7 +1,8 @@
-use Rattle.std.proofs.Common.{sym, subst}
+use Rattle.std.proofs.Common.{◌∙◌, sym, subst}
 use Rattle.graph_commands.specs.Explained.{IsTextOf}
 use Rattle.graph_commands.specs.FileJobs.{Explains, IsJobOf, Known}
 use Rattle.graph_commands.proofs.Counted.{known-same}
+use Rattle.graph_commands.proofs.Explaining.{explained-same}
 use Rattle.graph_commands.proofs.explained.read_job_or_explain.Goals as goal
 
 -- the file was read, and its text gives a job
@@ -25,6 +26,8 @@ returns-in-Ok-clause-err g c =
     let of : IsTextOf (g.F.Files.file c.read.new.self) name c.deref.result.now = rw c.deref.ensures.value
     (subst (λ (known : Known). IsTextOf known name c.in-Ok.text.items) (sym same)
     (record { bytes = c.in-Ok.ensures.bytes; short = c.in-Ok.ensures.short })) in
+    let still = known-same (g.F.Files.file c.job_of_text.new.files) (g.F.Files.file c.args.files.now)
+    (λ other. c.job_of_text.ensures.same other ∙ c.in-Ok.ensures.same other) in
     let here : IsTextOf (g.F.Files.file c.args.files.now) name c.deref-in-Err-job_of_text.result.now =
     rw c.deref-in-Err-job_of_text.ensures.value
     (record { bytes = c.in-Ok.ensures.bytes; short = c.in-Ok.ensures.short }) in
@@ -35,5 +38,5 @@ returns-in-Ok-clause-err g c =
       status_is = c.report_explained.ensures.status;
       text = c.deref-in-Err-job_of_text.result.now;
       text_of = λ _. here;
-      explained = c.report_explained.ensures.told;
+      explained = explained-same _ _ _ _ _ _ still c.report_explained.ensures.told;
     }

@@ -1,4 +1,4 @@
-use Rattle.std.proofs.Common.{◌≡◌, ◌<◌, ◌+◌, ◌-◌, inr, length, arith}
+use Rattle.std.proofs.Common.{◌≡◌, ◌<◌, ◌+◌, ◌-◌, inl, length, arith}
 use Rattle.std.proofs.lemmas.Result.{IfOk-weaker}
 use Rattle.graph_show.proofs.Lines.{explains-line}
 use Rattle.graph_show.proofs.explained.explanation.Goals as goal
@@ -12,6 +12,6 @@ returns c =
     let within : line - 1 < length lines =
     omega (arith, c.len.ensures, c.if-fault-eq0.false, c.if-fault-len.false) in
     IfOk-weaker c.line_explained.result _ _
-    (λ more marks. inr (explains-line c.args.text.now c.args.fault lines c.index.result.now
+    (λ more marks. inl (explains-line c.args.text.now c.args.fault lines c.index.result.now
     c.without_cr.result.now more.items c.in_ok-lines.ensures within counted c.index.ensures
     c.without_cr.ensures marks)) c.line_explained.ensures

@@ -13,11 +13,11 @@ loop-x-preserved c =
     let fits : FitsSigned w64 x = search rules in
     let l = c.loop-x.invariant in
     record {
-      stands = λ before s. subst (StandsFor c.step.new.self)
+      stands = λ before s. subst (StandsFor c.take.new.self)
           (one_more before samples i (pos 0) c.loop-x-test.true)
-          (subst (λ z. StandsFor c.step.new.self ((before ++ take i samples) ++ z ∷ []))
+          (subst (λ z. StandsFor c.take.new.self ((before ++ take i samples) ++ z ∷ []))
           (to_z-of_z w64 x fits)
-          (c.step.ensures.stands (before ++ take i samples) (l.stands before s)));
-      taps = c.step.ensures.taps ∙ l.taps;
-      shift = c.step.ensures.shift ∙ l.shift;
+          (c.take.ensures.stands (before ++ take i samples) (l.stands before s)));
+      taps = c.take.ensures.taps ∙ l.taps;
+      shift = c.take.ensures.shift ∙ l.shift;
     }

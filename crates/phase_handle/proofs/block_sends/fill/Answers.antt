@@ -1,9 +1,8 @@
 -- One more value stands in its place.
-use Rattle.std.proofs.Common.{◌<◌, ℤ, List, pos, length, map, take, get_or, sym, subst, ◌∙◌, arith}
-use Rattle.std.proofs.lemmas.List.{length-set, take_all}
-use Rattle.phase_core.specs.phase_accum.Parcels.{Parcel, StandsForSends}
+use Rattle.std.proofs.Common.{◌<◌, ℤ, pos, length, get_or, sym, subst, ◌∙◌, arith}
+use Rattle.std.proofs.lemmas.List.{length-set}
+use Rattle.phase_core.specs.phase_accum.Parcels.{StandsForSends}
 use Rattle.phase_core.specs.phase_accum.Sends.{IsSend}
-use Rattle.phase_core.specs.Blocks.{StandForLists}
 use Rattle.phase_handle.specs.Blocks.{one}
 use Rattle.phase_handle.proofs.BlockSends.{stand_more}
 use Rattle.phase_handle.proofs.Sending.{send-at, send-same}

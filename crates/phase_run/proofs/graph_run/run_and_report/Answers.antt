@@ -1,13 +1,11 @@
-use Rattle.stream_workers.proofs.graph_commands_lemmas.Ends.{eval-no_job}
-use Rattle.phase_run.proofs.Answered.{ends-as}
+use Rattle.phase_run.proofs.Answered.{run-no_job}
 use Rattle.phase_run.proofs.graph_run.run_and_report.Goals as goal
 
 -- the files tell no job
 pub returns-in-Err-clause-ends : goal.returns-in-Err-clause-ends
 returns-in-Err-clause-ends g c =
-    ends-as _ _ _ c.report_job_fault.result g.W.Write.contents c.args.output.now _ _ _
-    (eval-no_job g.W.Write.contents _ _ _ c.in-Err.fault c.report_job_fault.result c.args.output.now _ _
-    c.report_job_fault.ensures.status c.in-Err.ensures.fault c.report_job_fault.ensures.line)
+    run-no_job g.W.Write.contents _ _ _ c.in-Err.fault c.report_job_fault.result c.args.output.now _ _
+    c.report_job_fault.ensures.status c.in-Err.ensures.fault c.report_job_fault.ensures.line
 
 -- the job was read
 pub returns-in-Ok-clause-ends : goal.returns-in-Ok-clause-ends

@@ -1,13 +1,12 @@
 use Rattle.std.proofs.Common.{◌≡◌, inl, inr, map, refl, rules}
 use Rattle.std.specs.List.{All}
-use Rattle.stream_workers.proofs.graph_commands_lemmas.Ends.{eval-no_memory}
 use Rattle.stream_workers.proofs.graph_commands_lemmas.Explaining.{explained-too_big}
 use Rattle.stream_workers.proofs.graph_commands_lemmas.Places.{place-first_too_big}
 use Rattle.stream_workers.proofs.stream_eval_lemmas.SinkStarts.{outputs-are}
 use Rattle.stream_workers.specs.graph_commands.stream_lists.Jobs.{Job, with_starts}
 use Rattle.stream_workers.specs.graph_commands.stream_lists.Lists.{lines_of, start_in}
 use Rattle.stream_workers.specs.stream_eval.Results.{sink_values}
-use Rattle.phase_run.proofs.Answered.{answer-fits, answer-lines, ends-as, run-written}
+use Rattle.phase_run.proofs.Answered.{answer-fits, answer-lines, run-no_memory, run-written, told-in_time}
 use Rattle.phase_run.specs.Runs.{stalled_line}
 use Rattle.phase_run.proofs.run_explained.explain_job.Goals as goal
 
@@ -55,9 +54,8 @@ returns-in-Err-Stalled-clause-ends g c known name asked of asks =
 -- memory ran out over the run
 pub returns-in-Err-OutOfMemory-clause-ends : goal.returns-in-Err-OutOfMemory-clause-ends
 returns-in-Err-OutOfMemory-clause-ends g c known name asked of asks =
-    inl (ends-as known name asked c.report.result g.W.Write.contents c.args.output.now _ _ _
-    (eval-no_memory g.W.Write.contents known name asked c.args.job.now c.report.result
-    c.args.output.now _ _ c.report.ensures.status of c.report.ensures.line))
+    inl (run-no_memory g.W.Write.contents known name asked c.args.job.now c.report.result
+    c.args.output.now _ _ c.report.ensures.status of c.report.ensures.line)
 
 -- the lists were written, or a prefix of them
 pub returns-in-Ok-clause-ends : goal.returns-in-Ok-clause-ends
@@ -70,8 +68,10 @@ returns-in-Ok-clause-ends g c known name asked of asks =
     let starts : All (λ line. line.start ≡ start_in job line.task) lines =
     rw c.deref.ensures.value told.told in
     let outputs = outputs-are job lines values starts in
+    let in_time = told-in_time c.args.job.now told.starts lines values starts
+    (rw c.deref.ensures.value told.in_time) in
     inl (run-written _ g.W.Write.contents known name asked c.args.sink c.args.job.now told.starts
     c.write_sinks.result c.report_written.result c.args.output.now c.write_sinks.new.writer _ _ of
-    asks (answer-fits job _ told.answer)
+    asks in_time (answer-fits job _ told.answer)
     (rw outputs at c.write_sinks.ensures.ok) (rw outputs at c.write_sinks.ensures.err)
     c.write_sinks.ensures.failed c.report_written.ensures.done c.report_written.ensures.stops)

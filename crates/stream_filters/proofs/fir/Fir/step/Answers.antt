@@ -9,6 +9,6 @@ use Rattle.stream_filters.proofs.fir.Fir.step.Goals as goal
 pub returns-clause-answer : goal.returns-clause-answer
 returns-clause-answer c samples stands =
     let x = to_z-of_z w64 c.args.x c.ranges.x in
-    let after = c.take.ensures in
+    let after = c.take.ensures.window in
     let answer = c.answer.ensures in
     answer ∙ (ap (λ fir. answer_at fir.taps fir.shift fir.window) after ∙ rw x (answer_at-push c.args.self.now samples c.args.x stands))

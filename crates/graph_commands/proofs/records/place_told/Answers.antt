@@ -1,0 +1,28 @@
+use Rattle.std.proofs.Common.{◌++◌, ◌∙◌, ◌∷◌, [], ap, sym, inl, append-nil}
+use Rattle.graph_commands.specs.Explained.{TellsLine, further_line}
+use Rattle.graph_commands.proofs.records.place_told.Goals as goal
+
+-- the record's line is told, and why it is no sample
+pub returns : goal.returns
+returns c = λ known bytes.
+    let samples = c.args.samples.now in
+    let at = c.in-Some.at in
+    let place = c.in_ok-place.place.items in
+    let why = further_line c.as_bytes.result.now in
+    let line : TellsLine known c.args.number place = record {
+      samples = samples;
+      bytes = bytes;
+      at = at;
+      start = c.in-Some.ensures.some;
+      shown = c.front_of.result.now;
+      is = rw c.line_at.ensures at c.in_ok-place.ensures;
+    } in
+    record {
+      place = place;
+      place_is = inl line;
+      more = why;
+      more_are = record { texts = c.as_bytes.result.now ∷ []; are = sym (append-nil why) };
+      is = c.in_ok-put_line.ensures.ok
+          ∙ ap (λ front. front ++ why)
+          (rw (c.new-front.ensures.items, c.deref.ensures.value) at c.in_ok-put_place-2.ensures);
+    }

@@ -1,0 +1,53 @@
+use Rattle.std.proofs.Common.{rules, ◌≡◌, ◌<◌, ℕ, ℤ, List, pos, length, get_or, w64, FitsSigned, ◌∙◌, arith}
+use Rattle.std.proofs.lemmas.Int.{to_z-of_z}
+use Rattle.std.proofs.lemmas.List.{length-set}
+use Rattle.graph_lang.specs.phase_accum.Sends.{IsSend}
+use Rattle.stream_eval.specs.stream_filters.Filter.{StandsFor}
+use Rattle.phase_c.specs.Filtered.{output_behind}
+use Rattle.phase_c.proofs.Streams.{behind_more, fits_more, same_behind, step_fails, step_gives, step_stands, written_more}
+use Rattle.phase_c.proofs.in_place.steps_in_place.Goals as goal
+
+-- the output at this sample is out of range
+pub returns-in-Err-clause-too_big : goal.returns-in-Err-clause-too_big
+returns-in-Err-clause-too_big c before s less is =
+    let was = c.args.block.now in
+    let block = c.loop-n.block in
+    let n : ℕ = c.loop-n.n in
+    let l = c.loop-n.invariant in
+    let x : ℤ = get_or block n (pos 0) in
+    let fits : FitsSigned w64 x = search rules in
+    let next = to_z-of_z w64 x fits ∙ same_behind block was n (pos 0) l.behind in
+    step_fails c.args.fir.now c.loop-n.fir before was n less _ next c.step.result l.taps l.shift
+    (c.step.ensures.answer _ (l.stands before s)) c.in-Err.field-0 c.in-Err.is is
+
+-- one more output was written
+pub loop-n-preserved : goal.loop-n-preserved
+loop-n-preserved c =
+    let was = c.args.block.now in
+    let block = c.loop-n.block in
+    let n : ℕ = c.loop-n.n in
+    let l = c.loop-n.invariant in
+    let old = c.args.fir.now in
+    let now = c.loop-n.fir in
+    let x : ℤ = get_or block n (pos 0) in
+    let v : ℤ = c.in-Ok.value in
+    let fits : FitsSigned w64 x = search rules in
+    let fitting : FitsSigned w64 v = search rules in
+    let next = to_z-of_z w64 x fits ∙ same_behind block was n (pos 0) l.behind in
+    let less : n < length was = omega (arith, c.loop-n-test.true, l.long) in
+    let room : n < length block = omega (arith, less, l.long) in
+    let gives : (before : List ℤ) → StandsFor old before
+    → (v ≡ output_behind old.taps old.shift before was n) × IsSend v =
+    λ before s. step_gives old now before was n less _ next c.step.result l.taps l.shift
+    (c.step.ensures.answer _ (l.stands before s)) v c.in-Ok.is in
+    rw (to_z-of_z w64 v fitting) record {
+      stands = λ before s. step_stands c.step.new.self before was n less _ next
+          (c.step.ensures.stands _ (l.stands before s));
+      taps = c.step.ensures.taps ∙ l.taps;
+      shift = c.step.ensures.shift ∙ l.shift;
+      written = λ before s. written_more old.taps old.shift before was block n v room
+          (l.written before s) (gives before s).0;
+      fits = λ before s. fits_more block n v room (l.fits before s) (gives before s).1;
+      behind = behind_more block was n v l.behind;
+      long = length-set block n v ∙ l.long;
+    }

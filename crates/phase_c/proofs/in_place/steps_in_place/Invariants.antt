@@ -1,0 +1,19 @@
+use Rattle.std.proofs.Common.{◌≡◌, ◌++◌, ℤ, List, length, take, drop}
+use Rattle.graph_lang.specs.phase_accum.Sends.{AreSends}
+use Rattle.stream_eval.specs.stream_filters.Filter.{StandsFor}
+use Rattle.phase_c.specs.Filtered.{first_outputs}
+use Rattle.phase_c.proofs.in_place.steps_in_place.Given as goal
+
+-- the filter has taken the samples before this one, and its outputs there stand in their places
+abbrev pub invariant-loop-n : goal.invariant-loop-n
+invariant-loop-n l = record {
+  stands : (before : List ℤ) → StandsFor l.fn.fir before
+      → StandsFor l.fir (before ++ take l.n l.fn.block);
+  taps : l.fir.taps ≡ l.fn.fir.taps;
+  shift : l.fir.shift ≡ l.fn.fir.shift;
+  written : (before : List ℤ) → StandsFor l.fn.fir before
+      → take l.n l.block ≡ first_outputs l.fn.fir.taps l.fn.fir.shift before l.fn.block l.n;
+  fits : (before : List ℤ) → StandsFor l.fn.fir before → AreSends (take l.n l.block);
+  behind : drop l.n l.block ≡ drop l.n l.fn.block;
+  long : length l.block ≡ length l.fn.block;
+}
