@@ -36,7 +36,7 @@ goes_on job spots i seed old new child task has = subst (IsTask job spots) (sym 
     staying = whole.staying;
     room = whole.room;
     places = places_stay job old (record old { child_holds = seed.holds }) refl refl refl
-        (omega arith) whole.places;
+        refl refl refl whole.places;
     filters = whole.filters;
     others = whole.others;
   };
@@ -144,7 +144,7 @@ module _ (job : Job) (spots : ℕ → Spot) (i : ℕ) (seed old new child : Task
     children = knows_children job seed.number seed.children.items ready.seed.children;
     staying = λ over. ap length ready.seed.lefts;
     room = let wide = ready.room.lefts in let few = registered.few in omega arith;
-    places = places_stay job seed made refl refl refl (omega arith) ready.seed.places;
+    places = places_stay job seed made refl refl refl refl refl refl ready.seed.places;
     filters = λ filter. ready.seed.owed;
     others = λ other. ready.seed.made;
   }

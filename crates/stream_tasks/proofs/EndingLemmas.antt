@@ -110,7 +110,7 @@ over_whole job s whole = record {
   children = whole.children;
   staying = λ no. absurd (let clash : true ≡ false = no in cc);
   room = whole.room;
-  places = places_stay job s (record s { over = true }) refl refl refl (omega arith)
+  places = places_stay job s (record s { over = true }) refl refl refl refl refl refl
       whole.places;
   filters = whole.filters;
   others = whole.others;
@@ -156,6 +156,7 @@ pub runs_out : (job : Job) (spots : ℕ → Spot) (s : TaskState) (k p : ℕ) (o
     → input_at (task_at job.graph s.number) k ≡ p
     → k < length (registrations_at job s.number) → (registration_at job s.number k).phaser ≡ p
     → old ≡ get_or s.holds.items k old → lines.items ≡ s.lines.items
+    → length outcomes.items ≡ length s.outcomes.items
     → HasChildrenNow job s → GoesOn HasRunOut old new → IsTask job spots s
     → IsTask job spots
     (record s {
@@ -165,7 +166,7 @@ pub runs_out : (job : Job) (spots : ℕ → Spot) (s : TaskState) (k p : ℕ) (o
       outcomes = outcomes;
       holds = with_item s.holds k new;
     })
-runs_out job spots s k p old new lines entered outcomes met going owes never first input_there input few here looked same children g task =
+runs_out job spots s k p old new lines entered outcomes met going owes never first input_there input few here looked same many children g task =
     let whole = task.whole in
     let t = s.number in
     let m = (task.stands met).0 in
@@ -213,7 +214,7 @@ runs_out job spots s k p old new lines entered outcomes met going owes never fir
               outcomes = outcomes;
               holds = with_item s.holds k new;
             })
-            refl refl refl (omega arith) whole.places;
+            refl refl refl refl refl many whole.places;
         filters = whole.filters;
         others = whole.others;
       };
@@ -345,7 +346,7 @@ task_leaves job spots s p old new left lefts met over few here looked g more roo
         room = omega arith;
         places = places_stay job s
             (record s { holds = with_item s.holds (length s.lefts.items) new; lefts = lefts })
-            refl refl refl (omega arith) whole.places;
+            refl refl refl refl refl refl whole.places;
         filters = whole.filters;
         others = whole.others;
       };
@@ -427,7 +428,7 @@ task_lines job spots s lines same task = record {
       children = whole.children;
       staying = whole.staying;
       room = whole.room;
-      places = places_stay job s (record s { lines = lines }) refl refl refl (omega arith)
+      places = places_stay job s (record s { lines = lines }) refl refl refl refl refl refl
           whole.places;
       filters = whole.filters;
       others = whole.others;

@@ -1,11 +1,13 @@
 -- What a task keeps from one state to the next.
-use Rattle.std.proofs.Common.{◌≡◌, ℕ, ◌≤◌, length, sym, ap, subst, ◌∙◌, arith}
+use Rattle.std.proofs.Common.{◌≡◌, ℕ, ◌≤◌, ℤ, length, sym, ap, subst, ◌∙◌, arith}
+use Rattle.std.specs.Global.{Global}
+use Rattle.std.specs.Prelude.{Vec}
 use Rattle.graph_runs.specs.graph_base.Graphs.{task_at}
 use Rattle.graph_runs.specs.Places.{IsMost}
 use Rattle.graph_runs.specs.TaskPlaces as turns
 use Rattle.graph_runs.specs.declared.owed.Owed.TheVariants.{Nothing}
 use Rattle.stream_eval.specs.stream_lists.Jobs.{Job}
-use Rattle.stream_tasks.specs.Tasks.{HasPlaces, OwesNothing, owed_by}
+use Rattle.stream_tasks.specs.Tasks.{HasPlaces, OwesNothing, SignalsBlocks, owed_by, sends_room}
 use Rattle.stream_tasks.specs.declared.task_state.TaskState.{TaskState}
 
 -- a task that owes nothing does so by the definitions
@@ -15,13 +17,19 @@ owed_none s owes =
 
 -- the places of a task stay where another state has as many of them
 pub places_stay : (job : Job) (s after : TaskState) → after.number ≡ s.number → after.most ≡ s.most
-    → after.own ≡ s.own
-    → s.made.cap ≤ after.made.cap → HasPlaces job s → HasPlaces job after
-places_stay job s after number most own room places =
+    → after.own ≡ s.own → after.made ≡ s.made → after.places ≡ s.places
+    → length after.outcomes.items ≡ length s.outcomes.items
+    → HasPlaces job s → HasPlaces job after
+places_stay job s after number most own same_made same_places many places =
     let few = places.own_few in
     let block = places.block in
     let made = places.made in
     let some = places.own in
+    let few_made = places.few_made in
+    let outcomes = places.outcomes in
+    let room : after.made.cap ≡ s.made.cap = ap (λ (v : Vec ℤ Global). v.cap) same_made in
+    let long : length after.made.items ≡ length s.made.items =
+    ap (λ (v : Vec ℤ Global). length v.items) same_made in
     let same : (task_at job.graph after.number).block ≡ (task_at job.graph s.number).block =
     ap (λ t. (task_at job.graph t).block) number in
     record {
@@ -30,8 +38,18 @@ places_stay job s after number most own room places =
       own_few = omega arith;
       block = omega arith;
       made = omega arith;
+      few_made = omega arith;
+      outcomes = omega arith;
+      sends = sends;
     }
   where
+    sends : SignalsBlocks job after.number → after.most ≤ sends_room job after.number after.places
+    sends =
+        let S : ℕ → Type 0 = λ t. SignalsBlocks job t → after.most ≤ sends_room job t after.places in
+        subst S (sym number)
+        (λ signals. subst (λ p. after.most ≤ sends_room job s.number p) (sym same_places)
+        (subst (λ n. n ≤ sends_room job s.number s.places) (sym most) (places.sends signals)))
+
     able : IsMost job after.number after.most
     able =
         let M : ℕ → Type 0 = λ n. IsMost job after.number n in

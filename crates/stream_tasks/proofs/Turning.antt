@@ -14,10 +14,11 @@ use Rattle.graph_runs.specs.graph_base.Graphs.{Task, task_at, phaser_at}
 use Rattle.stream_eval.specs.stream_lists.Jobs.{Job}
 use Rattle.graph_runs.specs.Moments.{Moment}
 use Rattle.stream_members.specs.Members.{Spot}
-use Rattle.stream_members.specs.AnyMembers.{member_in}
+use Rattle.stream_members.specs.AnyMembers.{member_in, member_op, room_for}
 use Rattle.stream_members.specs.declared.any_member.AnyMember.{AnyMember}
 use Rattle.stream_members.specs.declared.places.Places.{Places}
 use Rattle.graph_runs.specs.Answers.{output_at}
+use Rattle.graph_runs.specs.phase_base.declared.operation.Op.{Op}
 use Rattle.graph_runs.specs.Nexts.{registrations_at}
 use Rattle.graph_runs.specs.TaskPlaces as turns
 use Rattle.graph_runs.specs.TaskPlaces.{StandsUpTo, registration_at, registration_of_output, owed_after_signal}
@@ -36,8 +37,8 @@ use Rattle.graph_runs.specs.Turned.{after_signals}
 use Rattle.graph_runs.specs.Steps.{HasFilter}
 use Rattle.graph_runs.specs.declared.owed.Owed.{Owed}
 use Rattle.graph_runs.specs.declared.owed.Owed.TheVariants.{Value, Nothing}
-use Rattle.stream_tasks.specs.Holds.{GoesOn, HasSeenOthers, HasSignalled, signal_of}
-use Rattle.stream_tasks.specs.Tasks.{IsOn, IsHeldOn, HasGivenNumbers, HasPlaces, IsTaskAt, IsWhole, IsTask, owed_by, place_of}
+use Rattle.stream_tasks.specs.Holds.{GoesOn, HasSeenOthers, HasSendPlaces, HasSignalled, signal_of}
+use Rattle.stream_tasks.specs.Tasks.{IsOn, IsHeldOn, HasGivenNumbers, HasPlaces, IsTaskAt, IsWhole, IsTask, SignalsBlocks, owed_by, place_of, sends_room}
 use Rattle.stream_tasks.specs.declared.child.Child.{Child}
 use Rattle.stream_tasks.specs.declared.hold.Hold.{Hold}
 use Rattle.stream_tasks.specs.declared.hold.Hold.TheVariants.{On, Gone}
@@ -84,9 +85,16 @@ as_it_is s = record {
   places = s.places;
 }
 
+-- there are as many places for sends of each operation
+abbrev pub StayPlaces : Places → Places → Type 0
+StayPlaces old new = (op : Op) → room_for op new ≡ room_for op old
+
 -- the places stay as many, a filter owes what it has made, and other tasks make nothing
 pub record FitPlaces (job : Job) (s : TaskState) (x : Changes) : Type 0 where
   pub made : x.made.cap ≡ s.made.cap
+  pub few_made : length x.made.items ≤ s.most
+  pub outcomes : length x.outcomes.items ≡ length s.outcomes.items
+  pub sends : StayPlaces s.places x.places
   pub filters : (task_at job.graph s.number).kind ≡ Fir → x.owed ≡ s.owed
   pub others : (task_at job.graph s.number).kind ≢ Fir → x.made.items ≡ []
 
@@ -241,6 +249,11 @@ whole_moves job s k new x fit whole = record {
     own_few = whole.places.own_few;
     block = whole.places.block;
     made = subst (λ cap. s.most ≤ cap) (sym fit.made) whole.places.made;
+    few_made = fit.few_made;
+    outcomes = subst (λ n. s.most ≤ n) (sym fit.outcomes) whole.places.outcomes;
+    sends = λ signals.
+        subst (λ n. s.most ≤ n) (sym (fit.sends (phaser_at job.graph (output_at job s.number 0)).op))
+        (whole.places.sends signals);
   };
   filters = λ fir. fit.filters fir ∙ whole.filters fir;
   others = fit.others;
@@ -248,11 +261,16 @@ whole_moves job s k new x fit whole = record {
 
 -- a call that changes no more than what a wait writes, and the room of a list, fits
 pub fits : (job : Job) (s : TaskState) (lines : Vec ℤ Global) (entered : Bool)
-    (outcomes : Vec Outcome Global) (places : Places) → IsWhole job s
+    (outcomes : Vec Outcome Global) (places : Places)
+    → length outcomes.items ≡ length s.outcomes.items → StayPlaces s.places places
+    → IsWhole job s
     → FitPlaces job s
     (record (as_it_is s) { lines = lines; entered = entered; outcomes = outcomes; places = places })
-fits job s lines entered outcomes places whole = record {
+fits job s lines entered outcomes places many sends whole = record {
   made = refl;
+  few_made = whole.places.few_made;
+  outcomes = many;
+  sends = sends;
   filters = λ fir. refl;
   others = whole.others;
 }
@@ -277,18 +295,31 @@ held job spots m s k p old whole at few here kept looked =
     (subst (λ h. IsHeldOn job spots m s.number (registration_at job s.number k).phaser h)
     (looked_up s.holds.items k old (omega arith) looked) (at.holds.on k few kept))
 
+-- the hold of an output has places for as many sends as a task makes steps in one event
+pub has_send_places : (job : Job) (spots : ℕ → Spot) (m : Moment) (s : TaskState) (p count : ℕ)
+    (hold : Hold) → IsHeldOn job spots m s.number p hold → p ≡ output_at job s.number 0
+    → SignalsBlocks job s.number → HasPlaces job s → count ≤ s.most
+    → HasSendPlaces hold count s.places
+has_send_places job spots m s p count (On x) on out signals places few =
+    let room : s.most ≤ sends_room job s.number s.places = places.sends signals in
+    let all : count ≤ sends_room job s.number s.places = omega arith in
+    subst (λ o. count ≤ room_for o s.places)
+    (sym (on.op ∙ ap (λ q. (phaser_at job.graph q).op) out)) all
+has_send_places job spots m s p count Gone on out signals places few = absurd on
+
 -- a task whose call on registration k made no event
 pub task_sees : (job : Job) (spots : ℕ → Spot) (s : TaskState) (k p : ℕ) (old new : Hold)
     (lines : Vec ℤ Global) (entered : Bool) (outcomes : Vec Outcome Global) (places : Places)
+    → length outcomes.items ≡ length s.outcomes.items → StayPlaces s.places places
     → k < length (registrations_at job s.number) → (registration_at job s.number k).phaser ≡ p
     → length s.lefts.items ≤ k → old ≡ get_or s.holds.items k old → lines.items ≡ s.lines.items
     → GoesOn HasSeenOthers old new → IsTask job spots s
     → IsTask job spots
     (record s { lines = lines; entered = entered; outcomes = outcomes; places = places; holds = with_item s.holds k new })
-task_sees job spots s k p old new lines entered outcomes places few here kept looked same g task = record {
+task_sees job spots s k p old new lines entered outcomes places many sends few here kept looked same g task = record {
   whole = whole_moves job s k new
       (record (as_it_is s) { lines = lines; entered = entered; outcomes = outcomes; places = places })
-      (fits job s lines entered outcomes places task.whole) task.whole;
+      (fits job s lines entered outcomes places many sends task.whole) task.whole;
   stands = λ met.
       let m = (task.stands met).0 in
       let at = (task.stands met).1 in
@@ -371,6 +402,9 @@ pub value_fits : (job : Job) (s : TaskState) (j : ℕ) (v : ℤ) (owed : Owed) �
     → s.owed ≡ Value j (Ok v) → FitPlaces job s (record (as_it_is s) { owed = owed })
 value_fits job s j v owed whole owes = record {
   made = refl;
+  few_made = whole.places.few_made;
+  outcomes = refl;
+  sends = λ op. refl;
   filters = λ fir. absurd (let no : Nothing ≡ Value j (Ok v) = sym (whole.filters fir) ∙ owes in cc);
   others = whole.others;
 }
@@ -413,10 +447,13 @@ put_all_owes job s made whole some none =
     of_filter task vs e = rw e refl
 
 pub made_fits : (job : Job) (s : TaskState) (made : Vec ℤ Global) (places : Places) → IsWhole job s
-    → made.items ≡ [] → made.cap ≡ s.made.cap
+    → made.items ≡ [] → made.cap ≡ s.made.cap → StayPlaces s.places places
     → FitPlaces job s (record (as_it_is s) { made = made; places = places })
-made_fits job s made places whole none room = record {
+made_fits job s made places whole none room sends = record {
   made = room;
+  few_made = subst (λ l. length l ≤ s.most) (sym none) (omega arith);
+  outcomes = refl;
+  sends = sends;
   filters = λ fir. refl;
   others = λ no. none;
 }

@@ -42,7 +42,7 @@ use Rattle.stream_tasks.specs.declared.hold.Hold.{Hold}
 use Rattle.stream_tasks.specs.declared.hold.Hold.TheVariants.{On}
 use Rattle.stream_tasks.specs.declared.task_state.TaskState.{TaskState}
 use Rattle.stream_tasks.proofs.Holding.{sees_own, on_after}
-use Rattle.stream_tasks.proofs.Turning.{Changes, changed, as_it_is, FitPlaces, fits, state_moves, whole_moves, goes, held}
+use Rattle.stream_tasks.proofs.Turning.{Changes, changed, as_it_is, FitPlaces, StayPlaces, fits, state_moves, whole_moves, goes, held}
 
 -- who owes nothing owes nothing by the definitions
 pub owes_none : (s : TaskState) → OwesNothing s → owed_by s.owed s.made.items ≡ turns.nothing
@@ -253,10 +253,13 @@ task_exchanges job spots s p x outcome old new owed outcomes going owes_x nothin
 
 -- what a peer owes next fits, as it is no filter
 pub exchange_fits : (job : Job) (s : TaskState) (x : ℤ) (owed : Owed) (outcomes : Vec Outcome Global)
-    → IsWhole job s → s.owed ≡ Exchange x
+    → length outcomes.items ≡ length s.outcomes.items → IsWhole job s → s.owed ≡ Exchange x
     → FitPlaces job s (record (as_it_is s) { owed = owed; outcomes = outcomes })
-exchange_fits job s x owed outcomes whole owes = record {
+exchange_fits job s x owed outcomes many whole owes = record {
   made = refl;
+  few_made = whole.places.few_made;
+  outcomes = many;
+  sends = λ op. refl;
   filters = λ fir. absurd (let no : Nothing ≡ Exchange x = sym (whole.filters fir) ∙ owes in cc);
   others = whole.others;
 }
@@ -276,7 +279,7 @@ makes_fewer job t begun more fewer few may = record {
 
 -- a source that has begun steps
 pub task_samples : (job : Job) (spots : ℕ → Spot) (s : TaskState) (k p begun : ℕ) (vs : List ℤ)
-    (old new : Hold) (entered : Bool) (places : Places)
+    (old new : Hold) (entered : Bool) (places : Places) → StayPlaces s.places places
     → k < length (registrations_at job s.number) → (registration_at job s.number k).phaser ≡ p
     → output_at job s.number 0 ≡ p → (step : MayStep job s)
     → (task_at job.graph s.number).kind ≡ kind.Source → begun ≡ s.begun + length vs
@@ -286,12 +289,20 @@ pub task_samples : (job : Job) (spots : ℕ → Spot) (s : TaskState) (k p begun
     → GoesOn (HasSignalled vs (phaser_at job.graph p).single) old new → IsTask job spots s
     → IsTask job spots
     (record s { begun = begun; entered = entered; places = places; holds = with_item s.holds k new })
-task_samples job spots s k p begun vs old new entered places few here out step source more samples may looked g task =
+task_samples job spots s k p begun vs old new entered places sends few here out step source more samples may looked g task =
     let none : length s.lefts.items ≡ 0 = task.whole.staying step.over in
     record {
       whole = whole_moves job s k new
           (record (as_it_is s) { begun = begun; entered = entered; places = places })
-          (record { made = refl; filters = λ fir. refl; others = task.whole.others }) task.whole;
+          (record {
+            made = refl;
+            few_made = task.whole.places.few_made;
+            outcomes = refl;
+            sends = sends;
+            filters = λ fir. refl;
+            others = task.whole.others;
+          })
+          task.whole;
       stands = λ again.
           let m = (task.stands step.met).0 in
           let at = (task.stands step.met).1 in

@@ -1,5 +1,5 @@
 -- What the calls of a registration do to what it has seen.
-use Rattle.std.specs.Prelude.{◌≡◌, ℕ, ◌≤◌, ℤ, List, [], ◌∷◌, ◌++◌, length, map, take, Option, Result, Ok, Err}
+use Rattle.std.specs.Prelude.{◌≡◌, ℕ, ◌≤◌, ⊤, ℤ, List, [], ◌∷◌, ◌++◌, length, map, take, Option, Result, Ok, Err}
 use Rattle.graph_runs.specs.phase_accum.Values.{value_by}
 use Rattle.graph_runs.specs.phase_accum.declared.outcome.Outcome.{Outcome}
 use Rattle.graph_runs.specs.phase_accum.declared.single.Single.{Single}
@@ -13,9 +13,10 @@ use Rattle.graph_runs.specs.phase_history.Others.{OthersCame}
 use Rattle.graph_runs.specs.phase_history.Replies.{wait_reply}
 use Rattle.graph_runs.specs.Moments.{one}
 use Rattle.stream_members.specs.Members.{limits_on}
-use Rattle.stream_members.specs.AnyMembers.{member_in, member_op, left_in, left_op}
+use Rattle.stream_members.specs.AnyMembers.{member_in, member_op, left_in, left_op, room_for}
 use Rattle.stream_members.specs.declared.any_member.AnyMember.{AnyMember}
 use Rattle.stream_members.specs.declared.any_left.AnyLeft.{AnyLeft}
+use Rattle.stream_members.specs.declared.places.Places.{Places}
 use Rattle.stream_tasks.specs.declared.held.Held.{Held}
 use Rattle.stream_tasks.specs.declared.hold.Given.{Given}
 use Rattle.stream_tasks.specs.declared.hold.Given.TheVariants as given
@@ -50,6 +51,11 @@ signal_of values single n = Signalled n (map one values) single
 abbrev pub HasSignalled : List ℤ → Option Single → AnyMember → AnyMember → Type 0
 HasSignalled values single old new =
     (before : History) × HasMade (signal_of values single) old new before
+
+-- there are places for so many sends on the phaser of a hold
+abbrev pub HasSendPlaces : Hold → ℕ → Places → Type 0
+HasSendPlaces (On member) count places = count ≤ room_for (member_op member) places
+HasSendPlaces Gone count places = ⊤
 
 -- its wait for so many phases
 abbrev pub wait_of : ℕ → ℕ → Event

@@ -1,16 +1,18 @@
 -- What the code of a task keeps: a moment of the task's own, at which each of its registrations has
 -- just the history that it has seen.
-use Rattle.std.specs.Prelude.{◌≡◌, ◌≢◌, ℕ, ◌<◌, ◌≤◌, ℤ, List, [], ◌∷◌, length, map, get_or, slice_get, Some, Ok, true, false}
+use Rattle.std.specs.Prelude.{◌≡◌, ◌≢◌, ◌⊎◌, ℕ, ◌<◌, ◌≤◌, ℤ, List, [], ◌∷◌, length, map, get_or, slice_get, Some, Ok, true, false}
 use Rattle.graph_runs.specs.graph_base.declared.line.Parent.{Parent}
-use Rattle.graph_runs.specs.graph_base.declared.line.Kind.TheVariants.{Fir, Sink}
+use Rattle.graph_runs.specs.graph_base.declared.line.Kind.TheVariants.{Fir, Sink, Source}
 use Rattle.graph_runs.specs.graph_base.Graphs.{task_at, phaser_at}
 use Rattle.graph_runs.specs.graph_base.TaskLines.{IsGraph}
 use Rattle.stream_eval.specs.stream_lists.Jobs.{Job, samples_at}
 use Rattle.graph_runs.specs.Moments.{Moment, HasEnded, limits_at}
 use Rattle.stream_members.specs.Members.{Spot, limits_on}
-use Rattle.stream_members.specs.AnyMembers.{member_in, member_op, left_in, left_op}
+use Rattle.stream_members.specs.AnyMembers.{member_in, member_op, left_in, left_op, room_for}
 use Rattle.stream_members.specs.declared.any_member.AnyMember.{AnyMember}
 use Rattle.stream_members.specs.declared.any_left.AnyLeft.{AnyLeft}
+use Rattle.stream_members.specs.declared.places.Places.{Places}
+use Rattle.graph_runs.specs.Answers.{output_at}
 use Rattle.graph_runs.specs.Nexts.{registrations_at}
 use Rattle.graph_runs.specs.TaskPlaces as turns
 use Rattle.graph_runs.specs.TaskPlaces.{TaskPlace, StandsUpTo, registration_at}
@@ -128,14 +130,26 @@ pub record IsTaskAt (job : Job) (spots : ℕ → Spot) (m : Moment) (s : TaskSta
   pub given : HasGivenNumbers job m s.children.items
   pub at_end : s.over ≡ true → IsAtEnd job m s
 
+-- whether task t signals blocks of phases
+abbrev pub SignalsBlocks : Job → ℕ → Type 0
+SignalsBlocks job t =
+    ((task_at job.graph t).kind ≡ Source) ⊎ ((task_at job.graph t).kind ≡ Fir)
+
+-- for how many sends these places are, on the phaser of the output of task t
+abbrev pub sends_room : Job → ℕ → Places → ℕ
+sends_room job t places = room_for (phaser_at job.graph (output_at job t 0)).op places
+
 -- the places of a task for the steps of one event: for so many of its own accord, and for a block
--- of its line
+-- of its line. Each step finds a place for the outcome of a wait, and for the send of a signal
 pub record HasPlaces (job : Job) (s : TaskState) : Type 0 where
   pub most : IsMost job s.number s.most
   pub own : 1 ≤ s.own
   pub own_few : s.own ≤ s.most
   pub block : (task_at job.graph s.number).block ≤ s.most
   pub made : s.most ≤ s.made.cap
+  pub few_made : length s.made.items ≤ s.most
+  pub outcomes : s.most ≤ length s.outcomes.items
+  pub sends : SignalsBlocks job s.number → s.most ≤ sends_room job s.number s.places
 
 -- what holds of a task always, whatever it met
 pub record IsWhole (job : Job) (s : TaskState) : Type 0 where

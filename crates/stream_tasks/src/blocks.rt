@@ -1,7 +1,7 @@
 //! How many steps a task makes in one event, and the places for them.
-ghost use Rattle.std.specs.Prelude.{◌≡◌, ◌<◌, ◌≤◌, length};
+ghost use Rattle.std.specs.Prelude.{◌≡◌, ◌<◌, ◌≤◌, length, IfOk};
 ghost use Rattle.graph_runs.specs.Places.{MayMake, IsMost};
-ghost use Rattle.stream_tasks.specs.Tasks.{IsWhole};
+ghost use Rattle.stream_tasks.specs.Tasks.{IsWhole, SignalsBlocks, sends_room};
 ghost use Rattle.stream_tasks.specs.Inside.{ChildrenAllow, MayStep, until_allows};
 
 use crate::child::Child;
@@ -47,6 +47,8 @@ fn least_bound(job: &Job, task: usize) -> u64
 /// kind signals blocks. It takes memory for them.
 pub fn places_for(alloc: Global, job: &Job, task: usize, most: usize) -> Result<Places, AllocError>
     requires task { task < length job.now.graph.tasks }
+    ensures { IfOk result (λ places. SignalsBlocks job.now task
+        → sends_room job.now task places ≡ most) }
 {
     let _lines = job.graph().tasks();
     match kind_of(job, task) {

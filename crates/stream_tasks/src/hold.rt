@@ -1,6 +1,8 @@
 //! What a task holds of a phaser.
-ghost use Rattle.std.specs.Prelude.{◌≡◌, ◌↔◌, [], ◌∷◌, length, IfOk, IsOk, OnErr, OnOk};
-ghost use Rattle.stream_tasks.specs.Holds.{GoesOn, HasSignalled, HasGot, HasSeenOthers, IsAtMost, Leaves};
+ghost use Rattle.std.specs.Prelude.{◌≡◌, ◌≢◌, ◌↔◌, [], ◌∷◌, length, Err, IfOk, IsOk, OnErr, OnOk};
+ghost use Rattle.stream_tasks.specs.Holds.{GoesOn, HasSendPlaces, HasSignalled, HasGot, HasSeenOthers, IsAtMost, Leaves};
+ghost use Rattle.graph_runs.specs.phase_base.declared.operation.Op.{Op};
+ghost use Rattle.stream_members.specs.AnyMembers.{room_for};
 ghost use Rattle.stream_tasks.specs.Registering.{AddsTo, AddsNowTo};
 
 use crate::held::Held;
@@ -48,15 +50,17 @@ impl<'a> Hold<'a> {
         signalled(member.try_put(value, single))
     }
 
-    /// Signals with these values, one a phase.
+    /// Signals with these values, one a phase. There are places for their sends.
     pub fn put_all(
         &mut self,
         values: &[i64],
         single: Option<Single>,
         places: &mut Places,
     ) -> Result<(), Held>
+        requires { HasSendPlaces self.old (length values.now) places.old }
         ensures ok { OnOk result (GoesOn (HasSignalled values.now single) self.old self.new) }
         ensures err { OnErr result (GoesOn HasSeenOthers self.old self.new) }
+        ensures places { (op : Op) → room_for op places.new ≡ room_for op places.old }
     {
         laws::others_come();
         let Hold::On(member) = self else {
@@ -145,8 +149,9 @@ impl<'a> Hold<'a> {
     }
 }
 
-/// What a signal answers.
+/// What a signal answers that found places for its sends.
 fn signalled(answer: Result<u64, PutRefusal>) -> Result<(), Held>
+    requires { answer ≢ Err PutRefusal.TooMany }
     ensures { IsOk result ↔ IsOk answer }
 {
     match answer {
@@ -154,6 +159,7 @@ fn signalled(answer: Result<u64, PutRefusal>) -> Result<(), Held>
         Err(PutRefusal::Busy) => Err(Held::Busy),
         Err(PutRefusal::Refused(SignalRefusal::Ahead)) => Err(Held::Blocked),
         Err(PutRefusal::Refused(SignalRefusal::Spent)) => Err(Held::Blocked),
+        Err(PutRefusal::TooMany) => unreachable!(),
         Err(_) => Err(Held::Stuck),
     }
 }

@@ -1,5 +1,5 @@
 //! One event of a task.
-ghost use Rattle.std.specs.Prelude.{◌≡◌, ◌≢◌, ◌+◌, ◌<◌, ◌≤◌, ℕ, ℤ, List, [], ◌++◌, Ok, true, false, length, map, vec_len, vec_capacity, IfSome};
+ghost use Rattle.std.specs.Prelude.{◌≡◌, ◌≢◌, ◌+◌, ◌<◌, ◌≤◌, ℕ, ℤ, List, [], ◌++◌, Ok, true, false, length, map, take, vec_len, vec_capacity, IfOk, IfSome};
 ghost use Rattle.std.specs.List.{All};
 ghost use Rattle.graph_runs.specs.graph_base.Graphs.{task_at};
 ghost use Rattle.graph_runs.specs.graph_base.declared.line.Kind.TheVariants as kind;
@@ -13,11 +13,13 @@ ghost use Rattle.graph_runs.specs.Moves.{IsBlock};
 ghost use Rattle.graph_runs.specs.Nexts.{is_cut};
 ghost use Rattle.graph_runs.specs.Steps.{HasFilter};
 ghost use Rattle.graph_runs.specs.TaskPlaces.{outputs_of_block};
+ghost use Rattle.stream_tasks.specs.Holds.{GoesOn, HasGot, IsAtMost};
 ghost use Rattle.stream_tasks.specs.Tasks.{HasAllNow, HasNoneDue, IsTask, IsWhole, Keeps, OwesNothing};
 ghost use Rattle.stream_tasks.specs.Inside.{HasTaken, MayStep};
 
 use crate::gate::Gate;
-use crate::hold::Given;
+use crate::held::Held;
+use crate::hold::{Given, Hold};
 use crate::task_state::TaskState;
 use crate::went::Went;
 use graph_runs::graph_base::Kind;
@@ -133,13 +135,9 @@ impl<'a> TaskState<'a> {
         ensures { Keeps job.now self.old self.new }
     {
         let p = input_of(job, self.number, 1);
-        if self.outcomes.is_empty() {
-            return self.meet(Went::Stuck);
-        }
-        let out = &mut self.outcomes[..1];
-        match self.holds[1].get(out) {
+        match get_into(&mut self.holds[1], &mut self.outcomes, 1) {
             Ok(Given::Values(_)) => {
-                let got = out[0];
+                let got = self.outcomes[0];
                 if is_too_big(got) {
                     return self.meet(Went::TooBig);
                 }
@@ -205,9 +203,6 @@ impl<'a> TaskState<'a> {
         ensures { Keeps job.now self.old self.new }
     {
         let steps = self.steps(job, gate) as usize;
-        if steps > self.outcomes.len() {
-            return self.meet(Went::Stuck);
-        }
         if self.begun.checked_add(steps as u64).is_none() {
             return self.meet(Went::Stuck);
         }
@@ -218,10 +213,9 @@ impl<'a> TaskState<'a> {
         enter(gate, &mut self.entered, self.number, self.begun);
         let k = first_input_of(job, self.number, self.begun);
         let p = input_of(job, self.number, k);
-        let out = &mut self.outcomes[..steps];
-        match self.holds[k].get(out) {
+        match get_into(&mut self.holds[k], &mut self.outcomes, steps) {
             Ok(Given::Values(count)) => {
-                let got = &out[..count];
+                let got = &self.outcomes[..count];
                 let (filter, made) = (&mut self.filter, &mut self.made);
                 let Some(owed) = owed_after(job, self.number, self.begun, filter, made, got) else {
                     return self.meet(Went::TooBig);
@@ -239,6 +233,26 @@ impl<'a> TaskState<'a> {
             Err(held) => held.on(p),
         }
     }
+}
+
+/// Waits for the next values, `most` at most, which come into the first of these places.
+fn get_first(hold: &mut Hold, places: &mut [Outcome], most: usize) -> Result<Given, Held>
+    requires { most ≤ length places.old }
+    ensures call { GoesOn (HasGot result (take most places.new)) hold.old hold.new }
+    ensures few { IfOk result (IsAtMost most) }
+    ensures places { length places.new ≡ length places.old }
+{
+    hold.get(&mut places[..most])
+}
+
+/// The same into a list of places, which stays as long.
+fn get_into(hold: &mut Hold, places: &mut Vec<Outcome>, most: usize) -> Result<Given, Held>
+    requires { most ≤ vec_len places.old }
+    ensures call { GoesOn (HasGot result (take most places.new.items)) hold.old hold.new }
+    ensures few { IfOk result (IsAtMost most) }
+    ensures places { length places.new.items ≡ length places.old.items }
+{
+    get_first(hold, places, most)
 }
 
 /// Whether none of these outcomes is out of range.
@@ -281,6 +295,7 @@ fn owed_after(
     ensures taken { IfSome result (λ owed.
         HasTaken job.now t begun got.now filter.old filter.new owed made.new.items) }
     ensures others { (task_at job.now.graph t).kind ≢ kind.Fir → made.new.items ≡ [] }
+    ensures few { length made.new.items ≤ length got.now }
     ensures room { vec_capacity made.new ≡ vec_capacity made.old }
 {
     if !all_fit(got) {
@@ -317,6 +332,7 @@ fn filter_all(
     ensures filter { result ≡ true → (taken : List ℤ)
         → HasFilter (task_at job.now.graph t) filter.old taken
         → HasFilter (task_at job.now.graph t) filter.new (taken ++ map number outcomes.now) }
+    ensures few { length made.new.items ≤ length outcomes.now }
     ensures room { vec_capacity made.new ≡ vec_capacity made.old }
 {
     for outcome in outcomes {

@@ -2,7 +2,7 @@
 use Rattle.std.proofs.Common.{◌≡◌, ◌<◌, ◌≤◌, ◌∷◌, [], length, refl, sym, ap, subst, ◌∙◌, arith, to_z-of_z, rules, SFits, to_z, of_z, w64, Ok, get_or, pos, Option, Some, false}
 use Rattle.std.specs.Vec.{with_item}
 use Rattle.std.specs.Prelude.{take, vec_len}
-use Rattle.std.proofs.lemmas.List.{length-take-le}
+use Rattle.std.proofs.lemmas.List.{get_or-take, length-take-le}
 use Rattle.graph_runs.specs.phase_accum.declared.outcome.Outcome.{Outcome}
 use Rattle.graph_runs.specs.phase_accum.declared.outcome.Outcome.TheVariants.{Value}
 use Rattle.graph_runs.specs.TaskPlaces as turns
@@ -29,48 +29,60 @@ index_mut-requires c =
     let long : s.holds.len ≡ length s.holds.items = s.holds.ok.0 in
     omega arith
 
-pub returns-then-is_empty : goal.returns-then-is_empty
-returns-then-is_empty c = λ spots task. c.meet.ensures.keeps c.args.job.now spots task.whole
+-- there is a place for what it gets
+pub get_into-requires : goal.get_into-requires
+get_into-requires c =
+    let s = c.args.self.now in
+    let whole = c.requires.task.1.whole in
+    let enough = whole.places.outcomes in
+    let own = whole.places.own in
+    let own_few = whole.places.own_few in
+    let full : vec_len s.outcomes ≡ length s.outcomes.items = s.outcomes.ok.0 in
+    omega arith
 
 pub returns-then-is_too_big : goal.returns-then-is_too_big
 returns-then-is_too_big c = λ spots task.
     let s = c.args.self.now in
     let job = c.args.job.now in
-    c.meet-then-is_too_big.ensures.keeps job spots
-    (whole_moves job s 1 c.get.new.self (record (as_it_is s) { outcomes = c.self-in-Ok-Values-1.given })
-    (fits job s s.lines s.entered c.self-in-Ok-Values-1.given s.places task.whole) task.whole)
+    c.meet.ensures.keeps job spots
+    (whole_moves job s 1 c.get_into.new.hold (record (as_it_is s) { outcomes = c.get_into.new.places })
+    (fits job s s.lines s.entered c.get_into.new.places s.places c.get_into.ensures.places (λ op. refl) task.whole)
+    task.whole)
 
 pub returns-else-is_too_big : goal.returns-else-is_too_big
 returns-else-is_too_big c = λ spots task.
     let s = c.args.self.now in
     let job = c.args.job.now in
     let t = s.number in
-    let d = Value (pos 0) in
-    let out = c.get.new.out in
-    let outcome : Outcome = get_or out 0 d in
+    let places = c.get_into.new.places.items in
+    let out = take 1 places in
+    let outcome : Outcome = c.index-got.result.now in
     let owed = c.owed_after_exchange-self.result in
     let fit : SFits w64 c.number_taken.result = search rules in
     let got : to_z w64 (of_z w64 c.number_taken.result) ≡ number outcome =
     to_z-of_z fit ∙ c.number_taken.ensures in
-    let places = c.deref_mut.result.now in
-    let many = c.deref_mut.ensures.len in
-    let full : 1 ≤ vec_len s.outcomes = some_of (vec_len s.outcomes) (sym c.is_empty.ensures ∙ c.if-is_empty.false) in
+    let many : length places ≡ length s.outcomes.items = c.get_into.ensures.places in
+    let enough = task.whole.places.outcomes in
+    let own = task.whole.places.own in
+    let own_few = task.whole.places.own_few in
     let some : 1 ≤ length places = omega arith in
-    let long : length out ≡ 1 = c.get.ensures.out ∙ length-take-le 1 places some in
-    let few = subst (IsAtMost (length (take 1 places))) c.in-Ok-Values.field-0-is c.in-Ok-Values.ensures.few in
-    let given : GoesOn (HasWaited (outcome ∷ [])) c.index_mut.result.now c.get.new.self =
-    subst (λ os. GoesOn (HasWaited os) c.index_mut.result.now c.get.new.self)
-    (first_of out d c.in-Ok-Values.field-0-0 long few.0)
-    (subst (λ f. GoesOn (HasGot (Ok f) out) c.index_mut.result.now c.get.new.self) c.in-Ok-Values.field-0-is
+    let long : length out ≡ 1 = length-take-le 1 places some in
+    let few = subst (IsAtMost 1) c.in-Ok-Values.field-0-is c.in-Ok-Values.ensures.few in
+    let first : get_or out 0 outcome ≡ outcome =
+    get_or-take 1 places 0 outcome (omega arith) ∙ sym c.index-got.ensures.value in
+    let given : GoesOn (HasWaited (outcome ∷ [])) c.index_mut.result.now c.get_into.new.hold =
+    subst (λ os. GoesOn (HasWaited os) c.index_mut.result.now c.get_into.new.hold)
+    (first_of out outcome c.in-Ok-Values.field-0-0 long few.0 ∙ ap (λ o. o ∷ []) first)
+    (subst (λ f. GoesOn (HasGot (Ok f) out) c.index_mut.result.now c.get_into.new.hold) c.in-Ok-Values.field-0-is
     c.in-Ok-Values.ensures.call) in
-    task_exchanges job spots s c.input_of-p.result c.args.x outcome c.index_mut.result.now c.get.new.self
-    owed c.self-in-Ok-Values-1.given c.requires.over c.requires.owed c.requires.none_made c.requires.met
+    task_exchanges job spots s c.input_of-p.result c.args.x outcome c.index_mut.result.now c.get_into.new.hold
+    owed c.get_into.new.places c.requires.over c.requires.owed c.requires.none_made c.requires.met
     (sym c.input_of-p.ensures.phaser)
     (subst (λ y. owed_of owed ≡ owed_after_exchange (task_at job.graph t) (turns.exchange c.args.x) y) got
     (subst (λ y. owed_of owed ≡ owed_after_exchange (task_at job.graph t) (turns.exchange y) (to_z w64 (of_z w64 c.number_taken.result)))
     (to_z-of_z c.ranges.x) c.owed_after_exchange-self.ensures))
     (sym c.is_too_big.ensures ∙ c.if-is_too_big.false)
-    (exchange_fits job s c.args.x owed c.self-in-Ok-Values-1.given task.whole c.requires.owed)
+    (exchange_fits job s c.args.x owed c.get_into.new.places many task.whole c.requires.owed)
     c.index_mut.ensures.value given task
 
 pub returns-in-Ok-Ended : goal.returns-in-Ok-Ended
@@ -78,8 +90,9 @@ returns-in-Ok-Ended c = λ spots task.
     let s = c.args.self.now in
     let job = c.args.job.now in
     c.meet-in-Ok-Ended.ensures.keeps job spots
-    (whole_moves job s 1 c.get.new.self (record (as_it_is s) { outcomes = c.self-in-Ok-Ended-1.given })
-    (fits job s s.lines s.entered c.self-in-Ok-Ended-1.given s.places task.whole) task.whole)
+    (whole_moves job s 1 c.get_into.new.hold (record (as_it_is s) { outcomes = c.get_into.new.places })
+    (fits job s s.lines s.entered c.get_into.new.places s.places c.get_into.ensures.places (λ op. refl) task.whole)
+    task.whole)
 
 pub returns-in-Err : goal.returns-in-Err
 returns-in-Err c = λ spots task.
@@ -88,7 +101,8 @@ returns-in-Err c = λ spots task.
     let owes = owes_exchange s c.args.x c.requires.owed c.requires.none_made in
     let on = exchange_on job spots s c.args.x c.requires.met c.requires.over owes task in
     let none : length s.lefts.items ≡ 0 = task.whole.staying c.requires.over in
-    task_sees job spots s 1 c.input_of-p.result c.index_mut.result.now c.get.new.self s.lines s.entered
-    c.in-Err.self-in-Err-1-own.given s.places
+    task_sees job spots s 1 c.input_of-p.result c.index_mut.result.now c.get_into.new.hold s.lines s.entered
+    c.get_into.new.places s.places c.get_into.ensures.places (λ op. refl)
     on.1 (on.2 ∙ sym c.input_of-p.ensures.phaser) (omega arith) c.index_mut.ensures.value refl
-    (subst (λ r. GoesOn (HasGot r c.get.new.out) c.index_mut.result.now c.get.new.self) c.in-Err.is c.get.ensures.call) task
+    (subst (λ r. GoesOn (HasGot r (take 1 c.get_into.new.places.items)) c.index_mut.result.now c.get_into.new.hold)
+    c.in-Err.is c.get_into.ensures.call) task

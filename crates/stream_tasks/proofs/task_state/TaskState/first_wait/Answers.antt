@@ -1,7 +1,8 @@
 -- The wait is on the input that the steps begin with.
 use Rattle.std.proofs.Common.{◌≡◌, ◌<◌, ◌≤◌, ◌+◌, [], ◌∷◌, ◌++◌, true, false, length, refl, sym, subst, ap, ◌∙◌, arith, Ok, rules, map}
-use Rattle.std.specs.Prelude.{take, vec_len}
-use Rattle.std.proofs.lemmas.List.{length-take-le}
+use Rattle.std.specs.Prelude.{take, drop, vec_len}
+use Rattle.std.proofs.lemmas.List.{length-take-le, take-append-le, take-append-drop}
+use Rattle.graph_runs.proofs.Entries.{take_length}
 use Rattle.graph_runs.specs.graph_base.Graphs.{task_at}
 use Rattle.stream_eval.specs.stream_lists.Lists.{is_sink_at, number}
 use Rattle.graph_runs.specs.Nexts.{registrations_at}
@@ -13,10 +14,7 @@ use Rattle.stream_tasks.proofs.task_state.TaskState.first_wait.Goals as goal
 
 pub returns-then-is_none : goal.returns-then-is_none
 returns-then-is_none g c = λ spots task.
-    c.meet-then-is_none.ensures.keeps c.args.job.now spots task.whole
-
-pub returns-then-steps-len : goal.returns-then-steps-len
-returns-then-steps-len g c = λ spots task. c.meet.ensures.keeps c.args.job.now spots task.whole
+    c.meet.ensures.keeps c.args.job.now spots task.whole
 
 pub index_mut-requires : goal.index_mut-requires
 index_mut-requires g c =
@@ -30,6 +28,15 @@ index_mut-requires g c =
     let long : s.holds.len ≡ length s.holds.items = s.holds.ok.0 in
     omega arith
 
+-- there is a place for what each step gets
+pub get_into-requires : goal.get_into-requires
+get_into-requires g c =
+    let s = c.args.self.now in
+    let enough = c.requires.step.task.whole.places.outcomes in
+    let few : c.steps-steps.result ≤ s.most = c.steps-steps.ensures.few in
+    let full : vec_len s.outcomes ≡ length s.outcomes.items = s.outcomes.ok.0 in
+    omega arith
+
 pub owed_after-requires-clause-filter : goal.owed_after-requires-clause-filter
 owed_after-requires-clause-filter g c =
     let step = c.requires.step in
@@ -39,17 +46,28 @@ owed_after-requires-clause-filter g c =
 pub returns-in_default : goal.returns-in_default
 returns-in_default g c = λ spots task.
     let s = c.args.self.now in
+    let steps = c.steps-steps.result in
+    let most : steps ≤ s.most = c.steps-steps.ensures.few in
+    let few = subst (IsAtMost steps) c.in-Ok-Values.field-0-is c.in-Ok-Values.ensures.few in
+    let less : c.in-Ok-Values.count ≤ steps = few.1 in
+    let taken = take_length c.in-Ok-Values.count c.deref.result.now in
+    let made : length c.owed_after.new.made.items ≤ length (take c.in-Ok-Values.count c.deref.result.now) =
+    c.owed_after.ensures.few in
+    let few_made : length c.owed_after.new.made.items ≤ s.most = omega arith in
     c.meet-in_default.ensures.keeps c.args.job.now spots
-    (whole_moves c.args.job.now s c.first_input_of-k.result c.get.new.self
+    (whole_moves c.args.job.now s c.first_input_of-k.result c.get_into.new.hold
     (record (as_it_is s) {
       filter = c.owed_after.new.filter;
       made = c.owed_after.new.made;
       lines = c.make_room.new.lines;
       entered = c.enter.new.entered;
-      outcomes = c.self-in_default-1.given;
+      outcomes = c.get_into.new.places;
     })
     (record {
       made = c.owed_after.ensures.room;
+      few_made = few_made;
+      outcomes = c.get_into.ensures.places;
+      sends = λ op. refl;
       filters = λ fir. refl;
       others = c.owed_after.ensures.others;
     }) task.whole)
@@ -64,22 +82,29 @@ returns-in-Some g c = λ spots task.
     let p = c.input_of-p.result in
     let steps = c.steps-steps.result in
     let count = c.in-Ok-Values.count in
-    let places = c.deref_mut.result.now in
-    let out = c.get.new.out in
-    let os = take count out in
+    let places = c.get_into.new.places.items in
+    let out = take steps places in
+    let got = c.deref.result.now in
+    let os = take count got in
     let on = input_on job s k p task.whole (c.first_input_of-k.ensures.within c.requires.kind)
     c.input_of-p.ensures.phaser in
-    let many = c.deref_mut.ensures.len in
-    let room : steps ≤ vec_len s.outcomes = (let no = c.if-steps-len.false in let all = c.len.ensures in omega arith) in
-    let long : length (take steps places) ≡ steps = length-take-le steps places (omega arith) in
-    let few = subst (IsAtMost (length (take steps places))) c.in-Ok-Values.field-0-is c.in-Ok-Values.ensures.few in
-    let some : 1 ≤ count = few.0 in
-    let less : count ≤ length (take steps places) = few.1 in
-    let same = c.get.ensures.out in
-    let taken_all : length os ≡ count = length-take-le count out (omega arith) in
     let most : steps ≤ s.most = c.steps-steps.ensures.few in
+    let enough = task.whole.places.outcomes in
+    let many : length places ≡ length s.outcomes.items = c.get_into.ensures.places in
+    let same : got ≡ places = c.deref.ensures.value in
+    let as_long : length got ≡ length places = ap length same in
+    let long : length out ≡ steps = length-take-le steps places (omega arith) in
+    let few = subst (IsAtMost steps) c.in-Ok-Values.field-0-is c.in-Ok-Values.ensures.few in
+    let some : 1 ≤ count = few.0 in
+    let less : count ≤ steps = few.1 in
+    let first : take count out ≡ os =
+    sym (take-append-le count out (drop steps places) (omega arith))
+    ∙ ap (take count) (take-append-drop steps places) ∙ ap (take count) (sym same) in
+    let taken_all : length os ≡ count = length-take-le count got (omega arith) in
+    let made : length c.owed_after.new.made.items ≤ length os = c.in-Some.ensures.few in
+    let few_made : length c.owed_after.new.made.items ≤ s.most = omega arith in
     let taken = c.in-Some.ensures.taken in
-    task_takes job spots s k p steps os c.index_mut.result.now c.get.new.self
+    task_takes job spots s k p steps os c.index_mut.result.now c.get_into.new.hold
     (record {
       begun = s.begun + count;
       owed = c.in-Some.owed;
@@ -87,7 +112,7 @@ returns-in-Some g c = λ spots task.
       filter = c.owed_after.new.filter;
       lines = c.keep.new.lines;
       entered = false;
-      outcomes = c.self-in-Ok-Values-1.given;
+      outcomes = c.get_into.new.places;
       places = s.places;
     })
     on.0 on.1 (sym c.input_of-p.ensures.phaser) step c.requires.kind c.first_input_of-k.ensures.input
@@ -98,12 +123,16 @@ returns-in-Some g c = λ spots task.
     ∙ ap (λ l. l ++ map number os) c.make_room.ensures.items))
     (record {
       made = c.owed_after.ensures.room;
+      few_made = few_made;
+      outcomes = many;
+      sends = λ op. refl;
       filters = λ fir. taken.filters fir ∙ sym (task.whole.filters fir);
       others = c.owed_after.ensures.others;
     })
     c.index_mut.ensures.value
-    (subst (λ f. GoesOn (HasGot (Ok f) out) c.index_mut.result.now c.get.new.self) c.in-Ok-Values.field-0-is
-    c.in-Ok-Values.ensures.call) task
+    (subst (λ l. GoesOn (HasWaited l) c.index_mut.result.now c.get_into.new.hold) first
+    (subst (λ f. GoesOn (HasGot (Ok f) out) c.index_mut.result.now c.get_into.new.hold) c.in-Ok-Values.field-0-is
+    c.in-Ok-Values.ensures.call)) task
 
 pub returns-in-Ok-Ended : goal.returns-in-Ok-Ended
 returns-in-Ok-Ended g c = λ spots task.
@@ -114,11 +143,11 @@ returns-in-Ok-Ended g c = λ spots task.
     let p = c.input_of-p.result in
     let within = c.first_input_of-k.ensures.within c.requires.kind in
     let on = input_on job s k p task.whole within c.input_of-p.ensures.phaser in
-    runs_out job spots s k p c.index_mut.result.now c.get.new.self c.make_room.new.lines c.enter.new.entered
-    c.self-in-Ok-Ended-1.given
+    runs_out job spots s k p c.index_mut.result.now c.get_into.new.hold c.make_room.new.lines c.enter.new.entered
+    c.get_into.new.places
     step.met step.over step.owed c.requires.kind c.first_input_of-k.ensures.input within
-    (sym c.input_of-p.ensures.phaser) on.0 on.1 c.index_mut.ensures.value c.make_room.ensures.items step.children
-    (subst (λ f. GoesOn (HasGot (Ok f) c.get.new.out) c.index_mut.result.now c.get.new.self) c.in-Ok-Ended.field-0-is
+    (sym c.input_of-p.ensures.phaser) on.0 on.1 c.index_mut.ensures.value c.make_room.ensures.items c.get_into.ensures.places step.children
+    (subst (λ f. GoesOn (HasGot (Ok f) (take c.steps-steps.result c.get_into.new.places.items)) c.index_mut.result.now c.get_into.new.hold) c.in-Ok-Ended.field-0-is
     c.in-Ok-Ended.ensures.call) task
 
 pub returns-in-Err : goal.returns-in-Err
@@ -130,7 +159,7 @@ returns-in-Err g c = λ spots task.
     let on = input_on job s k p task.whole (c.first_input_of-k.ensures.within c.requires.kind)
     c.input_of-p.ensures.phaser in
     let none : length s.lefts.items ≡ 0 = task.whole.staying c.requires.step.over in
-    task_sees job spots s k p c.index_mut.result.now c.get.new.self c.make_room.new.lines c.enter.new.entered
-    c.in-Err.self-in-Err-1-own.given s.places
+    task_sees job spots s k p c.index_mut.result.now c.get_into.new.hold c.make_room.new.lines c.enter.new.entered
+    c.get_into.new.places s.places c.get_into.ensures.places (λ op. refl)
     on.0 on.1 (omega arith) c.index_mut.ensures.value c.make_room.ensures.items
-    (subst (λ r. GoesOn (HasGot r c.get.new.out) c.index_mut.result.now c.get.new.self) c.in-Err.is c.get.ensures.call) task
+    (subst (λ r. GoesOn (HasGot r (take c.steps-steps.result c.get_into.new.places.items)) c.index_mut.result.now c.get_into.new.hold) c.in-Err.is c.get_into.ensures.call) task

@@ -67,4 +67,4 @@ returns-in-Err c = λ spots task.
     let on = output_on job s j k p task.whole less c.output_of-k.ensures.registration c.output_of-k.ensures.phaser in
     let none : length s.lefts.items ≡ 0 = task.whole.staying c.requires.over in
     task_sees job spots s k p c.index_mut.result.now c.put.new.self s.lines s.entered s.outcomes s.places
-    on.0 on.1 (omega arith) c.index_mut.ensures.value refl c.in-Err.ensures.err task
+    refl (λ op. refl) on.0 on.1 (omega arith) c.index_mut.ensures.value refl c.in-Err.ensures.err task
