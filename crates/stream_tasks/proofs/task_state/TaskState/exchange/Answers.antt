@@ -69,7 +69,7 @@ returns-else-is_too_big c = λ spots task.
     let long : length out ≡ 1 = length-take-le 1 places some in
     let few = subst (IsAtMost 1) c.in-Ok-Values.field-0-is c.in-Ok-Values.ensures.few in
     let first : get_or out 0 outcome ≡ outcome =
-    get_or-take 1 places 0 outcome (omega arith) ∙ sym c.index-got.ensures.value in
+    get_or-take 1 places 0 outcome (omega arith) ∙ sym c.index-got.ensures in
     let given : GoesOn (HasWaited (outcome ∷ [])) c.index_mut.result.now c.get_into.new.hold =
     subst (λ os. GoesOn (HasWaited os) c.index_mut.result.now c.get_into.new.hold)
     (first_of out outcome c.in-Ok-Values.field-0-0 long few.0 ∙ ap (λ o. o ∷ []) first)
