@@ -78,7 +78,10 @@ pub struct Names {
 pub fn names(graph: impl AsRef<[u8]>) -> Result<Names, Error> {
     let text = graph.as_ref();
     let mut names = named(phase_names, text)?.into_iter();
-    Ok(Names { sources: names.by_ref().take(check(text)?.sources).collect(), sinks: names.collect() })
+    Ok(Names {
+        sources: names.by_ref().take(check(text)?.sources).collect(),
+        sinks: names.collect(),
+    })
 }
 
 /// The names of all phasers and tasks of a graph, each in the order of their lines.
@@ -106,14 +109,8 @@ pub fn all_names(graph: impl AsRef<[u8]>) -> Result<AllNames, Error> {
 }
 
 /// A call that writes names of a graph.
-type NamesCall = unsafe extern "C" fn(
-    *const u8,
-    usize,
-    *mut u8,
-    usize,
-    *mut usize,
-    *mut PhaseFault,
-) -> i32;
+type NamesCall =
+    unsafe extern "C" fn(*const u8, usize, *mut u8, usize, *mut usize, *mut PhaseFault) -> i32;
 
 /// The names that a call writes, a line each.
 fn named(call: NamesCall, text: &[u8]) -> Result<Vec<String>, Error> {
@@ -124,14 +121,7 @@ fn named(call: NamesCall, text: &[u8]) -> Result<Vec<String>, Error> {
     // SAFETY: each pointer and length are those of one slice, and the others are to values of this
     // function.
     let status = unsafe {
-        call(
-            text.as_ptr(),
-            text.len(),
-            room.as_mut_ptr(),
-            room.len(),
-            &mut needed,
-            &mut fault,
-        )
+        call(text.as_ptr(), text.len(), room.as_mut_ptr(), room.len(), &mut needed, &mut fault)
     };
     if status != PHASE_OK {
         return Err(error::of(status, &fault, &[]));
