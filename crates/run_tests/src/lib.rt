@@ -4,6 +4,8 @@
 #![tactic(auto)]
 
 #[cfg(test)]
+mod after_faults;
+#[cfg(test)]
 mod blocks;
 #[cfg(test)]
 mod children;

@@ -28,5 +28,5 @@ mod whole;
 pub use graph_commands;
 pub use graph_commands::write_lines;
 pub use stream_tasks::{Gate, Open, phase_shared, stream_members};
-pub use whole::{RunFault, run};
+pub use whole::{RunFault, after_fault, run};
 pub use worker_pool;

@@ -20,9 +20,6 @@ use stream_tasks::{Gate, Run, open_phasers};
 use thiserror::Error;
 use worker_pool::Fault;
 
-#[cfg(test)]
-mod tests;
-
 /// Why a run gives no lines.
 #[derive(Clone, Copy, Debug, PartialEq, Eq, Error)]
 pub enum RunFault {
@@ -58,8 +55,9 @@ fn too_big(alloc: Global, job: &Job) -> Result<Vec<Lines>, RunFault>
     }
 }
 
-/// What a run answers that ended before all its tasks were done.
-fn after_fault(alloc: Global, job: &Job, fault: Fault) -> Result<Vec<Lines>, RunFault>
+/// What a run answers that ended before all its tasks were done: for a value out of range what
+/// `eval` answers, which takes memory, since a worker may meet one that the job does not take.
+pub fn after_fault(alloc: Global, job: &Job, fault: Fault) -> Result<Vec<Lines>, RunFault>
     ensures done { IfOk result (λ lines. AreLinesOf job.now lines.items) }
     ensures too_big { (place : PlaceValue) (n : ℕ) → result ≡ Err (RunFault.TooBig place n)
         → first_too_big job.now ≡ Some (place, n) }
