@@ -6,6 +6,10 @@ pub mod Anys
 pub mod Composed
 pub mod Entries
 pub mod Faults
+pub mod FedFeeds
+pub mod FedNexts
+pub mod FedOpen
+pub mod FedRuns
 pub mod Numbers
 pub mod OnLines
 pub mod OutputLists
@@ -81,3 +85,4 @@ pub mod Owns
 pub mod Wholes
 pub mod StartsAtEnd
 pub use Rattle.phase_history.proofs as phase_history_lemmas
+pub use Rattle.stream_lists.proofs as stream_lists_lemmas

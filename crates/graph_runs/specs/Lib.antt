@@ -1,5 +1,6 @@
 pub mod Answers
 pub mod Beginnings
+pub mod Feeds
 pub mod Moments
 pub mod Moves
 pub mod NextBlocks
@@ -19,3 +20,4 @@ pub use Rattle.stream_lists.specs.graph_base as graph_base
 pub use Rattle.phase_history.specs.phase_accum as phase_accum
 pub use Rattle.phase_history.specs.phase_base as phase_base
 pub use Rattle.phase_history.specs as phase_history
+pub use Rattle.stream_lists.specs as stream_lists

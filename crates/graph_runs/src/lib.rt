@@ -14,6 +14,8 @@
 //! - `parts`, `places` and `beginnings`: whoever moves one task alone, as a thread with the task's
 //!   registrations does, knows a moment of the task's own, and each call of a registration makes it
 //!   a later one: `specs/Parts.antt`, `specs/Places.antt`.
+//! - `feeds`: what of a run stays when sources get more samples behind those that they have
+//!   signalled: `specs/Feeds.antt`.
 //! - `ends`: what each task knew is put together, and the sinks have taken what the graph's lines
 //!   say: `specs/TaskEnds.antt`, `specs/RunEnds.antt`.
 //!
@@ -23,6 +25,7 @@
 
 pub mod beginnings;
 pub mod ends;
+pub mod feeds;
 mod filters;
 mod lines;
 pub mod moments;

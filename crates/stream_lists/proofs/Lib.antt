@@ -13,6 +13,7 @@ pub mod LawExamples
 pub mod LengthsAbove
 pub mod ListLengths
 pub mod ListsAbove
+pub mod MoreSamples
 pub mod OneSend
 pub mod Ordered
 pub mod Starts

@@ -20,6 +20,14 @@ samples_at job t = get_or job.samples (source_number job.graph.tasks t) []
 abbrev pub start_at : Job → ℕ → ℕ
 start_at job t = if (task_at job.graph t).joins_now then get_or job.starts t 0 else 0
 
+-- the job with these samples in place of its own
+abbrev pub with_samples : List (List ℤ) → Job → Job
+with_samples samples job = record job { samples = samples }
+
+-- the samples of task t, where the sources have these
+abbrev pub samples_in : Job → List (List ℤ) → ℕ → List ℤ
+samples_in job samples t = samples_at (with_samples samples job) t
+
 -- the job with these starts in place of its own
 abbrev pub with_starts : List ℕ → Job → Job
 with_starts starts job = record job { starts = starts }

@@ -8,7 +8,7 @@ ghost use Rattle.graph_base.specs.phase_base.declared.operation.Op.TheVariants.{
 ghost use Rattle.graph_base.specs.TaskLines.{HasEnds, IsGraph};
 ghost use Rattle.stream_lists.specs.Entries.{AreInRange, HasEntry, output_values, sends_at, Takes};
 ghost use Rattle.stream_lists.specs.Exact.{exact_lines, exact_lists};
-ghost use Rattle.stream_lists.specs.Jobs.{Job, index_in, least, start_at, with_starts};
+ghost use Rattle.stream_lists.specs.Jobs.{Job, index_in, least, samples_at, samples_in, start_at, with_samples, with_starts};
 ghost use Rattle.stream_lists.specs.Lists.{ends_on, entry, lines_of, list_of_phaser, list_over, contributions_on, number, numbers_above, numbers_of, output_list, output_on};
 ghost use Rattle.stream_lists.specs.Meetings.{meet_on, meeting_line};
 ghost use Rattle.stream_lists.specs.Ranges.{Fits, answer_of};
@@ -162,4 +162,14 @@ pub fn exact_where_it_fits()
         → number (get_or (list_of_phaser job p) n Empty) ≡ entry (get_or (exact_lists job) p []) n }
     ensures lines { (job : Job) → IsGraph job.graph → Fits job
         → lines_of job ≡ exact_lines job }
+{}
+
+/// More samples make no task begin elsewhere and no list shorter: where no two tasks meet on a
+/// phaser with `any` in a job whose sources have at least as many, none do with fewer. So one look,
+/// at the most samples that may come, decides for all.
+pub fn meetings_come_with_more()
+    ensures { (job : Job) (more : List (List ℤ)) → IsGraph job.graph
+        → ((t : ℕ) → t < length job.graph.tasks → (task_at job.graph t).kind ≡ Source
+        → length (samples_at job t) ≤ length (samples_in job more t))
+        → meeting_line (with_samples more job) ≡ None → meeting_line job ≡ None }
 {}
