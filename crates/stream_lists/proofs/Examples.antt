@@ -776,3 +776,18 @@ too_big_from_0-answer = refl
 
 too_big_from_3-answer : answer_of (too_big_from 3) ≡ Err (place.Phaser 0, 3)
 too_big_from_3-answer = refl
+
+-- phaser X any / source a a.csv -> X / source b b.csv -> X by a at 3 / sink out X, whose sources
+-- have these numbers of samples: b begins where a has signalled three
+abbrev hands_over : List (List ℤ) → Job
+hands_over samples =
+    job_of (plain Any ∷ []) (source 2 0 ∷ added_by 0 3 (source 3 0) ∷ sink 4 0 ∷ []) samples
+
+-- with three samples of a nobody meets; only with the fourth does b meet a
+hands_over_three-line : meeting_line (hands_over (these (0 ∷ 1 ∷ 2 ∷ []) ∷ these (9 ∷ []) ∷ []))
+    ≡ None
+hands_over_three-line = refl
+
+hands_over_four-line :
+    meeting_line (hands_over (these (0 ∷ 1 ∷ 2 ∷ 3 ∷ []) ∷ these (9 ∷ []) ∷ [])) ≡ Some 3
+hands_over_four-line = refl

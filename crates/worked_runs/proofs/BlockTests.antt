@@ -7,7 +7,7 @@ use Rattle.graph_runs.specs.graph_base.declared.line.Kind.TheVariants.{Source, F
 use Rattle.graph_runs.specs.graph_base.declared.line.Parent.{Parent}
 use Rattle.graph_runs.specs.graph_base.Graphs.{task_at}
 use Rattle.graph_runs.specs.graph_base.TaskLines.{IsGraph}
-use Rattle.stream_lists.specs.Jobs.{Job, samples_at}
+use Rattle.graph_runs.specs.stream_lists.Jobs.{Job, samples_at}
 use Rattle.graph_runs.specs.Moments.{Moment, HasRun, made_now, first_input}
 use Rattle.graph_runs.specs.Moves.{further, IsBlock}
 use Rattle.graph_runs.specs.Turned.{IsNextSignals, IsNextSamples, IsFirstWaits, IsExchangeWait, IsNextLeave, IsNextChild}

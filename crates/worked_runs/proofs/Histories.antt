@@ -5,7 +5,7 @@ use Rattle.graph_runs.specs.phase_history.declared.event.Event.{Event}
 use Rattle.graph_runs.specs.phase_history.Histories.{History, IsBeginning}
 use Rattle.graph_runs.specs.phase_base.Lists.{is_in}
 use Rattle.graph_runs.specs.graph_base.TaskLines.{IsGraph}
-use Rattle.stream_lists.specs.Jobs.{Job}
+use Rattle.graph_runs.specs.stream_lists.Jobs.{Job}
 use Rattle.graph_runs.specs.Moments.{Moment, HasRun}
 use Rattle.graph_runs.proofs.OnLines.{on_phaser}
 use Rattle.graph_runs.specs.Moves.{HasGrown, OthersMoved}

@@ -15,9 +15,9 @@ use Rattle.graph_runs.specs.graph_base.declared.line.Kind.TheVariants.{Source, F
 use Rattle.graph_runs.specs.graph_base.declared.line.Parent.{Parent}
 use Rattle.graph_runs.specs.graph_base.Graphs.{Task, task_at, phaser_at, is_source}
 use Rattle.graph_runs.specs.graph_base.TaskLines.{IsGraph}
-use Rattle.stream_lists.specs.Jobs.{Job, samples_at, index_in}
-use Rattle.stream_lists.specs.Spans.{signalled_by, takes_from}
-use Rattle.stream_lists.proofs.Ordered.{place-at}
+use Rattle.graph_runs.specs.stream_lists.Jobs.{Job, samples_at, index_in}
+use Rattle.graph_runs.specs.stream_lists.Spans.{signalled_by, takes_from}
+use Rattle.graph_runs.proofs.stream_lists_lemmas.Ordered.{place-at}
 use Rattle.graph_runs.specs.Moments.{one, Moment, HasRun, limits_at, value_at, input_at, made_now, first_input, OnLine, AtMost, HasSamples, HasExchanged, HasEnded, MayStop, at_until, no_sample, no_input, RanOut}
 use Rattle.graph_runs.proofs.OnLines.{on_phaser}
 use Rattle.graph_runs.specs.Moves.{IsStaying, NoneDue, NoneBefore, MayBegin, MayBeginTo}

@@ -10,8 +10,8 @@ use Rattle.graph_runs.specs.phase_history.Legal.{IsLegal}
 use Rattle.graph_runs.specs.phase_history.Others.{IsUsed}
 use Rattle.graph_runs.specs.graph_base.Graphs.{task_at}
 use Rattle.graph_runs.specs.graph_base.TaskLines.{IsGraph}
-use Rattle.stream_lists.specs.Jobs.{Job, index_in}
-use Rattle.stream_lists.specs.Spans.{signalled_by}
+use Rattle.graph_runs.specs.stream_lists.Jobs.{Job, index_in}
+use Rattle.graph_runs.specs.stream_lists.Spans.{signalled_by}
 use Rattle.graph_runs.specs.Moments.{limits_at, input_at, OnLine}
 use Rattle.graph_runs.proofs.OnLines.{on_phaser}
 use Rattle.graph_runs.specs.Openings.{IsOpening, PhaserOpened, TaskOpened, HasOpened}

@@ -6,8 +6,8 @@ use Rattle.graph_runs.specs.phase_history.declared.event.Event.TheVariants.{Made
 use Rattle.graph_runs.specs.phase_history.Histories.{History, members_of, wait_phase, has_dropped, HasNoSignaller}
 use Rattle.graph_runs.specs.phase_history.Phases.{stream_of}
 use Rattle.graph_runs.specs.graph_base.TaskLines.{IsGraph}
-use Rattle.stream_lists.specs.Jobs.{Job}
-use Rattle.stream_lists.specs.Ranges.{is_too_big}
+use Rattle.graph_runs.specs.stream_lists.Jobs.{Job}
+use Rattle.graph_runs.specs.stream_lists.Ranges.{is_too_big}
 use Rattle.graph_runs.specs.Moments.{Moment, HasRun, IsOver, AnsweredNone, value_at}
 use Rattle.graph_runs.proofs.OnLines.{on_phaser}
 use Rattle.worked_runs.specs.Runs.{TaskEvent, after_turn, after_all, IsNext, AreNext, HasRunThrough}

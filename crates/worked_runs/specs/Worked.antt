@@ -11,7 +11,7 @@ use Rattle.graph_runs.specs.graph_base.declared.line.Parent.{Parent}
 use Rattle.graph_runs.specs.graph_base.declared.line.PhaserLine.{PhaserLine}
 use Rattle.graph_runs.specs.graph_base.declared.place.Place.TheVariants as place
 use Rattle.graph_runs.specs.graph_base.Graphs.{Graph, no_task}
-use Rattle.stream_lists.specs.Jobs.{Job}
+use Rattle.graph_runs.specs.stream_lists.Jobs.{Job}
 use Rattle.graph_runs.specs.Moments.{Moment}
 use Rattle.worked_runs.specs.Runs.{TaskEvent, sample, signal, first_wait, exchange_wait, leave, child, opened, after_turn, after_all}
 

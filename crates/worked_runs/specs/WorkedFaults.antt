@@ -7,7 +7,7 @@ use Rattle.graph_runs.specs.phase_history.Histories.{History}
 use Rattle.graph_runs.specs.graph_base.declared.line.Kind.TheVariants.{Source, Fir}
 use Rattle.graph_runs.specs.graph_base.declared.place.Place.TheVariants as place
 use Rattle.graph_runs.specs.graph_base.Graphs.{Graph, no_task}
-use Rattle.stream_lists.specs.Jobs.{Job}
+use Rattle.graph_runs.specs.stream_lists.Jobs.{Job}
 use Rattle.graph_runs.specs.Moments.{Moment}
 use Rattle.worked_runs.specs.Runs.{TaskEvent, sample, first_wait, opened, after_all}
 use Rattle.worked_runs.specs.Worked.{bus, founded}

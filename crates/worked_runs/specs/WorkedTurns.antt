@@ -8,7 +8,7 @@ use Rattle.graph_runs.specs.graph_base.declared.line.Kind.TheVariants.{Source, F
 use Rattle.graph_runs.specs.graph_base.declared.line.PhaserLine.{PhaserLine}
 use Rattle.graph_runs.specs.graph_base.declared.place.Place.TheVariants as place
 use Rattle.graph_runs.specs.graph_base.Graphs.{Graph, no_task}
-use Rattle.stream_lists.specs.Jobs.{Job}
+use Rattle.graph_runs.specs.stream_lists.Jobs.{Job}
 use Rattle.graph_runs.specs.Moments.{Moment}
 use Rattle.graph_runs.specs.Answers.{Answer, makes, is_blocked, after_turns}
 use Rattle.worked_runs.specs.Runs.{sample, first_wait, opened}

@@ -5,6 +5,7 @@
 mod worked_blocks;
 mod worked_events;
 mod worked_faults;
+mod worked_feeds;
 mod worked_parts;
 mod worked_run;
 mod worked_turns;

@@ -2,7 +2,7 @@
 ghost use Rattle.std.specs.Prelude.{◌≡◌, [], ◌∷◌, Ok, pos};
 ghost use Rattle.graph_runs.specs.phase_accum.declared.outcome.Outcome.TheVariants.{Value};
 ghost use Rattle.graph_runs.specs.graph_base.TaskLines.{IsGraph};
-ghost use Rattle.stream_lists.specs.Ranges.{answer_of};
+ghost use Rattle.graph_runs.specs.stream_lists.Ranges.{answer_of};
 ghost use Rattle.graph_runs.specs.Moments.{HasRun, TaskRan, started};
 ghost use Rattle.graph_runs.specs.Moves.{Signals, SignalsAll, WaitsAll, RegistersNow, MayBeginTo};
 ghost use Rattle.graph_runs.specs.Turned.{after_signal};
