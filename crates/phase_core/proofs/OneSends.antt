@@ -1,5 +1,5 @@
 -- Values that can be sent, and places that hold one send each.
-use Rattle.std.proofs.Common.{◌≡◌, ℕ, zero, suc, ◌+◌, ◌<◌, ◌≤◌, List, [], ◌∷◌, ◌++◌, ℤ, length, take, get_or, set, nat_abs, w64, to_z, of_z, sym, subst, arith}
+use Rattle.std.proofs.Common.{◌≡◌, ℕ, zero, suc, ◌+◌, ◌<◌, ◌≤◌, List, [], ◌∷◌, ◌++◌, ℤ, length, take, get_or, set, nat_abs, w64, to_z, of_z, arith}
 use Rattle.std.specs.Prelude.{unsigned_abs}
 use Rattle.std.specs.List.{All}
 use Rattle.std.proofs.lemmas.Int.{ints}
@@ -50,10 +50,7 @@ pub stand_more : {A : Type 0} (op : Operation A) (places : List (Parcel A)) (val
     → StandsForSends op held (get_or values i d ∷ [])
     → StandForLists op (take (i + 1) (set places i held)) (one_each (take (i + 1) values))
 stand_more {A} op places values i held d there within stand stands =
-    let P : List (Parcel A) → Type 0 = λ l. StandForLists op l (one_each (take (i + 1) values)) in
-    let Q : List (List ℤ) → Type 0 = λ l. StandForLists op (take i places ++ held ∷ []) l in
     let one : ℤ → List ℤ = λ v. v ∷ [] in
-    subst P (sym (take_more_set places i held there))
-    (subst Q (sym (map_more one values i d within))
+    rw (take_more_set places i held there, map_more one values i d within)
     (stand-push op (take i places) (one_each (take i values)) held (get_or values i d ∷ []) stand
-    stands))
+    stands)

@@ -1,5 +1,5 @@
 -- One more value is held behind those before it.
-use Rattle.std.proofs.Common.{◌≡◌, ◌<◌, ◌≤◌, ◌++◌, [], ◌∷◌, ℤ, List, pos, length, take, get_or, sym, subst, ◌∙◌, arith}
+use Rattle.std.proofs.Common.{◌≡◌, ◌<◌, ◌≤◌, pos, length, take, get_or, sym, subst, ◌∙◌, arith}
 use Rattle.std.proofs.lemmas.List.{take_more, take_all, length-take-le}
 use Rattle.phase_core.specs.phase_accum.Parcels.{StandsForSends}
 use Rattle.phase_core.specs.phase_accum.Sends.{IsSend}
@@ -27,11 +27,8 @@ loop-k-preserved g c =
     let l = c.loop-k in let values = c.args.values.now in let v = get_or values l.k (pos 0) in
     let within = c.loop-k-test.true in
     let sent : IsSend v = send-at values l.k (pos 0) c.requires.sends within in
-    let P : ℤ → Type 0 = λ x.
-    StandsForSends g.A.Accumulate.operation c.send.new.self (take l.k values ++ x ∷ []) in
-    let Q : List ℤ → Type 0 = λ xs. StandsForSends g.A.Accumulate.operation c.send.new.self xs in
-    subst Q (sym (take_more values l.k (pos 0) within))
-    (subst P (send-same v sent) (c.in-Ok.ensures.stands (take l.k values) l.invariant))
+    rw (take_more values l.k (pos 0) within)
+    (rw (send-same v sent) at (c.in-Ok.ensures.stands (take l.k values) l.invariant))
 
 pub returns : goal.returns
 returns g c =

@@ -1,7 +1,6 @@
 -- One more value stands in its place.
-use Rattle.std.proofs.Common.{◌<◌, [], ◌∷◌, ℤ, pos, length, get_or, sym, subst, ◌∙◌, arith}
+use Rattle.std.proofs.Common.{◌<◌, pos, length, get_or, ◌∙◌, arith}
 use Rattle.std.proofs.lemmas.List.{length-set}
-use Rattle.phase_history.specs.phase_accum.Parcels.{StandsForSends}
 use Rattle.phase_history.specs.phase_accum.Sends.{IsSend}
 use Rattle.phase_core.proofs.OneSends.{send-at, send-same, stand_more}
 use Rattle.phase_core.proofs.one_sends.hold_each.Goals as goal
@@ -11,7 +10,7 @@ one_send-requires g c =
     let values = c.args.values.now in let v = get_or values c.loop-k.k (pos 0) in
     let sent : IsSend v =
     send-at values c.loop-k.k (pos 0) c.requires.sends c.loop-k-test.true in
-    subst IsSend (sym (send-same v sent)) sent
+    rw (send-same v sent) sent
 
 pub loop-k-preserved : goal.loop-k-preserved
 loop-k-preserved g c =
@@ -20,9 +19,8 @@ loop-k-preserved g c =
     let long = l.invariant.1 in
     let within : l.k < length values = c.loop-k-test.true in
     let sent : IsSend v = send-at values l.k (pos 0) c.requires.sends within in
-    let op = g.A.Accumulate.operation in
-    let S : ℤ → Type 0 = λ x. StandsForSends op c.one_send.result (x ∷ []) in (
+    let op = g.A.Accumulate.operation in (
       stand_more op l.places values l.k c.one_send.result (pos 0) (omega arith) within
-          l.invariant.0 (subst S (send-same v sent) c.one_send.ensures),
+          l.invariant.0 (rw (send-same v sent) at c.one_send.ensures),
       length-set l.places l.k c.one_send.result ∙ long,
     )

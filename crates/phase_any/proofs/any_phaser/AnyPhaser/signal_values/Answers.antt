@@ -1,7 +1,6 @@
 -- One value alone goes by the signal of one send.
-use Rattle.std.proofs.Common.{ℤ, pos, List, ap, sym, subst, ◌∙◌}
-use Rattle.phase_core.specs.phase_history.Replies.{signal_reply, after_signal}
-use Rattle.phase_any.specs.Phasers.{PhaserStandsFor}
+use Rattle.std.proofs.Common.{pos, ap, ◌∙◌}
+use Rattle.phase_core.specs.phase_history.Replies.{signal_reply}
 use Rattle.phase_any.proofs.OneAlone.{one-alone}
 use Rattle.phase_any.proofs.any_phaser.AnyPhaser.signal_values.Goals as goal
 
@@ -16,7 +15,4 @@ pub returns-in-len1-clause-after : goal.returns-in-len1-clause-after
 returns-in-len1-clause-after c = λ op limits h stands.
     let alone = one-alone c.args.values.now (pos 0) c.requires.sends c.in-len1.len_at_least
     c.in-len1.len_below in
-    let P : List (List ℤ) → Type 0 =
-    λ lists. PhaserStandsFor c.signal_one.new.self op limits
-    (after_signal c.signal_one.result c.args.task lists c.args.single h) in
-    subst P (sym alone) (c.signal_one.ensures.after op limits h stands)
+    rw alone (c.signal_one.ensures.after op limits h stands)
