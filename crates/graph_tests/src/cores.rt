@@ -2,18 +2,18 @@
 use std::alloc::Global;
 use std::test::Fail;
 use stream_job::phase_accum::{NO_VALUE, Op, Outcome, Single, VALUE_MAX};
+use stream_job::phase_any::{AnyPhaser, Parcels};
 use stream_job::phase_base::{Entry, Mode, Spec};
 use stream_job::phase_history::{
     Got, GotBlock, NoTask, RegisterRefusal, SignalRefusal, WaitRefusal,
 };
-use stream_job::{AnyCore, Parcels};
 
 const ALL: [Op; 5] = [Op::Sum, Op::Product, Op::Least, Op::Greatest, Op::Any];
 
 /// A phaser of bound 2 whose founder has registered tasks 1 and 2 in `Sig` and task 3 in `Wait`,
 /// and has left.
-fn opened(alloc: Global, op: Op) -> Result<AnyCore, Fail> {
-    let mut core = AnyCore::new(alloc, op, Spec::new(2, 100)?)?;
+fn opened(alloc: Global, op: Op) -> Result<AnyPhaser, Fail> {
+    let mut core = AnyPhaser::new(alloc, op, Spec::new(2, 100)?)?;
     core.register(0, 1, Mode::Sig)?;
     core.register(0, 2, Mode::Sig)?;
     core.register(0, 3, Mode::Wait)?;
@@ -111,7 +111,7 @@ fn a_phaser_without_a_signaller_ends(rt: HostRuntime) -> Result<(), Fail> {
 #[test]
 fn a_single_is_applied_to_a_phase(rt: HostRuntime) -> Result<(), Fail> {
     for op in ALL {
-        let mut core = AnyCore::new(rt.alloc(), op, Spec::new(1, 100)?)?;
+        let mut core = AnyPhaser::new(rt.alloc(), op, Spec::new(1, 100)?)?;
         core.register(0, 1, Mode::Single)?;
         core.drop_task(0)?;
         assert_eq!(rt; core.signal_one(1, 5, Some(Single::Neg)), Ok(0));

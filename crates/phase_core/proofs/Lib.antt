@@ -8,6 +8,7 @@ pub mod Leaving
 pub mod MemberCounts
 pub mod MemberSteps
 pub mod NewCore
+pub mod OneSends
 pub mod Replies
 pub mod RingSlots
 pub mod SignalCore

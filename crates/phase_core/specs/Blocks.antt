@@ -1,5 +1,5 @@
 -- Blocks of phases: what their sends are, and the rows of a block's signals by the ring.
-use Rattle.std.specs.Prelude.{◌≡◌, ℕ, ◌+◌, ◌≤◌, ℤ, List, [], ◌∷◌, ◌++◌, Option, Some, None, Bool, Result, Ok, Err, drop, slice_range}
+use Rattle.std.specs.Prelude.{◌≡◌, ℕ, ◌+◌, ◌≤◌, ℤ, List, [], ◌∷◌, ◌++◌, map, Option, Some, None, Bool, Result, Ok, Err, drop, slice_range}
 use Rattle.phase_registry.specs.phase_base.Limits.{Limits}
 use Rattle.phase_registry.specs.phase_base.declared.entry.Entry.{Entry}
 use Rattle.phase_registry.specs.phase_base.Members.{signalled}
@@ -23,6 +23,10 @@ StandForLists op [] (sends ∷ lists) = ⊥
 StandForLists op (held ∷ more) [] = ⊥
 StandForLists op (held ∷ more) (sends ∷ lists) =
     StandsForSends op held sends × StandForLists op more lists
+
+-- a list of one send for each value
+abbrev pub one_each : List ℤ → List (List ℤ)
+one_each values = map (λ value. value ∷ []) values
 
 -- what the first signal of a slot's phase named, and how many sends the phase has
 abbrev pub named_at : {A : Type 0} → Option (Slot A) → Option (Option Single)

@@ -5,11 +5,13 @@
 
 mod list_refusals;
 mod members;
+mod one_sends;
 mod phaser_core;
 mod refusal_rows;
 mod signalling;
 mod waiting;
 
+pub use one_sends::{are_sends, hold_each, one_send};
 pub use phase_history;
 pub use phase_history::{
     Call, Event, Got, GotBlock, NoTask, RegisterRefusal, Reply, SignalRefusal, WaitRefusal, laws,

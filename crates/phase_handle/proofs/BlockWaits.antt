@@ -4,24 +4,25 @@ use Rattle.std.specs.List.{range_with_len}
 use Rattle.std.proofs.Math.Seq.{take-append_seam}
 use Rattle.std.proofs.lemmas.List.FromFn.{length-range_with_len}
 use Rattle.std.proofs.lemmas.List.{append_assoc, drop_more, length-drop, length-map, length-take-le, map_more, set-append_right}
-use Rattle.phase_core.specs.phase_base.Limits.{Limits, AreLimits}
-use Rattle.phase_core.specs.phase_base.declared.operation.Op.{Op}
-use Rattle.phase_core.specs.phase_accum.declared.outcome.Outcome.{Outcome}
-use Rattle.phase_core.specs.phase_history.declared.event.Event.TheVariants.{Made, Registered, RegisteredNow, Signalled, Waited, Dropped}
-use Rattle.phase_core.specs.phase_history.declared.got.GotBlock.{GotBlock}
-use Rattle.phase_core.specs.phase_history.declared.got.GotBlock.TheVariants as block
-use Rattle.phase_core.specs.phase_history.declared.refusal.WaitRefusal.{WaitRefusal}
-use Rattle.phase_core.specs.phase_history.Histories.{History, done_of}
-use Rattle.phase_core.specs.phase_history.Legal.{IsLegal}
-use Rattle.phase_core.specs.phase_history.Phases.{stream_of, value_of_phase}
-use Rattle.phase_core.specs.phase_history.Replies.{wait_block_reply}
-use Rattle.phase_core.specs.Blocks.{written}
-use Rattle.phase_core.proofs.phase_history_lemmas.BlockAnswers.{block_answers_law}
+use Rattle.phase_any.specs.phase_base.Limits.{Limits, AreLimits}
+use Rattle.phase_any.specs.phase_base.declared.operation.Op.{Op}
+use Rattle.phase_any.specs.phase_accum.declared.outcome.Outcome.{Outcome}
+use Rattle.phase_any.specs.phase_history.declared.event.Event.TheVariants.{Made, Registered, RegisteredNow, Signalled, Waited, Dropped}
+use Rattle.phase_any.specs.phase_history.declared.got.GotBlock.{GotBlock}
+use Rattle.phase_any.specs.phase_history.declared.got.GotBlock.TheVariants as block
+use Rattle.phase_any.specs.phase_history.declared.refusal.WaitRefusal.{WaitRefusal}
+use Rattle.phase_any.specs.phase_history.Histories.{History, done_of}
+use Rattle.phase_any.specs.phase_history.Legal.{IsLegal}
+use Rattle.phase_any.specs.phase_history.Phases.{stream_of, value_of_phase}
+use Rattle.phase_any.specs.phase_history.Replies.{wait_block_reply}
+use Rattle.phase_any.specs.phase_core.Blocks.{written}
+use Rattle.phase_any.proofs.phase_history_lemmas.BlockAnswers.{block_answers_law}
 use Rattle.phase_handle.specs.Blocks.{numbers_written}
 use Rattle.phase_handle.specs.Numbers.{value_number}
-use Rattle.phase_handle.specs.Phasers.{Holds, PhaserStandsFor}
-use Rattle.phase_handle.specs.declared.any_phaser.AnyPhaser.{AnyPhaser}
-use Rattle.phase_handle.specs.declared.any_phaser.AnyPhaser.TheVariants as any
+use Rattle.phase_any.specs.Phasers.{PhaserStandsFor}
+use Rattle.phase_handle.specs.Phasers.{Holds}
+use Rattle.phase_any.specs.declared.any_phaser.AnyPhaser.{AnyPhaser}
+use Rattle.phase_any.specs.declared.any_phaser.AnyPhaser.TheVariants as any
 
 -- the limits of a legal history are within theirs
 legal-limits : (limits : Limits) (h : History) → IsLegal limits h → AreLimits limits

@@ -1,11 +1,12 @@
 -- What stands in a place, and the histories that it stands for.
 use Rattle.std.proofs.Common.{◌≡◌, sym, subst}
 use Rattle.std.specs.Prelude.{Option, Some}
-use Rattle.phase_core.specs.phase_base.Limits.{Limits}
-use Rattle.phase_core.specs.phase_base.declared.operation.Op.{Op}
-use Rattle.phase_core.specs.phase_history.Histories.{History}
-use Rattle.phase_handle.specs.Phasers.{Holds, PhaserStandsFor}
-use Rattle.phase_handle.specs.declared.any_phaser.AnyPhaser.{AnyPhaser}
+use Rattle.phase_any.specs.phase_base.Limits.{Limits}
+use Rattle.phase_any.specs.phase_base.declared.operation.Op.{Op}
+use Rattle.phase_any.specs.phase_history.Histories.{History}
+use Rattle.phase_any.specs.Phasers.{PhaserStandsFor}
+use Rattle.phase_handle.specs.Phasers.{Holds}
+use Rattle.phase_any.specs.declared.any_phaser.AnyPhaser.{AnyPhaser}
 
 pub holds-some : (held : Option AnyPhaser) (phaser : AnyPhaser) (op : Op) (limits : Limits)
     (h : History) → held ≡ Some phaser → Holds held op limits h

@@ -1,5 +1,3 @@
-pub mod BlockSends
 pub mod BlockWaits
 pub mod Holding
 pub mod PlaceSteps
-pub mod Sending

@@ -7,8 +7,8 @@ use Rattle.std.specs.contracts.impls.GlobalAllocator.TheImpl.{ghosts, dict}
 use Rattle.std.proofs.alloc.Global.TheLaws as heap_laws
 use Rattle.std.proofs.BoxSteps.Form.{Bx}
 use Rattle.heap_slot.specs.contracts.Slot as slot
-use Rattle.phase_handle.specs.contracts.any_phaser.AnyPhaser as value
-use Rattle.phase_handle.proofs.any_phaser.AnyPhaser.TheLaws as value_laws
+use Rattle.phase_any.specs.contracts.any_phaser.AnyPhaser as value
+use Rattle.phase_any.proofs.any_phaser.AnyPhaser.TheLaws as value_laws
 
 abbrev pub E : Bx
 E = record {

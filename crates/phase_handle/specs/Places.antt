@@ -5,7 +5,7 @@ use Rattle.std.specs.contracts.impls.GlobalAllocator.TheImpl.{ghosts}
 use base.Fml.{Fml}
 use denote.RawPtr.{Ptr}
 use Rattle.heap_slot.specs.Ownership.{slot_owns}
-use Rattle.phase_handle.specs.contracts.any_phaser.AnyPhaser.{the_row}
+use Rattle.phase_any.specs.contracts.any_phaser.AnyPhaser.{the_row}
 
 -- nothing, or the phaser behind the pointer and the right to give its block back
 abbrev pub place_owns : Global → Ptr → Option the_row.Denot → Fml

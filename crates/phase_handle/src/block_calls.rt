@@ -1,19 +1,19 @@
 //! Calls of the phaser of a handle on blocks of phases.
-ghost use Rattle.std.specs.Prelude.{◌≡◌, ◌≤◌, ℕ, Ok, IsSome, length, map, IfOk, OnErr};
-ghost use Rattle.phase_core.specs.phase_base.Limits.{Limits};
-ghost use Rattle.phase_core.specs.phase_accum.Sends.{AreSends};
-ghost use Rattle.phase_core.specs.phase_accum.Values.{value_by};
-ghost use Rattle.phase_core.specs.phase_history.Histories.{History};
-ghost use Rattle.phase_core.specs.phase_history.Phases.{stream_of};
-ghost use Rattle.phase_core.specs.phase_history.Replies.{signal_reply, after_signal, wait_block_reply, after_wait_block};
-ghost use Rattle.phase_core.specs.Blocks.{written};
-ghost use Rattle.phase_handle.specs.Blocks.{one, numbers_written};
+ghost use Rattle.std.specs.Prelude.{◌≡◌, ◌≤◌, ℕ, Ok, IsSome, length, IfOk, OnErr};
+ghost use Rattle.phase_any.specs.phase_base.Limits.{Limits};
+ghost use Rattle.phase_any.specs.phase_accum.Sends.{AreSends};
+ghost use Rattle.phase_any.specs.phase_accum.Values.{value_by};
+ghost use Rattle.phase_any.specs.phase_history.Histories.{History};
+ghost use Rattle.phase_any.specs.phase_history.Phases.{stream_of};
+ghost use Rattle.phase_any.specs.phase_history.Replies.{signal_reply, after_signal, wait_block_reply, after_wait_block};
+ghost use Rattle.phase_any.specs.phase_core.Blocks.{one_each, written};
+ghost use Rattle.phase_handle.specs.Blocks.{numbers_written};
 ghost use Rattle.phase_handle.specs.Phasers.{Holds};
 
 use crate::block_places::{places, write_numbers};
 use crate::handle::Handle;
-use phase_core::phase_accum::{Op, Outcome, Single};
-use phase_core::{GotBlock, SignalRefusal, WaitRefusal};
+use phase_any::phase_accum::{Op, Outcome, Single};
+use phase_any::phase_core::{GotBlock, SignalRefusal, WaitRefusal};
 use std::alloc::{AllocError, Global};
 
 impl Handle {
@@ -31,11 +31,11 @@ impl Handle {
         requires sends { AreSends values.now }
         ensures reply { IfOk result (λ answer. (op : Op) (limits : Limits) (h : History)
             → Holds self.old.place.phaser op limits h
-            → signal_reply limits h task (map one values.now) single ≡ answer) }
+            → signal_reply limits h task (one_each values.now) single ≡ answer) }
         ensures after { IfOk result (λ answer. (op : Op) (limits : Limits) (h : History)
             → Holds self.old.place.phaser op limits h
             → Holds self.new.place.phaser op limits
-            (after_signal answer task (map one values.now) single h)) }
+            (after_signal answer task (one_each values.now) single h)) }
         ensures refused { IfOk result (λ answer.
             OnErr answer (self.new.place.phaser ≡ self.old.place.phaser)) }
         ensures out_of_memory { OnErr result (self.new.place.phaser ≡ self.old.place.phaser) }

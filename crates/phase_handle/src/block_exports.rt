@@ -1,14 +1,15 @@
 //! What C calls for blocks of phases.
-ghost use Rattle.std.specs.Prelude.{◌≡◌, ◌≢◌, ◌⊎◌, ℕ, Option, None, IsSome, Ok, length, map};
-ghost use Rattle.phase_core.specs.phase_base.Limits.{Limits};
-ghost use Rattle.phase_core.specs.phase_accum.Sends.{AreSends};
-ghost use Rattle.phase_core.specs.phase_accum.Values.{value_by};
-ghost use Rattle.phase_core.specs.phase_accum.declared.single.Single.{Single};
-ghost use Rattle.phase_core.specs.phase_history.declared.got.GotBlock.TheVariants as block;
-ghost use Rattle.phase_core.specs.phase_history.Histories.{History};
-ghost use Rattle.phase_core.specs.phase_history.Phases.{stream_of};
-ghost use Rattle.phase_core.specs.phase_history.Replies.{signal_reply, after_signal, wait_block_reply, after_wait_block};
-ghost use Rattle.phase_handle.specs.Blocks.{one, numbers_written};
+ghost use Rattle.std.specs.Prelude.{◌≡◌, ◌≢◌, ◌⊎◌, ℕ, Option, None, IsSome, Ok, length};
+ghost use Rattle.phase_any.specs.phase_base.Limits.{Limits};
+ghost use Rattle.phase_any.specs.phase_accum.Sends.{AreSends};
+ghost use Rattle.phase_any.specs.phase_accum.Values.{value_by};
+ghost use Rattle.phase_any.specs.phase_accum.declared.single.Single.{Single};
+ghost use Rattle.phase_any.specs.phase_history.declared.got.GotBlock.TheVariants as block;
+ghost use Rattle.phase_any.specs.phase_history.Histories.{History};
+ghost use Rattle.phase_any.specs.phase_history.Phases.{stream_of};
+ghost use Rattle.phase_any.specs.phase_history.Replies.{signal_reply, after_signal, wait_block_reply, after_wait_block};
+ghost use Rattle.phase_any.specs.phase_core.Blocks.{one_each};
+ghost use Rattle.phase_handle.specs.Blocks.{numbers_written};
 ghost use Rattle.phase_handle.specs.Numbers.{Names, signal_status, wait_block_status, phase_or};
 ghost use Rattle.phase_handle.specs.Phasers.{Holds};
 ghost use Rattle.phase_handle.specs.declared.numbers.TheConstants.{GOOD, ENDED, NO_PHASER, OUT_OF_MEMORY, BAD_SINGLE, BAD_VALUE};
@@ -16,9 +17,8 @@ ghost use Rattle.phase_handle.specs.declared.numbers.TheConstants.{GOOD, ENDED, 
 use crate::codes::{signal_code, single_of, wait_code};
 use crate::handle::Handle;
 use crate::numbers::*;
-use crate::sends::are_sends;
-use phase_core::GotBlock;
-use phase_core::phase_accum::Op;
+use phase_any::phase_accum::Op;
+use phase_any::phase_core::{GotBlock, are_sends};
 use std::alloc::Global;
 
 /// Signals as many phases in a row as there are values, the first the task's, with one send each
@@ -39,14 +39,14 @@ pub extern "C" fn phase_phaser_signal_block(
     ensures call { (op : Op) (limits : Limits) (h : History) (named : Option Single)
         → Holds handle.old.place.phaser op limits h
         → Names single low high named → AreSends values.now
-        → (result ≡ signal_status (signal_reply limits h task (map one values.now) named))
+        → (result ≡ signal_status (signal_reply limits h task (one_each values.now) named))
         ⊎ (result ≡ OUT_OF_MEMORY) }
     ensures after { (op : Op) (limits : Limits) (h : History) (named : Option Single)
         → Holds handle.old.place.phaser op limits h
         → Names single low high named → AreSends values.now → result ≢ OUT_OF_MEMORY
-        → let reply = signal_reply limits h task (map one values.now) named in
+        → let reply = signal_reply limits h task (one_each values.now) named in
         Holds handle.new.place.phaser op limits
-        (after_signal reply task (map one values.now) named h)
+        (after_signal reply task (one_each values.now) named h)
         × (phase.new ≡ phase_or reply phase.old) }
 
     ensures no_phaser { handle.old.place.phaser ≡ None → result ≡ NO_PHASER }

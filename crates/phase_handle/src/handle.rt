@@ -1,9 +1,9 @@
 //! What C holds of a phaser.
 ghost use Rattle.std.specs.Prelude.{◌≡◌, Some, None, is_some, IsSome};
 
-use crate::any_phaser::AnyPhaser;
 use crate::place::Place;
 use heap_slot::Slot;
+use phase_any::AnyPhaser;
 use std::alloc::Global;
 use std::mem;
 

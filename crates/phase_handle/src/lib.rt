@@ -4,22 +4,17 @@
 //! `phase_phaser_wait`.
 #![tactic(auto)]
 
-mod any_blocks;
-mod any_phaser;
 mod block_calls;
 mod block_exports;
 mod block_places;
-mod block_sends;
 mod calls;
 mod codes;
 mod exports;
 mod handle;
-mod joining;
 mod member_calls;
 mod member_exports;
 mod numbers;
 mod place;
-mod sends;
 
 pub use block_exports::{phase_phaser_signal_block, phase_phaser_wait_block};
 pub use exports::{phase_phaser_free, phase_phaser_new, phase_phaser_signal, phase_phaser_wait};
@@ -28,4 +23,4 @@ pub use member_exports::{
     Standing, phase_phaser_drop, phase_phaser_register, phase_phaser_register_now,
     phase_phaser_view,
 };
-pub use phase_core;
+pub use phase_any::phase_core;

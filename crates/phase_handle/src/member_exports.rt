@@ -1,23 +1,24 @@
 //! What C calls to have tasks join and leave.
 ghost use Rattle.std.specs.Prelude.{◌≡◌, ◌≢◌, ◌⊎◌, ◌∷◌, Some, None, IsSome};
-ghost use Rattle.phase_core.specs.phase_base.Limits.{Limits};
-ghost use Rattle.phase_core.specs.phase_base.Members.{entry_of};
-ghost use Rattle.phase_core.specs.phase_base.declared.entry.Entry.{Entry};
-ghost use Rattle.phase_core.specs.phase_history.declared.event.Event.TheVariants.{Registered, RegisteredNow, Dropped};
-ghost use Rattle.phase_core.specs.phase_history.declared.refusal.RegisterRefusal.{RegisterRefusal};
-ghost use Rattle.phase_core.specs.phase_history.declared.refusal.NoTask.{NoTask};
-ghost use Rattle.phase_core.specs.phase_history.Histories.{History, members_of, done_of};
-ghost use Rattle.phase_core.specs.phase_history.Refusals.{register_refusal, register_now_refusal, drop_refusal};
+ghost use Rattle.phase_any.specs.phase_base.Limits.{Limits};
+ghost use Rattle.phase_any.specs.phase_base.Members.{entry_of};
+ghost use Rattle.phase_any.specs.phase_base.declared.entry.Entry.{Entry};
+ghost use Rattle.phase_any.specs.phase_history.declared.event.Event.TheVariants.{Registered, RegisteredNow, Dropped};
+ghost use Rattle.phase_any.specs.phase_history.declared.refusal.RegisterRefusal.{RegisterRefusal};
+ghost use Rattle.phase_any.specs.phase_history.declared.refusal.NoTask.{NoTask};
+ghost use Rattle.phase_any.specs.phase_history.Histories.{History, members_of, done_of};
+ghost use Rattle.phase_any.specs.phase_history.Refusals.{register_refusal, register_now_refusal, drop_refusal};
 ghost use Rattle.phase_handle.specs.Numbers.{mode_numbered, mode_number, register_number};
-ghost use Rattle.phase_handle.specs.Phasers.{Holds, next_task};
+ghost use Rattle.phase_any.specs.Phasers.{next_task};
+ghost use Rattle.phase_handle.specs.Phasers.{Holds};
 ghost use Rattle.phase_handle.specs.declared.numbers.TheConstants.{GOOD, NO_PHASER, BAD_MODE, NO_TASK, OUT_OF_MEMORY};
 
 use crate::codes::{mode_code, mode_of, register_code};
 use crate::handle::Handle;
 use crate::numbers::*;
-use phase_core::RegisterRefusal;
-use phase_core::phase_accum::Op;
-use phase_core::phase_base::Mode;
+use phase_any::phase_accum::Op;
+use phase_any::phase_base::Mode;
+use phase_any::phase_core::RegisterRefusal;
 use std::alloc::Global;
 
 /// What a registered task stands at: its phases, counted from 0, and the number of its mode.

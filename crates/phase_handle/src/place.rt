@@ -1,10 +1,10 @@
 //! A phaser behind a pointer, or none.
 ghost use Rattle.std.specs.Prelude.{◌≡◌, Option, None};
 ghost use Rattle.phase_handle.specs.Places.{place_owns};
-ghost use Rattle.phase_handle.specs.declared.any_phaser.AnyPhaser.{AnyPhaser};
+ghost use Rattle.phase_any.specs.declared.any_phaser.AnyPhaser.{AnyPhaser};
 
-use crate::any_phaser::AnyPhaser;
 use heap_slot::Slot;
+use phase_any::AnyPhaser;
 use std::alloc::Global;
 use std::marker::Model;
 

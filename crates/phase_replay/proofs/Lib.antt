@@ -7,7 +7,6 @@ pub mod Owing
 pub mod Reading
 pub mod ReplayedLemmas
 mod Examples
-pub mod BlockSends
 pub mod Obeying
 pub mod Operations
 pub mod Scripted

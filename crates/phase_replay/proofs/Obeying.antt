@@ -27,7 +27,8 @@ use Rattle.phase_script.specs.phase_accum.declared.outcome.Outcome.{Outcome}
 use Rattle.std.specs.Prelude.{IfOk, OnOk, OnErr, IsSome, is_some, nat_lt}
 use Rattle.phase_replay.specs.declared.script_phaser.ScriptPhaser.{ScriptPhaser}
 use Rattle.phase_replay.specs.HeldSends.{Parcels, held_at, nothing}
-use Rattle.phase_replay.specs.Scripts.{Held, held_by, held_signal, after_call, held_by_others, send_rows, send_reply, held_after_send, held_after_signal, held_after_drop, done_unless, phaser_reply, history_after, held_after, IsOkReply, MayWantMemory, script_reply, signal_reason, one_each, block_rows, block_refusal, refused_or_reply, block_reply}
+use Rattle.phase_core.specs.Blocks.{one_each}
+use Rattle.phase_replay.specs.Scripts.{Held, held_by, held_signal, after_call, held_by_others, send_rows, send_reply, held_after_send, held_after_signal, held_after_drop, done_unless, phaser_reply, history_after, held_after, IsOkReply, MayWantMemory, script_reply, signal_reason, block_rows, block_refusal, refused_or_reply, block_reply}
 use Rattle.phase_replay.specs.Session.{PhaserStandsFor}
 
 -- ---- the sends of a task among those of all

@@ -53,7 +53,8 @@ use Rattle.phase_script.proofs.ReplyLines.{reply_short}
 use Rattle.phase_replay.specs.declared.script_phaser.ScriptPhaser.{ScriptPhaser}
 use Rattle.phase_replay.specs.declared.any_phaser.AnyPhaser.{AnyPhaser}
 use Rattle.phase_replay.specs.declared.any_phaser.AnyPhaser.TheVariants as phaser
-use Rattle.phase_replay.specs.Scripts.{ScriptState, NoPhaser, OnePhaser, Held, held_by, done_unless, script_reply, taken_reply, refused_or_reply, block_refusal, one_each, value_reply, phaser_reply, command_reply, reply_of_line, reply_line_of}
+use Rattle.phase_core.specs.Blocks.{one_each}
+use Rattle.phase_replay.specs.Scripts.{ScriptState, NoPhaser, OnePhaser, Held, held_by, done_unless, script_reply, taken_reply, refused_or_reply, block_refusal, value_reply, phaser_reply, command_reply, reply_of_line, reply_line_of}
 use Rattle.phase_replay.specs.Session.{PhaserStandsFor, AnyStandsFor, MaybeStandsFor}
 
 -- ---- replies without a phase

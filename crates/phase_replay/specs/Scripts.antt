@@ -1,5 +1,5 @@
 -- What the lines of a script are answered, and what they leave.
-use Rattle.std.specs.Prelude.{ℕ, ℤ, List, [], ◌∷◌, ◌++◌, Option, Some, None, Result, Ok, Err, Bool, not, ◌||◌, ◌==◌, nat_le, nat_lt, ◌+◌, length, map, slice_range, if◌then◌else◌}
+use Rattle.std.specs.Prelude.{ℕ, ℤ, List, [], ◌∷◌, ◌++◌, Option, Some, None, Result, Ok, Err, Bool, not, ◌||◌, ◌==◌, nat_le, nat_lt, ◌+◌, length, slice_range, if◌then◌else◌}
 use Rattle.phase_core.specs.phase_base.Limits.{Limits, limits}
 use Rattle.phase_core.specs.phase_base.declared.limits.TheConstants.{BOUND_MAX, PHASES_MAX, SENDS_MAX}
 use Rattle.phase_core.specs.phase_base.Modes.{mode_signals}
@@ -26,6 +26,7 @@ use Rattle.phase_core.specs.phase_history.declared.reply.Reply.{Reply as CallRep
 use Rattle.phase_core.specs.phase_history.declared.reply.Reply.TheVariants as call_reply
 use Rattle.phase_core.specs.phase_history.Refusals.{refusal_at, drop_refusal}
 use Rattle.phase_core.specs.phase_base.Lists.{first_row}
+use Rattle.phase_core.specs.Blocks.{one_each}
 use Rattle.phase_core.specs.phase_history.Phases.{stream_of}
 use Rattle.phase_core.specs.phase_history.Replies.{reply_to as reply_to_call, after_reply, signal_reply}
 use Rattle.phase_core.specs.phase_base.declared.operation.Op.{Op}
@@ -149,10 +150,6 @@ taken_reply stream reply = script_reply reply
 abbrev pub take_reply : (List ℤ → Outcome) → Limits → History → ℕ → ℕ → WholeReply
 take_reply value limits h task phases =
     taken_reply (stream_of value h) (reply_to_call value limits h (call.WaitBlock task phases))
-
--- a list of one send for each value
-abbrev pub one_each : List ℤ → List (List ℤ)
-one_each values = map (λ value. value ∷ []) values
 
 -- the signal of a phase for each value, with the value as its one send
 abbrev pub block_call : ℕ → List ℤ → Call

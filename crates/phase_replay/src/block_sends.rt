@@ -1,28 +1,13 @@
 //! The sends of a block of phases.
-ghost use Rattle.std.specs.Prelude.{◌≡◌, ◌<◌, [], ◌∷◌, ◌++◌, IfOk, length};
-ghost use Rattle.phase_script.specs.phase_accum.Parcels.{StandsForSends};
-ghost use Rattle.phase_script.specs.phase_accum.Sends.{IsSend};
-ghost use Rattle.phase_core.specs.Blocks.{StandForLists};
+ghost use Rattle.std.specs.Prelude.{◌≡◌, [], IfOk};
+ghost use Rattle.phase_core.specs.Blocks.{StandForLists, one_each};
 ghost use Rattle.phase_script.specs.Commands.{IsBlock};
-ghost use Rattle.phase_script.specs.declared.values.TheConstants.{VALUES_MAX};
-ghost use Rattle.phase_replay.specs.Scripts.{one_each};
 
+use phase_core::hold_each;
 use phase_script::VALUES_MAX;
 use phase_script::phase_accum::{Accumulate, Pending};
 use std::alloc::{AllocError, Global};
 use std::marker::Model;
-
-// The value as the one send that is held.
-fn pending_of<A: Accumulate>(value: i64) -> Pending<A>
-    requires { IsSend value }
-    ensures { StandsForSends A.operation result (value ∷ []) }
-{
-    let mut pending = Pending::new();
-    match pending.send(value) {
-        Ok(()) => pending,
-        Err(_) => unreachable!(),
-    }
-}
 
 /// The sends of a block of phases, in places that were made beforehand.
 #[derive(Drop)]
@@ -54,31 +39,13 @@ impl<A: Accumulate> BlockSends<A> {
         })
     }
 
-    // Holds the sends of no phase.
-    fn clear(&mut self)
-        ensures { self.new ≡ [] }
-    {
-        self.count = 0;
-    }
-
-    // Holds the sends of the next phase, behind the others.
-    fn push(&mut self, pending: Pending<A>)
-        requires { length self.old < VALUES_MAX }
-        ensures { self.new ≡ self.old ++ pending ∷ [] }
-    {
-        self.places[self.count] = pending;
-        self.count += 1;
-    }
-
     /// Holds one send for each value. It takes no memory.
     pub fn hold_each(&mut self, values: &[i64])
         requires { IsBlock values.now }
         ensures { StandForLists A.operation self.new (one_each values.now) }
     {
-        self.clear();
-        for value in values {
-            self.push(pending_of(*value));
-        }
+        hold_each(&mut self.places, values);
+        self.count = values.len();
     }
 
     /// Returns the sends that are held, phase by phase.

@@ -1,16 +1,16 @@
 -- A task that waits for its next step has begun no more steps than a phaser has phases.
 use Rattle.std.proofs.Common.{◌≡◌, ℕ, ◌+◌, ◌<◌, ◌≤◌, Some, length, refl, ap, subst, ◌∙◌, arith, inl, inr}
 use Rattle.std.proofs.lemmas.List.{length-map}
-use Rattle.phase_core.specs.phase_base.declared.limits.TheConstants.{PHASES_MAX}
-use Rattle.phase_core.specs.phase_history.Histories.{done_of, top_of, phases_signalled, phases_waited}
-use Rattle.phase_core.specs.phase_history.Phases.{received_by}
-use Rattle.phase_core.specs.phase_history.Laws.{HasReceivedFrom}
-use Rattle.phase_core.specs.phase_history.Sent.{sent_by}
-use Rattle.phase_core.proofs.phase_history_lemmas.Left.{length-received, received_law}
-use Rattle.phase_core.proofs.phase_history_lemmas.Sendings.{length-sent_by}
-use Rattle.phase_core.proofs.phase_history_lemmas.Signallers.{below_top}
-use Rattle.phase_core.proofs.phase_history_lemmas.Steps.{done_below_top, sound_of}
-use Rattle.phase_core.proofs.phase_history_lemmas.Tops.{top_within}
+use Rattle.phase_any.specs.phase_base.declared.limits.TheConstants.{PHASES_MAX}
+use Rattle.phase_any.specs.phase_history.Histories.{done_of, top_of, phases_signalled, phases_waited}
+use Rattle.phase_any.specs.phase_history.Phases.{received_by}
+use Rattle.phase_any.specs.phase_history.Laws.{HasReceivedFrom}
+use Rattle.phase_any.specs.phase_history.Sent.{sent_by}
+use Rattle.phase_any.proofs.phase_history_lemmas.Left.{length-received, received_law}
+use Rattle.phase_any.proofs.phase_history_lemmas.Sendings.{length-sent_by}
+use Rattle.phase_any.proofs.phase_history_lemmas.Signallers.{below_top}
+use Rattle.phase_any.proofs.phase_history_lemmas.Steps.{done_below_top, sound_of}
+use Rattle.phase_any.proofs.phase_history_lemmas.Tops.{top_within}
 use Rattle.graph_lang.specs.graph_base.declared.line.Kind.{Kind}
 use Rattle.graph_lang.specs.graph_base.declared.line.Kind.TheVariants.{Source, Fir, Split, Join, Peer, Sink}
 use Rattle.graph_lang.specs.graph_base.Graphs.{task_at}

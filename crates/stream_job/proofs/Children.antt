@@ -2,7 +2,7 @@
 use Rattle.std.proofs.Common.{◌≡◌, ◌≢◌, ℕ, List, ◌+◌, ◌-◌, ◌^◌, ◌<◌, ◌≤◌, Bool, true, false, cond, eqb, [], ◌∷◌, ◌++◌, Option, Some, None, length, get_or, slice_get, set, is_some, refl, sym, ap, subst, ◌∙◌, ◌⊎◌, inl, inr, arith}
 use Rattle.std.specs.Prelude.{unwrap_or, nat_lt, option_map}
 use Rattle.smallvec.specs.SmallVec.{SmallVec}
-use Rattle.phase_core.specs.phase_registry.Rosters.{next_after}
+use Rattle.phase_any.specs.phase_core.phase_registry.Rosters.{next_after}
 use Rattle.graph_lang.specs.graph_base.declared.line.Kind.{Kind}
 use Rattle.graph_lang.specs.graph_base.declared.line.Kind.TheVariants.{Source}
 use Rattle.graph_lang.specs.graph_base.declared.registration.Registration.{Registration}
@@ -11,10 +11,10 @@ use Rattle.graph_runs.specs.Reached.{IsReachable}
 use Rattle.std.proofs.lemmas.List.{length-set, length-map, length-append, get_or-map, get_or_append_left}
 use Rattle.std.proofs.lemmas.Bool.{cases_lt, eqb-true, eq-eqb}
 use Rattle.std.proofs.lemmas.Option.{slice_get-get_or, slice_get_past}
-use Rattle.phase_core.specs.phase_base.declared.mode.Mode.{Mode}
-use Rattle.phase_core.specs.phase_history.declared.refusal.RegisterRefusal.{RegisterRefusal}
-use Rattle.phase_core.specs.phase_history.Histories.{greatest_used, done_of}
-use Rattle.phase_core.specs.phase_history.Refusals.{register_refusal, register_now_refusal}
+use Rattle.phase_any.specs.phase_base.declared.mode.Mode.{Mode}
+use Rattle.phase_any.specs.phase_history.declared.refusal.RegisterRefusal.{RegisterRefusal}
+use Rattle.phase_any.specs.phase_history.Histories.{greatest_used, done_of}
+use Rattle.phase_any.specs.phase_history.Refusals.{register_refusal, register_now_refusal}
 use Rattle.graph_lang.specs.graph_base.Graphs.{task_at}
 use Rattle.graph_lang.specs.graph_base.Registrations.{no_registration}
 use Rattle.graph_lang.specs.graph_base.TaskLines.{IsGraph, HasEnds}

@@ -3,9 +3,9 @@ use Rattle.std.proofs.Common.{◌≡◌, ◌≢◌, ℕ, ◌<◌, Bool, true, fa
 use Rattle.std.specs.Prelude.{unwrap_or}
 use Rattle.std.proofs.lemmas.Bool.{lt-ltb, le-ltb}
 use Rattle.std.proofs.lemmas.Option.{slice_get-get_or}
-use Rattle.phase_core.specs.phase_base.declared.entry.Entry.{Entry}
-use Rattle.phase_core.specs.phase_base.Members.{entry_of}
-use Rattle.phase_core.specs.phase_history.Histories.{members_of, has_dropped, done_of}
+use Rattle.phase_any.specs.phase_base.declared.entry.Entry.{Entry}
+use Rattle.phase_any.specs.phase_base.Members.{entry_of}
+use Rattle.phase_any.specs.phase_history.Histories.{members_of, has_dropped, done_of}
 use Rattle.graph_lang.specs.graph_base.Graphs.{task_at, is_source}
 use Rattle.graph_lang.specs.graph_base.TaskLines.{IsGraph}
 use Rattle.graph_lang.specs.graph_base.declared.line.Kind.{Kind}

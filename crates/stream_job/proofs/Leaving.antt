@@ -1,8 +1,8 @@
 -- The turn of a task that leaves.
 use Rattle.std.proofs.Common.{◌≡◌, ℕ, List, suc, ◌+◌, ◌<◌, cond, Some, None, ◌∷◌, length, get_or, slice_get, nat_lt, set, map, refl, sym, ap, subst, ◌∙◌, arith}
 use Rattle.std.specs.List.{All}
-use Rattle.phase_core.specs.phase_history.declared.event.Event.TheVariants.{Dropped}
-use Rattle.phase_core.specs.phase_history.Refusals.{drop_refusal}
+use Rattle.phase_any.specs.phase_history.declared.event.Event.TheVariants.{Dropped}
+use Rattle.phase_any.specs.phase_history.Refusals.{drop_refusal}
 use Rattle.stream_eval.specs.stream_lists.Jobs.{Job}
 use Rattle.stream_eval.specs.Results.{sink_values}
 use Rattle.graph_runs.specs.Moments.{Moment}
@@ -25,7 +25,7 @@ use Rattle.stream_job.specs.declared.turned.Turned.{Turned}
 use Rattle.stream_job.proofs.SinksKeep.{lines_stay}
 use Rattle.stream_job.proofs.Lively.{LeavesAt, leaves_at, leaves_now}
 use Rattle.stream_job.proofs.Setting.{read_same}
-use Rattle.phase_core.specs.phase_history.declared.refusal.NoTask.{NoTask}
+use Rattle.phase_any.specs.phase_history.declared.refusal.NoTask.{NoTask}
 use Rattle.stream_job.proofs.Reading.{live_by}
 use Rattle.stream_job.proofs.Events.{after_own}
 use Rattle.stream_job.proofs.Makes.{MakesEvent, makes_event}

@@ -2,10 +2,10 @@
 use Rattle.std.proofs.Common.{◌≡◌, ℕ, zero, suc, ◌+◌, ◌-◌, ◌^◌, ◌<◌, ◌≤◌, true, List, [], ◌∷◌, ◌++◌, Option, Some, None, length, refl, ap, subst, arith}
 use Rattle.std.specs.Prelude.{slice_get, nat_lt}
 use Rattle.std.proofs.lemmas.Bool.{lt-ltb}
-use Rattle.phase_core.specs.phase_base.declared.mode.Mode.{Mode}
-use Rattle.phase_core.specs.phase_history.Histories.{History, greatest_used}
-use Rattle.phase_core.specs.phase_history.Refusals.{register_refusal, drop_refusal}
-use Rattle.phase_core.specs.phase_registry.Rosters.{next_after}
+use Rattle.phase_any.specs.phase_base.declared.mode.Mode.{Mode}
+use Rattle.phase_any.specs.phase_history.Histories.{History, greatest_used}
+use Rattle.phase_any.specs.phase_history.Refusals.{register_refusal, drop_refusal}
+use Rattle.phase_any.specs.phase_core.phase_registry.Rosters.{next_after}
 use Rattle.graph_lang.specs.graph_base.TaskLines.{IsGraph}
 use Rattle.stream_eval.specs.stream_lists.Jobs.{Job}
 use Rattle.graph_runs.specs.Beginnings.{root_mode, with_root, roots_joined}

@@ -4,7 +4,7 @@ use Rattle.std.specs.Prelude.{slice_get, nat_lt, unwrap_or, option_map}
 use Rattle.std.specs.List.{find, filter, range_with_len}
 use Rattle.std.proofs.lemmas.Bool.{cases_lt, lt-leb, eq-eqb}
 use Rattle.std.proofs.lemmas.Option.{slice_get-get_or}
-use Rattle.phase_core.specs.phase_history.Histories.{greatest_used, has_dropped}
+use Rattle.phase_any.specs.phase_history.Histories.{greatest_used, has_dropped}
 use Rattle.graph_lang.specs.graph_base.declared.registration.Registration.{Registration}
 use Rattle.graph_lang.specs.graph_base.Graphs.{task_at}
 use Rattle.graph_lang.specs.graph_base.Registrations.{no_registration}

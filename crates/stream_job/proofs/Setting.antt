@@ -7,13 +7,13 @@ use Rattle.std.proofs.Props.{props}
 use Rattle.std.proofs.lemmas.List.{get_or-set_same, get_or-set_other, length-set}
 use Rattle.std.proofs.lemmas.Option.{slice_get-get_or, slice_get_within, slice_get_read, get_or_from_slice_get, same_Some}
 use Rattle.std.proofs.lemmas.Bool.{eqb-true}
-use Rattle.phase_core.specs.phase_history.Histories.{History}
+use Rattle.phase_any.specs.phase_history.Histories.{History}
 use Rattle.graph_lang.specs.graph_base.Graphs.{phaser_at}
 use Rattle.stream_eval.specs.stream_lists.Jobs.{Job}
 use Rattle.graph_runs.specs.Moments.{limits_at}
 use Rattle.graph_runs.specs.Turned.{with_at}
-use Rattle.stream_job.specs.Cores.{CoreStandsFor}
-use Rattle.stream_job.specs.declared.any_core.AnyCore.{AnyCore}
+use Rattle.phase_any.specs.Phasers.{PhaserStandsFor}
+use Rattle.phase_any.specs.declared.any_phaser.AnyPhaser.{AnyPhaser}
 use Rattle.stream_job.specs.Machines.{HasCores}
 
 -- the element that was set
@@ -33,19 +33,20 @@ slice_get-set_other xs i j x y other found =
     slice_get-get_or xs j y (omega arith) ∙ ap (λ z. Some z) at
 
 -- a core that is set has the history that is set
-pub set_core : (job : Job) (history : ℕ → History) (cores : List AnyCore) (p : ℕ) (core : AnyCore)
-    (h : History) → HasCores job history cores → p < length job.graph.phasers
-    → CoreStandsFor core (phaser_at job.graph p).op (limits_at job p) h
+pub set_core : (job : Job) (history : ℕ → History) (cores : List AnyPhaser) (p : ℕ)
+    (core : AnyPhaser) (h : History) → HasCores job history cores
+    → p < length job.graph.phasers
+    → PhaserStandsFor core (phaser_at job.graph p).op (limits_at job p) h
     → HasCores job (with_at p h history) (set cores p core)
 set_core job history cores p core h has there stands = record {
   many = length-set cores p core ∙ has.many;
   each = λ q other found. by q other found (eqb q p) refl;
 }
   where
-    Stands : AnyCore → ℕ → History → Type 0
-    Stands x q g = CoreStandsFor x (phaser_at job.graph q).op (limits_at job q) g
+    Stands : AnyPhaser → ℕ → History → Type 0
+    Stands x q g = PhaserStandsFor x (phaser_at job.graph q).op (limits_at job q) g
 
-    by : (q : ℕ) (other : AnyCore) → slice_get (set cores p core) q ≡ Some other
+    by : (q : ℕ) (other : AnyPhaser) → slice_get (set cores p core) q ≡ Some other
         → (b : Bool) → eqb q p ≡ b → Stands other q (with_at p h history q)
     by q other found true e =
         let same : p ≡ q = sym (eqb-true q p e) in
@@ -78,11 +79,11 @@ read_same xs i a b lt first second =
     ∙ slice_get_read xs (length xs) i b refl lt second)
 
 -- a core whose history is as it was
-pub same_cores : (job : Job) (history : ℕ → History) (p : ℕ) (cores : List AnyCore)
+pub same_cores : (job : Job) (history : ℕ → History) (p : ℕ) (cores : List AnyPhaser)
     → HasCores job (with_at p (history p) history) cores → HasCores job history cores
 same_cores job history p cores has = record {
   many = has.many;
-  each = λ q core found. subst (λ h. CoreStandsFor core (phaser_at job.graph q).op (limits_at job q) h)
+  each = λ q core found. subst (PhaserStandsFor core (phaser_at job.graph q).op (limits_at job q))
       (by q (eqb q p) refl) (has.each q core found);
 }
   where
@@ -102,9 +103,10 @@ set_read f old now i first second same lt one two =
     ap (λ xs. set xs i (f second)) same ∙ ap (λ x. set old i (f x)) it
 
 -- a core that was lent stands for the history of its phaser
-pub lent_core : (job : Job) (history : ℕ → History) (cores : List AnyCore) (p : ℕ) (core : AnyCore)
-    → HasCores job history cores → p < length job.graph.phasers → core ≡ get_or cores p core
-    → CoreStandsFor core (phaser_at job.graph p).op (limits_at job p) (history p)
+pub lent_core : (job : Job) (history : ℕ → History) (cores : List AnyPhaser) (p : ℕ)
+    (core : AnyPhaser) → HasCores job history cores → p < length job.graph.phasers
+    → core ≡ get_or cores p core
+    → PhaserStandsFor core (phaser_at job.graph p).op (limits_at job p) (history p)
 lent_core job history cores p core has there lent =
     let many = has.many in
     has.each p core (slice_get_read cores (length cores) p core refl (omega arith) lent)

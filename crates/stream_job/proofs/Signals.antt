@@ -7,15 +7,15 @@ use Rattle.std.specs.Global.{Global}
 use Rattle.std.proofs.lemmas.Bool.{leb-false, eq-eqb, eqb-true}
 use Rattle.std.proofs.lemmas.List.{length-map, length-drop, length-take-le}
 use Rattle.std.proofs.lemmas.Option.{same_Some}
-use Rattle.phase_core.specs.phase_base.Limits.{Limits}
-use Rattle.phase_core.specs.phase_accum.Sends.{AreSends}
-use Rattle.phase_core.specs.phase_accum.declared.single.Single.{Single}
-use Rattle.phase_core.specs.phase_history.declared.event.Event.TheVariants.{Signalled}
-use Rattle.phase_core.specs.phase_history.declared.refusal.SignalRefusal.{SignalRefusal}
-use Rattle.phase_core.specs.phase_history.declared.refusal.SignalRefusal.TheVariants as refusals
-use Rattle.phase_core.specs.phase_history.Histories.{History, signal_phase}
-use Rattle.phase_core.specs.phase_history.Refusals.{signal_refusal}
-use Rattle.phase_core.specs.phase_history.Replies.{signal_reply, refused_or}
+use Rattle.phase_any.specs.phase_base.Limits.{Limits}
+use Rattle.phase_any.specs.phase_accum.Sends.{AreSends}
+use Rattle.phase_any.specs.phase_accum.declared.single.Single.{Single}
+use Rattle.phase_any.specs.phase_history.declared.event.Event.TheVariants.{Signalled}
+use Rattle.phase_any.specs.phase_history.declared.refusal.SignalRefusal.{SignalRefusal}
+use Rattle.phase_any.specs.phase_history.declared.refusal.SignalRefusal.TheVariants as refusals
+use Rattle.phase_any.specs.phase_history.Histories.{History, signal_phase}
+use Rattle.phase_any.specs.phase_history.Refusals.{signal_refusal}
+use Rattle.phase_any.specs.phase_history.Replies.{signal_reply, refused_or}
 use Rattle.graph_lang.specs.stream_filters.Range.{ranged}
 use Rattle.graph_lang.specs.stream_filters.declared.fault.TooBigValue.{TooBigValue}
 use Rattle.graph_lang.specs.graph_base.declared.line.Kind.{Kind}

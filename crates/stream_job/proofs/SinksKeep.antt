@@ -5,12 +5,12 @@ use mathlib.Core.List.{IsPrefix}
 use Rattle.std.proofs.lemmas.Bool.{eqb-true, eq-eqb, ne_eqb}
 use Rattle.std.proofs.lemmas.List.{length-append}
 use Rattle.std.proofs.lemmas.List.Sums.{take_while-cons}
-use Rattle.phase_core.specs.phase_base.declared.mode.Mode.{Mode}
-use Rattle.phase_core.specs.phase_base.declared.mode.Mode.TheVariants.{Wait}
-use Rattle.phase_core.specs.phase_accum.declared.outcome.Outcome.{Outcome}
-use Rattle.phase_core.specs.phase_history.declared.event.Event.{Event}
-use Rattle.phase_core.specs.phase_history.declared.event.Event.TheVariants.{Signalled, Waited, Dropped, Registered, RegisteredNow}
-use Rattle.phase_core.specs.phase_history.Phases.{received_by}
+use Rattle.phase_any.specs.phase_base.declared.mode.Mode.{Mode}
+use Rattle.phase_any.specs.phase_base.declared.mode.Mode.TheVariants.{Wait}
+use Rattle.phase_any.specs.phase_accum.declared.outcome.Outcome.{Outcome}
+use Rattle.phase_any.specs.phase_history.declared.event.Event.{Event}
+use Rattle.phase_any.specs.phase_history.declared.event.Event.TheVariants.{Signalled, Waited, Dropped, Registered, RegisteredNow}
+use Rattle.phase_any.specs.phase_history.Phases.{received_by}
 use Rattle.graph_runs.proofs.phase_history_lemmas.LawProofs.{above_law}
 use Rattle.graph_runs.proofs.phase_history_lemmas.Refused.{registers_from}
 use Rattle.graph_lang.specs.graph_base.TaskLines.{IsGraph}

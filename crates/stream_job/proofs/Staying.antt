@@ -2,11 +2,11 @@
 use Rattle.std.proofs.Common.{◌≡◌, ◌≢◌, ℕ, ◌+◌, ◌-◌, true, false, not, ◌&&◌, ◌||◌, cond, ℤ, List, Option, Some, None, length, map, take, drop, refl, sym, ap, subst, ◌∙◌, ◌⊎◌, inl, inr}
 use Rattle.std.specs.Prelude.{unwrap_or, nat_le, nat_lt, min, slice_range}
 use Rattle.std.specs.List.{fold, position_from, range_with_len}
-use Rattle.phase_core.specs.phase_accum.declared.outcome.Outcome.{Outcome}
-use Rattle.phase_core.specs.phase_history.Histories.{History, done_of}
-use Rattle.phase_core.specs.phase_history.Phases.{stream_of}
-use Rattle.phase_core.specs.phase_history.Refusals.{signal_refusal}
-use Rattle.phase_core.specs.phase_history.Replies.{wait_reply, wait_block_reply}
+use Rattle.phase_any.specs.phase_accum.declared.outcome.Outcome.{Outcome}
+use Rattle.phase_any.specs.phase_history.Histories.{History, done_of}
+use Rattle.phase_any.specs.phase_history.Phases.{stream_of}
+use Rattle.phase_any.specs.phase_history.Refusals.{signal_refusal}
+use Rattle.phase_any.specs.phase_history.Replies.{wait_reply, wait_block_reply}
 use Rattle.graph_lang.specs.graph_base.declared.line.Kind.{Kind}
 use Rattle.graph_lang.specs.graph_base.declared.line.Kind.TheVariants.{Source, Fir, Split, Join, Peer, Sink}
 use Rattle.graph_lang.specs.graph_base.Graphs.{task_at, phaser_at}

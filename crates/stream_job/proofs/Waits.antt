@@ -7,23 +7,23 @@ use Rattle.std.proofs.lemmas.List.FromFn.{length-range_with_len}
 use Rattle.std.proofs.lemmas.List.{length-map, length-take-le, length-drop}
 use Rattle.std.proofs.lemmas.Option.{slice_get_within}
 use Rattle.std.proofs.lemmas.Bool.{eq-eqb, eqb-true}
-use Rattle.phase_core.specs.phase_accum.declared.outcome.Outcome.{Outcome}
-use Rattle.phase_core.specs.phase_base.Limits.{Limits}
-use Rattle.phase_core.specs.phase_history.declared.event.Event.TheVariants.{Waited}
-use Rattle.phase_core.specs.phase_history.declared.got.Got.{Got}
-use Rattle.phase_core.specs.phase_history.declared.got.Got.TheVariants as got
-use Rattle.phase_core.specs.phase_history.declared.got.GotBlock.TheVariants as block
-use Rattle.phase_core.specs.phase_history.declared.refusal.WaitRefusal.{WaitRefusal}
-use Rattle.phase_core.specs.phase_history.declared.refusal.WaitRefusal.TheVariants as refusals
-use Rattle.phase_core.specs.phase_history.Histories.{History, wait_phase, done_of, top_of}
-use Rattle.phase_core.specs.phase_base.declared.limits.TheConstants.{PHASES_MAX}
-use Rattle.phase_core.proofs.phase_history_lemmas.LawProofs.{reply_tells}
-use Rattle.phase_core.proofs.phase_history_lemmas.Steps.{done_below_top, sound_of}
-use Rattle.phase_core.proofs.phase_history_lemmas.Tops.{top_within}
-use Rattle.phase_core.specs.phase_history.Phases.{value_of_phase, stream_of}
-use Rattle.phase_core.specs.phase_history.Refusals.{wait_refusal}
-use Rattle.phase_core.specs.phase_history.Replies.{wait_reply, wait_block_reply, refused_or}
-use Rattle.phase_core.specs.Blocks.{written}
+use Rattle.phase_any.specs.phase_accum.declared.outcome.Outcome.{Outcome}
+use Rattle.phase_any.specs.phase_base.Limits.{Limits}
+use Rattle.phase_any.specs.phase_history.declared.event.Event.TheVariants.{Waited}
+use Rattle.phase_any.specs.phase_history.declared.got.Got.{Got}
+use Rattle.phase_any.specs.phase_history.declared.got.Got.TheVariants as got
+use Rattle.phase_any.specs.phase_history.declared.got.GotBlock.TheVariants as block
+use Rattle.phase_any.specs.phase_history.declared.refusal.WaitRefusal.{WaitRefusal}
+use Rattle.phase_any.specs.phase_history.declared.refusal.WaitRefusal.TheVariants as refusals
+use Rattle.phase_any.specs.phase_history.Histories.{History, wait_phase, done_of, top_of}
+use Rattle.phase_any.specs.phase_base.declared.limits.TheConstants.{PHASES_MAX}
+use Rattle.phase_any.proofs.phase_history_lemmas.LawProofs.{reply_tells}
+use Rattle.phase_any.proofs.phase_history_lemmas.Steps.{done_below_top, sound_of}
+use Rattle.phase_any.proofs.phase_history_lemmas.Tops.{top_within}
+use Rattle.phase_any.specs.phase_history.Phases.{value_of_phase, stream_of}
+use Rattle.phase_any.specs.phase_history.Refusals.{wait_refusal}
+use Rattle.phase_any.specs.phase_history.Replies.{wait_reply, wait_block_reply, refused_or}
+use Rattle.phase_any.specs.phase_core.Blocks.{written}
 use Rattle.graph_runs.proofs.phase_history_lemmas.BlockAnswers.{block_answers_law}
 use Rattle.graph_lang.specs.graph_base.declared.line.Kind.TheVariants.{Source, Fir, Split, Join, Peer, Sink}
 use Rattle.graph_lang.specs.graph_base.declared.line.Kind.{Kind}

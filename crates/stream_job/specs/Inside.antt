@@ -4,11 +4,11 @@ use Rattle.std.specs.List.{All}
 use Rattle.std.specs.Vec.{vec_len, vec_capacity}
 use Rattle.graph_runs.specs.Answers.{answer_to, was_blocked, answer_of_turn, after_answer}
 use Rattle.stream_eval.specs.declared.whole.Lines.{Lines}
-use Rattle.phase_core.specs.phase_base.Limits.{Limits}
-use Rattle.phase_core.specs.phase_base.declared.entry.Entry.{Entry}
-use Rattle.phase_core.specs.phase_base.Members.{entry_of, least, wait_phases}
-use Rattle.phase_core.specs.phase_history.Histories.{History, members_of, done_of}
-use Rattle.phase_core.specs.phase_history.Refusals.{is_ahead, register_refusal, register_now_refusal}
+use Rattle.phase_any.specs.phase_base.Limits.{Limits}
+use Rattle.phase_any.specs.phase_base.declared.entry.Entry.{Entry}
+use Rattle.phase_any.specs.phase_base.Members.{entry_of, least, wait_phases}
+use Rattle.phase_any.specs.phase_history.Histories.{History, members_of, done_of}
+use Rattle.phase_any.specs.phase_history.Refusals.{is_ahead, register_refusal, register_now_refusal}
 use Rattle.stream_eval.specs.stream_lists.Jobs.{Job}
 use Rattle.graph_runs.specs.Moments.{Moment}
 use Rattle.graph_runs.specs.Nexts.{Next, has_signaller, next_of}
@@ -17,10 +17,10 @@ use Rattle.graph_lang.specs.stream_filters.declared.fault.TooBigValue.{TooBigVal
 use Rattle.graph_runs.specs.Reached.{IsReachable}
 use Rattle.graph_runs.specs.Answers as answers
 use Rattle.graph_runs.specs.Nexts as turns
-use Rattle.phase_core.specs.phase_base.declared.mode.Mode.{Mode}
-use Rattle.phase_core.specs.phase_history.declared.event.Event.{Event}
-use Rattle.phase_core.specs.phase_history.declared.event.Event.TheVariants.{Registered, RegisteredNow}
-use Rattle.phase_core.specs.phase_history.declared.refusal.RegisterRefusal.{RegisterRefusal}
+use Rattle.phase_any.specs.phase_base.declared.mode.Mode.{Mode}
+use Rattle.phase_any.specs.phase_history.declared.event.Event.{Event}
+use Rattle.phase_any.specs.phase_history.declared.event.Event.TheVariants.{Registered, RegisteredNow}
+use Rattle.phase_any.specs.phase_history.declared.refusal.RegisterRefusal.{RegisterRefusal}
 use Rattle.graph_lang.specs.graph_base.Graphs.{task_at}
 use Rattle.stream_eval.specs.stream_lists.Lists.{sinks_of}
 use Rattle.stream_eval.specs.Results.{sink_values}

@@ -1,6 +1,5 @@
 pub mod Blocking
 pub mod Buffers
-pub mod Cores
 pub mod Inside
 pub mod Machines
 pub mod Parking
@@ -16,7 +15,8 @@ pub mod Turning
 pub mod Worlds
 pub use Rattle.graph_lang.specs.graph_base as graph_base
 pub use Rattle.graph_runs.specs as graph_runs
-pub use Rattle.phase_core.specs.phase_accum as phase_accum
-pub use Rattle.phase_core.specs.phase_base as phase_base
-pub use Rattle.phase_core.specs.phase_history as phase_history
+pub use Rattle.phase_any.specs as phase_any
+pub use Rattle.phase_any.specs.phase_accum as phase_accum
+pub use Rattle.phase_any.specs.phase_base as phase_base
+pub use Rattle.phase_any.specs.phase_history as phase_history
 pub use Rattle.stream_eval.specs.stream_lists as stream_lists

@@ -1,7 +1,7 @@
 -- The moments that a machine stands for.
 use Rattle.std.specs.Prelude.{◌≡◌, ℕ, zero, suc, ◌+◌, ◌<◌, ◌≤◌, List, Bool, true, ◌||◌, Option, Some, None, is_some, if◌then◌else◌, length, map, slice_get, vec_capacity}
 use Rattle.std.specs.List.{All}
-use Rattle.phase_core.specs.phase_history.Histories.{History, greatest_used}
+use Rattle.phase_any.specs.phase_history.Histories.{History, greatest_used}
 use Rattle.graph_lang.specs.graph_base.Graphs.{phaser_at, task_at}
 use Rattle.graph_lang.specs.graph_base.TaskLines.{IsGraph}
 use Rattle.stream_eval.specs.stream_lists.Jobs.{Job, least}
@@ -11,8 +11,8 @@ use Rattle.stream_eval.specs.stream_lists.Spans.{span_in}
 use Rattle.stream_eval.specs.Results.{sink_values}
 use Rattle.stream_eval.specs.declared.whole.Lines.{Lines}
 use Rattle.graph_runs.specs.Moments.{Moment, limits_at}
-use Rattle.stream_job.specs.Cores.{CoreStandsFor}
-use Rattle.stream_job.specs.declared.any_core.AnyCore.{AnyCore}
+use Rattle.phase_any.specs.Phasers.{PhaserStandsFor}
+use Rattle.phase_any.specs.declared.any_phaser.AnyPhaser.{AnyPhaser}
 use Rattle.graph_runs.specs.Reached.{IsReachable}
 use Rattle.graph_runs.specs.Nexts as turns
 use Rattle.stream_job.specs.Places.{IsTaskAt}
@@ -23,10 +23,10 @@ use Rattle.stream_job.specs.declared.step.Step.TheVariants as step
 use Rattle.stream_job.specs.declared.task_state.TaskState.{TaskState}
 
 -- the cores of a graph's phasers have these histories
-pub record HasCores (job : Job) (history : ℕ → History) (cores : List AnyCore) : Type 0 where
+pub record HasCores (job : Job) (history : ℕ → History) (cores : List AnyPhaser) : Type 0 where
   pub many : length cores ≡ length job.graph.phasers
-  pub each : (p : ℕ) (core : AnyCore) → slice_get cores p ≡ Some core
-      → CoreStandsFor core (phaser_at job.graph p).op (limits_at job p) (history p)
+  pub each : (p : ℕ) (core : AnyPhaser) → slice_get cores p ≡ Some core
+      → PhaserStandsFor core (phaser_at job.graph p).op (limits_at job p) (history p)
 
 -- how many of the first n tasks have a number
 abbrev pub numbered : (ℕ → Option ℕ) → ℕ → ℕ

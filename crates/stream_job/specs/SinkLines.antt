@@ -2,8 +2,8 @@
 use Rattle.std.specs.Prelude.{◌≡◌, ℕ, ◌<◌, ℤ, List, [], Option, Some, None, length, map, not, true, option_map, if◌then◌else◌}
 use Rattle.std.specs.List.{take_while}
 use mathlib.Core.List.{IsPrefix}
-use Rattle.phase_core.specs.phase_accum.declared.outcome.Outcome.{Outcome}
-use Rattle.phase_core.specs.phase_history.Phases.{received_by}
+use Rattle.phase_any.specs.phase_accum.declared.outcome.Outcome.{Outcome}
+use Rattle.phase_any.specs.phase_history.Phases.{received_by}
 use Rattle.graph_lang.specs.graph_base.Graphs.{task_at}
 use Rattle.stream_eval.specs.stream_lists.Jobs.{Job}
 use Rattle.stream_eval.specs.stream_lists.Lists.{is_sink_at, number}

@@ -1,6 +1,6 @@
 -- When the call of a task is blocked, by where the task stands.
 use Rattle.std.specs.Prelude.{◌≡◌, ◌<◌, ℕ, true, length}
-use Rattle.phase_core.specs.phase_accum.Sends.{AreSends}
+use Rattle.phase_any.specs.phase_accum.Sends.{AreSends}
 use Rattle.stream_eval.specs.stream_lists.Jobs.{Job, samples_at}
 use Rattle.graph_runs.specs.Moments.{Moment}
 use Rattle.graph_runs.specs.Nexts.{Next, is_live, next_of}

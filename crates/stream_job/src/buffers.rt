@@ -3,8 +3,8 @@ ghost use Rattle.std.specs.Prelude.{◌≡◌, ◌≤◌, ◌<◌, length, IfOk}
 ghost use Rattle.graph_lang.specs.graph_base.Graphs.{task_at};
 ghost use Rattle.stream_job.specs.Buffers.{HasPlaces};
 
-use crate::parcels::Parcels;
-use phase_core::phase_accum::Outcome;
+use phase_any::Parcels;
+use phase_any::phase_accum::Outcome;
 use std::alloc::{AllocError, Global};
 use std::marker::Model;
 use stream_eval::stream_lists::Job;

@@ -1,22 +1,22 @@
 //! The calls of a task on its phasers.
 ghost use Rattle.std.specs.Prelude.{◌≡◌, ◌≢◌, ◌<◌, ◌≤◌, [], ◌∷◌, length, map, Some, None, IfOk, IfErr, OnOk, OnErr};
-ghost use Rattle.phase_core.specs.phase_accum.Sends.{AreSends, IsSend};
-ghost use Rattle.phase_core.specs.phase_accum.Values.{value_by};
-ghost use Rattle.phase_core.specs.phase_history.declared.event.Event.TheVariants.{Dropped, Registered, RegisteredNow};
-ghost use Rattle.phase_core.specs.phase_history.Histories.{done_of};
-ghost use Rattle.phase_core.specs.phase_history.Phases.{stream_of};
-ghost use Rattle.phase_core.specs.Blocks.{written};
-ghost use Rattle.phase_core.specs.phase_history.Refusals.{drop_refusal, register_refusal, register_now_refusal};
-ghost use Rattle.phase_core.specs.phase_history.Replies.{signal_reply, wait_reply, wait_block_reply, after_signal, after_wait, after_wait_block};
+ghost use Rattle.phase_any.specs.phase_accum.Sends.{AreSends, IsSend};
+ghost use Rattle.phase_any.specs.phase_accum.Values.{value_by};
+ghost use Rattle.phase_any.specs.phase_history.declared.event.Event.TheVariants.{Dropped, Registered, RegisteredNow};
+ghost use Rattle.phase_any.specs.phase_history.Histories.{done_of};
+ghost use Rattle.phase_any.specs.phase_history.Phases.{stream_of};
+ghost use Rattle.phase_any.specs.phase_core.Blocks.{written};
+ghost use Rattle.phase_any.specs.phase_history.Refusals.{drop_refusal, register_refusal, register_now_refusal};
+ghost use Rattle.phase_any.specs.phase_history.Replies.{signal_reply, wait_reply, wait_block_reply, after_signal, after_wait, after_wait_block};
 ghost use Rattle.graph_lang.specs.graph_base.Graphs.{phaser_at};
 ghost use Rattle.graph_runs.specs.Moments.{one, Moment, limits_at, value_at};
 ghost use Rattle.graph_runs.specs.Turned.{with_at};
 
 use crate::machine::Machine;
-use crate::parcels::Parcels;
-use phase_core::phase_accum::Outcome;
-use phase_core::phase_base::Mode;
-use phase_core::{Got, GotBlock, NoTask, RegisterRefusal, SignalRefusal, WaitRefusal};
+use phase_any::Parcels;
+use phase_any::phase_accum::Outcome;
+use phase_any::phase_base::Mode;
+use phase_any::phase_core::{Got, GotBlock, NoTask, RegisterRefusal, SignalRefusal, WaitRefusal};
 use stream_eval::stream_lists::Job;
 
 impl Machine {

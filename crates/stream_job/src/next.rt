@@ -1,23 +1,23 @@
 //! What a task does next.
 ghost use Rattle.std.specs.Prelude.{◌≡◌, ◌<◌, ◌&&◌, nat_le, not, true, is_some, length, Some, None};
-ghost use Rattle.phase_core.specs.phase_base.Limits.{Limits};
-ghost use Rattle.phase_core.specs.phase_base.Members.{entry_of};
-ghost use Rattle.phase_core.specs.phase_history.Histories.{History, members_of, done_of};
-ghost use Rattle.stream_job.specs.Cores.{CoreStandsFor};
+ghost use Rattle.phase_any.specs.phase_base.Limits.{Limits};
+ghost use Rattle.phase_any.specs.phase_base.Members.{entry_of};
+ghost use Rattle.phase_any.specs.phase_history.Histories.{History, members_of, done_of};
+ghost use Rattle.phase_any.specs.Phasers.{PhaserStandsFor};
 ghost use Rattle.graph_lang.specs.graph_base.Graphs.{phaser_at, task_at};
 ghost use Rattle.stream_job.specs.Machines.{next_by};
 ghost use Rattle.stream_job.specs.Plans.{IsPlan};
 ghost use Rattle.graph_runs.specs.Moments.{Moment, limits_at};
 ghost use Rattle.graph_runs.specs.Nexts.{next_of, at_boundary, without_child, is_live, is_due, comes_by, first_due, has_signaller, is_cut, next_step};
 
-use crate::any_core::AnyCore;
 use crate::machine::Machine;
 use crate::plan::Plan;
 use crate::step::Step;
 use crate::task_state::TaskState;
 use graph_lang::{Op, Parent};
 use graph_runs::{Owed, first_input_of, input_of, is_source, kind_of, parent_of, until_of};
-use phase_core::phase_base::Entry;
+use phase_any::AnyPhaser;
+use phase_any::phase_base::Entry;
 use stream_eval::stream_lists::Job;
 
 impl Machine {
@@ -34,11 +34,11 @@ impl Machine {
     }
 
     /// Phaser number `p`.
-    pub fn core(&self, job: &Job, p: usize) -> &AnyCore
+    pub fn core(&self, job: &Job, p: usize) -> &AnyPhaser
         requires machine { IsMachine job.now self.now }
         requires phaser { p < length job.now.graph.phasers }
         ensures { (m : Moment) → IsMachineAt job.now m self.now
-            → CoreStandsFor result.now (phaser_at job.now.graph p).op (limits_at job.now p)
+            → PhaserStandsFor result.now (phaser_at job.now.graph p).op (limits_at job.now p)
             (m.history p) }
     {
         &self.cores[p]
@@ -140,9 +140,9 @@ impl Machine {
 }
 
 /// Whether a phaser has no signaller, and the waiter of this number has taken all its phases.
-fn has_run_out(core: &AnyCore, number: u64) -> bool
+fn has_run_out(core: &AnyPhaser, number: u64) -> bool
     ensures { (op : Op) (limits : Limits) (h : History) (entry : Entry)
-        → CoreStandsFor core.now op limits h → entry_of (members_of h) number ≡ Some entry
+        → PhaserStandsFor core.now op limits h → entry_of (members_of h) number ≡ Some entry
         → (not (has_signaller h) && nat_le (done_of h) entry.wait_phase) ≡ result }
 {
     let Some(entry) = core.view(number) else {

@@ -1,6 +1,6 @@
 //! What the turns of a task ask of the lines of its graph, found once.
 ghost use Rattle.std.specs.Prelude.{◌≡◌, ◌<◌, ◌≤◌, ℕ, true, false, Some, length, IfOk};
-ghost use Rattle.phase_core.specs.phase_accum.Sends.{AreSends};
+ghost use Rattle.phase_any.specs.phase_accum.Sends.{AreSends};
 ghost use Rattle.graph_lang.specs.graph_base.declared.line.Parent.{Parent as ParentValue};
 ghost use Rattle.graph_lang.specs.graph_base.Graphs.{source_number, task_at};
 ghost use Rattle.stream_eval.specs.stream_lists.Jobs.{samples_at};

@@ -1,13 +1,13 @@
 //! Whether no task can move.
 ghost use Rattle.std.specs.Prelude.{◌≡◌, ◌<◌, ◌≤◌, ◌&&◌, ◌||◌, ℕ, true, false, nat_le, length, get_or, Some};
 ghost use Rattle.std.specs.List.{list_any, list_all, range_with_len};
-ghost use Rattle.phase_core.specs.phase_base.Limits.{Limits};
-ghost use Rattle.phase_core.specs.phase_base.Members.{least, wait_phases};
-ghost use Rattle.phase_core.specs.phase_history.Histories.{History, members_of, done_of};
-ghost use Rattle.phase_core.specs.phase_history.Refusals.{is_ahead};
+ghost use Rattle.phase_any.specs.phase_base.Limits.{Limits};
+ghost use Rattle.phase_any.specs.phase_base.Members.{least, wait_phases};
+ghost use Rattle.phase_any.specs.phase_history.Histories.{History, members_of, done_of};
+ghost use Rattle.phase_any.specs.phase_history.Refusals.{is_ahead};
 ghost use Rattle.graph_lang.specs.graph_base.Graphs.{phaser_at, task_at};
 ghost use Rattle.graph_lang.specs.graph_base.Registrations.{signalled_by};
-ghost use Rattle.stream_job.specs.Cores.{CoreStandsFor};
+ghost use Rattle.phase_any.specs.Phasers.{PhaserStandsFor};
 ghost use Rattle.graph_runs.specs.Moments.{Moment, limits_at, input_at};
 ghost use Rattle.graph_runs.specs.Nexts.{has_signaller, is_live, number_on, samples, signals};
 ghost use Rattle.graph_runs.specs.Answers.{is_stalled, is_still, output_at};
@@ -16,14 +16,14 @@ ghost use Rattle.stream_job.specs.Blocking.{AreBlocked};
 ghost use Rattle.stream_job.specs.Machines.{next_by};
 ghost use Rattle.stream_job.specs.Plans.{IsPlan};
 
-use crate::any_core::AnyCore;
 use crate::machine::Machine;
 use crate::parked::Parked;
 use crate::plan::Plan;
 use crate::step::Step;
 use graph_lang::{Op, TASKS_MAX};
 use graph_runs::{input_of, output_of};
-use phase_core::phase_base::PHASES_MAX;
+use phase_any::AnyPhaser;
+use phase_any::phase_base::PHASES_MAX;
 use stream_eval::stream_lists::Job;
 
 impl Machine {
@@ -163,9 +163,9 @@ impl Machine {
 }
 
 /// Whether a signal of so many phases is past the last one, or too far ahead of the slowest waiter.
-fn signal_blocks(core: &AnyCore, bound: u64, number: u64, many: u64) -> bool
+fn signal_blocks(core: &AnyPhaser, bound: u64, number: u64, many: u64) -> bool
     requires { 1 ≤ many }
-    ensures { (op : Op) (limits : Limits) (h : History) → CoreStandsFor core.now op limits h
+    ensures { (op : Op) (limits : Limits) (h : History) → PhaserStandsFor core.now op limits h
         → limits.phases_max ≡ PHASES_MAX → limits.bound ≡ bound
         → blocks_signal limits h number many ≡ result }
 {
@@ -189,8 +189,8 @@ fn is_ahead(slowest: Option<u64>, bound: u64, s: u64) -> bool
 }
 
 /// Whether a wait has no complete phase yet, and some task still signals.
-fn wait_blocks(core: &AnyCore, number: u64) -> bool
-    ensures { (op : Op) (limits : Limits) (h : History) → CoreStandsFor core.now op limits h
+fn wait_blocks(core: &AnyPhaser, number: u64) -> bool
+    ensures { (op : Op) (limits : Limits) (h : History) → PhaserStandsFor core.now op limits h
         → blocks_wait h number ≡ result }
 {
     let Some(entry) = core.view(number) else {

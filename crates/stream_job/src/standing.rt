@@ -6,7 +6,7 @@ ghost use Rattle.stream_job.specs.Machines.{IsMachine, IsMachineAt};
 ghost use Rattle.stream_job.specs.Standing.{standing};
 
 use crate::machine::Machine;
-use phase_core::phase_base::Entry;
+use phase_any::phase_base::Entry;
 use stream_eval::stream_lists::Job;
 
 impl Machine {

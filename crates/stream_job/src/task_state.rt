@@ -13,7 +13,7 @@ ghost use Rattle.graph_runs.specs.TaskPlaces.{StandsAt};
 use graph_lang::graph_base::Kind;
 use graph_lang::stream_filters::{Fir, TooBigValue};
 use graph_runs::{Owed, filtered, kind_of, number_taken, owed_after_wait};
-use phase_core::phase_accum::Outcome;
+use phase_any::phase_accum::Outcome;
 use smallvec::SmallVec;
 use stream_eval::stream_lists::Job;
 

@@ -2,7 +2,7 @@
 
 ghost use Rattle.std.specs.Prelude.{◌≤◌, length, IfOk};
 ghost use Rattle.std.specs.List.{All};
-ghost use Rattle.phase_core.specs.phase_accum.Sends.{AreSends};
+ghost use Rattle.phase_any.specs.phase_accum.Sends.{AreSends};
 
 use graph_lang::{TEXT_MAX, read_graph, samples_of};
 use std::alloc::{AllocError, Global};

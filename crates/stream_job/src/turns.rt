@@ -3,7 +3,7 @@ ghost use Rattle.std.specs.Prelude.{◌≡◌, ◌≢◌, ◌<◌, ◌≤◌, �
 ghost use Rattle.std.specs.List.{All, position_from};
 ghost use Rattle.graph_lang.specs.graph_base.Graphs.{task_at};
 ghost use Rattle.graph_lang.specs.graph_base.declared.line.Kind.TheVariants.{Fir as filters};
-ghost use Rattle.phase_core.specs.phase_history.Histories.{done_of};
+ghost use Rattle.phase_any.specs.phase_history.Histories.{done_of};
 ghost use Rattle.graph_lang.specs.stream_filters.Range.{ranged};
 ghost use Rattle.graph_runs.specs.Moments.{Moment};
 ghost use Rattle.graph_runs.specs.Answers.{next_values, told_got};
@@ -32,9 +32,9 @@ use graph_runs::{
     Owed, input_of, is_sink, number_taken, output_of, owed_after_exchange, owed_after_signal,
     turns as laws,
 };
-use phase_core::phase_accum::Outcome;
-use phase_core::phase_base::Mode;
-use phase_core::{Got, GotBlock, RegisterRefusal};
+use phase_any::phase_accum::Outcome;
+use phase_any::phase_base::Mode;
+use phase_any::phase_core::{Got, GotBlock, RegisterRefusal};
 use std::alloc::AllocError;
 use stream_eval::stream_lists::Job;
 

@@ -19,7 +19,7 @@ use crate::step::Step;
 use crate::turned::Turned;
 use graph_lang::Place;
 use graph_runs::{moments, outcomes};
-use phase_core::phase_base::Entry;
+use phase_any::phase_base::Entry;
 use std::alloc::{AllocError, Global};
 use std::marker::Model;
 use stream_eval::Lines;

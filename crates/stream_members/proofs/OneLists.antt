@@ -5,7 +5,7 @@ use Rattle.phase_shared.specs.phase_base.Limits.{Limits}
 use Rattle.phase_shared.specs.phase_accum.Operations.{Operation, AccumulateLaws}
 use Rattle.phase_shared.specs.phase_accum.Parcels.{Parcel}
 use Rattle.phase_shared.specs.phase_accum.declared.single.Single.{Single}
-use Rattle.phase_shared.specs.phase_core.Blocks.{StandForLists}
+use Rattle.phase_shared.specs.phase_core.Blocks.{StandForLists, one_each}
 use Rattle.phase_shared.specs.phase_history.declared.refusal.SignalRefusal.{SignalRefusal}
 use Rattle.phase_shared.specs.phase_history.Histories.{History}
 use Rattle.phase_shared.specs.phase_history.Replies.{after_signal}
@@ -18,7 +18,7 @@ use Rattle.phase_shared.specs.Calls.{Tries}
 use Rattle.phase_shared.specs.Regs.{RegState, phaser_lock, phaser_limits}
 use Rattle.phase_shared.proofs.OneValue.{one_list}
 use Rattle.stream_members.specs.declared.refusal.PutRefusal.{PutRefusal}
-use Rattle.stream_members.specs.Members.{limits_on, member_state, one_each, SignalsValues, Puts, IsPutAnswer}
+use Rattle.stream_members.specs.Members.{limits_on, member_state, SignalsValues, Puts, IsPutAnswer}
 
 -- what stands for these values, one a phase, stands for no other lists
 pub one_lists : {A : Type 0} (op : Operation A) (parcels : List (Parcel A)) (values : List ℤ)

@@ -1,6 +1,6 @@
 -- What contracts see of a registration with its phaser, and what its calls do to the history that
 -- it has seen.
-use Rattle.std.specs.Prelude.{◌≡◌, ℕ, ◌+◌, ℤ, List, [], ◌∷◌, ◌++◌, map, Option, Some, None, Result, Ok, Err, true}
+use Rattle.std.specs.Prelude.{◌≡◌, ℕ, ◌+◌, ℤ, List, [], ◌∷◌, ◌++◌, Option, Some, None, Result, Ok, Err, true}
 use Rattle.phase_shared.specs.turn_lock.Seats.{Place}
 use Rattle.phase_shared.specs.phase_base.Limits.{Limits, limits}
 use Rattle.phase_shared.specs.phase_base.Members.{entry_of}
@@ -8,6 +8,7 @@ use Rattle.phase_shared.specs.phase_base.declared.entry.Entry.{Entry}
 use Rattle.phase_shared.specs.phase_base.declared.mode.Mode.{Mode}
 use Rattle.phase_shared.specs.phase_base.declared.mode.Mode.TheVariants.{Wait}
 use Rattle.phase_shared.specs.phase_accum.declared.single.Single.{Single}
+use Rattle.phase_shared.specs.phase_core.Blocks.{one_each}
 use Rattle.phase_shared.specs.phase_history.declared.refusal.RegisterRefusal.{RegisterRefusal}
 use Rattle.phase_shared.specs.phase_history.declared.event.Event.TheVariants.{RegisteredNow}
 use Rattle.phase_shared.specs.phase_history.Histories.{History, members_of, greatest_used, done_of}
@@ -78,10 +79,6 @@ pub record IsAlone (m : MemberState) : Type 0 where
   pub only : OnlyUsed (m.number ∷ []) m.seen
 
 -- ---- values that are put
-
--- one send a phase
-abbrev pub one_each : List ℤ → List (List ℤ)
-one_each values = map (λ v. v ∷ []) values
 
 -- a signal of these values, one a phase: events of others, and there the definition's answer; then
 -- the signal's event, where it was accepted

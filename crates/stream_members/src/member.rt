@@ -7,11 +7,12 @@ ghost use Rattle.phase_shared.specs.Regs.{phaser_lock};
 ghost use Rattle.stream_members.specs.Members.{limits_on, member_state, IsMember, Stays, IsAlone, Puts, IsPutAnswer, Adds, AddsNow, HasLeftPhaser};
 
 use crate::left::Left;
-use crate::places::fill;
 use crate::refusal::PutRefusal;
 use phase_shared::phase_accum::{Accumulate, Outcome, Pending, Single};
 use phase_shared::phase_base::Mode;
-use phase_shared::phase_core::{GotBlock, RegisterRefusal, SignalRefusal, WaitRefusal};
+use phase_shared::phase_core::{
+    GotBlock, RegisterRefusal, SignalRefusal, WaitRefusal, are_sends, hold_each,
+};
 use phase_shared::{NoRule, Phaser, Reg, Tried};
 use std::marker::Model;
 use std::sync::Wait;
@@ -100,9 +101,10 @@ impl<'a, A: Accumulate> Member<'a, A> {
         if values.len() > places.len() {
             return Err(PutRefusal::TooMany);
         }
-        if !fill(places, values) {
+        if !are_sends(values) {
             return Err(PutRefusal::BadValue);
         }
+        hold_each(places, values);
         let parcels = &places[..values.len()];
         put_answer(self.reg.try_signal_lists(self.phaser, parcels, single))
     }

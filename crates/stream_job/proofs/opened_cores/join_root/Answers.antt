@@ -1,12 +1,12 @@
 -- The next number is the founder's next, whom nobody refuses.
 use Rattle.std.proofs.Common.{◌≡◌, ℕ, ◌+◌, ◌∷◌, Some, sym, ap, subst, ◌∙◌}
 use Rattle.std.proofs.lemmas.Option.{same_Some}
-use Rattle.phase_core.specs.phase_history.declared.event.Event.TheVariants.{Registered}
-use Rattle.phase_core.specs.phase_history.Histories.{History, greatest_used}
-use Rattle.phase_core.specs.phase_history.Refusals.{register_refusal}
+use Rattle.phase_any.specs.phase_history.declared.event.Event.TheVariants.{Registered}
+use Rattle.phase_any.specs.phase_history.Histories.{History, greatest_used}
+use Rattle.phase_any.specs.phase_history.Refusals.{register_refusal}
 use Rattle.graph_lang.specs.graph_base.Graphs.{phaser_at}
 use Rattle.graph_runs.specs.Moments.{limits_at}
-use Rattle.stream_job.specs.Cores.{CoreStandsFor}
+use Rattle.phase_any.specs.Phasers.{PhaserStandsFor}
 use Rattle.graph_runs.specs.Beginnings.{roots_joined, root_mode, with_root}
 use Rattle.stream_job.proofs.OpeningPhasers.{next_root, joins_root, roots-suc}
 use Rattle.stream_job.proofs.opened_cores.join_root.Goals as goal
@@ -47,5 +47,5 @@ returns-in-Ok c =
     ≡ roots_joined job p (c.args.t + 1) =
     ap (λ n. Registered 0 n c.in-Some.mode ∷ h) same
     ∙ sym (roots-suc job p c.args.t ∙ ap (with_root h) mode) in
-    subst (CoreStandsFor c.register.new.self (phaser_at job.graph p).op (limits_at job p)) joined
+    subst (PhaserStandsFor c.register.new.self (phaser_at job.graph p).op (limits_at job p)) joined
     (c.in-Ok.ensures.after _ _ _ c.requires.core)

@@ -4,16 +4,16 @@ use Rattle.graph_lang.specs.graph_base.Graphs.{Graph, phaser_at}
 use Rattle.graph_lang.specs.graph_base.TaskLines.{IsGraph}
 use Rattle.stream_eval.specs.stream_lists.Jobs.{Job}
 use Rattle.graph_runs.specs.Moments.{limits_at}
-use Rattle.stream_job.specs.declared.any_core.AnyCore.{AnyCore}
-use Rattle.stream_job.specs.Cores.{CoreStandsFor}
+use Rattle.phase_any.specs.declared.any_phaser.AnyPhaser.{AnyPhaser}
+use Rattle.phase_any.specs.Phasers.{PhaserStandsFor}
 use Rattle.graph_runs.specs.Beginnings.{roots_joined}
 use Rattle.stream_job.proofs.OpeningPhasers.{founder_goes}
 use Rattle.stream_job.proofs.opened_cores.opened_core.Goals as goal
 
 -- a phaser with the tasks before this one
-abbrev With : Job → ℕ → AnyCore → ℕ → Type 0
+abbrev With : Job → ℕ → AnyPhaser → ℕ → Type 0
 With job p core t =
-    CoreStandsFor core (phaser_at job.graph p).op (limits_at job p) (roots_joined job p t)
+    PhaserStandsFor core (phaser_at job.graph p).op (limits_at job p) (roots_joined job p t)
 
 pub unreachable-requires-in_default-drop_task : goal.unreachable-requires-in_default-drop_task
 unreachable-requires-in_default-drop_task c =

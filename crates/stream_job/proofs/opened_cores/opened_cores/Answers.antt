@@ -5,16 +5,16 @@ use Rattle.std.proofs.lemmas.List.{length-append}
 use Rattle.graph_lang.specs.graph_base.Graphs.{phaser_at}
 use Rattle.stream_eval.specs.stream_lists.Jobs.{Job}
 use Rattle.graph_runs.specs.Moments.{limits_at}
-use Rattle.stream_job.specs.declared.any_core.AnyCore.{AnyCore}
-use Rattle.stream_job.specs.Cores.{CoreStandsFor}
+use Rattle.phase_any.specs.declared.any_phaser.AnyPhaser.{AnyPhaser}
+use Rattle.phase_any.specs.Phasers.{PhaserStandsFor}
 use Rattle.graph_runs.specs.Beginnings.{opening}
 use Rattle.stream_job.proofs.OpeningPhasers.{each-push}
 use Rattle.stream_job.proofs.opened_cores.opened_cores.Goals as goal
 
 -- a phaser stands at the opening
-abbrev Opened : Job → ℕ → AnyCore → Type 0
+abbrev Opened : Job → ℕ → AnyPhaser → Type 0
 Opened job p core =
-    CoreStandsFor core (phaser_at job.graph p).op (limits_at job p) ((opening job).history p)
+    PhaserStandsFor core (phaser_at job.graph p).op (limits_at job p) ((opening job).history p)
 
 pub loop-p-preserved : goal.loop-p-preserved
 loop-p-preserved c =

@@ -1,7 +1,7 @@
 -- A root has the next number of the phaser.
 use Rattle.std.proofs.Common.{◌≡◌, ℕ, ◌+◌, ◌<◌, [], ◌∷◌, ◌++◌, Some, length, get_or, sym, ap, ◌∙◌, arith}
 use Rattle.std.proofs.lemmas.List.{length-append}
-use Rattle.phase_core.specs.phase_history.Histories.{greatest_used}
+use Rattle.phase_any.specs.phase_history.Histories.{greatest_used}
 use Rattle.graph_lang.specs.graph_base.declared.registration.Registration.{Registration}
 use Rattle.graph_lang.specs.graph_base.Graphs.{Graph, task_at}
 use Rattle.graph_lang.specs.graph_base.Registrations.{registrations_of, no_registration}

@@ -8,8 +8,8 @@ use Rattle.std.specs.contracts.alloc.Global as heap
 use Rattle.std.specs.contracts.impls.GlobalAllocator.TheImpl.{ghosts}
 use Rattle.std.proofs.alloc.Global.TheSendSync as heap_sent
 use Rattle.heap_slot.proofs.Sent.{leaves_nothing, owned_keyless}
-use Rattle.phase_handle.specs.contracts.any_phaser.AnyPhaser as value
-use Rattle.phase_handle.proofs.any_phaser.AnyPhaser.TheSendSync as value_sent
+use Rattle.phase_any.specs.contracts.any_phaser.AnyPhaser as value
+use Rattle.phase_any.proofs.any_phaser.AnyPhaser.TheSendSync as value_sent
 use Rattle.phase_handle.specs.contracts.place.Place.{the_row, the_type}
 
 pub send : IsSend the_row

@@ -2,7 +2,8 @@
 use Rattle.std.proofs.Common.{◌≡◌, ◌∙◌, true, length, sym, arith, rules, subst}
 use Rattle.phase_core.specs.phase_base.Modes.{mode_signals}
 use Rattle.phase_script.specs.phase_accum.Parcels.{Parcel, StandsForSends}
-use Rattle.phase_replay.specs.Scripts.{held_by, one_each}
+use Rattle.phase_core.specs.Blocks.{one_each}
+use Rattle.phase_replay.specs.Scripts.{held_by}
 use Rattle.phase_replay.proofs.Obeying.{block_refused}
 use Rattle.phase_replay.proofs.script_phaser.ScriptPhaser.block.Goals as goal
 

@@ -3,7 +3,7 @@ use Rattle.std.proofs.Common.{◌≡◌, ◌<◌, true, false, Some, length, get
 use Rattle.std.proofs.lemmas.Option.{slice_get_read}
 use Rattle.std.specs.Vec.{vec_len}
 use Rattle.graph_lang.specs.graph_base.Graphs.{task_at}
-use Rattle.phase_core.specs.phase_history.Histories.{done_of}
+use Rattle.phase_any.specs.phase_history.Histories.{done_of}
 use Rattle.stream_job.specs.Inside.{HasBegun}
 use Rattle.stream_job.proofs.Setting.{on_ok}
 use Rattle.stream_job.proofs.Begins.{now_line, lines_begin, lines_plain}

@@ -1,8 +1,8 @@
 -- A task that has left a phaser, or has made the steps of `until`, makes no more; else its first
 -- input tells, or its samples.
 use Rattle.std.proofs.Common.{◌≡◌, ◌||◌, length, get_or, ap, sym, ◌∙◌, arith, false}
-use Rattle.phase_core.specs.phase_base.Members.{entry_of}
-use Rattle.phase_core.specs.phase_history.Histories.{members_of}
+use Rattle.phase_any.specs.phase_base.Members.{entry_of}
+use Rattle.phase_any.specs.phase_history.Histories.{members_of}
 use Rattle.graph_lang.specs.graph_base.Graphs.{task_at, phaser_at, is_source}
 use Rattle.graph_runs.specs.Moments.{first_input, input_at, limits_at}
 use Rattle.graph_runs.specs.Nexts.{has_input_ended}

@@ -1,6 +1,6 @@
 -- No turn is refused, and turns lead to moments that are reached.
 use Rattle.std.proofs.Common.{sym, subst}
-use Rattle.phase_core.specs.phase_accum.Sends.{AreSends}
+use Rattle.phase_any.specs.phase_accum.Sends.{AreSends}
 use Rattle.stream_job.specs.Turning.{IsRegistration}
 use Rattle.stream_job.proofs.Numbering.{few_after}
 use Rattle.stream_job.proofs.Setting.{on_err}

@@ -7,7 +7,7 @@ use Rattle.graph_lang.specs.graph_base.declared.registration.Registration.{Regis
 use Rattle.graph_runs.specs.Moments.{limits_at}
 use Rattle.graph_runs.specs.Nexts.{registrations_at, registers}
 use Rattle.graph_runs.specs.TaskPlaces.{registration_at}
-use Rattle.phase_core.specs.phase_history.Histories.{greatest_used}
+use Rattle.phase_any.specs.phase_history.Histories.{greatest_used}
 use Rattle.stream_job.specs.declared.task_state.TaskState.{TaskState}
 use Rattle.stream_job.proofs.Lively.{live_next}
 use Rattle.stream_job.proofs.Setting.{read_same, set_read}

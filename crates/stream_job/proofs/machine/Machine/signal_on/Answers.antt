@@ -1,9 +1,9 @@
 -- The core of the phaser is set, and the others stay.
 use Rattle.std.proofs.Common.{◌≡◌, [], ◌∷◌, ap, sym, ◌∙◌, subst, to_z-of_z}
-use Rattle.phase_core.specs.phase_history.Replies.{signal_reply, after_signal}
+use Rattle.phase_any.specs.phase_history.Replies.{signal_reply, after_signal}
 use Rattle.graph_lang.specs.graph_base.Graphs.{phaser_at}
 use Rattle.graph_runs.specs.Moments.{limits_at}
-use Rattle.stream_job.specs.Cores.{CoreStandsFor}
+use Rattle.phase_any.specs.Phasers.{PhaserStandsFor}
 use Rattle.stream_job.proofs.Setting.{set_core, lent_core}
 use Rattle.stream_job.proofs.machine.Machine.signal_on.Goals as goal
 
@@ -30,7 +30,7 @@ returns-clause-cores c = λ m at.
     set_core job m.history c.args.self.now.cores.items p c.signal_one.new.self
     (after_signal c.signal_one.result c.args.number ((c.args.x ∷ []) ∷ [])
     (phaser_at job.graph p).single (m.history p)) at.cores c.requires.phaser
-    (subst (λ s. CoreStandsFor c.signal_one.new.self (phaser_at job.graph p).op (limits_at job p)
+    (subst (λ s. PhaserStandsFor c.signal_one.new.self (phaser_at job.graph p).op (limits_at job p)
     (after_signal c.signal_one.result c.args.number ((c.args.x ∷ []) ∷ []) s (m.history p))) single
     (simp (to_z-of_z, c.ranges.x) at (c.signal_one.ensures.after (phaser_at job.graph p).op
     (limits_at job p) (m.history p) (lent_core job m.history c.args.self.now.cores.items p

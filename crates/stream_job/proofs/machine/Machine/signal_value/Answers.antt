@@ -1,7 +1,7 @@
 -- The value is signalled as the number that stands at the registration of the output.
 use Rattle.std.proofs.Common.{◌≡◌, ◌<◌, ◌*◌, [], ◌∷◌, length, get_or, refl, sym, ap, subst, ◌∙◌, arith, to_z-of_z}
 use Rattle.std.proofs.lemmas.Option.{slice_get_read}
-use Rattle.phase_core.specs.phase_accum.Sends.{IsSend}
+use Rattle.phase_any.specs.phase_accum.Sends.{IsSend}
 use Rattle.graph_runs.specs.Nexts.{signals}
 use Rattle.graph_runs.specs.TaskEvents.{signal}
 use Rattle.stream_job.specs.Places.{owed_in}

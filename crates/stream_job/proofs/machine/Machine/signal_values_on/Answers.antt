@@ -1,9 +1,9 @@
 -- The core of the phaser is set, and the others stay.
 use Rattle.std.proofs.Common.{◌≡◌, map, ap, ◌∙◌, subst}
-use Rattle.phase_core.specs.phase_history.Replies.{after_signal}
+use Rattle.phase_any.specs.phase_history.Replies.{after_signal}
 use Rattle.graph_lang.specs.graph_base.Graphs.{phaser_at}
 use Rattle.graph_runs.specs.Moments.{one, limits_at}
-use Rattle.stream_job.specs.Cores.{CoreStandsFor}
+use Rattle.phase_any.specs.Phasers.{PhaserStandsFor}
 use Rattle.stream_job.proofs.Setting.{set_core, lent_core}
 use Rattle.stream_job.proofs.machine.Machine.signal_values_on.Goals as goal
 
@@ -18,9 +18,9 @@ returns-clause-cores c = λ m at.
     set_core job m.history c.args.self.now.cores.items p c.signal_values.new.self
     (after_signal c.signal_values.result c.args.number (map one c.args.values.now)
     (phaser_at job.graph p).single (m.history p)) at.cores c.requires.phaser
-    (subst (λ s. CoreStandsFor c.signal_values.new.self (phaser_at job.graph p).op (limits_at job p)
-    (after_signal c.signal_values.result c.args.number (map one c.args.values.now) s
-    (m.history p))) single
+    (subst (λ s. PhaserStandsFor c.signal_values.new.self (phaser_at job.graph p).op
+    (limits_at job p) (after_signal c.signal_values.result c.args.number
+    (map one c.args.values.now) s (m.history p))) single
     (c.signal_values.ensures.after (phaser_at job.graph p).op (limits_at job p) (m.history p)
     (lent_core job m.history c.args.self.now.cores.items p c.index_mut.result.now at.cores
     c.requires.phaser c.index_mut.ensures.value)))

@@ -3,8 +3,8 @@ use Rattle.std.proofs.Common.{◌≡◌, ◌<◌, length, get_or, ap, sym, subst
 use Rattle.graph_lang.specs.graph_base.Graphs.{task_at, phaser_at}
 use Rattle.graph_lang.specs.graph_base.Registrations.{registrations_of, no_registration}
 use Rattle.graph_lang.specs.graph_base.declared.registration.Registration.{Registration}
-use Rattle.phase_core.specs.phase_base.Members.{entry_of}
-use Rattle.phase_core.specs.phase_history.Histories.{members_of}
+use Rattle.phase_any.specs.phase_base.Members.{entry_of}
+use Rattle.phase_any.specs.phase_history.Histories.{members_of}
 use Rattle.graph_runs.specs.Moments.{limits_at}
 use Rattle.graph_runs.specs.TaskPlaces.{registration_at}
 use Rattle.stream_job.specs.Places.{place_of}

@@ -1,6 +1,6 @@
 -- The core of the phaser is set, and the others stay.
 use Rattle.stream_job.proofs.Setting.{set_core, lent_core}
-use Rattle.phase_core.specs.phase_history.Replies.{after_wait_block}
+use Rattle.phase_any.specs.phase_history.Replies.{after_wait_block}
 use Rattle.graph_lang.specs.graph_base.Graphs.{phaser_at}
 use Rattle.graph_runs.specs.Moments.{limits_at}
 use Rattle.stream_job.proofs.machine.Machine.wait_block_on.Goals as goal

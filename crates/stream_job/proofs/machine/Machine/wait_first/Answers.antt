@@ -5,13 +5,13 @@ use Rattle.std.specs.Prelude.{Ok, Err, IfSome}
 use Rattle.std.specs.List.{All}
 use Rattle.std.proofs.lemmas.List.{length-take-le}
 use Rattle.std.proofs.lemmas.Option.{slice_get_read}
-use Rattle.phase_core.specs.Blocks.{written}
-use Rattle.phase_core.specs.phase_base.declared.limits.TheConstants.{PHASES_MAX}
-use Rattle.phase_core.specs.phase_history.declared.event.Event.TheVariants.{Waited}
-use Rattle.phase_core.specs.phase_history.declared.got.GotBlock.TheVariants as block
-use Rattle.phase_core.specs.phase_history.Histories.{done_of}
-use Rattle.phase_core.specs.phase_history.Phases.{stream_of}
-use Rattle.phase_core.specs.phase_history.Replies.{wait_block_reply, after_wait_block}
+use Rattle.phase_any.specs.phase_core.Blocks.{written}
+use Rattle.phase_any.specs.phase_base.declared.limits.TheConstants.{PHASES_MAX}
+use Rattle.phase_any.specs.phase_history.declared.event.Event.TheVariants.{Waited}
+use Rattle.phase_any.specs.phase_history.declared.got.GotBlock.TheVariants as block
+use Rattle.phase_any.specs.phase_history.Histories.{done_of}
+use Rattle.phase_any.specs.phase_history.Phases.{stream_of}
+use Rattle.phase_any.specs.phase_history.Replies.{wait_block_reply, after_wait_block}
 use Rattle.graph_lang.specs.graph_base.Graphs.{task_at}
 use Rattle.stream_eval.specs.Results.{sink_values}
 use Rattle.stream_eval.specs.stream_lists.Lists.{number}

@@ -1,7 +1,7 @@
 -- A filter has made one output more; of others a block is one step, or they owe nothing.
 use Rattle.std.proofs.Common.{rules, SFits, w64, to_z, of_z, pos, ◌≡◌, ◌≢◌, ◌<◌, ◌≤◌, ◌+◌, ◌++◌, ◌∷◌, [], length, map, get_or, take, refl, sym, ap, subst, ◌∙◌, arith, to_z-of_z}
 use Rattle.std.proofs.lemmas.List.{take_more, take_all, length-map, length-take-le, map-append}
-use Rattle.phase_core.specs.phase_accum.declared.outcome.Outcome.TheVariants.{Value}
+use Rattle.phase_any.specs.phase_accum.declared.outcome.Outcome.TheVariants.{Value}
 use Rattle.graph_lang.specs.graph_base.declared.line.Kind.TheVariants.{Fir}
 use Rattle.graph_lang.specs.graph_base.Graphs.{task_at}
 use Rattle.graph_lang.specs.stream_filters.Filter.{output_after}

@@ -12,7 +12,7 @@ returns-clause-call g c =
     let P : MemberState → Type 0 =
     λ old. Puts values c.args.single old (member_state new) c.put_answer.result in
     subst P c.self.view_is
-    (puts_values g.A.Accumulate.operation own.phaser.now (take (length values) c.fill.new.places)
-    values c.args.single own.reg new c.try_signal_lists.result c.put_answer.result
-    g.met.A.Accumulate.laws c.self.invariant.0 (c.fill.ensures.stand c.if-not-fill.false)
-    c.try_signal_lists.ensures.call.call c.put_answer.ensures)
+    (puts_values g.A.Accumulate.operation own.phaser.now
+    (take (length values) c.hold_each.new.places) values c.args.single own.reg new
+    c.try_signal_lists.result c.put_answer.result g.met.A.Accumulate.laws c.self.invariant.0
+    c.hold_each.ensures.stand c.try_signal_lists.ensures.call.call c.put_answer.ensures)

@@ -1,0 +1,18 @@
+-- One value alone goes by the signal of one send.
+use Rattle.std.proofs.Common.{pos, ap, ◌∙◌}
+use Rattle.phase_core.specs.phase_history.Replies.{signal_reply}
+use Rattle.phase_any.proofs.OneAlone.{one-alone}
+use Rattle.phase_any.proofs.any_phaser.AnyPhaser.signal_values.Goals as goal
+
+pub returns-in-len1-clause-reply : goal.returns-in-len1-clause-reply
+returns-in-len1-clause-reply c = λ op limits h stands.
+    let alone = one-alone c.args.values.now (pos 0) c.requires.sends c.in-len1.len_at_least
+    c.in-len1.len_below in
+    ap (λ lists. signal_reply limits h c.args.task lists c.args.single) alone
+    ∙ c.signal_one.ensures.reply op limits h stands
+
+pub returns-in-len1-clause-after : goal.returns-in-len1-clause-after
+returns-in-len1-clause-after c = λ op limits h stands.
+    let alone = one-alone c.args.values.now (pos 0) c.requires.sends c.in-len1.len_at_least
+    c.in-len1.len_below in
+    rw alone (c.signal_one.ensures.after op limits h stands)

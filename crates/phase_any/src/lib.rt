@@ -1,0 +1,15 @@
+//! A phaser for one thread under any of the five operations, for whoever learns the operation when
+//! it runs. The first calls are `AnyPhaser::new`, `AnyPhaser::signal` and `AnyPhaser::wait`.
+//! `Parcels` are places for the sends of blocks of phases.
+#![tactic(auto)]
+
+mod any_phaser;
+mod block_sends;
+mod joining;
+mod parcels;
+mod sends;
+
+pub use any_phaser::AnyPhaser;
+pub use parcels::Parcels;
+pub use phase_core;
+pub use phase_core::{phase_accum, phase_base, phase_history};

@@ -1,0 +1,56 @@
+-- Values that can be sent, and places that hold one send each.
+use Rattle.std.proofs.Common.{◌≡◌, ℕ, zero, suc, ◌+◌, ◌<◌, ◌≤◌, List, [], ◌∷◌, ◌++◌, ℤ, length, take, get_or, set, nat_abs, w64, to_z, of_z, arith}
+use Rattle.std.specs.Prelude.{unsigned_abs}
+use Rattle.std.specs.List.{All}
+use Rattle.std.proofs.lemmas.Int.{ints}
+use Rattle.std.proofs.lemmas.List.{map_more, take_more_set}
+use Rattle.phase_history.specs.phase_accum.Operations.{Operation}
+use Rattle.phase_history.specs.phase_accum.Parcels.{Parcel, StandsForSends}
+use Rattle.phase_history.specs.phase_accum.Sends.{AreSends, IsSend, value_max}
+use Rattle.phase_core.specs.Blocks.{StandForLists, one_each}
+
+-- a number that can be sent is one of 64 bits
+pub send-same : (v : ℤ) → IsSend v → to_z w64 (of_z w64 v) ≡ v
+send-same v is =
+    let small : nat_abs v ≤ value_max = is.small in omega (arith, ints, small)
+
+-- each of them can be sent
+pub send-at : (values : List ℤ) (i : ℕ) (d : ℤ) → AreSends values → i < length values
+    → IsSend (get_or values i d)
+send-at [] i d are within = absurd (omega arith)
+send-at (v ∷ values) zero d are within = are.0
+send-at (v ∷ values) (suc i) d are within = send-at values i d are.1 (omega arith)
+
+-- those of which each is small are those that can be sent
+pub small-sends : (values : List ℤ) → All (λ v. unsigned_abs v ≤ value_max) values
+    → AreSends values
+small-sends [] all = tt
+small-sends (v ∷ values) all = (
+  record { small = all 0 v (omega arith) },
+  small-sends values (λ k d within. all (suc k) d (omega arith)),
+)
+
+pub sends-small : (values : List ℤ) → AreSends values
+    → All (λ v. unsigned_abs v ≤ value_max) values
+sends-small values are = λ k d within. (send-at values k d are within).small
+
+stand-push : {A : Type 0} (op : Operation A) (held : List (Parcel A)) (lists : List (List ℤ))
+    (more : Parcel A) (sends : List ℤ) → StandForLists op held lists
+    → StandsForSends op more sends → StandForLists op (held ++ more ∷ []) (lists ++ sends ∷ [])
+stand-push op [] [] more sends stand stands = (stands, tt)
+stand-push op [] (list ∷ lists) more sends stand stands = absurd stand
+stand-push op (first ∷ held) [] more sends stand stands = absurd stand
+stand-push op (first ∷ held) (list ∷ lists) more sends stand stands =
+    (stand.0, stand-push op held lists more sends stand.1 stands)
+
+-- one more value stands in its place
+pub stand_more : {A : Type 0} (op : Operation A) (places : List (Parcel A)) (values : List ℤ)
+    (i : ℕ) (held : Parcel A) (d : ℤ) → i < length places → i < length values
+    → StandForLists op (take i places) (one_each (take i values))
+    → StandsForSends op held (get_or values i d ∷ [])
+    → StandForLists op (take (i + 1) (set places i held)) (one_each (take (i + 1) values))
+stand_more {A} op places values i held d there within stand stands =
+    let one : ℤ → List ℤ = λ v. v ∷ [] in
+    rw (take_more_set places i held there, map_more one values i d within)
+    (stand-push op (take i places) (one_each (take i values)) held (get_or values i d ∷ []) stand
+    stands)
