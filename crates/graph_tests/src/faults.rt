@@ -1,6 +1,7 @@
 //! Runs that come to a value out of range.
 use crate::jobs::at_bound;
 use crate::rounds::{Round, given, ran};
+use std::alloc::Global;
 use std::test::Fail;
 use stream_job::graph_base::Place;
 
@@ -68,23 +69,33 @@ const CASES: [Case; 5] = [
     },
 ];
 
+/// What a case's run in rotation comes to, and its run by given turns, with what the sinks have.
+fn told(
+    alloc: Global,
+    case: &Case,
+    bound: u64,
+) -> Result<((Round, String), (Round, String)), Fail> {
+    let graph = at_bound(alloc, case.graph, bound)?;
+    let rotated = ran(alloc, &graph, case.samples)?;
+    Ok((rotated, given(alloc, &graph, case.samples)?))
+}
+
 #[test]
 fn a_value_out_of_range_is_told(rt: HostRuntime) -> Result<(), Fail> {
     for case in &CASES {
         let (place, phase) = (case.place, case.phase);
+        let wanted = Round::TooBig { place, phase };
         for bound in BOUNDS {
-            let graph = at_bound(rt.alloc(), case.graph, bound)?;
-            let (round, lines) = ran(rt.alloc(), &graph, case.samples)?;
-            let told = (round, lines.as_str());
-            let wanted = (Round::TooBig { place, phase }, case.lines);
-            assert_eq!(rt; told, wanted, "{}: in rotation, bound {bound}", case.name);
-            let (round, lines) = given(rt.alloc(), &graph, case.samples)?;
-            let told = (round, lines.as_str());
-            let wanted = (Round::TooBig { place, phase }, "");
+            let (rotated, by_turns) = told(rt.alloc(), case, bound)?;
             assert_eq!(rt;
-                told,
-                wanted,
-                "{}: by given turns, bound {bound}",
+                (
+                    rotated.0,
+                    rotated.1.as_str(),
+                    by_turns.0,
+                    by_turns.1.as_str()
+                ),
+                (wanted, case.lines, wanted, ""),
+                "{}: bound {bound}",
                 case.name
             );
         }

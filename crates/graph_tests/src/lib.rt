@@ -4,11 +4,11 @@
 #![tactic(auto)]
 
 #[cfg(test)]
-mod cores;
-#[cfg(test)]
 mod faults;
 #[cfg(test)]
 mod jobs;
+#[cfg(test)]
+mod phasers;
 mod ready;
 #[cfg(test)]
 mod rounds;

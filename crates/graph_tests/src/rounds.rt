@@ -5,7 +5,7 @@ use crate::jobs::job_of;
 use std::alloc::{AllocError, Global};
 use std::test::Fail;
 use stream_job::graph_base::Place;
-use stream_job::{EvalFault, Lines, RunTurnsFault, Turned, World, eval, run_turns};
+use stream_job::{EvalFault, Job, Lines, RunTurnsFault, Turned, World, eval, run_turns};
 
 /// What a round of turns came to, one turn for each task.
 #[derive(Clone, Copy, Debug, PartialEq, Eq)]
@@ -85,30 +85,61 @@ pub fn text_of(alloc: Global, lines: &[Lines]) -> Result<String, Fail> {
     Ok(text)
 }
 
-/// What the sinks of a graph have at the end of a run in rotation, and what its last round came to.
-pub fn ran(alloc: Global, graph: &str, samples: &[&str]) -> Result<(Round, String), Fail> {
-    let job = job_of(alloc, graph, samples)?;
-    let mut world = World::new(alloc, &job)?;
-    let round = last_round(&mut world, job.graph().tasks())?;
+/// What a round of a world comes to, and what the sinks have after it.
+fn after_round(
+    alloc: Global,
+    world: &mut World<'_>,
+    tasks: usize,
+) -> Result<(Round, String), Fail> {
+    let round = one_round(world, tasks)?;
     Ok((round, text_of(alloc, world.lines())?))
 }
 
-/// What the sinks of a graph have after forty given turns of each task, by which all have left, and
-/// what a further round comes to. Or which value was out of range before, and no lines.
-pub fn given(alloc: Global, graph: &str, samples: &[&str]) -> Result<(Round, String), Fail> {
+/// What the last round of a world comes to, and what the sinks have after it.
+fn after_last_round(
+    alloc: Global,
+    world: &mut World<'_>,
+    tasks: usize,
+) -> Result<(Round, String), Fail> {
+    let round = last_round(world, tasks)?;
+    Ok((round, text_of(alloc, world.lines())?))
+}
+
+/// What the last round of a job's run in rotation comes to, and what the sinks have after it.
+fn ran_job(alloc: Global, job: &Job) -> Result<(Round, String), Fail> {
+    let mut world = World::new(alloc, job)?;
+    after_last_round(alloc, &mut world, job.graph().tasks())
+}
+
+/// What the sinks of a graph have at the end of a run in rotation, and what its last round came to.
+pub fn ran(alloc: Global, graph: &str, samples: &[&str]) -> Result<(Round, String), Fail> {
     let job = job_of(alloc, graph, samples)?;
-    let tasks = job.graph().tasks();
-    let turns = in_rotation(alloc, tasks, 40)?;
-    match run_turns(alloc, &job, &turns) {
-        Ok(mut world) => {
-            let round = one_round(&mut world, tasks)?;
-            Ok((round, text_of(alloc, world.lines())?))
-        }
+    ran_job(alloc, &job)
+}
+
+/// What a further round comes to after these turns, and what the sinks have after it. Or which
+/// value was out of range before, and no lines.
+fn given_turns(alloc: Global, job: &Job, turns: &[usize]) -> Result<(Round, String), Fail> {
+    match run_turns(alloc, job, turns) {
+        Ok(mut world) => after_round(alloc, &mut world, job.graph().tasks()),
         Err(RunTurnsFault::TooBig { place, phase }) => {
             Ok((Round::TooBig { place, phase }, String::new(alloc)))
         }
         Err(RunTurnsFault::OutOfMemory) => Err(Fail::from(AllocError)),
     }
+}
+
+/// The same after forty turns of each task, by which all have left.
+fn given_job(alloc: Global, job: &Job) -> Result<(Round, String), Fail> {
+    let turns = in_rotation(alloc, job.graph().tasks(), 40)?;
+    given_turns(alloc, job, &turns)
+}
+
+/// What the sinks of a graph have after forty given turns of each task, and what a further round
+/// comes to. Or which value was out of range before, and no lines.
+pub fn given(alloc: Global, graph: &str, samples: &[&str]) -> Result<(Round, String), Fail> {
+    let job = job_of(alloc, graph, samples)?;
+    given_job(alloc, &job)
 }
 
 /// What the sinks had at the end of a run, which all tasks have left. Or what its last round came
@@ -120,12 +151,17 @@ pub fn at_end(alloc: Global, (round, lines): (Round, String)) -> Result<String, 
     }
 }
 
-/// What whole lists have for the sinks of a graph.
-pub fn evaluated(alloc: Global, graph: &str, samples: &[&str]) -> Result<String, Fail> {
-    let job = job_of(alloc, graph, samples)?;
-    match eval(alloc, &job) {
+/// What whole lists have for the sinks of a job.
+fn evaluated_job(alloc: Global, job: &Job) -> Result<String, Fail> {
+    match eval(alloc, job) {
         Ok(lines) => text_of(alloc, &lines),
         Err(EvalFault::OutOfMemory) => Err(Fail::from(AllocError)),
         Err(EvalFault::TooBig { place, phase }) => { Ok(format!(in alloc; "{place:?} {phase}")?) }
     }
+}
+
+/// What whole lists have for the sinks of a graph.
+pub fn evaluated(alloc: Global, graph: &str, samples: &[&str]) -> Result<String, Fail> {
+    let job = job_of(alloc, graph, samples)?;
+    evaluated_job(alloc, &job)
 }

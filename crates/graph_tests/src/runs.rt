@@ -28,13 +28,21 @@ struct Case {
     lines: &'static str,
 }
 
-const CASES: [Case; 24] = [
+const CASES: [Case; 25] = [
     Case {
         name: "a filter rounds down",
         graph: "phaser X sum ?\nphaser Y sum ?\nsource s s.csv -> X\n\
             fir f X -> Y shift 2 taps 1 2 1\nsink out Y\n",
         samples: &["-1\n-1\n0\n"],
         lines: "2: -1 -1 -1\n",
+    },
+    Case {
+        name: "eleven sinks and a child",
+        graph: "phaser X sum ?\nsource s s.csv -> X\nsink a X\nsink b X\nsink c X\n\
+            sink d X\nsink e X\nsink f X\nsink g X\nsink h X\nsink i X\nsink j X\n\
+            sink k X\nsink late X by k at 0\n",
+        samples: &["5\n"],
+        lines: "1: 5\n2: 5\n3: 5\n4: 5\n5: 5\n6: 5\n7: 5\n8: 5\n9: 5\n10: 5\n11: 5\n12: 5\n",
     },
     Case {
         name: "no samples give no values",

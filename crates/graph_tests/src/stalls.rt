@@ -23,13 +23,14 @@ fn to_one_bus(alloc: Global, bound: u64, samples: u64) -> Result<Job, Fail> {
     job_of(alloc, &graph, &[text.as_str()])
 }
 
-/// A bound, how many samples, what the last round comes to, and who is blocked on phasers then.
+/// A bound, how many samples, what the last round comes to, and who is blocked on each phaser then,
+/// each phaser's tasks before a semicolon. Where all have left, nobody is.
 struct Case {
     name: &'static str,
     bound: u64,
     samples: u64,
     round: Round,
-    parked: &'static [(usize, &'static str)],
+    parked: &'static str,
 }
 
 /// The fewest samples on which the graph comes to a stand, and one less. Where the sink has taken
@@ -42,28 +43,28 @@ const CASES: [Case; 4] = [
         bound: 1,
         samples: 6,
         round: Round::Gone,
-        parked: &[],
+        parked: ";;;;",
     },
     Case {
         name: "seven samples of bound 1 come to a stand",
         bound: 1,
         samples: 7,
         round: Round::Blocked,
-        parked: &[(0, "0 1 "), (1, "2 "), (2, ""), (3, "3 4 ")],
+        parked: "0 1 ;2 ;;3 4 ;",
     },
     Case {
         name: "258 samples of bound 64 come to an end",
         bound: 64,
         samples: 258,
         round: Round::Gone,
-        parked: &[],
+        parked: ";;;;",
     },
     Case {
         name: "259 samples of bound 64 come to a stand",
         bound: 64,
         samples: 259,
         round: Round::Blocked,
-        parked: &[(0, "0 1 "), (1, "2 "), (2, ""), (3, "3 4 ")],
+        parked: "0 1 ;2 ;;3 4 ;",
     },
 ];
 
@@ -83,29 +84,55 @@ fn parked_on(alloc: Global, job: &Job, world: &World<'_>, phaser: usize) -> Resu
     Ok(text)
 }
 
+/// The tasks that were blocked on each phaser, those of a phaser before a semicolon.
+fn all_parked(alloc: Global, job: &Job, world: &World<'_>) -> Result<String, Fail>
+    requires { world.now.job ≡ job.now }
+{
+    let mut text = String::new(alloc);
+    for phaser in 0..job.graph().phasers() {
+        text.push_str(&parked_on(alloc, job, world, phaser)?)?;
+        text.push_str(";")?;
+    }
+    Ok(text)
+}
+
+/// Whether a run is stalled at its opening, what its last round comes to, whether it is stalled
+/// then, and who is blocked.
+type Stand = (bool, Round, bool, String);
+
+fn stand_of(alloc: Global, job: &Job, world: &mut World<'_>) -> Result<Stand, Fail>
+    requires { world.old.job ≡ job.now }
+{
+    let at_first = world.stalled();
+    let round = last_round(world, job.graph().tasks())?;
+    Ok((
+        at_first,
+        round,
+        world.stalled(),
+        all_parked(alloc, job, world)?,
+    ))
+}
+
+fn job_stand(alloc: Global, job: &Job) -> Result<Stand, Fail> {
+    let mut world = World::new(alloc, job)?;
+    stand_of(alloc, job, &mut world)
+}
+
+fn case_stand(alloc: Global, case: &Case) -> Result<Stand, Fail> {
+    let job = to_one_bus(alloc, case.bound, case.samples)?;
+    job_stand(alloc, &job)
+}
+
 #[test]
 fn a_run_stalls_where_each_task_is_blocked(rt: HostRuntime) -> Result<(), Fail> {
     for case in &CASES {
-        let job = to_one_bus(rt.alloc(), case.bound, case.samples)?;
-        let mut world = World::new(rt.alloc(), &job)?;
-        assert!(rt; !world.stalled(), "{}", case.name);
-        let round = last_round(&mut world, job.graph().tasks())?;
-        let is_stalled = case.round == Round::Blocked;
+        let (at_first, round, is_stalled, parked) = case_stand(rt.alloc(), case)?;
         assert_eq!(rt;
-            (round, world.stalled()),
-            (case.round, is_stalled),
+            (at_first, round, is_stalled, parked.as_str()),
+            (false, case.round, case.round == Round::Blocked, case.parked),
             "{}",
             case.name
         );
-        for (phaser, expected) in case.parked {
-            let parked = parked_on(rt.alloc(), &job, &world, *phaser)?;
-            assert_eq!(rt;
-                parked.as_str(),
-                *expected,
-                "{}: phaser {phaser}",
-                case.name
-            );
-        }
     }
     Ok(())
 }
@@ -113,27 +140,33 @@ fn a_run_stalls_where_each_task_is_blocked(rt: HostRuntime) -> Result<(), Fail> 
 /// A source and a sink.
 const ALONE: &str = "phaser X sum 1\nsource s s.csv -> X\nsink out X\n";
 
-/// Gives a task a turn, and tells who is blocked on the first phaser then.
-fn blocked_after(
+/// Who is blocked on the first phaser after each of these turns.
+fn parked_after(
     alloc: Global,
     job: &Job,
     world: &mut World<'_>,
-    task: usize,
+    turns: &[usize],
 ) -> Result<String, Fail>
     requires { world.old.job ≡ job.now }
-    ensures { world.new.job ≡ job.now }
 {
-    let _turned = world.turn(task)?;
-    parked_on(alloc, job, world, 0)
+    let mut text = String::new(alloc);
+    for task in turns {
+        let _turned = world.turn(*task)?;
+        text.push_str(&parked_on(alloc, job, world, 0)?)?;
+        text.push_str(";")?;
+    }
+    Ok(text)
+}
+
+fn job_parked_after(alloc: Global, job: &Job, turns: &[usize]) -> Result<String, Fail> {
+    let mut world = World::new(alloc, job)?;
+    parked_after(alloc, job, &mut world, turns)
 }
 
 #[test]
 fn an_event_empties_the_list_of_its_phaser(rt: HostRuntime) -> Result<(), Fail> {
     let job = job_of(rt.alloc(), ALONE, &["1\n2\n"])?;
-    let mut world = World::new(rt.alloc(), &job)?;
-    for (task, expected) in [(1, "1 "), (1, "1 "), (0, ""), (0, "0 "), (1, ""), (1, "1 ")] {
-        let parked = blocked_after(rt.alloc(), &job, &mut world, task)?;
-        assert_eq!(rt; parked.as_str(), expected, "task {task}");
-    }
+    let parked = job_parked_after(rt.alloc(), &job, &[1, 1, 0, 0, 1, 1])?;
+    assert_eq!(rt; parked.as_str(), "1 ;1 ;;0 ;;1 ;");
     Ok(())
 }

@@ -4,7 +4,7 @@ use crate::rounds::{in_rotation, one_round, text_of};
 use std::alloc::{AllocError, Global};
 use std::test::Fail;
 use stream_job::graph_base::Place;
-use stream_job::{Turned, World, run_turns};
+use stream_job::{Job, Turned, World, run_turns};
 
 /// A graph with a `?` for the bound of each phaser, the samples of its source, how many rounds of
 /// turns its tasks have first, turns of them with what each comes to, and what the sink has after
@@ -30,7 +30,7 @@ const SECOND: Turned = Turned::TooBig {
     phase: 1,
 };
 
-const CASES: [Case; 7] = [
+const CASES: [Case; 8] = [
     Case {
         name: "each turn makes one event",
         graph: "phaser X sum ?\nphaser Y sum ?\nsource s s.csv -> X\n\
@@ -82,6 +82,22 @@ const CASES: [Case; 7] = [
             (18446744073709551615, TOLD),
         ],
         lines: "2:\n",
+    },
+    Case {
+        name: "a child of task eleven registers",
+        graph: "phaser X sum 1\nsource s s.csv -> X\nsink a X\nsink b X\nsink c X\n\
+            sink d X\nsink e X\nsink f X\nsink g X\nsink h X\nsink i X\nsink j X\n\
+            sink k X\nsink late X by k at 0\n",
+        samples: "5\n",
+        rounds: 0,
+        turns: &[
+            (12, Turned::Gone),
+            (11, Turned::Moved),
+            (12, Turned::Blocked),
+            (0, Turned::Moved),
+            (12, Turned::Moved),
+        ],
+        lines: "1:\n2:\n3:\n4:\n5:\n6:\n7:\n8:\n9:\n10:\n11:\n12: 5\n",
     },
     Case {
         name: "a sink joins now where the stream stands",
@@ -170,16 +186,30 @@ fn first_wrong(
 
 /// The first turn of a case that comes to something else, what the sink has then, and whether the
 /// run is stalled.
-fn turned(alloc: Global, case: &Case, bound: u64) -> Result<(Option<usize>, String, bool), Fail> {
+type Turns = (Option<usize>, String, bool);
+
+fn turned_world(
+    alloc: Global,
+    case: &Case,
+    world: &mut World<'_>,
+    tasks: usize,
+) -> Result<Turns, Fail> {
+    for _ in 0..case.rounds {
+        one_round(world, tasks)?;
+    }
+    let wrong = first_wrong(world, case.turns)?;
+    Ok((wrong, text_of(alloc, world.lines())?, world.stalled()))
+}
+
+fn turned_job(alloc: Global, case: &Case, job: &Job) -> Result<Turns, Fail> {
+    let mut world = World::new(alloc, job)?;
+    turned_world(alloc, case, &mut world, job.graph().tasks())
+}
+
+fn turned(alloc: Global, case: &Case, bound: u64) -> Result<Turns, Fail> {
     let graph = at_bound(alloc, case.graph, bound)?;
     let job = job_of(alloc, &graph, &[case.samples])?;
-    let mut world = World::new(alloc, &job)?;
-    for _ in 0..case.rounds {
-        one_round(&mut world, job.graph().tasks())?;
-    }
-    let wrong = first_wrong(&mut world, case.turns)?;
-    let lines = text_of(alloc, world.lines())?;
-    Ok((wrong, lines, world.stalled()))
+    turned_job(alloc, case, &job)
 }
 
 #[test]
@@ -202,14 +232,18 @@ fn each_turn_comes_to_what_its_task_can_do(rt: HostRuntime) -> Result<(), Fail> 
 const FILTER: &str = "phaser X sum ?\nphaser Y sum ?\nsource s s.csv -> X\n\
     fir f X -> Y shift 2 taps 1 2 1\nsink out Y\n";
 
-/// What the sinks have after so many given turns of each task, and whether the run is stalled then.
-fn given(alloc: Global, graph: &str, samples: &str, rounds: usize) -> Result<(String, bool), Fail> {
-    let job = job_of(alloc, graph, &[samples])?;
-    let turns = in_rotation(alloc, job.graph().tasks(), rounds)?;
-    match run_turns(alloc, &job, &turns) {
+/// What the sinks have after these turns, and whether the run is stalled then.
+fn given_turns(alloc: Global, job: &Job, turns: &[usize]) -> Result<(String, bool), Fail> {
+    match run_turns(alloc, job, turns) {
         Ok(world) => Ok((text_of(alloc, world.lines())?, world.stalled())),
         Err(_) => Err(Fail::from(AllocError)),
     }
+}
+
+/// The same after so many turns of each task.
+fn given(alloc: Global, job: &Job, rounds: usize) -> Result<(String, bool), Fail> {
+    let turns = in_rotation(alloc, job.graph().tasks(), rounds)?;
+    given_turns(alloc, job, &turns)
 }
 
 #[test]
@@ -217,12 +251,21 @@ fn given_turns_move_blocks_and_tell_where_a_sink_joined(rt: HostRuntime) -> Resu
     let graph = "graph 2\nphaser X sum 4\nsource s s.csv -> X block=4\nsink out X block=2\n\
         sink late X by out at 2 now\n";
     let job = job_of(rt.alloc(), graph, &["1\n2\n3\n4\n"])?;
-    let left = match run_turns(rt.alloc(), &job, &[0, 1, 1, 0, 1, 1, 2]) {
-        Ok(world) => text_of(rt.alloc(), world.lines())?,
-        Err(_) => String::new(rt.alloc()),
-    };
+    let (left, _) = given_turns(rt.alloc(), &job, &[0, 1, 1, 0, 1, 1, 2])?;
     assert_eq!(rt; left.as_str(), "1: 1 2 3 4\n2 from 4:\n");
     Ok(())
+}
+
+/// What the sink of the filter has under this bound.
+fn filtered(
+    alloc: Global,
+    bound: u64,
+    samples: &str,
+    rounds: usize,
+) -> Result<(String, bool), Fail> {
+    let graph = at_bound(alloc, FILTER, bound)?;
+    let job = job_of(alloc, &graph, &[samples])?;
+    given(alloc, &job, rounds)
 }
 
 #[test]
@@ -231,8 +274,7 @@ fn turns_in_rotation_end_a_run_and_no_turns_leave_it_at_its_opening(
 ) -> Result<(), Fail> {
     for (rounds, samples, lines) in [(10, "-1\n-1\n0\n", "2: -1 -1 -1\n"), (0, "-4\n", "2:\n")] {
         for bound in BOUNDS {
-            let graph = at_bound(rt.alloc(), FILTER, bound)?;
-            let (left, is_stalled) = given(rt.alloc(), &graph, samples, rounds)?;
+            let (left, is_stalled) = filtered(rt.alloc(), bound, samples, rounds)?;
             assert_eq!(rt;
                 (left.as_str(), is_stalled),
                 (lines, false),
