@@ -1,6 +1,6 @@
 -- What holds of each line of a graph that was read.
-use Rattle.std.specs.Prelude.{ℕ, ◌≡◌, ◌<◌, ◌≤◌, List, [], ◌∷◌, ◌++◌, ◌==◌, ◌&&◌, not, length, get_or, ℤ, pos, unsigned_abs, Some, None, IfSome, IsSome, IsTrue, Bool, true, false}
-use Rattle.std.specs.List.{All, Contains, list_any}
+use Rattle.std.specs.Prelude.{ℕ, ◌≡◌, ◌<◌, ◌≤◌, List, [], ◌++◌, length, get_or, ℤ, pos, unsigned_abs, Some, None, IfSome, IsSome, IsTrue, Bool, true, false}
+use Rattle.std.specs.List.{All, Contains}
 use Rattle.phase_accum.specs.phase_base.Limits.{IsBound}
 use Rattle.phase_accum.specs.phase_base.Lists.{is_distinct}
 use Rattle.phase_accum.specs.Singles.{CanBeNamed}

@@ -1,7 +1,7 @@
 //! Graphs.
 ghost use Rattle.std.specs.Prelude.{◌≡◌, ◌<◌, ◌≤◌, ◌+◌, length, get_or, IsTrue, Some};
 ghost use Rattle.phase_accum.specs.phase_base.Words.{is_name, is_file};
-ghost use Rattle.graph_base.specs.Graphs.{Graph as GraphValue, IsPlace, sources_of, task_at, phaser_at, file_at, name_at, name_among};
+ghost use Rattle.graph_base.specs.Graphs.{Graph as GraphValue, IsPlace, is_sink, is_source, source_number, sources_of, task_at, phaser_at, file_at, name_at, name_among};
 ghost use Rattle.graph_base.specs.TaskLines.{IsGraph, IsPhaserLine, IsTaskLine};
 ghost use Rattle.graph_base.specs.Names.{place_of, names_of};
 ghost use Rattle.graph_base.specs.Registrations.{registrations_of, no_registration, as_input, as_output, ends_of, exchange_mode};
@@ -106,6 +106,37 @@ impl Graph {
         ensures line { IsTaskLine self.now t (task_of result.now) }
     {
         &self.tasks[t]
+    }
+
+    /// Returns whether task number `t` is a source. It takes no memory.
+    pub fn is_source(&self, t: usize) -> bool
+        requires { t < length self.now.tasks }
+        ensures { result ≡ is_source (task_at self.now t).kind }
+    {
+        matches!(self.task(t).kind, Kind::Source)
+    }
+
+    /// Returns whether task number `t` is a sink. It takes no memory.
+    pub fn is_sink(&self, t: usize) -> bool
+        requires { t < length self.now.tasks }
+        ensures { result ≡ is_sink (task_at self.now t).kind }
+    {
+        matches!(self.task(t).kind, Kind::Sink)
+    }
+
+    /// Returns the number of a source among the sources: how many stand above task number `t`. It
+    /// takes no memory.
+    pub fn source_number(&self, t: usize) -> usize
+        requires { t ≤ length self.now.tasks }
+        ensures { result ≡ source_number self.now.tasks t }
+    {
+        let mut count = 0;
+        for above in 0..t {
+            if self.is_source(above) {
+                count += 1;
+            }
+        }
+        count
     }
 
     /// Returns on how many phasers task number `t` is registered, at most `ENDS_MAX + 1`. It takes

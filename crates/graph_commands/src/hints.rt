@@ -10,7 +10,7 @@ use crate::further::{further_lines, tell_bytes};
 use crate::graph_faults::{report_no_sink, report_too_big};
 use crate::members::signals;
 use crate::records::front_of;
-use graph_show::graph_base::{Graph, Kind, Place};
+use graph_show::graph_base::{Graph, Place};
 use graph_show::graph_lang::graph_text::{lines_of, without_cr, words_of};
 use graph_show::watched_io::{Files, Watched};
 use itoa::Buffer;
@@ -64,7 +64,7 @@ pub fn explain_too_big<E: Write, F: Files>(
 fn sink_texts(alloc: Global, graph: &Graph) -> Result<Vec<Vec<u8>>, AllocError> {
     let mut names = Vec::new(alloc);
     for t in 0..graph.tasks() {
-        if matches!(graph.task(t).kind, Kind::Sink) {
+        if graph.is_sink(t) {
             names.extend_from_slice(b" ")?;
             names.extend_from_slice(graph.name(Place::Task(t)).as_bytes())?;
         }

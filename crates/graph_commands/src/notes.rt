@@ -2,7 +2,7 @@
 
 use crate::members::{is_signalled, is_taken};
 use crate::rates::put_rates;
-use graph_show::graph_base::{Graph, Kind, Place, TaskLine};
+use graph_show::graph_base::{Graph, Place, TaskLine};
 use itoa::Buffer;
 use std::alloc::{AllocError, Global};
 use stream_eval::stream_lists::Job;
@@ -45,7 +45,7 @@ fn put_loose(alloc: Global, graph: &Graph, texts: &mut Vec<Vec<u8>>) -> Result<(
 fn put_idle(alloc: Global, job: &Job, texts: &mut Vec<Vec<u8>>) -> Result<(), AllocError> {
     let graph = job.graph();
     for t in 0..graph.tasks() {
-        if graph.task(t).kind == Kind::Sink && job.span(t).steps == 0 {
+        if graph.is_sink(t) && job.span(t).steps == 0 {
             let name = graph.name(Place::Task(t));
             put_note(alloc, texts, name, ": it takes no value")?;
         }

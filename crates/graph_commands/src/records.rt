@@ -9,11 +9,10 @@ ghost use Rattle.std.specs.Str.{bytes_eq};
 
 use crate::further::put_line;
 use csv::{ByteRecord, ReaderBuilder};
-use graph_show::graph_lang::{Graph, GraphRefusal, Kind, Place, TEXT_MAX, read_graph};
+use graph_show::graph_lang::{Graph, GraphRefusal, Place, TEXT_MAX, read_graph};
 use graph_show::watched_io::{FileFault, Files};
 use itoa::Buffer;
 use std::alloc::{AllocError, Global};
-use stream_eval::stream_lists::number_of_source;
 
 /// The most bytes that are shown of a record or of a line.
 const SHOWN_MAX: usize = 60;
@@ -153,7 +152,7 @@ fn is_source_of(graph: &Graph, t: usize, name: &str) -> bool
     ensures { result ≡ (is_source (task_at graph.now t).kind
         && bytes_eq (name_at graph.now (place.Task t)) name.now) }
 {
-    matches!(graph.task(t).kind, Kind::Source) && graph.name(Place::Task(t)) == name
+    graph.is_source(t) && graph.name(Place::Task(t)) == name
 }
 
 /// The number of the task that is the source of this name, where a graph has one.
@@ -174,7 +173,7 @@ fn source_file<'a>(graph: &'a Graph, name: &str) -> Option<&'a str>
     ensures none { result ≡ None → source_named graph.now name.now ≡ None }
 {
     match find_source(graph, name) {
-        Some(t) => Some(graph.file(number_of_source(graph, t))),
+        Some(t) => Some(graph.file(graph.source_number(t))),
         None => None,
     }
 }

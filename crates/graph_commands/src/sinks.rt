@@ -8,7 +8,7 @@ ghost use Rattle.std.specs.Str.{bytes_eq};
 ghost use Rattle.graph_commands.specs.GraphRuns.{sink_named};
 ghost use Rattle.graph_commands.specs.OutputTexts.{values_of_sink};
 
-use graph_show::graph_base::{Kind, Place};
+use graph_show::graph_base::Place;
 use stream_eval::Lines;
 use stream_eval::stream_lists::Job;
 
@@ -30,7 +30,7 @@ fn is_sink_of(job: &Job, t: usize, name: &str) -> bool
     ensures { result ≡ (is_sink_at job.now t
         && bytes_eq (name_at job.now.graph (place.Task t)) name.now) }
 {
-    matches!(job.graph().task(t).kind, Kind::Sink) && job.graph().name(Place::Task(t)) == name
+    job.graph().is_sink(t) && job.graph().name(Place::Task(t)) == name
 }
 
 /// The values of a sink among those of all sinks; none where it is no sink.

@@ -4,22 +4,14 @@ ghost use Rattle.std.specs.List.{All};
 ghost use Rattle.graph_show.specs.phase_accum.Sends.{AreSends};
 ghost use Rattle.graph_show.specs.graph_lang.Samples.{AreSamplesOf};
 ghost use Rattle.graph_show.specs.graph_lang.declared.sample.TheConstants.{TEXT_MAX};
-ghost use Rattle.graph_show.specs.graph_base.Graphs.{is_source, source_number, sources_of, task_at};
+ghost use Rattle.graph_show.specs.graph_base.Graphs.{source_number, sources_of};
 ghost use Rattle.stream_eval.specs.stream_lists.Inside.{items_of};
 ghost use Rattle.graph_commands.specs.FileJobs.{AreFirstSamples, AreSamples, Explains, IsGraphOf, IsReached, file_of};
 
 use crate::JobFault;
-use graph_show::graph_lang::{Graph, Kind, Place, SampleFault, read_sample_file};
+use graph_show::graph_lang::{Graph, Place, SampleFault, read_sample_file};
 use graph_show::watched_io::Files;
 use std::alloc::Global;
-
-/// Whether task number `t` is a source.
-fn is_source_line(graph: &Graph, t: usize) -> bool
-    requires { t < length graph.now.tasks }
-    ensures { result ≡ is_source (task_at graph.now t).kind }
-{
-    matches!(graph.task(t).kind, Kind::Source)
-}
 
 /// Reads the samples of task number `t`, which is source number `source`.
 fn read_source<F: Files>(
@@ -71,7 +63,7 @@ pub fn read_sources<F: Files>(
 {
     let mut lists = Vec::new(alloc);
     for t in 0..graph.tasks() {
-        if is_source_line(graph, t) {
+        if graph.is_source(t) {
             let list = match read_source(alloc, files, graph, t, lists.len()) {
                 Ok(list) => list,
                 Err(fault) => return Err(fault),

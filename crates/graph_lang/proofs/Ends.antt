@@ -6,7 +6,7 @@ use Rattle.graph_text.specs.phase_base.Words.{is_name}
 use Rattle.graph_base.specs.Graphs.{Named}
 use Rattle.graph_base.specs.declared.line.Kind.{Kind}
 use Rattle.graph_base.specs.declared.line.Parent.{Parent}
-use Rattle.graph_text.specs.Numbers.{is_nat, nat_value}
+use Rattle.graph_text.specs.phase_base.Numbers.{is_nat, nat_value}
 use Rattle.graph_text.specs.Decls.{EndWords, BodyWords, source, fir, split, join, peer, sink, IsBody, IsBy, AreEnds, MayHaveBy, may_have_blocks}
 use Rattle.graph_text.specs.declared.version.Version.{Version}
 use Rattle.graph_lang.specs.WordValues.{inputs_of, outputs_of, task_line, kind_of_body, numbers_of, parent_of, taps_of, shift_of, factor_of, block_of, joins_now}

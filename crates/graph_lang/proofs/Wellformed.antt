@@ -10,7 +10,7 @@ use Rattle.graph_text.specs.phase_base.declared.limits.TheConstants.{BOUND_MAX}
 use Rattle.graph_base.specs.phase_accum.Sends.{value_max}
 use Rattle.graph_base.specs.phase_accum.Singles.{CanBeNamed}
 use Rattle.graph_text.specs.phase_base.Words.{Word, is_name, is_file}
-use Rattle.graph_text.specs.Numbers.{nat_value, int_value}
+use Rattle.graph_text.specs.phase_base.Numbers.{nat_value, int_value}
 use Rattle.graph_text.specs.phase_base.declared.operation.Op.{Op}
 use Rattle.graph_text.specs.Decls.{Decl, phaser, task, FunctionWords, neg, abs, halve, clamp, BodyWords, source, fir, split, join, peer, sink, EndWords, IsBody, IsWellFormed}
 use Rattle.graph_text.specs.declared.version.Version.{Version}

@@ -8,7 +8,7 @@ use Rattle.std.specs.Str.{bytes_eq}
 use Rattle.graph_text.specs.phase_base.declared.limits.TheConstants.{BOUND_MAX}
 use Rattle.graph_base.specs.phase_accum.Sends.{value_max}
 use Rattle.graph_text.specs.phase_base.Words.{Word}
-use Rattle.graph_text.specs.Numbers.{nat_value, int_value}
+use Rattle.graph_text.specs.phase_base.Numbers.{nat_value, int_value}
 use Rattle.graph_text.specs.Decls.{Decl, phaser, task, FunctionWords, neg, abs, halve, clamp, ByWords, EndWords, BodyWords, source, fir, split, join, peer, sink}
 use Rattle.graph_base.specs.Graphs.{Graph, Task, Named, task_at, phaser_at}
 use Rattle.graph_base.specs.Names.{place_of, phaser_named, task_named}

@@ -1,6 +1,6 @@
 -- What the code keeps while it reads a graph: the numbers of a line, and what a line comes to.
 use Rattle.std.specs.Prelude.{◌≡◌, option_map, ℕ, not, List, [], ◌∷◌, Option, Some, None, Result, Ok, Err, if◌then◌else◌}
-use Rattle.graph_text.specs.Numbers.{nat_value}
+use Rattle.graph_text.specs.phase_base.Numbers.{nat_value}
 use Rattle.graph_text.specs.Decls.{BodyWords, EndWords, Decl}
 use Rattle.graph_text.specs.Texts.{words_of, is_ignored}
 use Rattle.graph_text.specs.Versions.{is_heading}

@@ -1,14 +1,8 @@
--- What the code keeps while it reads samples: the form of a number, the part of a text that is
--- read, and the lines that it begins with.
-use Rattle.std.specs.Prelude.{ℕ, ℤ, ◌≤◌, ◌≡◌, ◌<◌, List, length, drop, slice_index, ◌⊎◌, [], ◌∷◌, ◌++◌}
+-- What the code keeps while it reads samples: the part of a text that is read, and the lines that
+-- it begins with.
+use Rattle.std.specs.Prelude.{ℕ, ℤ, ◌≤◌, ◌≡◌, ◌<◌, List, length, drop, ◌⊎◌, [], ◌∷◌, ◌++◌}
 use Rattle.std.specs.Fmt.{decimal, signed_decimal}
 use Rattle.graph_base.specs.phase_accum.Sends.{IsSend, value_max}
-
--- the word is not empty, not long, and has no 0 before others
-pub record HasOneForm (word : List ℕ) : Type 0 where
-  pub some : 0 < length word
-  pub few : length word ≤ 19
-  pub plain : slice_index word 0 ≡ 48 → length word ≡ 1
 
 -- the part is up to a comma and with it
 pub record EndsWithComma (text part : List ℕ) : Type 0 where

@@ -3,7 +3,7 @@ use Rattle.std.specs.Prelude.{ℕ, Bool, false, List, [], ◌∷◌, map, Option
 use Rattle.graph_base.specs.phase_accum.declared.single.Single.{Single}
 use Rattle.graph_base.specs.phase_accum.declared.single.Single.TheVariants.{Neg, Abs, Halve, Clamp}
 use Rattle.graph_text.specs.phase_base.Words.{Word}
-use Rattle.graph_text.specs.Numbers.{nat_value, int_value}
+use Rattle.graph_text.specs.phase_base.Numbers.{nat_value, int_value}
 use Rattle.graph_text.specs.Decls.{FunctionWords, neg, abs, halve, clamp, ByWords, EndWords, BodyWords, source, fir, split, join, peer, sink}
 use Rattle.graph_base.specs.Graphs.{Task, Named}
 use Rattle.graph_base.specs.Names.{phaser_named, task_named}

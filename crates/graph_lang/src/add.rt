@@ -2,7 +2,7 @@
 ghost use Rattle.std.specs.Prelude.{◌≡◌, ◌++◌, ◌∷◌, [], IsTrue, IfOk, IfSome, OnOk, None, length, true, is_some, ◌&&◌};
 ghost use Rattle.std.specs.Option.{option_map_or};
 ghost use Rattle.std.specs.List.{list_all};
-ghost use Rattle.graph_text.specs.Numbers.{is_nat};
+ghost use Rattle.graph_text.specs.phase_base.Numbers.{is_nat};
 ghost use Rattle.graph_text.specs.phase_base.Words.{is_name, is_file};
 ghost use Rattle.graph_text.specs.Decls.{IsBody, IsBy};
 ghost use Rattle.graph_text.specs.Lines.{body_of, ends_of, by_of, word_of};

@@ -5,7 +5,7 @@ ghost use Rattle.graph_text.specs.Plain.{plain};
 ghost use Rattle.graph_text.specs.phase_base.Words.{is_name};
 ghost use Rattle.graph_text.specs.Decls.{IsBy};
 ghost use Rattle.graph_text.specs.Lines.{by_of};
-ghost use Rattle.graph_text.specs.Numbers.{nat_value};
+ghost use Rattle.graph_text.specs.phase_base.Numbers.{nat_value};
 ghost use Rattle.graph_base.specs.Names.{names_of, place_of};
 ghost use Rattle.graph_base.specs.Inside.{task_of};
 ghost use Rattle.graph_lang.specs.WordValues.{parent_of, joins_now};

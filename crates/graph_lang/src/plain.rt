@@ -1,13 +1,12 @@
-//! Samples whose lines are a number each in its one form.
+//! Samples whose lines are a number each in its one form. A number is read where it stands, and not
+//! by `int` of `phase_base`: most of the time of a long text goes here.
 ghost use Rattle.std.specs.Prelude.{◌≡◌, ◌≤◌, [], length, take, IfOk, IfSome};
 ghost use Rattle.std.specs.Str.Parse.{AllDigits, digits_value};
 ghost use Rattle.graph_lang.specs.Samples.{AreSamples};
 ghost use Rattle.graph_lang.specs.TextInside.{BeginsWithWord, BeginsWithCount, BeginsWithLine};
 
+use graph_base::phase_accum::MAGNITUDE_MAX;
 use std::alloc::{AllocError, Global};
-
-/// The greatest magnitude of a value.
-const VALUE_MAX: u64 = 9_223_372_036_854_775_807;
 
 /// Digits at the front of a text: their number, and how many they are.
 #[derive(Clone, Copy)]
@@ -66,7 +65,7 @@ fn count_in(text: &[u8]) -> Option<Digits>
     if digits.size == 0 || (text[0] == b'0' && digits.size != 1) {
         return None;
     }
-    if digits.value > VALUE_MAX {
+    if digits.value > MAGNITUDE_MAX {
         return None;
     }
     match line_end_in(&text[digits.size..]) {

@@ -4,14 +4,14 @@ ghost use Rattle.std.specs.Option.{option_map_or};
 ghost use Rattle.std.specs.Int.Signed.{le_z};
 ghost use Rattle.std.specs.List.{list_all};
 ghost use Rattle.graph_text.specs.Plain.{plain};
-ghost use Rattle.graph_text.specs.Numbers.{is_nat, is_int, nat_value, int_value};
+ghost use Rattle.graph_text.specs.phase_base.Numbers.{is_nat, is_int, nat_value, int_value};
 ghost use Rattle.graph_text.specs.Decls.{IsFunction, IsBody, AreEnds, IsBy, may_have_parent};
 ghost use Rattle.graph_text.specs.Lines.{single_of as function_words, function_of, body_of, ends_of, by_of, word_of};
 ghost use Rattle.graph_lang.specs.WordValues.{single_of, phaser_line, taps_of, shift_of, factor_of, block_of};
 ghost use Rattle.graph_lang.specs.Inside.{AreNumbersOf, steps_in};
 ghost use Rattle.graph_lang.specs.Faults.{is_function_within, is_bound_within, is_body_within, is_tap_within, is_number_of_ends, is_count_within, are_ends_within, is_phaser_within};
 
-use graph_base::phase_accum::{Single, VALUE_MAX};
+use graph_base::phase_accum::{MAGNITUDE_MAX, Single};
 use graph_base::stream_filters::{SHIFT_MAX, TAP_MAX, TAPS_MAX};
 use graph_base::{ENDS_MAX, FACTOR_MAX, PhaserLine, STEPS_MAX};
 use graph_text::phase_base::BOUND_MAX;
@@ -19,9 +19,6 @@ use graph_text::{Body, Ends, Function, PhaserWords, int_within, nat_within};
 use std::alloc::{AllocError, Global};
 
 // ---- phasers
-
-/// The greatest magnitude of an end of a clamp.
-const MAGNITUDE_MAX: u64 = VALUE_MAX as u64;
 
 /// The single of a function whose numbers are within their limits.
 pub(crate) fn single_of(function: Function<'_>) -> Option<Single>

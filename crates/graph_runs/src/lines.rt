@@ -1,13 +1,13 @@
 //! What the line of a task says.
 ghost use Rattle.std.specs.Prelude.{◌≡◌, ◌≢◌, ◌<◌, ◌%◌, length};
-ghost use Rattle.stream_lists.specs.graph_base.Graphs.{is_source, task_at};
+ghost use Rattle.stream_lists.specs.graph_base.Graphs.{task_at};
 ghost use Rattle.stream_lists.specs.graph_base.Inside.{task_of};
 ghost use Rattle.stream_lists.specs.graph_base.TaskLines.{HasEnds, IsGraph, IsTaskLine};
 ghost use Rattle.stream_lists.specs.graph_base.declared.line.Kind.TheVariants.{Source, Split};
 ghost use Rattle.stream_lists.specs.graph_base.Registrations.{signalled_by};
-ghost use Rattle.stream_lists.specs.Lists.{is_sink_at};
 ghost use Rattle.graph_runs.specs.Moments.{first_input, input_at};
 ghost use Rattle.graph_runs.specs.Answers.{output_at};
+ghost use Rattle.graph_runs.specs.Nexts.{is_cut};
 ghost use Rattle.graph_runs.specs.TaskPlaces.{registration_of_output};
 
 use stream_lists::Job;
@@ -46,19 +46,14 @@ pub fn until_of(job: &Job, t: usize) -> Option<u64>
     line_of(job, t).until
 }
 
-/// Returns whether a task of this kind is a source. It takes no memory.
-pub fn is_source(kind: Kind) -> bool
-    ensures { result ≡ is_source kind }
+/// Returns whether so many steps are all that `until` allows. It takes no memory.
+pub fn is_cut(until: Option<u64>, steps: u64) -> bool
+    ensures { result ≡ is_cut until steps }
 {
-    matches!(kind, Kind::Source)
-}
-
-/// Returns whether task number `t` is a sink. It takes no memory.
-pub fn is_sink(job: &Job, t: usize) -> bool
-    requires { t < length job.now.graph.tasks }
-    ensures { result ≡ is_sink_at job.now t }
-{
-    matches!(kind_of(job, t), Kind::Sink)
+    match until {
+        None => false,
+        Some(until) => until == steps,
+    }
 }
 
 /// Returns the phaser that is input `k` of task number `t`. It takes no memory.

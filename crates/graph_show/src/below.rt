@@ -1,7 +1,7 @@
 //! What the lines below a faulty one declare.
 
-use crate::explain_parts::is_kind;
 use graph_lang::graph_text::{without_cr, words_of};
+use graph_lang::phase_base::is_kind_word;
 use std::alloc::{AllocError, Global};
 
 /// The lines of a text from one on.
@@ -21,7 +21,9 @@ pub(crate) struct Declared {
 /// What the first words of a line declare under this name: a phaser, or else a task.
 fn declared_as(words: &[&[u8]], name: &[u8]) -> Option<bool> {
     match words {
-        [kind, own, ..] if is_kind(*kind) && *own == name => { Some(*kind == b"phaser".as_slice()) }
+        [kind, own, ..] if is_kind_word(*kind) && *own == name => {
+            Some(*kind == b"phaser".as_slice())
+        }
         _ => None,
     }
 }

@@ -2,7 +2,7 @@
 
 use crate::wanted::Wanted;
 use graph_lang::Op;
-use graph_lang::phase_base::{is_digit, is_file, is_name};
+use graph_lang::phase_base::{is_file, is_int, is_kind_word, is_mark, is_name, is_nat};
 
 const A_NAME: &str =
     "a name: a letter, then letters, digits and _, at most 32 in all, and no word of the grammar";
@@ -42,50 +42,9 @@ pub(crate) enum Part {
     End(&'static str),
 }
 
-/// Whether each byte is a digit.
-fn are_digits(word: &[u8]) -> bool {
-    word.iter().all(|b| is_digit(*b))
-}
-
-/// Whether the word is a whole number without a sign.
-fn is_whole(word: &[u8]) -> bool {
-    match word {
-        [] => false,
-        [b'0', _, ..] => false,
-        _ => are_digits(word),
-    }
-}
-
-/// Whether the word is a whole number, perhaps with a minus.
-fn is_signed(word: &[u8]) -> bool {
-    match word {
-        [b'-', b'0'] => false,
-        [b'-', digits @ ..] => is_whole(digits),
-        _ => is_whole(word),
-    }
-}
-
-/// Whether the word is the first of a line.
-pub(crate) fn is_kind(word: &[u8]) -> bool {
-    word == b"phaser".as_slice()
-        || word == b"source".as_slice()
-        || word == b"fir".as_slice()
-        || word == b"split".as_slice()
-        || word == b"join".as_slice()
-        || word == b"peer".as_slice()
-        || word == b"sink".as_slice()
-}
-
 /// Whether the word is one of the grammar, and so no name.
 fn is_of_grammar(word: &[u8]) -> bool {
-    is_kind(word)
-        || word == b"by".as_slice()
-        || word == b"at".as_slice()
-        || word == b"until".as_slice()
-        || word == b"shift".as_slice()
-        || word == b"taps".as_slice()
-        || word == b"mul".as_slice()
-        || word == b"single".as_slice()
+    is_kind_word(word) || is_mark(word)
 }
 
 /// Whether the word is an arrow.
@@ -104,7 +63,7 @@ fn is_function(word: &[u8]) -> bool {
 /// Whether the word is `block=` and a whole number without a sign.
 fn is_block(word: &[u8]) -> bool {
     match word.strip_prefix(b"block=") {
-        Some(steps) => is_whole(steps),
+        Some(steps) => is_nat(steps),
         None => false,
     }
 }
@@ -113,16 +72,16 @@ impl Part {
     /// Whether the word may stand there.
     pub(crate) fn fits(self, word: &[u8]) -> bool {
         match self {
-            Part::Kind => is_kind(word),
+            Part::Kind => is_kind_word(word),
             Part::Own | Part::Parent => is_name(word),
             Part::Input | Part::Inputs | Part::Exchange => is_name(word),
             Part::Output | Part::Outputs => is_name(word),
             Part::Operation => Op::read(word).is_some(),
             Part::File => is_file(word),
             Part::Function => is_function(word),
-            Part::Bound | Part::Shift | Part::Steps => is_whole(word),
+            Part::Bound | Part::Shift | Part::Steps => is_nat(word),
             Part::Block => is_block(word),
-            Part::Low | Part::High | Part::Taps | Part::Factor => is_signed(word),
+            Part::Low | Part::High | Part::Taps | Part::Factor => is_int(word),
             Part::Sign(sign) => word == sign.as_bytes(),
             Part::End(_) => false,
         }

@@ -1,37 +1,26 @@
 //! Numbers of a line that are past their limits.
+ghost use Rattle.std.specs.Prelude.{◌<◌, ◌^◌};
 
 use crate::explain_parts::Part;
-use graph_lang::phase_base::BOUND_MAX;
+use graph_lang::phase_accum::MAGNITUDE_MAX;
+use graph_lang::phase_base::{BOUND_MAX, nat};
 use graph_lang::stream_filters::{SHIFT_MAX, TAP_MAX, TAPS_MAX};
 use graph_lang::{ENDS_MAX, FACTOR_MAX, STEPS_MAX};
 
-/// The greatest magnitude of an end of a clamp.
-const MAGNITUDE_MAX: u64 = 9_223_372_036_854_775_807;
-
-/// The magnitude of a number, where 64 bits have it.
-fn magnitude(word: &[u8]) -> Option<u64> {
-    let mut value = 0u64;
-    for b in word {
-        if *b != b'-' {
-            let digit = u64::from(b.wrapping_sub(b'0'));
-            value = value.checked_mul(10)?.checked_add(digit)?;
-        }
-    }
-    Some(value)
-}
-
-/// The number in a word, which stands behind `block=` where that is there.
-fn number_in(word: &[u8]) -> &[u8] {
+/// The digits of a number, which stand behind `block=` or a minus where that is there.
+fn digits_in(word: &[u8]) -> &[u8] {
     match word.strip_prefix(b"block=") {
         Some(steps) => steps,
-        None => word,
+        None => word.strip_prefix(b"-").unwrap_or(word),
     }
 }
 
-/// Whether a number is outside these limits.
-fn is_outside(word: &[u8], least: u64, most: u64) -> bool {
-    match magnitude(number_in(word)) {
-        Some(value) => value < least || value > most,
+/// Whether the magnitude of a number is outside these limits.
+fn is_outside(word: &[u8], least: u64, most: u64) -> bool
+    requires { most < 2 ^ 63 }
+{
+    match nat(digits_in(word), most) {
+        Some(magnitude) => magnitude < least,
         None => true,
     }
 }

@@ -1,7 +1,7 @@
 //! What the nodes of a drawing say below their names.
-ghost use Rattle.std.specs.Prelude.{◌≡◌, ◌++◌, ◌<◌, ◌≤◌, length, Some, None, OnOk};
+ghost use Rattle.std.specs.Prelude.{◌≡◌, ◌++◌, ◌<◌, length, Some, None, OnOk};
 ghost use Rattle.std.specs.List.{flat_map};
-ghost use Rattle.graph_lang.specs.graph_base.Graphs.{task_at, is_source, source_number};
+ghost use Rattle.graph_lang.specs.graph_base.Graphs.{task_at};
 ghost use Rattle.graph_show.specs.Drawings.{block_note, clamp_ends, clamp_note, file_note, kind_notes, note, now_note, quoted, single_note, tap_text, taps_note, until_note};
 
 use crate::parts::put;
@@ -60,28 +60,6 @@ fn word_of(single: Single) -> &'static str
     }
 }
 
-/// Whether task number `t` is a source.
-fn is_source_line(graph: &Graph, t: usize) -> bool
-    requires { t < length graph.now.tasks }
-    ensures { result ≡ is_source (task_at graph.now t).kind }
-{
-    matches!(graph.task(t).kind, Kind::Source)
-}
-
-/// The number of a source among the sources: how many stand above it.
-fn number_of_source(graph: &Graph, t: usize) -> usize
-    requires { t ≤ length graph.now.tasks }
-    ensures { result ≡ source_number graph.now.tasks t }
-{
-    let mut count = 0;
-    for above in 0..t {
-        if is_source_line(graph, above) {
-            count += 1;
-        }
-    }
-    count
-}
-
 /// Puts a word as it stands within quotes behind the text.
 fn put_quoted(text: &mut Vec<u8>, word: &[u8]) -> Result<(), AllocError>
     ensures ok { OnOk result (text.new.items ≡ text.old.items ++ flat_map quoted word.now) }
@@ -102,7 +80,7 @@ fn put_file_note(text: &mut Vec<u8>, graph: &Graph, t: usize) -> Result<(), Allo
     ensures ok { OnOk result (text.new.items ≡ text.old.items ++ file_note graph.now t) }
 {
     put(text, ["\\n"].as_slice())?;
-    put_quoted(text, graph.file(number_of_source(graph, t)).as_bytes())
+    put_quoted(text, graph.file(graph.source_number(t)).as_bytes())
 }
 
 /// Puts taps behind the text, each behind a space.

@@ -3,7 +3,7 @@ use Rattle.std.proofs.Common.{◌≡◌, [], ◌∷◌, true, false, refl, codes
 use Rattle.std.specs.List.{list_all, list_any}
 use Rattle.graph_text.specs.Texts.{words_of, are_printable, is_ignored}
 use Rattle.phase_base.specs.declared.operation.Op.TheVariants.{Sum}
-use Rattle.graph_text.specs.Numbers.{is_nat, is_int}
+use Rattle.phase_base.specs.Numbers.{is_nat, is_int}
 use Rattle.graph_text.specs.Decls.{phaser, task, source, sink, neg, abs, halve, clamp, EndWords}
 use Rattle.graph_text.specs.Versions.{is_heading}
 use Rattle.graph_text.specs.declared.version.Version.TheVariants.{One, Two}

@@ -1,5 +1,4 @@
 mod Answered
-mod Digits
 mod Examples
 mod Fronts
 mod Kept

@@ -6,11 +6,11 @@ use Rattle.std.specs.Str.{bytes_eq}
 use Rattle.phase_base.specs.Words.{Word, is_name}
 use Rattle.phase_base.specs.declared.word.TheConstants.{NAME_MAX}
 use Rattle.std.proofs.lemmas.Option.{same_Some}
-use Rattle.graph_text.proofs.Digits.{both}
+use Rattle.std.proofs.lemmas.Bool.{and_parts}
 use Rattle.phase_base.specs.OperationWords.{operation_word}
 use Rattle.phase_base.specs.declared.operation.Op.{Op}
 use Rattle.phase_base.specs.declared.operation.Op.TheVariants.{Sum, Product, Least, Greatest, Any}
-use Rattle.graph_text.specs.Numbers.{is_nat, is_int}
+use Rattle.phase_base.specs.Numbers.{is_nat, is_int}
 use Rattle.graph_text.specs.Decls.{Decl, phaser, task, FunctionWords, neg, abs, halve, clamp, ByWords, EndWords, BodyWords, source, fir, split, join, peer, sink, spelling, function_words, single_words, now_words, by_words, until_words, block_words, end_words, kind_word, body_words, IsFunction, IsBody, IsBy, MayHaveBy, AreEnds, AreSome, IsWellFormed, may_have_parent, may_join_now, may_have_blocks, Spells}
 use Rattle.graph_text.specs.declared.version.Version.{Version}
 use Rattle.graph_text.specs.declared.version.Version.TheVariants.{One, Two}
@@ -33,7 +33,7 @@ front-again : (test : Word → Bool) (ws after : List Word) → list_all test ws
 front-again test [] [] all stops = refl
 front-again test [] (w ∷ after) all stops = rw stops refl
 front-again test (w ∷ ws) after all stops =
-    let here = both (test w) (list_all test ws) all in
+    let here = and_parts (test w) (list_all test ws) all in
     let next : 1 + length ws ≡ suc (length ws) = omega arith in
     rw (here.0, front-again test ws after here.1 stops) next
 

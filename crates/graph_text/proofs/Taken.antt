@@ -11,10 +11,10 @@ use Rattle.phase_base.specs.Words.{Word, is_name, is_file}
 use Rattle.phase_base.specs.OperationWords.{operation_of, operation_word}
 use Rattle.phase_base.specs.declared.operation.Op.{Op}
 use Rattle.phase_base.proofs.OperationWords.{operation-read}
-use Rattle.graph_text.specs.Numbers.{is_nat, is_int}
+use Rattle.phase_base.specs.Numbers.{is_nat, is_int}
 use Rattle.graph_text.specs.Decls.{Decl, phaser, task, FunctionWords, neg, abs, halve, ByWords, EndWords, BodyWords, function_words, single_words, now_words, by_words, until_words, block_words, end_words, kind_word, body_words, IsFunction, IsBody, IsBy, AreEnds, AreSome, may_have_parent, may_join_now, may_have_blocks, Spells}
 use Rattle.graph_text.specs.declared.version.Version.{Version}
-use Rattle.graph_text.proofs.Digits.{both}
+use Rattle.std.proofs.lemmas.Bool.{and_parts}
 use Rattle.graph_text.specs.Inside.{Found, ◌>>=◌, word_at, after, begins, some_at, operation_at, clamp_at, function_named, function_at, single_at, now_at, by_with, by_at, until_at, block_number, block_at, ends_at, source_at, fir_at, split_at, join_at, peer_at, sink_at, body_at, phaser_at, task_at, line_at}
 
 -- ---- words
@@ -238,7 +238,7 @@ unfolding block_number
 number_takes w steps e =
     let fits = bytes_eq (take 6 w) (codes "block=") && is_nat (drop 6 w) in
     let c = cond_some fits (drop 6 w) steps e in
-    let is = both (bytes_eq (take 6 w) (codes "block=")) (is_nat (drop 6 w)) c.0 in
+    let is = and_parts (bytes_eq (take 6 w) (codes "block=")) (is_nat (drop 6 w)) c.0 in
     let sign = same (take 6 w) (codes "block=") is.0 in (
       subst (λ n. is_nat n ≡ true) c.1 is.1,
       sym (take-append-drop 6 w) ∙ ap (λ front. front ++ drop 6 w) sign

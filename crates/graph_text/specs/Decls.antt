@@ -6,7 +6,7 @@ use Rattle.phase_base.specs.Words.{Word, is_name, is_file}
 use Rattle.graph_text.specs.Texts.{words_of, are_printable}
 use Rattle.phase_base.specs.OperationWords.{operation_word}
 use Rattle.phase_base.specs.declared.operation.Op.{Op}
-use Rattle.graph_text.specs.Numbers.{is_nat, is_int}
+use Rattle.phase_base.specs.Numbers.{is_nat, is_int}
 use Rattle.graph_text.specs.declared.version.Version.{Version}
 use Rattle.graph_text.specs.declared.version.Version.TheVariants.{One, Two}
 

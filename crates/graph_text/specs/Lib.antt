@@ -1,7 +1,6 @@
 pub mod Decls
 pub mod Inside
 pub mod Lines
-pub mod Numbers
 pub mod Plain
 pub mod Texts
 pub mod Versions

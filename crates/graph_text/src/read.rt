@@ -2,16 +2,15 @@
 ghost use Rattle.std.specs.Prelude.{◌≡◌, ◌≤◌, map, length, option_map, codes, IfSome, IfNone};
 ghost use Rattle.graph_text.specs.Plain.{plain};
 ghost use Rattle.phase_base.specs.Words.{is_name as is_name_word, is_file as is_file_word};
-ghost use Rattle.graph_text.specs.Numbers.{is_nat as is_nat_word, is_int as is_int_word};
+ghost use Rattle.phase_base.specs.Numbers.{is_nat as is_nat_word, is_int as is_int_word};
 ghost use Rattle.graph_text.specs.Decls.{Decl, Spells, may_have_parent, may_join_now, may_have_blocks};
 ghost use Rattle.std.specs.List.{prefix_len};
 ghost use Rattle.graph_text.specs.Inside.{found_word, found_words, found_operation, found_function, found_single, found_now, found_by, found_until, found_body, word_at, after, begins, some_at, operation_at, clamp_at, function_named, function_at, single_at, now_at, by_at, until_at, block_number, block_at, ends_at, source_at, fir_at, split_at, join_at, peer_at, sink_at, body_at, phaser_at, task_at, line_at};
 ghost use Rattle.graph_text.specs.Lines.{word_of, body_of, ends_of, decl_of};
 
 use crate::line::{Body, By, Ends, Function, Line, PhaserWords, TaskWords};
-use crate::number::{is_int, is_nat};
 use crate::version::Version;
-use phase_base::{Op, is_file, is_name};
+use phase_base::{Op, is_file, is_int, is_name, is_nat};
 
 // ---- words
 

@@ -2,7 +2,6 @@
 ghost use Rattle.std.specs.Prelude.{◌≡◌, IfOk, map};
 ghost use Rattle.std.specs.List.{slice_split};
 ghost use Rattle.graph_text.specs.Texts.{is_line_feed, is_blank, words_of, are_printable};
-ghost use Rattle.phase_base.specs.Lists.{without_cr};
 ghost use Rattle.graph_text.specs.Texts.{begins_comment};
 ghost use Rattle.graph_text.specs.Plain.{plain};
 
@@ -13,16 +12,6 @@ pub fn lines_of(alloc: Global, text: &[u8]) -> Result<Vec<&[u8]>, AllocError>
     ensures { IfOk result (λ pieces. plain pieces.items ≡ slice_split is_line_feed text.now) }
 {
     text.split(|b| *b == b'\n').collect(alloc)
-}
-
-/// Returns a line without the one carriage return at its end.
-pub fn without_cr(line: &[u8]) -> &[u8]
-    ensures { result.now ≡ without_cr line.now }
-{
-    match line {
-        [front @ .., b'\r'] => front,
-        _ => line,
-    }
 }
 
 /// Returns the words of a line. It takes memory for their places.

@@ -1,6 +1,6 @@
 //! Laws of the values of lists of sends, and the numbers behind the constants.
 ghost use Rattle.std.specs.Prelude.{◌≡◌, ◌^◌, ◌-◌, pos, neg_ℤ};
-ghost use Rattle.phase_accum.specs.declared.outcome.TheConstants.{NO_VALUE, VALUE_MAX};
+ghost use Rattle.phase_accum.specs.declared.outcome.TheConstants.{MAGNITUDE_MAX, NO_VALUE, VALUE_MAX};
 ghost use Rattle.phase_accum.specs.Exchanges.{Exchanges};
 ghost use Rattle.phase_accum.specs.Values.{value_max, sum_value, product_value, least_value, greatest_value};
 
@@ -8,6 +8,7 @@ ghost use Rattle.phase_accum.specs.Values.{value_max, sum_value, product_value, 
 pub fn numbers()
     ensures value_max { value_max ≡ 2 ^ 63 - 1 }
     ensures greatest { VALUE_MAX ≡ pos value_max }
+    ensures magnitude { MAGNITUDE_MAX ≡ value_max }
     ensures no_value { NO_VALUE ≡ neg_ℤ (pos (2 ^ 63)) }
 {}
 

@@ -20,7 +20,7 @@ pub use any::Any;
 pub use applied::apply;
 pub use greatest::Greatest;
 pub use least::Least;
-pub use outcome::{NO_VALUE, Outcome, VALUE_MAX};
+pub use outcome::{MAGNITUDE_MAX, NO_VALUE, Outcome, VALUE_MAX};
 pub use pending::{Pending, SendFault};
 pub use phase_base;
 pub use phase_base::Op;

@@ -1,4 +1,5 @@
 mod Examples
+pub mod Numbers
 pub mod OperationWords
 mod Ascii
 mod WordExamples

@@ -31,8 +31,8 @@ fn are_name_bytes(word: &[u8]) -> bool
         .all(|b| is_letter(*b) || is_digit(*b) || *b == b'_')
 }
 
-/// Whether the word is the first of a line.
-fn is_kind_word(word: &[u8]) -> bool
+/// Whether the word is the first of a line. It takes no memory.
+pub fn is_kind_word(word: &[u8]) -> bool
     ensures { result ≡ is_kind_word word.now }
 {
     word == b"phaser".as_slice()
@@ -44,8 +44,8 @@ fn is_kind_word(word: &[u8]) -> bool
         || word == b"sink".as_slice()
 }
 
-/// Whether the word says what the next one is.
-fn is_mark(word: &[u8]) -> bool
+/// Whether the word says what the next one is. It takes no memory.
+pub fn is_mark(word: &[u8]) -> bool
     ensures { result ≡ is_mark word.now }
 {
     word == b"by".as_slice()

@@ -1,23 +1,15 @@
 //! The names of a graph's sources and sinks, or of all its phasers and tasks, as a text.
 ghost use Rattle.std.specs.Prelude.{◌≡◌, ◌<◌, ◌++◌, length, drop, IfOk, IfErr, OnOk, OnErr};
 ghost use Rattle.std.specs.List.{All, range_with_len};
-ghost use Rattle.graph_lang.specs.graph_base.Graphs.{IsPlace, is_source, task_at};
+ghost use Rattle.graph_lang.specs.graph_base.Graphs.{IsPlace};
 ghost use Rattle.phase_c.specs.Names.{HasNames, RefusesNames, WritesNames, all_names_text, name_line, names_text, phasers_text, sources_in, tasks_text};
 ghost use Rattle.phase_c.specs.declared.refusal.Refusal.TheVariants.{Room};
 ghost use Rattle.phase_c.specs.Refusals.{RefusesText};
 
 use crate::refusal::Refusal;
 use crate::sinks::sinks_of;
-use graph_lang::{Graph, Kind, Place, read_graph};
+use graph_lang::{Graph, Place, read_graph};
 use std::alloc::{AllocError, Global};
-
-/// Whether task number `t` is a source.
-fn is_source_line(graph: &Graph, t: usize) -> bool
-    requires { t < length graph.now.tasks }
-    ensures { result ≡ is_source (task_at graph.now t).kind }
-{
-    matches!(graph.task(t).kind, Kind::Source)
-}
 
 /// The numbers of the sources among the tasks, in the order of the lines.
 fn sources_of(alloc: Global, graph: &Graph) -> Result<Vec<usize>, AllocError>
@@ -27,7 +19,7 @@ fn sources_of(alloc: Global, graph: &Graph) -> Result<Vec<usize>, AllocError>
 {
     let mut sources = Vec::new(alloc);
     for t in 0..graph.tasks() {
-        if is_source_line(graph, t) {
+        if graph.is_source(t) {
             sources.push(t)?;
         }
     }

@@ -1,24 +1,15 @@
 //! The sinks of a graph, and what is told of them.
 ghost use Rattle.std.specs.Prelude.{◌≡◌, ◌<◌, [], length, map, true, IfOk, IfSome};
 ghost use Rattle.std.specs.List.{All};
-ghost use Rattle.graph_lang.specs.graph_base.Graphs.{is_sink, task_at};
 ghost use Rattle.graph_lang.specs.graph_base.TaskLines.{IsGraph};
 ghost use Rattle.stream_eval.specs.stream_lists.Spans.{span_in};
 ghost use Rattle.stream_eval.specs.stream_lists.Lists.{sinks_of, start_in};
 ghost use Rattle.phase_c.specs.Lent.{sinks_in};
 ghost use Rattle.phase_c.specs.Evaluations.{TellsSinks, start_number};
 
-use graph_lang::{Graph, Kind};
+use graph_lang::Graph;
 use std::alloc::{AllocError, Global};
 use stream_eval::stream_lists::Job;
-
-/// Whether task number `t` is a sink.
-fn is_sink_line(graph: &Graph, t: usize) -> bool
-    requires { t < length graph.now.tasks }
-    ensures { result ≡ is_sink (task_at graph.now t).kind }
-{
-    matches!(graph.task(t).kind, Kind::Sink)
-}
 
 /// The numbers of the sinks among the tasks, in the order of the lines.
 pub(crate) fn sinks_of(alloc: Global, graph: &Graph) -> Result<Vec<usize>, AllocError>
@@ -28,7 +19,7 @@ pub(crate) fn sinks_of(alloc: Global, graph: &Graph) -> Result<Vec<usize>, Alloc
 {
     let mut sinks = Vec::new(alloc);
     for t in 0..graph.tasks() {
-        if is_sink_line(graph, t) {
+        if graph.is_sink(t) {
             sinks.push(t)?;
         }
     }

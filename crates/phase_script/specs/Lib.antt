@@ -1,6 +1,5 @@
 pub mod Commands
 pub mod Cuts
-pub mod Inside
 pub mod Lines
 pub mod Numbers
 pub mod ReplyLines

@@ -13,10 +13,11 @@ mod script_line;
 mod values;
 
 pub use command::Command;
-pub use cuts::{lf_of, without_cr};
+pub use cuts::lf_of;
 pub use outcomes::Outcomes;
 pub use phase_accum;
 pub use phase_accum::Op;
+pub use phase_accum::phase_base::without_cr;
 pub use refusal::Refusal;
 pub use reply::Reply;
 pub use reply_line::{REPLY_MAX, ReplyLine};

@@ -6,7 +6,7 @@ ghost use Rattle.stream_lists.specs.graph_base.Graphs.{phaser_at};
 ghost use Rattle.stream_lists.specs.graph_base.declared.place.Place.{Place as PlaceValue};
 ghost use Rattle.stream_eval.specs.Results.{sink_values};
 ghost use Rattle.stream_lists.specs.Inside.{items_of};
-ghost use Rattle.stream_lists.specs.Lists.{is_sink_at, lines_of, list_over, number, numbers_of, sink_over, sinks_of, start_in, value_by};
+ghost use Rattle.stream_lists.specs.Lists.{lines_of, list_over, number, numbers_of, sink_over, sinks_of, start_in, value_by};
 ghost use Rattle.stream_eval.specs.Inside.{member_of, list_kept};
 ghost use Rattle.stream_lists.specs.Ranges.{fault_over, first_too_big, Fits};
 ghost use Rattle.stream_lists.specs.Spans.{lengths_of, schedule_of};
@@ -19,7 +19,7 @@ use crate::reading::drop_read;
 use crate::taken_values::taken_at;
 use std::alloc::Global;
 use stream_lists::Job;
-use stream_lists::graph_base::{Kind, Op};
+use stream_lists::graph_base::Op;
 use stream_lists::phase_accum::{Accumulate, Any, Greatest, Least, Product, Sum};
 
 /// The values that a sink got.
@@ -144,14 +144,6 @@ fn phaser_lists(alloc: Global, job: &Job) -> Result<Vec<Vec<i64>>, EvalFault>
     Ok(lists)
 }
 
-/// Whether task number `t` is a sink.
-fn is_sink_line(job: &Job, t: usize) -> bool
-    requires { t < length job.now.graph.tasks }
-    ensures { result ≡ is_sink_at job.now t }
-{
-    matches!(job.graph().task(t).kind, Kind::Sink)
-}
-
 /// The values of a sink, over the phasers' lists.
 fn sink_lines(alloc: Global, job: &Job, lists: &[Vec<i64>], t: usize) -> Result<Lines, EvalFault>
     requires task { t < length job.now.graph.tasks }
@@ -186,7 +178,7 @@ fn all_lines(alloc: Global, job: &Job, lists: &[Vec<i64>]) -> Result<Vec<Lines>,
         return Err(EvalFault::OutOfMemory);
     };
     for t in 0..job.graph().tasks() {
-        if is_sink_line(job, t) {
+        if job.graph().is_sink(t) {
             let one = match sink_lines(alloc, job, lists, t) {
                 Ok(one) => one,
                 Err(fault) => return Err(fault),

@@ -8,14 +8,14 @@ ghost use Rattle.graph_lang.specs.graph_base.Graphs.{phaser_at, task_at};
 ghost use Rattle.stream_job.specs.Machines.{next_by};
 ghost use Rattle.stream_job.specs.Plans.{IsPlan};
 ghost use Rattle.graph_runs.specs.Moments.{Moment, limits_at};
-ghost use Rattle.graph_runs.specs.Nexts.{next_of, at_boundary, without_child, is_live, is_due, comes_by, first_due, has_signaller, is_cut, next_step};
+ghost use Rattle.graph_runs.specs.Nexts.{next_of, at_boundary, without_child, is_live, is_due, comes_by, first_due, has_signaller, next_step};
 
 use crate::machine::Machine;
 use crate::plan::Plan;
 use crate::step::Step;
 use crate::task_state::TaskState;
 use graph_lang::{Op, Parent};
-use graph_runs::{Owed, first_input_of, input_of, is_source, kind_of, parent_of, until_of};
+use graph_runs::{Owed, first_input_of, input_of, is_cut, parent_of, until_of};
 use phase_any::AnyPhaser;
 use phase_any::phase_base::Entry;
 use stream_eval::stream_lists::Job;
@@ -131,7 +131,7 @@ impl Machine {
         if state.left > 0 || is_cut(until_of(job, t), state.begun) {
             return true;
         }
-        if is_source(kind_of(job, t)) {
+        if job.graph().is_source(t) {
             return plan.samples(job, t).len() as u64 <= state.begun;
         }
         let k = first_input_of(job, t, state.begun);
@@ -151,23 +151,13 @@ fn has_run_out(core: &AnyPhaser, number: u64) -> bool
     !core.has_signaller() && core.done() <= entry.wait_phase
 }
 
-/// Whether so many steps are all that `until` allows.
-fn is_cut(until: Option<u64>, steps: u64) -> bool
-    ensures { result ≡ is_cut until steps }
-{
-    match until {
-        None => false,
-        Some(until) => until == steps,
-    }
-}
-
 /// How the next step of task number `t` begins, after so many.
 fn next_step(job: &Job, t: usize, steps: u64) -> Step
     requires { t < length job.now.graph.tasks }
     ensures { let task = task_at job.now.graph t in
         next_by result ≡ next_step task steps task.kind }
 {
-    if is_source(kind_of(job, t)) {
+    if job.graph().is_source(t) {
         return Step::Sample;
     }
     Step::Wait {

@@ -14,7 +14,7 @@ use crate::roots::root_number;
 use crate::task_state::TaskState;
 use graph_lang::graph_base::Kind;
 use graph_lang::stream_filters::TooBigValue;
-use graph_runs::{Owed, first_filter, is_sink, kind_of, parent_of};
+use graph_runs::{Owed, first_filter, kind_of, parent_of};
 use smallvec::SmallVec;
 use std::alloc::{AllocError, Global};
 use stream_eval::stream_lists::Job;
@@ -87,7 +87,7 @@ pub fn opened_tasks(alloc: Global, job: &Job) -> Result<Vec<TaskState>, AllocErr
     let mut sinks = 0;
     for t in 0..job.graph().tasks() {
         tasks.push(opened_task(alloc, job, t, sinks)?)?;
-        if is_sink(job, t) {
+        if job.graph().is_sink(t) {
             sinks += 1;
         }
     }

@@ -9,7 +9,6 @@ ghost use Rattle.stream_job.specs.Machines.{IsLineOf};
 use crate::machine::Machine;
 use crate::opened_cores::opened_cores;
 use crate::opened_tasks::opened_tasks;
-use graph_runs::is_sink;
 use std::alloc::{AllocError, Global};
 use stream_eval::Lines;
 use stream_eval::stream_lists::Job;
@@ -41,7 +40,7 @@ fn opened_lines(alloc: Global, job: &Job) -> Result<Vec<Lines>, AllocError>
 {
     let mut lines = Vec::with_capacity(alloc, job.graph().tasks())?;
     for t in 0..job.graph().tasks() {
-        if is_sink(job, t) {
+        if job.graph().is_sink(t) {
             lines.push(opened_line(alloc, job, t)?)?;
         }
     }

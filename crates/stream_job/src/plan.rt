@@ -2,14 +2,14 @@
 ghost use Rattle.std.specs.Prelude.{◌≡◌, ◌<◌, ◌≤◌, ℕ, true, false, Some, length, IfOk};
 ghost use Rattle.phase_any.specs.phase_accum.Sends.{AreSends};
 ghost use Rattle.graph_lang.specs.graph_base.declared.line.Parent.{Parent as ParentValue};
-ghost use Rattle.graph_lang.specs.graph_base.Graphs.{source_number, task_at};
+ghost use Rattle.graph_lang.specs.graph_base.Graphs.{task_at};
 ghost use Rattle.stream_eval.specs.stream_lists.Jobs.{samples_at};
 ghost use Rattle.graph_runs.specs.Nexts.{comes_by};
 ghost use Rattle.stream_job.specs.Plans.{IsPlan, IsTaskPlan, NoneComes, children_of, is_child_of};
 
 use crate::task_state::TaskState;
 use graph_lang::Parent;
-use graph_runs::{is_source, kind_of, parent_of};
+use graph_runs::parent_of;
 use std::alloc::{AllocError, Global};
 use stream_eval::stream_lists::Job;
 
@@ -56,7 +56,7 @@ impl Plan {
         for t in 0..job.graph().tasks() {
             tasks.push(TaskPlan {
                 children: children_of(alloc, job, t)?,
-                source: sources_above(job, t),
+                source: job.graph().source_number(t),
                 from: 0,
                 to: next_child(job, t, 0),
             })?;
@@ -126,20 +126,6 @@ fn is_child_of(t: usize, parent: Option<Parent>) -> bool
         None => false,
         Some(parent) => parent.task == t,
     }
-}
-
-/// How many sources stand above task number `t`.
-fn sources_above(job: &Job, t: usize) -> usize
-    requires { t ≤ length job.now.graph.tasks }
-    ensures { result ≡ source_number job.now.graph.tasks t }
-{
-    let mut count = 0;
-    for above in 0..t {
-        if is_source(kind_of(job, above)) {
-            count += 1;
-        }
-    }
-    count
 }
 
 /// After how many steps of task number `t`, at least so many, its next child comes.

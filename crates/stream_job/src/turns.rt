@@ -29,8 +29,7 @@ use crate::turned::Turned;
 use graph_lang::Place;
 use graph_lang::stream_filters::TooBigValue;
 use graph_runs::{
-    Owed, input_of, is_sink, number_taken, output_of, owed_after_exchange, owed_after_signal,
-    turns as laws,
+    Owed, input_of, number_taken, output_of, owed_after_exchange, owed_after_signal, turns as laws,
 };
 use phase_any::phase_accum::Outcome;
 use phase_any::phase_base::Mode;
@@ -253,7 +252,7 @@ impl Machine {
         ensures { (state : TaskState) → slice_get self.now.tasks.items t ≡ Some state
             → result ≡ (if is_sink_at job.now t then Some state.sink else None) }
     {
-        if is_sink(job, t) {
+        if job.graph().is_sink(t) {
             return Some(self.tasks[t].sink);
         }
         None

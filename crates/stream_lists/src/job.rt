@@ -2,7 +2,7 @@
 ghost use Rattle.std.specs.Prelude.{◌≡◌, ◌<◌, ◌≤◌, ℕ, [], length, get_or, Some, None, IfOk, Err};
 ghost use Rattle.std.specs.List.{All};
 ghost use Rattle.graph_base.specs.phase_accum.Sends.{AreSends};
-ghost use Rattle.graph_base.specs.Graphs.{is_source, phaser_at, task_at, source_number, sources_of};
+ghost use Rattle.graph_base.specs.Graphs.{phaser_at, task_at, sources_of};
 ghost use Rattle.graph_base.specs.Inside.{task_of};
 ghost use Rattle.graph_base.specs.TaskLines.{IsTaskLine};
 ghost use Rattle.stream_lists.specs.Jobs.{samples_at};
@@ -16,7 +16,7 @@ use crate::meetings::first_meeting;
 use crate::refusal::JobRefusal;
 use crate::span::{LENGTH_MAX, Span};
 use crate::task_spans::{all_spans, are_counted};
-use graph_base::{Graph, Kind, PhaserLine, TASKS_MAX, TaskLine};
+use graph_base::{Graph, PhaserLine, TASKS_MAX, TaskLine};
 use std::alloc::Global;
 use std::marker::Model;
 
@@ -181,29 +181,6 @@ impl Job {
         ensures value { result.now ≡ samples_at self.now t }
         ensures sends { AreSends result.now }
     {
-        self.samples(number_of_source(&self.graph, t))
+        self.samples(self.graph.source_number(t))
     }
-}
-
-/// Whether task number `t` is a source.
-fn is_source_line(graph: &Graph, t: usize) -> bool
-    requires { t < length graph.now.tasks }
-    ensures { result ≡ is_source (task_at graph.now t).kind }
-{
-    matches!(graph.task(t).kind, Kind::Source)
-}
-
-/// Returns the number of a source among the sources: how many stand above task number `t`. It takes
-/// no memory.
-pub fn number_of_source(graph: &Graph, t: usize) -> usize
-    requires { t ≤ length graph.now.tasks }
-    ensures { result ≡ source_number graph.now.tasks t }
-{
-    let mut count = 0;
-    for above in 0..t {
-        if is_source_line(graph, above) {
-            count += 1;
-        }
-    }
-    count
 }

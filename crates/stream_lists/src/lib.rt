@@ -24,7 +24,7 @@ mod task_spans;
 pub use counts::taken_count;
 pub use graph_base;
 pub use graph_base::{phase_accum, stream_filters};
-pub use job::{Job, SAMPLES_MAX, number_of_source};
+pub use job::{Job, SAMPLES_MAX};
 pub use meetings::meets_on;
 pub use number::number_of;
 pub use places::{input_number, output_number};

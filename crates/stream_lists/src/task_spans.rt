@@ -7,7 +7,6 @@ ghost use Rattle.stream_lists.specs.Jobs.{samples_at};
 ghost use Rattle.stream_lists.specs.Inside.{given, IsCounted, IsShort, IsStage};
 ghost use Rattle.stream_lists.specs.Spans.{cut_at, enough_for, first_run_out, nowhere, offset_of, run_out, span_of, spans_over, spans_up_to, values_from};
 
-use crate::job::number_of_source;
 use crate::span::{LENGTH_MAX, Span};
 use graph_base::{ENDS_MAX, Graph, Kind, Parent, TaskLine};
 use std::alloc::{AllocError, Global};
@@ -18,7 +17,7 @@ fn samples_count(graph: &Graph, samples: &[Vec<i64>], t: usize) -> usize
     requires { t < length graph.now.tasks }
     ensures { result ≡ length (samples_at (given graph.now samples.now) t) }
 {
-    match samples.get(number_of_source(graph, t)) {
+    match samples.get(graph.source_number(t)) {
         Some(list) => list.len(),
         None => 0,
     }

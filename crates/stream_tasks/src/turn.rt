@@ -10,7 +10,6 @@ ghost use Rattle.stream_eval.specs.stream_lists.Ranges.{is_too_big};
 ghost use Rattle.stream_members.specs.Members.{Spot};
 ghost use Rattle.graph_runs.specs.declared.owed.Owed.TheVariants.{Value, Exchange};
 ghost use Rattle.graph_runs.specs.Moves.{IsBlock};
-ghost use Rattle.graph_runs.specs.Nexts.{is_cut};
 ghost use Rattle.graph_runs.specs.Steps.{HasFilter};
 ghost use Rattle.graph_runs.specs.TaskPlaces.{outputs_of_block};
 ghost use Rattle.stream_tasks.specs.Holds.{GoesOn, HasGot, IsAtMost};
@@ -25,7 +24,7 @@ use crate::went::Went;
 use graph_runs::graph_base::Kind;
 use graph_runs::phase_accum::Outcome;
 use graph_runs::{
-    Owed, filtered, first_input_of, input_of, is_sink, is_source, kind_of, number_taken, output_of,
+    Owed, filtered, first_input_of, input_of, is_cut, kind_of, number_taken, output_of,
     owed_after_exchange, owed_after_signal, owed_after_wait, until_of,
 };
 use stream_eval::stream_filters::Fir;
@@ -162,7 +161,7 @@ impl<'a> TaskState<'a> {
             self.over = true;
             return Went::Ready;
         }
-        if is_source(kind_of(job, self.number)) {
+        if job.graph().is_source(self.number) {
             self.put_samples(job, gate)
         } else {
             self.first_wait(job, gate)
@@ -206,7 +205,7 @@ impl<'a> TaskState<'a> {
         if self.begun.checked_add(steps as u64).is_none() {
             return self.meet(Went::Stuck);
         }
-        let sink = is_sink(job, self.number);
+        let sink = job.graph().is_sink(self.number);
         if !make_room(&mut self.lines, sink, steps) {
             return Went::OutOfMemory;
         }
@@ -349,16 +348,6 @@ fn enter<G: Gate>(gate: &G, entered: &mut bool, task: usize, step: u64) {
     if !*entered {
         *entered = true;
         gate.at(task, step);
-    }
-}
-
-/// Whether so many steps are all that `until` allows.
-fn is_cut(until: Option<u64>, steps: u64) -> bool
-    ensures { result ≡ is_cut until steps }
-{
-    match until {
-        None => false,
-        Some(until) => until == steps,
     }
 }
 

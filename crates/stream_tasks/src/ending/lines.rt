@@ -2,23 +2,14 @@
 ghost use Rattle.std.specs.Prelude.{◌≡◌, ◌<◌, length, map, get_or, None, IfOk};
 ghost use Rattle.std.specs.List.{All};
 ghost use Rattle.stream_eval.specs.Results.{sink_values};
-ghost use Rattle.stream_eval.specs.stream_lists.Lists.{is_sink_at, sinks_of};
+ghost use Rattle.stream_eval.specs.stream_lists.Lists.{sinks_of};
 ghost use Rattle.graph_runs.specs.graph_base.Graphs.{task_at};
 ghost use Rattle.stream_tasks.specs.TaskLefts.{part_lines, part_start, lines_at};
 
 use crate::ending::task_left::TaskKnowledge;
-use graph_runs::graph_base::Kind;
 use std::alloc::{AllocError, Global};
 use stream_eval::Lines;
 use stream_eval::stream_lists::Job;
-
-/// Whether task number `t` is a sink.
-fn is_sink(job: &Job, t: usize) -> bool
-    requires { t < length job.now.graph.tasks }
-    ensures { result ≡ is_sink_at job.now t }
-{
-    matches!(job.graph().task(t).kind, Kind::Sink)
-}
 
 /// What a task has taken, and nothing where it never came.
 fn lines_of(alloc: Global, part: Option<TaskKnowledge>) -> Vec<i64>
@@ -62,7 +53,7 @@ pub fn sink_lines(
     let mut parts = parts;
     let mut lines = Vec::with_capacity(alloc, job.graph().tasks())?;
     for t in 0..job.graph().tasks() {
-        if is_sink(job, t) {
+        if job.graph().is_sink(t) {
             let start = start_of(job, t, &parts[t]);
             let values = lines_of(alloc, parts[t].take());
             lines.push(Lines {

@@ -7,8 +7,8 @@ use Rattle.graph_commands.proofs.Counted.{source-within}
 use Rattle.graph_commands.proofs.Finding.{and_first, find_some}
 use Rattle.graph_commands.proofs.records.source_file.Goals as goal
 
-pub number_of_source-requires : goal.number_of_source-requires
-number_of_source-requires c =
+pub source_number-requires : goal.source_number-requires
+source_number-requires c =
     let graph = c.args.graph.now in
     let found = find_some
     (λ t. is_source (task_at graph t).kind && bytes_eq (name_at graph (place.Task t)) c.args.name.now)
@@ -24,4 +24,4 @@ file-requires c =
     (length graph.tasks) t (sym c.find_source.ensures ∙ c.in-Some.is) in
     let is : is_source (task_at graph t).kind ≡ true = and_first _ _ found.1 in
     let within = source-within graph t found.0 is in
-    omega (arith, within, c.number_of_source.ensures)
+    omega (arith, within, c.source_number.ensures)

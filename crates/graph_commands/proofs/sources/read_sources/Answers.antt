@@ -11,7 +11,7 @@ use Rattle.stream_eval.specs.stream_lists.Inside.{items_of}
 use Rattle.graph_commands.specs.FileJobs.{AreFirstSamples, Explains, IsReached, Known, file_of}
 use Rattle.graph_commands.proofs.Counted.{items_of-push, known-same, length-items_of, samples-push, source-within}
 use Rattle.graph_commands.proofs.sources.read_sources.Goals as goal
-use Rattle.graph_commands.proofs.sources.read_sources.Goals.{then-is_source_line+in-Ok+in-Ok-push, else-is_source_line}
+use Rattle.graph_commands.proofs.sources.read_sources.Goals.{then-is_source+in-Ok+in-Ok-push, else-is_source}
 
 pub read_source-requires-clause-source : goal.read_source-requires-clause-source
 read_source-requires-clause-source g c =
@@ -47,8 +47,8 @@ loop-t-preserved g c =
     let within : c.loop-t.t < length graph.tasks = search rules in
     let is_source_task : Task → Bool = λ task. is_source task.kind in
     let before = c.loop-t.invariant in
-    elim c.if-is_source_line.branch [
-      | then-is_source_line+in-Ok+in-Ok-push w ↦
+    elim c.if-is_source.branch [
+      | then-is_source+in-Ok+in-Ok-push w ↦
           (let is : is_source (task_at graph c.loop-t.t).kind ≡ true = search rules in
           let more = count_by_more_yes is_source_task graph.tasks c.loop-t.t no_task within is in
           let lists = c.loop-t.lists.items in
@@ -68,7 +68,7 @@ loop-t-preserved g c =
                 w.in-Ok.ensures.values.1,
             λ other. w.in-Ok.ensures.same other ∙ before.5 other,
           ))
-      | else-is_source_line w ↦
+      | else-is_source w ↦
           (let is : is_source (task_at graph c.loop-t.t).kind ≡ false = search rules in
           let none = count_by_more_no is_source_task graph.tasks c.loop-t.t no_task within is in
           rw (w.lists-is, w.files-is) (

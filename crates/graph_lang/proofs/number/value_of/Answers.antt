@@ -1,16 +1,28 @@
-use Rattle.std.proofs.Common.{arith, ◌≡◌, sym, ◌∙◌, suc}
-use Rattle.std.specs.Fmt.{decimal}
-use Rattle.graph_lang.proofs.Digits.{negative, take_rest, same_decimal}
+-- The reader of all numbers reads just the texts of those within its limit.
+use Rattle.std.proofs.Common.{ℕ, ℤ, ◌≡◌, ◌∙◌, List, Option, Some, None, IfSome, IfNone, sym, ap, arith}
+use Rattle.std.specs.Fmt.{signed_decimal}
+use Rattle.graph_base.specs.phase_accum.Sends.{IsSend, value_max}
+use Rattle.graph_text.specs.phase_base.Numbers.{int_within}
+use Rattle.graph_base.proofs.phase_accum_lemmas.phase_base_lemmas.Numbers.{int_found, int_only}
 use Rattle.graph_lang.proofs.number.value_of.Goals as goal
 
-pub returns-in-None-nat_of-clause-none : goal.returns-in-None-nat_of-clause-none
-returns-in-None-nat_of-clause-none c v within e =
-    let (n, is, text, small) = negative c.args.word.now v within c.if-word-ne45.false e in
-    c.in-None-nat_of.ensures.none (suc n) small (take_rest c.args.word.now (decimal (suc n)) text)
+found : (word : List ℕ) (o : Option ℤ) → o ≡ int_within value_max word
+    → IfSome o (λ v. (word ≡ signed_decimal v) × IsSend v)
+found word None e = tt
+found word (Some v) e =
+    let is = int_found value_max word v (omega arith) (sym e) in
+    (is.0, record { small = is.1 })
 
-pub returns-then-n-eq0-clause-none : goal.returns-then-n-eq0-clause-none
-returns-then-n-eq0-clause-none c v within e =
-    let (n, is, text, small) = negative c.args.word.now v within c.if-word-ne45.false e in
-    let found = c.in-Some-nat_of.ensures.some in
-    let same : suc n ≡ c.in-Some-nat_of.n = same_decimal (suc n) c.in-Some-nat_of.n small found.1 (sym (take_rest c.args.word.now (decimal (suc n)) text) ∙ found.0) in
-    absurd (omega (arith, c.if-n-eq0.true))
+other : (word : List ℕ) (o : Option ℤ) → o ≡ int_within value_max word
+    → IfNone o ((v : ℤ) → IsSend v → word ≡ signed_decimal v → ⊥)
+other word None e = λ v send is.
+    let read : None ≡ Some v =
+    e ∙ ap (int_within value_max) is ∙ int_only value_max v (omega arith) send.small in
+    absurd (cc)
+other word (Some v) e = tt
+
+pub returns-clause-some : goal.returns-clause-some
+returns-clause-some c = found c.args.word.now c.int.result c.int.ensures.value
+
+pub returns-clause-none : goal.returns-clause-none
+returns-clause-none c = other c.args.word.now c.int.result c.int.ensures.value

@@ -26,7 +26,7 @@ returns-in-Some c =
     let text = c.args.text.now in
     let digits = c.digits_in-digits in
     let size = digits.result.size in
-    let small = c.if-digits-gt-VALUE_MAX.false in
+    let small = c.if-digits-gt-MAGNITUDE_MAX.false in
     let some : 0 < size = omega arith in
     let spelt = word text size digits.result.value digits.ensures.digits some digits.ensures.size
     c.if-digits-ne1.either digits.ensures.value small in

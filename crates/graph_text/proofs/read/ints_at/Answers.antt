@@ -1,6 +1,6 @@
 use Rattle.std.proofs.Common.{sym, ◌∙◌}
 use Rattle.graph_text.specs.Plain.{plain}
-use Rattle.graph_text.specs.Numbers.{is_int}
+use Rattle.phase_base.specs.Numbers.{is_int}
 use Rattle.graph_text.proofs.Fronts.{some_at-none, some_at-split}
 use Rattle.graph_text.proofs.read.ints_at.Goals as goal
 

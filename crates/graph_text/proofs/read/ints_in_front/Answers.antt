@@ -1,6 +1,6 @@
 use Rattle.std.proofs.Common.{rules, arith, sym, ◌∙◌, Bor, []}
 use Rattle.phase_base.specs.Words.{Word}
-use Rattle.graph_text.specs.Numbers.{is_int}
+use Rattle.phase_base.specs.Numbers.{is_int}
 use Rattle.graph_text.proofs.Fronts.{front-more, front-ends, front-all}
 use Rattle.graph_text.proofs.read.ints_in_front.Goals as goal
 

@@ -1,7 +1,7 @@
 use Rattle.std.proofs.Common.{◌≡◌, ◌+◌, drop}
 use Rattle.std.specs.List.{prefix_len}
 use Rattle.graph_text.specs.Plain.{plain}
-use Rattle.graph_text.specs.Numbers.{is_int}
+use Rattle.phase_base.specs.Numbers.{is_int}
 use Rattle.graph_text.proofs.read.ints_in_front.Given as goal
 
 -- the words that were passed, and those in front of the others

@@ -3,7 +3,7 @@ use Rattle.std.proofs.lemmas.List.Elements.{All-push}
 use Rattle.graph_lang.specs.graph_base.Graphs.{is_source, task_at}
 use Rattle.stream_eval.proofs.stream_lists_lemmas.Firsts.{filter-skip, filter-take}
 use Rattle.phase_c.proofs.names.sources_of.Goals as goal
-use Rattle.phase_c.proofs.names.sources_of.Goals.{then-is_source_line+in_ok-push, else-is_source_line}
+use Rattle.phase_c.proofs.names.sources_of.Goals.{then-is_source+in_ok-push, else-is_source}
 
 -- a source stands behind those before it
 pub loop-t-preserved : goal.loop-t-preserved
@@ -13,18 +13,18 @@ loop-t-preserved c =
     let t : ℕ = c.loop-t.t in
     let there : t < length tasks =
     omega (arith, c.tasks-t-end.ensures.count, c.loop-t-test.true) in
-    elim c.if-is_source_line.branch [
-      | then-is_source_line+in_ok-push w ↦
+    elim c.if-is_source.branch [
+      | then-is_source+in_ok-push w ↦
           rw (w.sources-is, w.in_ok-push.ensures.items) record {
             sources = ap (λ ns. ns ++ t ∷ []) c.loop-t.invariant.sources
-                ∙ sym (filter-take p t (sym c.is_source_line.ensures ∙ w.if-is_source_line.true));
+                ∙ sym (filter-take p t (sym c.is_source.ensures ∙ w.if-is_source.true));
             tasks = All-push (λ u. u < length tasks) c.loop-t.sources.items t
                 c.loop-t.invariant.tasks there;
           }
-      | else-is_source_line w ↦
+      | else-is_source w ↦
           rw w.sources-is record {
             sources = c.loop-t.invariant.sources
-                ∙ sym (filter-skip p t (sym c.is_source_line.ensures ∙ w.if-is_source_line.false));
+                ∙ sym (filter-skip p t (sym c.is_source.ensures ∙ w.if-is_source.false));
             tasks = c.loop-t.invariant.tasks;
           }
     ]

@@ -3,7 +3,7 @@ use Rattle.std.proofs.lemmas.List.Elements.{All-push}
 use Rattle.graph_lang.specs.graph_base.Graphs.{is_sink, task_at}
 use Rattle.stream_eval.proofs.stream_lists_lemmas.Firsts.{filter-skip, filter-take}
 use Rattle.phase_c.proofs.sinks.sinks_of.Goals as goal
-use Rattle.phase_c.proofs.sinks.sinks_of.Goals.{then-is_sink_line+in_ok-push, else-is_sink_line}
+use Rattle.phase_c.proofs.sinks.sinks_of.Goals.{then-is_sink+in_ok-push, else-is_sink}
 
 -- a sink stands behind those before it
 pub loop-t-preserved : goal.loop-t-preserved
@@ -13,18 +13,18 @@ loop-t-preserved c =
     let t : ℕ = c.loop-t.t in
     let there : t < length tasks =
     omega (arith, c.tasks-t-end.ensures.count, c.loop-t-test.true) in
-    elim c.if-is_sink_line.branch [
-      | then-is_sink_line+in_ok-push w ↦
+    elim c.if-is_sink.branch [
+      | then-is_sink+in_ok-push w ↦
           rw (w.sinks-is, w.in_ok-push.ensures.items) record {
             sinks = ap (λ ns. ns ++ t ∷ []) c.loop-t.invariant.sinks
-                ∙ sym (filter-take p t (sym c.is_sink_line.ensures ∙ w.if-is_sink_line.true));
+                ∙ sym (filter-take p t (sym c.is_sink.ensures ∙ w.if-is_sink.true));
             tasks = All-push (λ u. u < length tasks) c.loop-t.sinks.items t
                 c.loop-t.invariant.tasks there;
           }
-      | else-is_sink_line w ↦
+      | else-is_sink w ↦
           rw w.sinks-is record {
             sinks = c.loop-t.invariant.sinks
-                ∙ sym (filter-skip p t (sym c.is_sink_line.ensures ∙ w.if-is_sink_line.false));
+                ∙ sym (filter-skip p t (sym c.is_sink.ensures ∙ w.if-is_sink.false));
             tasks = c.loop-t.invariant.tasks;
           }
     ]

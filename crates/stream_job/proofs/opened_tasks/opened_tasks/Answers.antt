@@ -5,6 +5,7 @@ use Rattle.std.specs.List.{filter, range_with_len}
 use Rattle.std.proofs.lemmas.List.{length-append}
 use Rattle.stream_eval.specs.stream_lists.Lists.{is_sink_at}
 use Rattle.stream_eval.proofs.stream_lists_lemmas.Firsts.{filter-skip, filter-take}
+use Rattle.graph_lang.specs.graph_base.Graphs.{is_sink, task_at}
 use Rattle.graph_runs.specs.Beginnings.{opening}
 use Rattle.stream_job.specs.Places.{IsTaskAt}
 use Rattle.stream_job.proofs.OpeningPhasers.{each-push}
@@ -26,19 +27,20 @@ loop-t-preserved c =
     let all = each-push (IsTaskAt job (opening job)) tasks one c.loop-t.invariant.1 here in
     let count = c.loop-t.invariant.2 in
     let few = c.loop-t.invariant.3 in
+    let same = ap (λ graph. is_sink (task_at graph t).kind) (sym c.graph-in-loop-t.ensures.graph) in
     let sinks : (c.if-is_sink.sinks
     ≡ length (filter (is_sink_at job) (range_with_len 0 (t + 1))))
     × (c.if-is_sink.sinks ≤ t + 1) =
     elim c.if-is_sink.branch [
       | then-is_sink w ↦
           (let taken = ap length
-          (filter-take (is_sink_at job) t (sym c.is_sink.ensures ∙ w.if-is_sink.true)) in
+          (filter-take (is_sink_at job) t (same ∙ sym c.is_sink.ensures ∙ w.if-is_sink.true)) in
           let longer = length-append (filter (is_sink_at job) (range_with_len 0 t)) (t ∷ []) in
           let is = w.sinks-is in
           (omega arith, omega arith))
       | else-is_sink w ↦
           (let taken = ap length
-          (filter-skip (is_sink_at job) t (sym c.is_sink.ensures ∙ w.if-is_sink.false)) in
+          (filter-skip (is_sink_at job) t (same ∙ sym c.is_sink.ensures ∙ w.if-is_sink.false)) in
           let is = w.sinks-is in
           (omega arith, omega arith))
     ] in (

@@ -29,7 +29,8 @@ pub bounds-deref-k : goal.bounds-deref-k
 bounds-deref-k c =
     let at = c.requires.live.1 in
     let none : is_source (task_at c.args.job.now.graph c.args.t).kind ≡ false =
-    ap is_source (sym c.kind_of.ensures) ∙ sym c.is_source.ensures ∙ c.if-is_source.false in
+    ap (λ graph. is_source (task_at graph c.args.t).kind) (sym c.graph.ensures.graph)
+    ∙ sym c.is_source.ensures ∙ c.if-is_source.false in
     let few = c.first_input_of-k.ensures.within
     (no_source (task_at c.args.job.now.graph c.args.t).kind none) in
     let in_numbers = (number_of_input c.args.job.now c.requires.live.0 c.args.t c.first_input_of-k.result
@@ -42,7 +43,8 @@ bounds-deref-k c =
 pub returns : goal.returns
 returns c = λ m at live.
     let none : is_source (task_at c.args.job.now.graph c.args.t).kind ≡ false =
-    ap is_source (sym c.kind_of.ensures) ∙ sym c.is_source.ensures ∙ c.if-is_source.false in
+    ap (λ graph. is_source (task_at graph c.args.t).kind) (sym c.graph.ensures.graph)
+    ∙ sym c.is_source.ensures ∙ c.if-is_source.false in
     let never = no_source (task_at c.args.job.now.graph c.args.t).kind none in
     let few = c.first_input_of-k.ensures.within never in
     let stands = (c.state-state.ensures m at).stands in

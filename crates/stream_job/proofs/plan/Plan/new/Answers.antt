@@ -2,6 +2,7 @@
 use Rattle.std.proofs.Common.{◌≡◌, [], ◌∷◌, ◌++◌, length, sym, ap, subst, ◌∙◌, arith}
 use Rattle.std.specs.Prelude.{slice_get}
 use Rattle.std.proofs.lemmas.List.{length-append}
+use Rattle.graph_lang.specs.graph_base.Graphs.{Graph, source_number}
 use Rattle.stream_job.specs.Plans.{IsTaskPlan}
 use Rattle.stream_job.specs.declared.plan.TaskPlan.{TaskPlan}
 use Rattle.stream_job.proofs.OpeningPhasers.{each-push}
@@ -13,7 +14,7 @@ loop-t-preserved c =
     let tasks = c.loop-t.tasks.items in
     let one : TaskPlan = record {
       children = c.in_ok-children_of.field-0;
-      source = c.sources_above.result;
+      source = c.source_number.result;
       from = 0;
       to = c.next_child.result;
     } in
@@ -25,7 +26,8 @@ loop-t-preserved c =
     subst (λ u. IsTaskPlan job u one) (sym many)
     (record {
       children = c.in_ok-children_of.ensures;
-      source = c.sources_above.ensures;
+      source = c.source_number.ensures
+          ∙ ap (λ (graph : Graph). source_number graph.tasks c.loop-t.t) c.graph-in-loop-t.ensures.graph;
       none = c.next_child.ensures;
     }) in
     let all = each-push (IsTaskPlan job) tasks one c.loop-t.invariant.1 here in (

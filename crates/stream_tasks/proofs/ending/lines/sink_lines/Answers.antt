@@ -3,7 +3,7 @@ use Rattle.std.proofs.Common.{rules, ◌≡◌, ℕ, ℤ, ◌<◌, List, [], ◌
 use Rattle.std.specs.List.{range_with_len, filter}
 use Rattle.std.proofs.lemmas.List.{map_push}
 use Rattle.std.proofs.lemmas.List.Elements.{All-push}
-use Rattle.graph_runs.specs.graph_base.Graphs.{Graph, task_at}
+use Rattle.graph_runs.specs.graph_base.Graphs.{Graph, is_sink, task_at}
 use Rattle.stream_eval.specs.Results.{sink_values}
 use Rattle.stream_eval.specs.stream_lists.Lists.{is_sink_at}
 use Rattle.stream_eval.proofs.stream_lists_lemmas.Firsts.{filter-skip, filter-take}
@@ -17,8 +17,8 @@ loop-t-preserved c =
     let job = c.args.job.now in
     let t : ℕ = c.loop-t.t in
     let i = c.loop-t.invariant in
-    let is_sink = is_sink_at c.args.job.now in
-    let sinks = filter is_sink (range_with_len 0 t) in
+    let sinks = filter (is_sink_at job) (range_with_len 0 t) in
+    let at_t = ap (λ graph. is_sink (task_at graph t).kind) (sym c.graph-in-loop-t.ensures.graph) in
     let one : ℕ → ℕ × List ℤ = λ u. (u, lines_at c.args.parts.items u) in
     let count = c.tasks-t-end.ensures.count in
     let graph = ap (λ (g : Graph). length g.tasks) c.graph-2.ensures.graph in
@@ -46,7 +46,7 @@ loop-t-preserved c =
                 ∙ (ap (λ v. map one sinks ++ (t, v) ∷ []) value
                 ∙ (sym (map_push one sinks t)
                 ∙ ap (map one)
-                (sym (filter-take is_sink t (sym c.is_sink.ensures ∙ w.if-is_sink.true)))))),
+                (sym (filter-take (is_sink_at job) t (at_t ∙ sym c.is_sink.ensures ∙ w.if-is_sink.true)))))),
             behind_set c.loop-t.parts.items c.args.parts.items t w.take.new.self i.1,
             search rules,
             All-push (λ line. line.start ≡ part_start (task_at job.graph line.task).joins_now
@@ -56,7 +56,7 @@ loop-t-preserved c =
       | else-is_sink w ↦
           rw (w.lines-is, w.parts-is) (
             i.0 ∙ ap (map one)
-                (sym (filter-skip is_sink t (sym c.is_sink.ensures ∙ w.if-is_sink.false))),
+                (sym (filter-skip (is_sink_at job) t (at_t ∙ sym c.is_sink.ensures ∙ w.if-is_sink.false))),
             λ u le. i.1 u (omega arith),
             i.2,
             i.3,

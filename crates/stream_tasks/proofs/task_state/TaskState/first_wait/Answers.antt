@@ -3,7 +3,7 @@ use Rattle.std.proofs.Common.{◌≡◌, ◌<◌, ◌≤◌, ◌+◌, [], ◌∷
 use Rattle.std.specs.Prelude.{take, drop, vec_len}
 use Rattle.std.proofs.lemmas.List.{length-take-le, take-append-le, take-append-drop}
 use Rattle.graph_runs.proofs.Entries.{take_length}
-use Rattle.graph_runs.specs.graph_base.Graphs.{task_at}
+use Rattle.graph_runs.specs.graph_base.Graphs.{is_sink, task_at}
 use Rattle.stream_eval.specs.stream_lists.Lists.{is_sink_at, number}
 use Rattle.graph_runs.specs.Nexts.{registrations_at}
 use Rattle.stream_tasks.specs.Holds.{GoesOn, HasGot, HasWaited, IsAtMost}
@@ -119,7 +119,8 @@ returns-in-Some g c = λ spots task.
     (omega arith) c.steps-steps.ensures.may (omega arith) (omega arith) (omega arith)
     taken.fit taken.owes taken.filter
     (λ sink. (let yes : is_sink_at job t ≡ true = rw sink refl in
-    c.keep.ensures.kept (c.is_sink-sink.ensures ∙ yes)
+    c.keep.ensures.kept (c.is_sink-sink.ensures
+    ∙ ap (λ graph. is_sink (task_at graph t).kind) c.graph.ensures.graph ∙ yes)
     ∙ ap (λ l. l ++ map number os) c.make_room.ensures.items))
     (record {
       made = c.owed_after.ensures.room;
