@@ -40,8 +40,7 @@ not_ahead : (limits : Limits) (h : History) (lists : List (List ℤ)) (single : 
     → e.signal_phase ≤ slowest + limits.bound → e.signal_phase + length lists ≤ slowest + limits.bound
 not_ahead limits h [] single e slowest waiter each low = omega arith
 not_ahead limits h (sends ∷ lists) single e slowest waiter each low =
-    let A : Option ℕ → Type 0 = λ o. is_ahead o limits.bound e.signal_phase ≡ false in
-    let ahead : leb (slowest + limits.bound) e.signal_phase ≡ false = subst A waiter each.1.1.0 in
+    let ahead : leb (slowest + limits.bound) e.signal_phase ≡ false = rw waiter at each.1.1.0 in
     let here : e.signal_phase < slowest + limits.bound = leb-false _ _ ahead in
     let rest : (e.signal_phase + 1) + length lists ≤ slowest + limits.bound =
     not_ahead limits h lists single (signalled 1 e) slowest waiter each.1.1.1.1.1 (omega arith) in
@@ -89,7 +88,7 @@ slowest_ahead bound p ms slowest each some =
 bounded_step : (limits : Limits) (before : History) (event : Event) → IsLegal limits before → IsAccepted limits before event
     → IsBounded limits before → IsBounded limits (event ∷ before)
 bounded_step limits before (Made task) legal accepted bounded =
-    let P : History → Type 0 = λ l. IsLegal limits l in absurd (subst P accepted.1 legal)
+    absurd (rw accepted.1 at legal)
 bounded_step limits before (Registered parent child mode) legal accepted bounded =
     let r = registers_from before parent child mode accepted in
     let is : member_entry (members_of before) parent ≡ r.entry = member_entry_is (members_of before) parent r.entry r.is_member in
@@ -176,7 +175,7 @@ one_phase limits h (sends ∷ lists) single e waits each low high =
 turns_step : (limits : Limits) (before : History) (event : Event) → IsLegal limits before → IsAccepted limits before event
     → Each TakesTurns (members_of before) → Each TakesTurns (members_of (event ∷ before))
 turns_step limits before (Made task) legal accepted turns =
-    let P : History → Type 0 = λ l. IsLegal limits l in absurd (subst P accepted.1 legal)
+    absurd (rw accepted.1 at legal)
 turns_step limits before (Registered parent child mode) legal accepted turns =
     let r = registers_from before parent child mode accepted in
     let is : member_entry (members_of before) parent ≡ r.entry = member_entry_is (members_of before) parent r.entry r.is_member in

@@ -155,8 +155,7 @@ pub length-received : (value : List ℤ → Outcome) (limits : Limits) (h : Hist
     → IsLegal limits h → length (received_by value h task) ≡ phases_waited h task
 length-received value limits [] task legal = absurd legal
 length-received value limits (Made founding ∷ before) task legal =
-    let P : History → Type 0 = λ b. length (received_by value b task) ≡ phases_waited b task in
-    subst P (sym legal.1) refl
+    rw legal.1 refl
 length-received value limits (Registered parent child mode ∷ before) task legal =
     length-received value limits before task legal.0
 length-received value limits (RegisteredNow parent child ∷ before) task legal =

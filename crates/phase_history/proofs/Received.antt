@@ -77,8 +77,7 @@ member_is_other : (h : History) (other task : ℕ) (e : Entry) → start_of h ta
     → entry_of (members_of h) other ≡ Some e → eqb other task ≡ false
 member_is_other h other task e never found =
     ne_eqb other task (λ same.
-    (let P : ℕ → Type 0 = λ n. entry_of (members_of h) n ≡ Some e in
-    let here : entry_of (members_of h) task ≡ Some e = subst P same found in
+    (let here : entry_of (members_of h) task ≡ Some e = rw same at found in
     let none : entry_of (members_of h) task ≡ None = entry_of-none h task never in cc))
 
 -- a number above all that were used did not begin
@@ -102,8 +101,7 @@ pub unused : (value : List ℤ → Outcome) (limits : Limits) (h : History) (tas
     → start_of h task ≡ None → Unused value h task
 unused value limits [] task legal never = absurd legal
 unused value limits (Made founding ∷ before) task legal never =
-    let P : History → Type 0 = λ b. Unused value (Made founding ∷ b) task in
-    subst P (sym legal.1) (record { signals = refl; waits = refl; received = refl; stays = refl })
+    rw legal.1 (record { signals = refl; waits = refl; received = refl; stays = refl })
 unused value limits (Registered parent child mode ∷ before) task legal never =
     let n = some_or (eqb child task) _ (start_of before task) never in
     let u : Unused value before task = unused value limits before task legal.0 n.1 in

@@ -131,8 +131,7 @@ SentInTurn-same before now task start same_by same_in u = record {
 pub SentInTurn-of : (limits : Limits) (h : History) (task : ℕ) (start : Entry) → IsLegal limits h → start_of h task ≡ Some start → SentInTurn h task start
 SentInTurn-of limits [] task start legal is = absurd legal
 SentInTurn-of limits (Made founding ∷ before) task start legal is =
-    let P : History → Type 0 = λ b. SentInTurn (Made founding ∷ b) task start in
-    subst P (sym legal.1) (SentInTurn-silent (Made founding ∷ []) task start refl)
+    rw legal.1 (SentInTurn-silent (Made founding ∷ []) task start refl)
 SentInTurn-of limits (Registered parent child mode ∷ before) task start legal is =
     let r : Registers before parent child mode = registers_from before parent child mode legal.1 in
     SentInTurn-same before (Registered parent child mode ∷ before) task start refl (λ p. refl) (elim (eqb child task) as (λ b. (eqb child task ≡ b)

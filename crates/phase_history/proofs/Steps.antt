@@ -240,8 +240,7 @@ made_sound task = (record { below = omega arith; waits = λ t. omega arith; used
 pub steps : (limits : Limits) (before : History) (event : Event) → IsLegal limits before → IsSound before
     → IsAccepted limits before event → Steps before event
 steps limits before (Made task) legal sound accepted =
-    let P : History → Type 0 = λ h. IsLegal limits h in
-    absurd (subst P accepted.1 legal)
+    absurd (rw accepted.1 at legal)
 steps limits before (Registered parent child mode) legal sound accepted =
     steps_registered before parent child mode sound (registers_from before parent child mode accepted)
 steps limits before (RegisteredNow parent child) legal sound accepted =
