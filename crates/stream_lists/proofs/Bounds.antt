@@ -226,9 +226,8 @@ enough_reach task samples offset n t lengths are ends distinct few root at = by 
     by Peer e = first (rw e refl)
     by Sink e = first (rw e refl)
     by Join e =
-        let H : Kind → Type 0 = λ kind. HasEnds kind (length task.inputs) (length task.outputs) in
         let both : (2 ≤ length task.inputs) × (length task.inputs ≤ 8) × (length task.outputs ≡ 1) =
-        subst H e ends in
+        rw e at ends in
         let is : enough_for task samples (values_from task lengths offset)
         ≡ first_run_out (values_from task lengths offset) = rw e refl in
         let begins = root e in
@@ -374,9 +373,8 @@ puts-most task steps j ends = by task.kind refl
     by Peer e = same (rw e refl)
     by Sink e = same (rw e refl)
     by Split e =
-        let H : Kind → Type 0 = λ kind. HasEnds kind (length task.inputs) (length task.outputs) in
         let both : (length task.inputs ≡ 1) × (2 ≤ length task.outputs)
-        × (length task.outputs ≤ 8) = subst H e ends in
+        × (length task.outputs ≤ 8) = rw e at ends in
         let is : puts_on task steps j ≡ turns_below (length task.outputs) j steps = rw e refl in
         let two : 2 ≤ length task.outputs = both.1 in
         let few = turns-most (length task.outputs) j steps (omega arith) in omega arith

@@ -143,11 +143,8 @@ signaller_stays graph t p j is there place = by (task_at graph t).joins_now refl
     by false e = e
     by true e =
         let sink : (task_at graph t).kind ≡ Sink = ((is.tasks t there).now e).0 in
-        let H : Kind → Type 0 =
-        λ kind. HasEnds kind (length (task_at graph t).inputs)
-        (length (task_at graph t).outputs) in
         let both : (length (task_at graph t).inputs ≡ 1)
-        × (length (task_at graph t).outputs ≡ 0) = subst H sink (is.tasks t there).ends in
+        × (length (task_at graph t).outputs ≡ 0) = rw sink at (is.tasks t there).ends in
         let outs : signalled_by (task_at graph t) ≡ (task_at graph t).outputs = rw sink refl in
         let none : length (signalled_by (task_at graph t)) ≡ 0 = ap length outs ∙ both.1 in
         let below : j < length (signalled_by (task_at graph t)) = few in absurd (omega arith)
