@@ -183,8 +183,7 @@ agrees_at h number member (u ∷ ts) t e agree =
     split : (eqb u t ≡ true) ⊎ (is_in t ts ≡ true)
         → (is_in t ts ≡ true → Agrees h (number t) (member t)) → Agrees h (number t) (member t)
     split (inl same) rec =
-        let P : ℕ → Type 0 = λ n. Agrees h (number n) (member n) in
-        subst P (eqb-true _ _ same) agree.0
+        rw (eqb-true _ _ same) at agree.0
     split (inr rest) rec = rec rest
 
 greatest-front : (ns : List ℕ) (a : ℕ) → a ≤ fold max a ns
@@ -292,9 +291,8 @@ done_within limits h number member ts legal strangers agree =
     split top r reach (inl known) =
         let f : Found number ts r.task = found number ts r.task known in
         let a : Agrees h (number f.0) (member f.0) = agrees_at h number member ts f.0 f.1 agree in
-        let P : Option ℕ → Type 0 = λ o. Agrees h o (member f.0) in
         let at : top_of h ≤ end_of_contribution (member f.0) =
-        reached r reach f (member f.0) refl (subst P f.2 a) in
+        reached r reach f (member f.0) refl (rw f.2 at a) in
         let within : end_of_contribution (member f.0)
         ≤ greatest (map (λ t. end_of_contribution (member t)) ts) = end_within member ts f.0 0 f.1 in
         omega arith

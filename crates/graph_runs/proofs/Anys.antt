@@ -202,12 +202,9 @@ are_gathered job m p ready pp ran agree n below = by (op_case (phaser_at job.gra
     signals a f some =
         let there : f.0 < 0 + length job.graph.tasks =
         in_range f.0 0 (length job.graph.tasks) f.1 in
-        let A : Option ℕ → Type 0 =
-        λ o. Agrees (m.history p) o (contribution_at job (schedule_of job) (numbers_of job) p f.0) in
         let a_is : Agrees (m.history p) (Some a)
         (contribution_at job (schedule_of job) (numbers_of job) p f.0) =
-        subst A f.2
-        (agrees_at (m.history p) (m.number p) (contribution_at job (schedule_of job) (numbers_of job) p)
+        rw f.2 at (agrees_at (m.history p) (m.number p) (contribution_at job (schedule_of job) (numbers_of job) p)
         (range_with_len 0 (length job.graph.tasks)) f.0 f.1 agree) in
         member_case f.0 (omega arith) (contribution_at job (schedule_of job) (numbers_of job) p f.0) refl
         a_is

@@ -240,17 +240,14 @@ may_signal_block job m p n vs mode is ran pp e signals quiet named good =
     let h = m.history p in
     let single = (phaser_at job.graph p).single in
     let long : length (map one vs) ≡ length vs = length-map vs one in
-    let Q : Mode → Type 0 = λ x. mode_waits x ≡ false in
-    let S : Mode → Type 0 = λ x. not (mode_signals x) ≡ false in
-    let N : Mode → Type 0 = λ x. (is_some single && not (is_single x)) ≡ false in
     rw (e.is) (front_pass (not (mode_signals e.entry.mode))
     (is_some single && not (is_single e.entry.mode))
     (is_bad_block (limits_at job p) (length (map one vs)))
     (first_row (list_rows (limits_at job p) h (map one vs) single e.entry))
-    (subst S (sym e.mode_is) (not_from_true (mode_signals mode) signals))
-    (subst N (sym e.mode_is) named)
+    (rw e.mode_is (not_from_true (mode_signals mode) signals))
+    (rw e.mode_is named)
     (ap (λ k. is_bad_block (limits_at job p) k) long ∙ good)
-    (rows_pass job m p is ran pp vs e.entry (subst Q (sym e.mode_is) quiet)))
+    (rows_pass job m p is ran pp vs e.entry (rw e.mode_is quiet)))
 
 -- ---- a wait
 

@@ -285,10 +285,8 @@ exchange_next job m t j event is ran live owes first answer =
 pub source_ends : (job : Job) (t : ℕ) → IsGraph job.graph → t < length job.graph.tasks
     → (task_at job.graph t).kind ≡ Source → length (signalled_by (task_at job.graph t)) ≡ 1
 source_ends job t is there e =
-    let H : Kind → Type 0 = λ kind. HasEnds kind (length (task_at job.graph t).inputs)
-    (length (task_at job.graph t).outputs) in
     let both : (length (task_at job.graph t).inputs ≡ 0)
-    × (length (task_at job.graph t).outputs ≡ 1) = subst H e (is.tasks t there).ends in
+    × (length (task_at job.graph t).outputs ≡ 1) = rw e at (is.tasks t there).ends in
     let same : signalled_by (task_at job.graph t) ≡ (task_at job.graph t).outputs = rw e refl in
     ap length same ∙ both.1
 

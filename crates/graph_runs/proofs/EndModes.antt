@@ -154,10 +154,8 @@ signal_mode job t j is there lt = by (task_at job.graph t).kind refl
         ≡ get_or (task_at job.graph t).inputs 1 0 ∷ y ∷ [] = rw e refl in
         let ends = peer_ends job t is there e in
         let long : length (signalled_by (task_at job.graph t)) ≡ 2 = ends.1 in
-        let H : Kind → Type 0 = λ kind. HasEnds kind (length (task_at job.graph t).inputs)
-        (length (task_at job.graph t).outputs) in
         let both : (length (task_at job.graph t).inputs ≡ 2)
-        × (length (task_at job.graph t).outputs ≡ 1) = subst H e (is.tasks t there).ends in
+        × (length (task_at job.graph t).outputs ≡ 1) = rw e at (is.tasks t there).ends in
         let few : length (task_at job.graph t).outputs ≡ 1 = both.1 in
         let no_single : (phaser_at job.graph y).single ≡ None =
         (is.tasks t there).plain 0 0 (omega arith) in

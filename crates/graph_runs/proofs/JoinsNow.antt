@@ -112,11 +112,8 @@ pub sink_line : (job : Job) (c p : ℕ) → IsGraph job.graph → c < length job
     → (length (task_at job.graph c).inputs ≡ 1)
     × (length (signalled_by (task_at job.graph c)) ≡ 0)
 sink_line job c p is there sink =
-    let H : Kind → Type 0 =
-    λ kind. HasEnds kind (length (task_at job.graph c).inputs)
-    (length (task_at job.graph c).outputs) in
     let both : (length (task_at job.graph c).inputs ≡ 1)
-    × (length (task_at job.graph c).outputs ≡ 0) = subst H sink (is.tasks c there).ends in
+    × (length (task_at job.graph c).outputs ≡ 0) = rw sink at (is.tasks c there).ends in
     let outs : signalled_by (task_at job.graph c) ≡ (task_at job.graph c).outputs = rw sink refl in
     (both.0, ap length outs ∙ both.1)
 
@@ -133,13 +130,10 @@ child_joins job before after t p n c a u is there legal s parent child = record 
   puts = λ j lt. absurd (omega (arith, lt, ends.1));
   exchanged = λ j. rw sink tt;
   takes = λ k lt.
-      (let T : List _ → Type 0 = λ l. HasTaken (task_at job.graph c) (after.begun c) k (length l) in
-      let B : ℕ → Type 0 = λ b. HasTaken (task_at job.graph c) b k 0 in
-      let none : takes_from (task_at job.graph c) 0 k ≡ 0 = rw sink refl in
-      subst T (sym (s.nothing_taken k)) (subst B (sym s.nothing_begun) (rw sink (sym none))));
+      (let none : takes_from (task_at job.graph c) 0 k ≡ 0 = rw sink refl in
+      rw (s.nothing_taken k) (rw s.nothing_begun (rw sink (sym none))));
   samples = rw sink tt;
-  cut = (let B : ℕ → Type 0 = λ b. AtMost b (task_at job.graph c).until in
-      subst B (sym s.nothing_begun) (none_cut (task_at job.graph c).until));
+  cut = (rw s.nothing_begun (none_cut (task_at job.graph c).until));
   lines = λ q b at. lines q b at (eq_case q p);
   outputs = λ q qq.
       outputs q qq (index_in (signalled_by (task_at job.graph c)) q) refl (eq_case q p);

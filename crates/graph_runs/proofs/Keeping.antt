@@ -147,16 +147,15 @@ run_keeps job before after t p n event is there pp moved numbered leaves ran own
         history_by job before after t p event (λ h. OthersCame (a ∷ []) (before.history q) h) q
         moved
         (λ same. OthersCame-event (a ∷ []) (before.history q) event (λ x inside. leaves.by x (λ me.
-        (let N : ℕ → Type 0 = λ y. before.number y t ≡ Some n in
-        let mine : before.number q u ≡ Some n =
+        (let mine : before.number q u ≡ Some n =
         at ∙ ap (λ y. Some y) (sym (one_in x a inside) ∙ me) in
         other ((ran.phasers q qq).distinct u t n there_u there mine
-        (subst N (sym same) numbered))))))
+        (rw same numbered))))))
         (λ apart. OthersCame-refl (a ∷ []) (before.history q))
 
     tasks : (u : ℕ) → u < length job.graph.tasks → (u ≡ t) ⊎ (u ≢ t) → TaskRan job after u
     tasks u there_u (inl same) =
-        let P : ℕ → Type 0 = λ u. TaskRan job after u in subst P (sym same) (own (grown t there))
+        rw same (own (grown t there))
     tasks u there_u (inr other) =
         task_later job before after u is there_u (grown u there_u)
         (record {
@@ -183,8 +182,7 @@ run_keeps job before after t p n event is there pp moved numbered leaves ran own
             ap (λ x. after.offset x) same ∙ moved.offset
             ∙ ap (λ x. before.offset x) (sym same) in
             let b : before.begun w.task ≤ after.begun w.task =
-            (let P : ℕ → Type 0 = λ x. before.begun x ≤ after.begun x in
-            subst P (sym same) moved.onward) in
+            (rw same moved.onward) in
             (o, b, λ r. (r.0, r.1, moved.numbers r.0 w.task ∙ r.2))
 
 -- ---- the three events

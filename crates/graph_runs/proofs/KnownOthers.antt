@@ -87,9 +87,7 @@ known_added job m after t c p u parent of_t on numbers offset known = record {
         → (task_at job.graph d).parent ≡ Some w → w.task ≡ t → after.number q d ≡ Some n
         → (q ≡ p) ⊎ (q ≢ p) → (d ≡ c) ⊎ (d ≢ c) → OnLine (task_at job.graph d) q
     lines q d n w there e by at (inl here) (inl same) =
-        let P : ℕ → Type 0 = λ x. OnLine (task_at job.graph d) x in
-        let D : ℕ → Type 0 = λ x. OnLine (task_at job.graph x) p in
-        subst P (sym here) (subst D (sym same) on)
+        rw here (rw same on)
     lines q d n w there e by at (inl here) (inr other) =
         known.lines q d n w there e by (sym (numbers q d (inr other)) ∙ at)
     lines q d n w there e by at (inr other) case =

@@ -122,11 +122,9 @@ block_fits job t j is there lt pp = by (task_at job.graph t).kind refl
         → (task_at job.graph t).block ≤ (phaser_at job.graph (output_at job t j)).bound
     other plain =
         let outs = plain_outputs job t plain in
-        let P : List ℕ → Type 0 =
-        λ l. (task_at job.graph t).block ≤ (phaser_at job.graph (get_or l j 0)).bound in
         let long : length (signalled_by (task_at job.graph t))
         ≡ length (task_at job.graph t).outputs = ap length outs in
-        subst P (sym outs) ((is.tasks t there).block.outputs j 0 (omega arith))
+        rw outs ((is.tasks t there).block.outputs j 0 (omega arith))
 
     by : (kind : Kind) → (task_at job.graph t).kind ≡ kind
         → (task_at job.graph t).block ≤ (phaser_at job.graph (output_at job t j)).bound
@@ -202,9 +200,7 @@ signal_passes job m t j vs is reached live lt more turn some few =
         let block : (task_at job.graph t).block ≡ 1 =
         (is.tasks t live.there).block.kind (ap has_blocks peer.0) in
         let v = one_of vs some (omega arith) in
-        let S : List ℤ → Type 0 = λ l. MaySignal (signal_refusal (limits_at job p) (m.history p) n
-        (map one l) (phaser_at job.graph p).single) in
-        subst S (sym v.1) (may_signal job m p n v.0 mode.mode is reached.ran pp e mode.signals
+        rw v.1 (may_signal job m p n v.0 mode.mode is reached.ran pp e mode.signals
         mode.named
         (and_right (mode_waits mode.mode) (eqb e.entry.signal_phase (e.entry.wait_phase + 1))
         (ne_eqb e.entry.signal_phase (e.entry.wait_phase + 1) (λ clash. omega arith))))
@@ -328,8 +324,7 @@ leave_told job m t is reached live some = by (first_kept job m t) refl some
         ≡ false =
         find-none (λ x. not (has_registered m t x)) (registrations_at job t) f.1.0 no_registration
         live.all f.1.1 in
-        let P : Registration → Type 0 = λ x. not (has_registered m t x) ≡ false in
-        let at : m.number p t ≡ Some n = number_is (m.number p t) (subst P f.1.2 there) in
+        let at : m.number p t ≡ Some n = number_is (m.number p t) (rw f.1.2 at there) in
         let line = (reached.ran.tasks t live.there).lines p n at in
         let pp = on_phaser job t p is live.there line in
         let ran = reached.ran.phasers p pp in
@@ -453,14 +448,12 @@ register_told job m t c is reached live due =
     by (Some r) missing d some =
         let f = find-some (λ x. not (has_registered m c x)) (registrations_at job c) r
         no_registration missing in
-        let Holds : Registration → Type 0 = λ x. ParentHolds job t x in
         let held : ParentHolds job t r =
-        subst Holds f.1.2 (parent_holds job m t c f.1.0 is live.there d f.1.1) in
+        rw f.1.2 at (parent_holds job m t c f.1.0 is live.there d f.1.1) in
         let p = r.phaser in
         let n = number_on m t p in
-        let For : Registration → Type 0 = λ x. IsFor job c x in
         let use_of : IsFor job c r =
-        subst For f.1.2 (is_for job c f.1.0 is d.there f.1.1) in
+        rw f.1.2 at (is_for job c f.1.0 is d.there f.1.1) in
         let line = on_parents_line job m t c p is d use_of.on_line in
         let pp = on_phaser job t p is live.there line in
         let at = number_there job m t p is live line in

@@ -64,16 +64,12 @@ joined_later job before after t p event is there moved j = by ((task_at job.grap
         → Joined before t (task_at job.graph t).joins_now (task_at job.graph t).parent
         → Joined after t (task_at job.graph t).joins_now (task_at job.graph t).parent
     by None e j =
-        let A : Option Parent → Type 0 = λ u. Joined after t (task_at job.graph t).joins_now u in
-        let B : Option Parent → Type 0 = λ u. Joined before t (task_at job.graph t).joins_now u in
-        let b : before.offset t ≡ 0 = subst B e j in
-        subst A (sym e) (moved.offset ∙ b)
+        let b : before.offset t ≡ 0 = rw e at j in
+        rw e (moved.offset ∙ b)
     by (Some u) e j =
-        let A : Option Parent → Type 0 = λ u. Joined after t (task_at job.graph t).joins_now u in
-        let B : Option Parent → Type 0 = λ u. Joined before t (task_at job.graph t).joins_now u in
         let b : BeginsBy (task_at job.graph t).joins_now (before.offset t)
         (before.offset u.task + u.at) × (u.at ≤ before.begun u.task)
-        × IsRegistered before u.task = subst B e j in
+        × IsRegistered before u.task = rw e at j in
         let above : u.task < t =
         (parent-is job.graph t (task_at job.graph t) u
         (is.tasks t there) e).above in
@@ -81,7 +77,7 @@ joined_later job before after t p event is there moved j = by ((task_at job.grap
         let s = moved.others u.task other in
         let low : u.at ≤ before.begun u.task = b.1 in
         let begun : after.begun u.task ≡ before.begun u.task = s.begun in
-        subst A (sym e) (
+        rw e (
           begins (task_at job.graph t).joins_now (after.offset t) (after.offset u.task + u.at)
               (before.offset t) (before.offset u.task + u.at) moved.offset
               (ap (λ n. n + u.at) s.offset) b.0,

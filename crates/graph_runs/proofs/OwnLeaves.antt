@@ -56,12 +56,9 @@ own_leave job before after t p n is there grown s ran = record {
         → before.number q t ≡ Some a → before.number q c ≡ None → OnLine (task_at job.graph c) q
         → (q ≡ p) ⊎ (q ≢ p) → HasNotPassed after q a u
     children c q a u there_c e same at none on (inl here) =
-        let P : ℕ → Type 0 = λ x. before.number x t ≡ Some a in
-        let N : ℕ → Type 0 = λ x. before.number x c ≡ None in
-        let L : ℕ → Type 0 = λ x. OnLine (task_at job.graph c) x in
         let less : before.begun t < u.at =
-        s.children c a u there_c e same (subst P here at) (subst N here none)
-        (subst L here on) in
+        s.children c a u there_c e same (rw here at at) (rw here at none)
+        (rw here at on) in
         let begun : after.begun u.task ≡ before.begun t =
         ap (λ x. after.begun x) same ∙ s.same.begun in
         record { early = omega arith; ended = λ gone. omega arith }

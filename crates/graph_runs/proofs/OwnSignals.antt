@@ -83,11 +83,8 @@ own_signals job before after t j p n vs is there s ran = record {
       where
         by : Begins job before after t vs → IsPrefix (after.put t i) (made_now job after t i)
         by (inl b) =
-            let H : Kind → Type 0 =
-            λ kind. HasEnds kind (length (task_at job.graph t).inputs)
-            (length (task_at job.graph t).outputs) in
             let both : (length (task_at job.graph t).inputs ≡ 0)
-            × (length (task_at job.graph t).outputs ≡ 1) = subst H b.0 line.ends in
+            × (length (task_at job.graph t).outputs ≡ 1) = rw b.0 at line.ends in
             let long : length (signalled_by (task_at job.graph t))
             ≡ length (task_at job.graph t).outputs =
             (let e : (task_at job.graph t).kind ≡ Source = b.0 in rw e refl) in

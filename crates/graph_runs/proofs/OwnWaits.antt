@@ -55,15 +55,11 @@ made_more job before after t j put line ran lt le grows exchanged begins =
     lt le
     (length-map-range_with_len (before.taken t) 0 (length task.inputs))
     (length-map-range_with_len (after.taken t) 0 (length task.inputs))
-    (λ k below looks. (let L : List ℤ → Type 0 = λ l. IsPrefix l (get_or all k []) in
-    let R : List ℤ → Type 0 = λ l. IsPrefix (before.taken t k) l in
-    subst L (sym (now_at before task t k below))
-    (subst R (sym (now_at after task t k below)) (grows k below))))
+    (λ k below looks. (rw (now_at before task t k below)
+    (rw (now_at after task t k below) (grows k below))))
     (λ k below looks. now_counts job before t line ran k below looks)
     (exchanged_as task.kind j (length put) (length (before.taken t 1)) (length (get_or now 1 []))
-    (λ e. (let H : Kind → Type 0 =
-    λ kind. HasEnds kind (length task.inputs) (length task.outputs) in
-    let both : (length task.inputs ≡ 2) × (length task.outputs ≡ 1) = subst H e line.ends in
+    (λ e. (let both : (length task.inputs ≡ 2) × (length task.outputs ≡ 1) = rw e at line.ends in
     let two : length task.inputs ≡ 2 = both.0 in
     ap length (sym (now_at before task t 1 (omega arith)))))
     exchanged)
@@ -84,17 +80,14 @@ pub own_waits : (job : Job) (before after : Moment) (t k p n : ℕ) (outcomes : 
     → WaitsAll job before after t k p n outcomes → TaskRan job before t → TaskRan job after t
 own_waits job before after t k p n outcomes is there s ran = record {
   puts = λ j lt.
-      (let A : List ℤ → Type 0 = λ l. IsPrefix l (made_now job after t j) in
-      subst A (sym (s.put j))
+      (rw (s.put j)
       (made_more job before after t j (before.put t j) line ran lt (begun_grows s.begun)
       (λ i below. takes_grow i (eq_case i k)) (ran.exchanged j) (ran.puts j lt)));
   exchanged = λ j.
-      (let A : List ℤ → Type 0 =
-      λ l. HasExchanged (task_at job.graph t).kind j (length l) (length (after.taken t 1)) in
-      let more : length (before.taken t 1) ≤ length (after.taken t 1) =
+      (let more : length (before.taken t 1) ≤ length (after.taken t 1) =
       prefix_length (before.taken t 1) (after.taken t 1)
       (takes_grow 1 (eq_case 1 k)) in
-      subst A (sym (s.put j))
+      rw (s.put j)
       (exchanged_more (task_at job.graph t).kind j (length (before.put t j))
       (length (before.taken t 1)) (length (after.taken t 1)) more (ran.exchanged j)));
   takes = λ i lt. takes i lt (eq_case i k) s.begun;
@@ -131,11 +124,9 @@ own_waits job before after t k p n outcomes is there s ran = record {
 
     takes_grow : (i : ℕ) → (i ≡ k) ⊎ (i ≢ k) → IsPrefix (before.taken t i) (after.taken t i)
     takes_grow i (inl same) =
-        let P : ℕ → Type 0 = λ i. IsPrefix (before.taken t i) (after.taken t i) in
-        subst P (sym same) (map number outcomes, sym s.taken)
+        rw same (map number outcomes, sym s.taken)
     takes_grow i (inr apart) =
-        let A : List ℤ → Type 0 = λ l. IsPrefix (before.taken t i) l in
-        subst A (sym (s.other_takes i apart)) (IsPrefix-refl (before.taken t i))
+        rw (s.other_takes i apart) (IsPrefix-refl (before.taken t i))
 
     more : length (after.taken t k) ≡ length (before.taken t k) + length outcomes
     more =
@@ -146,49 +137,36 @@ own_waits job before after t k p n outcomes is there s ran = record {
         → Begins job before after t k outcomes → HasTaken (task_at job.graph t) (after.begun t) i (length (after.taken t i))
     takes i lt (inl same) (inl b) =
         let task = task_at job.graph t in
-        let K : ℕ → Type 0 = λ i. HasTaken task (after.begun t) i (length (after.taken t i)) in
-        let B : ℕ → Type 0 = λ b. HasTaken task b k (length (after.taken t k)) in
-        let N : ℕ → Type 0 = λ n. HasTaken task (further (before.begun t) outcomes) k n in
-        subst K (sym same)
-        (subst B (sym b.1)
-        (subst N (sym more)
+        rw same
+        (rw b.1
+        (rw more
         (subst (λ x. HasTaken task x k (length (before.taken t k) + length outcomes))
         (sym (further-length (before.begun t) outcomes))
         (has_taken-block task (before.begun t) (length outcomes) k (length (before.taken t k))
         line.ends s.few b.0 b.2 (b.3.taken k s.few)))))
     takes i lt (inr apart) (inl b) =
         let task = task_at job.graph t in
-        let B : ℕ → Type 0 = λ b. HasTaken task b i (length (after.taken t i)) in
-        let L : List ℤ → Type 0 =
-        λ l. HasTaken task (further (before.begun t) outcomes) i (length l) in
-        subst B (sym b.1)
-        (subst L (sym (s.other_takes i apart))
+        rw b.1
+        (rw (s.other_takes i apart)
         (subst (λ x. HasTaken task x i (length (before.taken t i)))
         (sym (further-length (before.begun t) outcomes))
         (has_taken-else task (before.begun t) (length outcomes) i (length (before.taken t i))
         line.ends lt (λ e. apart (e ∙ sym b.0)) b.2 (b.3.taken i lt))))
     takes i lt (inl same) (inr b) =
         let task = task_at job.graph t in
-        let K : ℕ → Type 0 = λ i. HasTaken task (after.begun t) i (length (after.taken t i)) in
-        let B : ℕ → Type 0 = λ b. HasTaken task b 1 (length (after.taken t 1)) in
-        let N : ℕ → Type 0 = λ n. HasTaken task (before.begun t) 1 n in
-        let M : ℕ → Type 0 =
-        λ x. length (after.taken t x) ≡ length (before.taken t x) + length outcomes in
         let lt1 : 1 < length task.inputs =
         (let f : k < length task.inputs = s.few in let e : k ≡ 1 = b.1 in omega arith) in
         let one_more : length (after.taken t 1) ≡ suc (length (before.taken t 1)) =
         (let m : length (after.taken t 1) ≡ length (before.taken t 1) + length outcomes =
-        subst M b.1 more in let one : length outcomes ≡ 1 = b.2 in omega arith) in
-        subst K (sym (same ∙ b.1))
-        (subst B (sym b.3)
-        (subst N (sym one_more)
+        rw b.1 at more in let one : length outcomes ≡ 1 = b.2 in omega arith) in
+        rw (same ∙ b.1)
+        (rw b.3
+        (rw one_more
         (has_taken-peer task (before.begun t) (length (before.taken t 1)) b.0
         (ran.takes 1 lt1) b.4)))
     takes i lt (inr apart) (inr b) =
         let task = task_at job.graph t in
-        let B : ℕ → Type 0 = λ b. HasTaken task b i (length (after.taken t i)) in
-        let L : List ℤ → Type 0 = λ l. HasTaken task (before.begun t) i (length l) in
-        subst B (sym b.3) (subst L (sym (s.other_takes i apart)) (ran.takes i lt))
+        rw b.3 (rw (s.other_takes i apart) (ran.takes i lt))
 
     samples : Begins job before after t k outcomes → HasSamples (task_at job.graph t).kind (after.begun t) (length (samples_at job t))
     samples (inl b) = rw b.1 b.3.samples

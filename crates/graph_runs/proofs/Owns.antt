@@ -170,13 +170,11 @@ used_by job m t p n is there ran at = by (ran.lines p n at)
     by : OnLine (task_at job.graph t) p → IsUsed (m.history p) n
     by (inl out) =
         let pp : p < length job.graph.phasers = on_phaser job t p is there (inl out) in
-        let O : Option ℕ → Type 0 = λ o. OnPhaser job m t p o in
         let N : Option ℕ → Type 0 = λ o. PutOn job m t out.0 p o in
-        let on : OnOutput job m t out.0 p n = subst N at (subst O out.1 (ran.outputs p pp)) in
+        let on : OnOutput job m t out.0 p n = subst N at (rw out.1 at (ran.outputs p pp)) in
         ap is_some on.start_is
     by (inr into) =
-        let T : ℕ → Type 0 = λ q. TakenOn job m t into.0 q (m.number q t) in
         let N : Option ℕ → Type 0 = λ o. TakenOn job m t into.0 p o in
         let on : OnInput job m t into.0 p n =
-        subst N at (subst T into.2 (ran.inputs into.0 into.1)) in
+        subst N at (rw into.2 at (ran.inputs into.0 into.1)) in
         ap is_some on.start_is

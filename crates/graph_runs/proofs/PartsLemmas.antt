@@ -418,8 +418,7 @@ ran_out job m t k n h is there part sees staying lt reply =
     let x = input_at (task_at job.graph t) k in
     let after = with_history x h m in
     let part_now = later_part job m t x n h sees is there part in
-    let T : Option ℕ → Type 0 = λ o. TakenOn job after t k x o in
-    let on : OnInput job after t k x n = subst T sees.numbered (part_now.ran.inputs k lt) in
+    let on : OnInput job after t k x n = rw sees.numbered at (part_now.ran.inputs k lt) in
     let here : after.history x ≡ h = same_at x h m in
     let start : start_of h n ≡ Some on.start = ap (λ x. start_of x n) (sym here) ∙ on.start_is in
     let kept : has_dropped h n ≡ false =
@@ -440,8 +439,7 @@ ran_out job m t k n h is there part sees staying lt reply =
     ap length on.taken ∙ length-map (received_by value (after.history x) n) number ∙ ap (λ y. length (received_by value y n)) here in
     let tells = ended_tells value limits h n reply in
     let late : done_of h ≤ wait_phase h n = tells.1 in
-    let D : History → Type 0 = λ y. done_of y ≤ m.offset t + length (m.taken t k) in
-    (subst HasNoSignaller (sym here) tells.0, subst D (sym here) (omega arith))
+    (subst HasNoSignaller (sym here) tells.0, rw here (omega arith))
   where
     entry_is : (a b : Entry) → Some a ≡ Some b → a ≡ b
     entry_is a b e = cc

@@ -53,8 +53,7 @@ agrees_from job m p t (Some j) (Some n) at =
     let o = at.2 in
     let out : ℕ × List ℤ =
     ((span_in job t).offset, output_on job (schedule_of job) (numbers_of job) t j) in
-    let P : Bool → Type 0 = λ b. Agrees (m.history p) (Some n) (cond b (Some out) None) in
-    subst P (sym s.live) (record {
+    rw s.live (record {
       start = on.start;
       start_is = on.start_is;
       signals = on.signals;

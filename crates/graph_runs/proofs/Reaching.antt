@@ -189,9 +189,7 @@ one_number job before after p c a there absent number others elsewhere used stay
     by : (b : Bool) → eqb q p ≡ b → IsOfTask job after q x
     by true e =
         let same : p ≡ q = sym (eqb-true q p e) in
-        let P : ℕ → Type 0 = λ r. r < length job.graph.phasers → IsUsed (after.history r) x
-        → has_dropped (after.history r) x ≡ false → IsOfTask job after r x in
-        (subst P same (here (eqb x a) refl)) qq now kept
+        (rw same at (here (eqb x a) refl)) qq now kept
     by false e =
         let apart : q ≢ p = λ same. (let no = sym (eq-eqb q p same) ∙ e in cc) in
         let it = were q x qq (ap (λ h. is_some (start_of h x)) (sym (elsewhere q apart)) ∙ now)

@@ -69,16 +69,14 @@ stays job m t is ran there more p n at =
     on_line : OnLine (task_at job.graph t) p → has_dropped (m.history p) n ≡ true
         → HasEnded job m t
     on_line (inl out) gone =
-        let O : Option ℕ → Type 0 = λ o. OnPhaser job m t p o in
         let here : PutOn job m t out.0 p (m.number p t) =
-        subst O out.1 (ran.outputs p (on_phaser job t p is there (inl out))) in
+        rw out.1 at (ran.outputs p (on_phaser job t p is there (inl out))) in
         let N : Option ℕ → Type 0 = λ o. PutOn job m t out.0 p o in
         let on : OnOutput job m t out.0 p n = subst N at here in
         on.left gone
     on_line (inr into) gone =
-        let P : ℕ → Type 0 = λ q. TakenOn job m t into.0 q (m.number q t) in
         let here : TakenOn job m t into.0 p (m.number p t) =
-        subst P into.2 (ran.inputs into.0 into.1) in
+        rw into.2 at (ran.inputs into.0 into.1) in
         let N : Option ℕ → Type 0 = λ o. TakenOn job m t into.0 p o in
         let on : OnInput job m t into.0 p n = subst N at here in
         on.left gone

@@ -153,9 +153,8 @@ of_output job t j is there lt = by (task_at job.graph t).kind refl
     by Join e = plain (rw e refl) (rw e refl)
     by Sink e = plain (rw e refl) (rw e refl)
     by Peer e =
-        let H : Kind → Type 0 = λ kind. HasEnds kind (length task.inputs) (length task.outputs) in
         let both : (length task.inputs ≡ 2) × (length task.outputs ≡ 1) =
-        subst H e (is.tasks t there).ends in
+        rw e at (is.tasks t there).ends in
         let same : signalled_by task ≡ get_or task.inputs 1 0 ∷ get_or task.outputs 0 0 ∷ [] =
         rw e refl in
         let long : length (signalled_by task) ≡ 2 = ap length same in

@@ -92,9 +92,8 @@ start_in_time job m t start ready ran over there is =
     registered now live lt None none =
         absurd (came_in job m ready ran over (suc t) t 0 (omega arith) there lt none live)
     registered now live lt (Some n) some =
-        let T : Option ℕ → Type 0 = λ o. TakenOn job m t 0 (input_at (task_at job.graph t) 0) o in
         let on : OnInput job m t 0 (input_at (task_at job.graph t) 0) n =
-        subst T some ((ran.tasks t there).inputs 0 lt) in
+        rw some at ((ran.tasks t there).inputs 0 lt) in
         let within : m.offset t ≤ get_or (lengths_of job) (input_at (task_at job.graph t) 0) 0 =
         start_within job m t 0 n ready ran there lt on in
         let s : Stands job m t =

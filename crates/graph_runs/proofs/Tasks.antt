@@ -346,16 +346,12 @@ made_begins job m t j put is there ran stands lt reads exchanged begins =
     stands.within
     (length-map-range_with_len (m.taken t) 0 (length task.inputs))
     (length-map-range_with_len (taken_from (numbers_of job) task span) 0 (length task.inputs))
-    (λ k below looks. (let L : List ℤ → Type 0 = λ l. IsPrefix l (get_or all k []) in
-    let R : List ℤ → Type 0 = λ l. IsPrefix (m.taken t k) l in
-    subst L (sym (now_at m task t k below))
-    (subst R (sym (all_at (numbers_of job) task span k below))
+    (λ k below looks. (rw (now_at m task t k below)
+    (rw (all_at (numbers_of job) task span k below)
     (taken_begins job m t k line ran stands below (reads k below looks)))))
     (λ k below looks. now_counts job m t line ran k below looks)
     (exchanged_as task.kind j (length put) (length (m.taken t 1)) (length (get_or now 1 []))
-    (λ e. (let H : Kind → Type 0 =
-    λ kind. HasEnds kind (length task.inputs) (length task.outputs) in
-    let both : (length task.inputs ≡ 2) × (length task.outputs ≡ 1) = subst H e line.ends in
+    (λ e. (let both : (length task.inputs ≡ 2) × (length task.outputs ≡ 1) = rw e at line.ends in
     let two : length task.inputs ≡ 2 = both.0 in
     ap length (sym (now_at m task t 1 (omega arith)))))
     exchanged)

@@ -62,9 +62,7 @@ pub peer_taken : (job : Job) (m : Moment) (t : ℕ) → IsGraph job.graph → Ta
     → (length (m.taken t 1) ≤ m.begun t) × (m.begun t ≤ length (m.taken t 1) + 1)
 peer_taken job m t is ran there peer =
     let two : length (task_at job.graph t).inputs ≡ 2 = (peer_ends job t is there peer).0 in
-    let T : Kind → Type 0 = λ kind. HasTaken (record (task_at job.graph t) { kind = kind })
-    (m.begun t) 1 (length (m.taken t 1)) in
-    subst T peer (ran.takes 1 (omega arith))
+    rw peer at (ran.takes 1 (omega arith))
 
 signals_told : (job : Job) (m : Moment) (t j : ℕ) → IsGraph job.graph
     → AreSends (samples_at job t) → IsReachable job m → Live job m t

@@ -35,17 +35,15 @@ pub on_output : (job : Job) (m : Moment) (t j p n : ℕ) → TaskRan job m t
     → index_in (signalled_by (task_at job.graph t)) p ≡ Some j → m.number p t ≡ Some n
     → OnOutput job m t j p n
 on_output job m t j p n ran there pp place at =
-    let O : Option ℕ → Type 0 = λ o. OnPhaser job m t p o in
     let N : Option ℕ → Type 0 = λ o. PutOn job m t j p o in
-    subst N at (subst O place (ran.outputs p pp))
+    subst N at (rw place at (ran.outputs p pp))
 
 pub on_input : (job : Job) (m : Moment) (t k p n : ℕ) → TaskRan job m t
     → t < length job.graph.tasks → k < length (task_at job.graph t).inputs
     → input_at (task_at job.graph t) k ≡ p → m.number p t ≡ Some n → OnInput job m t k p n
 on_input job m t k p n ran there lt place at =
-    let P : ℕ → Type 0 = λ q. TakenOn job m t k q (m.number q t) in
     let N : Option ℕ → Type 0 = λ o. TakenOn job m t k p o in
-    subst N at (subst P place (ran.inputs k lt))
+    subst N at (rw place at (ran.inputs k lt))
 
 -- ---- its entry
 
@@ -167,10 +165,9 @@ sent_few job m p s n ran pp among =
         (SentInTurn-of (limits_at job p) (m.history p) n on.start (ran.phasers p pp).legal
         on.start_is) (m.put t j) on.sent (cases_lt s on.start.signal_phase)
     by t there at None place =
-        let O : Option ℕ → Type 0 = λ o. OnPhaser job m t p o in
         let N : Option ℕ → Type 0 = λ o. SilentOn m p o in
         let silent : IsSilent (m.history p) n =
-        subst N at (subst O place ((ran.tasks t there).outputs p pp)) in
+        subst N at (rw place at ((ran.tasks t there).outputs p pp)) in
         let none : length (sent_in (m.history p) n s) ≡ 0 =
         ap length (sent_in-none (m.history p) n s silent.nothing) in
         omega arith

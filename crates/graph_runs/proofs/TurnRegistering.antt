@@ -310,21 +310,19 @@ due_child job m t c is due =
     let comes = comes-is t (m.begun t) (task_at job.graph c).parent parts.0 in
     let parent = parent-is job.graph c (task_at job.graph c) comes.by (is.tasks c found.1)
     comes.is in
-    let P : ℕ → Type 0 = λ x. has_children (task_at job.graph x).kind ≡ true in
     record {
       there = found.1;
       missing = parts.1;
       comes = comes;
       parent = parent;
-      parent_plain = subst P comes.task parent.kind;
+      parent_plain = rw comes.task at parent.kind;
     }
 
 -- a phaser on the child's line, and so on its parent's
 pub on_parents_line : (job : Job) (m : Moment) (t c p : ℕ) → IsGraph job.graph
     → IsDueChild job m t c → OnLine (task_at job.graph c) p → OnLine (task_at job.graph t) p
 on_parents_line job m t c p is d on =
-    let L : ℕ → Type 0 = λ x. OnLine (task_at job.graph x) p in
-    subst L d.comes.task (on_parent job c p d.comes.by is d.there d.comes.is on)
+    rw d.comes.task at (on_parent job c p d.comes.by is d.there d.comes.is on)
 
 -- ---- the event
 
@@ -335,8 +333,7 @@ pub sink_mode : (job : Job) (c i : ℕ) → IsGraph job.graph → c < length job
 sink_mode job c i is there kind lt =
     let task = task_at job.graph c in
     let line = is.tasks c there in
-    let E : Kind → Type 0 = λ k. HasEnds k (length task.inputs) (length task.outputs) in
-    let ends : (length task.inputs ≡ 1) × (length task.outputs ≡ 0) = subst E kind line.ends in
+    let ends : (length task.inputs ≡ 1) × (length task.outputs ≡ 0) = rw kind at line.ends in
     let same : registrations_at job c ≡ ends_of task =
     registrations-plain job.graph task (λ peer. (let wrong = sym kind ∙ peer in cc)) in
     let long : length (registrations_at job c) ≡ length task.inputs + length task.outputs =
@@ -358,9 +355,8 @@ next_child : (job : Job) (m : Moment) (t c : ℕ) (r : Registration) (mode : Mod
 next_child job m t c r mode is ran to_come live none d missing accepts same =
     let f = find-some (λ x. not (has_registered m c x)) (registrations_at job c) r
     no_registration missing in
-    let For : Registration → Type 0 = λ x. IsFor job c x in
     let use_of : IsFor job c r =
-    subst For f.1.2 (is_for job c f.1.0 is d.there f.1.1) in
+    rw f.1.2 at (is_for job c f.1.0 is d.there f.1.1) in
     let p = r.phaser in
     let above : OnLine (task_at job.graph t) p =
     on_parents_line job m t c p is d use_of.on_line in (
