@@ -50,9 +50,8 @@ kept_fresh {A} op bound = record {
 
 pub fresh_within : {A : Type 0} (op : Operation A) (bound : ℕ) (r : Ring A) → r ≡ fresh_ring op (bound + 1) → IsWithin r 0
 fresh_within {A} op bound r same =
-    let W : Ring A → Type 0 = λ x. IsWithin x 0 in
     let long = length-replicate (bound + 1) (empty_slot op) in
-    subst W (sym same) (record { low = omega arith; high = omega arith })
+    rw same (record { low = omega arith; high = omega arith })
 
 pub fresh_few : {A : Type 0} (op : Operation A) (bound : ℕ) (r : Ring A) (role : Role) (p : ℕ) → r ≡ fresh_ring op (bound + 1) → standing r role p ≡ 0
 fresh_few {A = A} op bound r role p same = ap (λ (x : Ring A). standing x role p) same ∙ standing-fresh op (bound + 1) role p
@@ -62,8 +61,7 @@ pub first_entered : {A : Type 0} (op : Operation A) (bound : ℕ) (r r1 : Ring A
     → ((slot : Slot A) → slot_at r 0 ≡ Some slot → r1 ≡ with_slot 0 (with_standing Signaller (standing_of Signaller slot + 1) slot) r)
     → Moves op r r1 bound 0 0 Signaller 0 (standing r Signaller 0 + 1)
 first_entered {A} op bound r r1 same entered =
-    let K : Ring A → Type 0 = λ x. IsRingAt op x bound 0 0 in
-    enters op r r1 bound 0 0 0 Signaller (subst K (sym same) (kept_fresh op bound)) (fresh_within op bound r same) (omega arith, omega arith) entered
+    enters op r r1 bound 0 0 0 Signaller (rw same (kept_fresh op bound)) (fresh_within op bound r same) (omega arith, omega arith) entered
 
 pub next_within : {A : Type 0} (op : Operation A) (bound : ℕ) (r r1 : Ring A) → r ≡ fresh_ring op (bound + 1)
     → Moves op r r1 bound 0 0 Signaller 0 (standing r Signaller 0 + 1) → IsWithin r1 0

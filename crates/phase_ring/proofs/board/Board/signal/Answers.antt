@@ -50,11 +50,8 @@ go_on-requires g c =
     let same = c.join.ensures.keeps in
     let later = may.later in
     let top = c.max-self.ensures in
-    let L : Limits → Type 0 = λ l. IsRingAt op now.ring l.bound now.done c.max-self.result in
-    let D : ℕ → Type 0 = λ d. IsRingAt op now.ring old.limits.bound d c.max-self.result in
-    let T : ℕ → Type 0 = λ t. IsRingAt op now.ring old.limits.bound old.done t in
     record {
-      invariant = subst L (sym same.limits) (subst D (sym same.done) (subst T (sym (top ∙ ap (λ t. max t (c.args.phase + 1)) same.top)) j.kept));
+      invariant = rw same.limits (rw same.done (rw (top ∙ ap (λ t. max t (c.args.phase + 1)) same.top) j.kept));
       may = record {
         low = (let low = may.low in let d = same.done in omega arith);
         later = may.later;

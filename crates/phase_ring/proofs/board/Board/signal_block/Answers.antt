@@ -95,19 +95,15 @@ go_on-requires g c =
     let same = c.loop-pending.invariant in
     let later = may.later in
     let top = c.max-self.ensures in
-    let L : Limits → Type 0 = λ l. IsRingAt op now.ring l.bound now.done c.max-self.result in
-    let D : ℕ → Type 0 = λ d. IsRingAt op now.ring old.limits.bound d c.max-self.result in
-    let T : ℕ → Type 0 = λ t. IsRingAt op now.ring old.limits.bound old.done t in
     record {
-      invariant = subst L (sym same.1) (subst D (sym same.2) (subst T (sym (c.max-self.ensures ∙ ap (λ t. max t c.loop-pending.next) same.3)) inv.joining.kept));
+      invariant = rw same.1 (rw same.2 (rw (c.max-self.ensures ∙ ap (λ t. max t c.loop-pending.next) same.3) inv.joining.kept));
       may = record {
         low = (let low = may.low in let d = same.2 in omega arith);
         later = omega arith;
         high = omega arith;
         stands = (let s = j.stands Signaller c.args.phase in let h = may.stands in omega arith);
         few = (let s = j.stands Signaller to in let few = may.few in
-            let F : ℕ → Type 0 = λ n. standing c.loop-pending.self.ring Signaller n < MEMBERS_MAX in
-            subst F (sym to_is) (omega arith));
+            rw to_is (omega arith));
       };
     }
 

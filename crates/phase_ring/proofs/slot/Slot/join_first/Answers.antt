@@ -21,5 +21,4 @@ returns-clause-value g c =
 pub returns-clause-held : goal.returns-clause-held
 returns-clause-held g c =
     let held = c.part-self-inside.ensures.held in
-    let P : Parcel g.row.A.Denot → Type 0 = λ k. StandsForSends g.A.Accumulate.operation k held.0 in
-    (held.0, subst P (ap₂ parcel (sym c.part-self-inside.ensures.value) (sym c.count-self-inside.ensures.value)) held.1)
+    (held.0, rw (ap₂ parcel (sym c.part-self-inside.ensures.value) (sym c.count-self-inside.ensures.value)) at held.1)
