@@ -42,7 +42,7 @@ looks_decimal n small =
 
 -- a word that is the one form of a number
 pub looks : (bs : List ℕ) (n : ℕ) → n ≤ value_max → bs ≡ decimal n → LooksDecimal bs n
-looks bs n small e = let P : List ℕ → Type 0 = λ ds. LooksDecimal ds n in subst P (sym e) (looks_decimal n small)
+looks bs n small e = rw e (looks_decimal n small)
 
 first_digit : (n : ℕ) → n ≤ value_max → 48 ≤ get_or (decimal n) 0 0
 first_digit n small = let form = looks_decimal n small in (digit_at (decimal n) 0 form.digits form.some).0
@@ -55,7 +55,7 @@ negative bs (pos n) within first e =
 negative bs (negsuc n) within first e = (n, refl, e, within.small)
 
 pub take_rest : (bs ds : List ℕ) → bs ≡ 45 ∷ ds → take (length bs - 1) (drop 1 bs) ≡ ds
-take_rest bs ds e = let P : List ℕ → Type 0 = λ bs. take (length bs - 1) (drop 1 bs) ≡ ds in subst P (sym e) (at (length (45 ∷ ds) - 1) (omega arith))
+take_rest bs ds e = rw e (at (length (45 ∷ ds) - 1) (omega arith))
   where
     at : (n : ℕ) → n ≡ length ds → take n ds ≡ ds
     at n e = rw e (take-length ds)
