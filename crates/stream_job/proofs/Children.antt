@@ -10,7 +10,7 @@ use Rattle.graph_lang.proofs.graph_base_lemmas.Registered.{registrations-phasers
 use Rattle.graph_runs.specs.Reached.{IsReachable}
 use Rattle.std.proofs.lemmas.List.{length-set, length-map, length-append, get_or-map, get_or_append_left}
 use Rattle.std.proofs.lemmas.Bool.{cases_lt, eqb-true, eq-eqb}
-use Rattle.std.proofs.lemmas.Option.{slice_get-get_or, slice_get_past}
+use Rattle.std.proofs.lemmas.Option.{slice_get-get_or, slice_get_past, slice_get_read}
 use Rattle.phase_core.specs.phase_base.declared.mode.Mode.{Mode}
 use Rattle.phase_core.specs.phase_history.declared.refusal.RegisterRefusal.{RegisterRefusal}
 use Rattle.phase_core.specs.phase_history.Histories.{greatest_used, done_of}
@@ -95,6 +95,14 @@ child_below job machine t c next =
     let lt = (found_below (is_due job next.some.0 t) (length job.graph.tasks) c
     (child_due job next.some.0 t c (next.is next.some.0 at))).1 in
     omega arith
+
+-- its state, as it is read
+pub child_read : {job : Job} {machine : Machine} {t c : ℕ} {state : TaskState}
+    → IsNextIn job machine t (registers c) → state ≡ get_or machine.tasks.items c state
+    → slice_get machine.tasks.items c ≡ Some state
+child_read {job} {machine} {t} {c} {state} next read =
+    slice_get_read machine.tasks.items (length machine.tasks.items) c state refl
+    (child_below job machine t c next) read
 
 pub child_at : (job : Job) (machine : Machine) (m : Moment) (t c : ℕ) (state : TaskState)
     → IsNextIn job machine t (registers c) → IsMachineAt job m machine
