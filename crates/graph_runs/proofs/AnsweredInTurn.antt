@@ -108,12 +108,11 @@ none_after job m event next small none = by event next small
         → received_by (value_at job p) (Waited n (length outcomes) ∷ m.history p) n
         ≡ received_by (value_at job p) (m.history p) n ++ outcomes
         → AreSmall outcomes → On job AnsweredNone p (Waited n (length outcomes) ∷ m.history p)
-    waits p n outcomes answered small pp =
-        (
-          rw (answer_is (value_at job p) (m.history p) n (length outcomes) outcomes answered)
-              small,
-          none p pp,
-        )
+    waits p n outcomes answered small pp = (
+      rw (answer_is (value_at job p) (m.history p) n (length outcomes) outcomes answered)
+          small,
+      none p pp,
+    )
 
     by : (event : TaskEvent) → IsNext job m event → HasSmall event
         → HasAnsweredNone job (after_turn job event m)

@@ -77,7 +77,7 @@ returns-clause-after g c h given =
     let before : c.in-Some.entry.wait_phase < c.self.inside.board.done = c.if-done-phase.false in
     let o = c.wait-outcome.ensures in
     let stands : StandsFor g.A.Accumulate.operation (core_of c.self.inside.registry c.self.inside.board)
-        h = rw c.self.view_is given in
+    h = rw c.self.view_is given in
     stands_after_wait m c.waited.new.self c.wait-outcome.new.self 1 (omega arith) c.waited.ensures
     o.waited o.slots o.invariant o.stops h stands
     (one_replied m h None stands c.in_default-wait_refusal.ensures).0

@@ -45,7 +45,7 @@ counted g c m =
     let asked = asked_some c.self.inside.board.limits h c.args.task (length c.args.out.now)
     (block_replied m h (length c.args.out.now) None m.core.stands c.in_default-refusal.ensures).0 in
     let count : c.min-count.result
-        ≡ min (length c.args.out.now) (c.self.inside.board.done - c.in-Some.entry.wait_phase) =
+    ≡ min (length c.args.out.now) (c.self.inside.board.done - c.in-Some.entry.wait_phase) =
     c.min-count.ensures in
     let before : c.in-Some.entry.wait_phase < c.self.inside.board.done = c.if-done-phase.false in
     record { least_of = count; before = before; some = omega arith }
@@ -138,7 +138,7 @@ returns-clause-after g c h given =
     let before = n.before in
     let o = c.wait_block.ensures in
     let stands : StandsFor g.A.Accumulate.operation (core_of c.self.inside.registry c.self.inside.board)
-        h = rw c.self.view_is given in
+    h = rw c.self.view_is given in
     stands_after_wait m c.waited.new.self c.wait_block.new.self c.min-count.result (omega arith)
     c.waited.ensures o.waited o.slots o.invariant o.stops h stands
     (allowed g a.After-min-count m h stands)
