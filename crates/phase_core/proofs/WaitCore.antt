@@ -152,8 +152,7 @@ stands_waited {A} op reg new_reg b new h task n e w stands found boarded none co
           same_Some _ _ (sym waiter ∙ slowest_is op new_reg.members new.ring new.limits.bound new.done new.top boarded) in
           kept_slots reg new_reg b.limits b.ring new.ring b.top new.top p slot keeps (omega arith) is;
     }) in
-    let S : CoreState A → Type 0 = λ k. StandsFor op k (Waited task n ∷ h) in
-    subst S (sym (ap (λ l. core_with new_reg l new.ring new.top) limits_is)) there
+    rw (ap (λ l. core_with new_reg l new.ring new.top) limits_is) there
 
 -- ---- the reply
 
@@ -220,8 +219,7 @@ few_by op reg b task n e boarded found few waits some =
     let here = boarded.waiters_are e.wait_phase in
     let next = boarded.waiters_are (e.wait_phase + n) in
     let two = two_counts (wait_phases reg.members) e.wait_phase (e.wait_phase + n) (λ q. omega arith) in
-    let most = wait_phases-few reg.members in
-    omega arith
+    omega (arith, wait_phases-few reg.members)
 
 -- what was got is in range, and has its places
 pub block_in_range : {A : Type 0} (op : Operation A) (laws : AccumulateLaws op) (limits : Limits) (h : History) (task phase count : ℕ)
@@ -239,8 +237,7 @@ block_in_range op laws limits h task phase count result old new legal reply out 
     let many = t.count_is in
     let got_long : count ≤ length got = omega (arith, length-take (phase + count - phase) (drop phase xs), length-drop phase xs) in
     let front : take count new ≡ take count got = ap (take count) new_is ∙ take-append-le count got (drop count old) got_long in
-    let P : List Outcome → Type 0 = λ l. All IsInRange l in
-    (omega arith, subst P (sym front) (All-take IsInRange count got (All-take IsInRange (phase + count - phase) (drop phase xs) (All-drop IsInRange phase xs (stream_of-in_range op laws limits h legal)))))
+    (omega arith, rw front (All-take IsInRange count got (All-take IsInRange (phase + count - phase) (drop phase xs) (All-drop IsInRange phase xs (stream_of-in_range op laws limits h legal)))))
 
 -- ---- a member that waits
 
