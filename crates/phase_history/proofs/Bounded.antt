@@ -103,8 +103,7 @@ bounded_step limits before (RegisteredNow parent child) legal accepted bounded =
     Each-entry _ (members_of before) parent r.entry r.is_member (sound_of limits before legal) in
     Each-push _ (members_of before) _ bounded
     (λ w. (let t : mode_waits r.entry.mode ≡ true = holds_waits r.entry.mode Wait r.allowed refl in
-    let a : top_of before ≤ r.entry.wait_phase + limits.bound = own t in
-    let b : r.entry.wait_phase ≤ done_of before = good.waits t in omega arith))
+    omega (arith, own t, good.waits t)))
 bounded_step limits before (Signalled task lists single) legal accepted bounded =
     let ms = members_of before in
     let p : Passes (entry_of ms task) (signal_rows limits before lists single) = passes_from _ _ _ accepted.0 in
@@ -120,8 +119,7 @@ bounded_step limits before (Signalled task lists single) legal accepted bounded 
     not_ahead limits before lists single p.entry slowest some p.passes.1.1.1 (omega arith))) in
     let both : Each (WithinBound limits.bound (top_of (Signalled task lists single ∷ before))) ms =
     Each-both (WithinBound limits.bound (top_of before)) (WithinBound limits.bound (p.entry.signal_phase + length lists)) (WithinBound limits.bound (top_of (Signalled task lists single ∷ before)))
-    (λ m a b w. (let x : top_of before ≤ m.entry.wait_phase + limits.bound = a w in
-    let y : p.entry.signal_phase + length lists ≤ m.entry.wait_phase + limits.bound = b w in omega arith)) ms bounded ahead in
+    (λ m a b w. (omega (arith, a w, b w))) ms bounded ahead in
     Each-changed _ _ task (signalled (length lists)) p.entry ms p.is_member (λ m h. h) (λ h. h) both
 bounded_step limits before (Waited task n) legal accepted bounded =
     let r = waits_from limits before task n accepted.0 in

@@ -173,8 +173,7 @@ SentInTurn-of limits (Signalled t lists single ∷ before) task start legal is =
     let began : c.start ≡ start = same_Some _ _ (sym c.start_is ∙ (ap (λ n. start_of before n) same ∙ is)) in
     let began_at : c.start.signal_phase ≡ start.signal_phase = ap (λ (x : Entry). x.signal_phase) began in
     let count_is : phases_signalled before t ≡ phases_signalled before task = ap (λ n. phases_signalled before n) same in
-    let at : c.start.signal_phase + phases_signalled before t ≡ r.entry.signal_phase = c.signals in
-    omega arith) in
+    omega (arith, c.signals)) in
     record {
       placed = λ k p e. elim (eqb t task) as (λ b. (eqb t task ≡ b)
           → cond b (sent_in before task p ++ list_in_phase lists s p) (sent_in before task p) ≡ get_or (cond b (sent_by before task ++ lists) (sent_by before task)) k []) [

@@ -80,8 +80,7 @@ began limits (Waited t n ∷ before) task e legal found =
 began limits (Dropped gone ∷ before) task e legal found =
     elim (eqb gone task) as (λ b. (eqb gone task ≡ b) → (start : Entry) × (start_of before task ≡ Some start) × (start.mode ≡ e.mode)) [
       | true ↦ λ t.
-          let P : ℕ → Type 0 = λ n. entry_of (without gone (members_of before)) n ≡ None in
-          let none : entry_of (without gone (members_of before)) task ≡ None = subst P (eqb-true _ _ t) (entry_of-without_same (members_of before) gone) in
+          let none : entry_of (without gone (members_of before)) task ≡ None = rw (← (eqb-true _ _ t)) (entry_of-without_same (members_of before) gone) in
           absurd (let e : None ≡ Some e = sym none ∙ found in cc)
       | false ↦ λ t. began limits before task e legal.0 (sym (entry_of-without_other (members_of before) gone task t) ∙ found)
     ] refl
@@ -117,9 +116,7 @@ pub holds_open : (limits : Limits) (h : History) (task : ℕ) (start : Entry) �
 holds_open limits h task start legal is signals stays =
     let s : Signals h task start = signals_still limits h task start legal is signals stays in
     let low : mode_signals s.entry.mode ≡ true → done_of h ≤ s.entry.signal_phase = Each-entry _ (members_of h) task s.entry s.is_member (done_low (positions_of h)) in
-    let here : done_of h ≤ s.entry.signal_phase = low s.signals in
-    let at : start.signal_phase + phases_signalled h task ≡ s.entry.signal_phase = s.at in
-    omega arith
+    omega (arith, low s.signals, s.at)
 
 -- where no task signals, each that began as a signaller has dropped
 pub all_dropped : (limits : Limits) (h : History) (task : ℕ) (start : Entry) → IsLegal limits h → HasNoSignaller h → start_of h task ≡ Some start

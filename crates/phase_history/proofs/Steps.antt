@@ -91,10 +91,9 @@ joins h e child mode w sound parent found signals waits greatest grows new now m
     (Each-push _ (members_of h) (member child (entry_at mode e.signal_phase w)) lows (λ s. parent_low (signals s))) in
     let top_low : done_of h ≤ now.top = (let a : done_of h ≤ top_of h = done_below_top h sound in omega arith) in
     let done_grows : done_of h ≤ done_at now = done_high now (done_of h) all_low top_low in
-    let Q : Members → Type 0 = λ ms. Each (StandsWell (done_at now) now.top greatest) ms in (
+    (
       done_grows,
-      subst Q (sym members_are)
-          (Each-push _ (members_of h) (member child (entry_at mode e.signal_phase w))
+      rw (← members_are) at (Each-push _ (members_of h) (member child (entry_at mode e.signal_phase w))
           (Each-from (StandsWell (done_of h) (top_of h) (greatest_used h)) (StandsWell (done_at now) now.top greatest)
           (stands_later _ _ _ _ _ _ done_grows (omega arith) grows) (members_of h) sound)
           (record {
