@@ -21,9 +21,7 @@ use Rattle.graph_runs.specs.Moves.{HasGrown, HasMoved, SignalsAll, Signals, Wait
 use Rattle.graph_runs.proofs.Numbers.{in_numbers}
 use Rattle.graph_runs.proofs.OnLines.{on_phaser}
 use Rattle.graph_runs.proofs.Framed.{task_later, part_came}
-use Rattle.graph_runs.proofs.OwnEvents.{eq_case, history_by}
-use Rattle.graph_runs.proofs.OwnSignals.{own_signals}
-use Rattle.graph_runs.proofs.OwnWaits.{own_waits}
+use Rattle.graph_runs.proofs.OwnEvents.{eq_case, history_by, own_signals, own_waits}
 use Rattle.graph_runs.proofs.OwnLeaves.{own_leave}
 
 -- what an event of number n leaves of a phaser's history

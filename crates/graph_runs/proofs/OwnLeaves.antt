@@ -14,8 +14,7 @@ use Rattle.stream_lists.specs.Lists.{number}
 use Rattle.graph_runs.specs.Moments.{one, Moment, input_at, value_at, TaskRan, HasEnded, OnOutput, OnInput, OnPhaser, PutOn, TakenOn, SilentOn, OnLine, HasNotPassed}
 use Rattle.graph_runs.specs.Moves.{HasGrown, Leaves}
 use Rattle.graph_runs.proofs.Framed.{ListsRan, lists_later, ended_later}
-use Rattle.graph_runs.proofs.OwnPlaces.{outputs_later, inputs_later}
-use Rattle.graph_runs.proofs.OwnEvents.{eq_case, history_by, joined_later}
+use Rattle.graph_runs.proofs.OwnEvents.{outputs_later, inputs_later, eq_case, history_by, joined_later}
 
 pub own_leave : (job : Job) (before after : Moment) (t p n : ℕ) → IsGraph job.graph
     → t < length job.graph.tasks → HasGrown job before after t

@@ -28,9 +28,7 @@ use Rattle.graph_runs.specs.Moments.{Moment, TaskRan, OnLine, OnInput, TakenOn, 
 use Rattle.graph_runs.specs.Moves.{further, SameTask, HasGrown, OthersMoved, PartStays, IsStaying, MayBeginTo, HasMoved, SignalsAll, WaitsAll, NoneDue}
 use Rattle.graph_runs.specs.Turned.{with_at, after_signals, after_waits, after_leave}
 use Rattle.graph_runs.proofs.Framed.{part_came, task_later, ended_later}
-use Rattle.graph_runs.proofs.OwnEvents.{eq_case}
-use Rattle.graph_runs.proofs.OwnSignals.{own_signals}
-use Rattle.graph_runs.proofs.OwnWaits.{own_waits}
+use Rattle.graph_runs.proofs.OwnEvents.{eq_case, own_signals, own_waits}
 use Rattle.graph_runs.proofs.OwnLeaves.{own_leave}
 use Rattle.graph_runs.proofs.InBlocks.{next_signals_are, next_samples_are, first_waits_are}
 use Rattle.graph_runs.proofs.Nexts.{further-length}
