@@ -1,31 +1,32 @@
--- What is the same for each event of a task of its own: a signal, a wait or its leaving.
+-- What a task's own events leave of what a moment has of it: what is the same for each, and then a
+-- signal and a wait.
 use Rattle.std.proofs.Common.{◌≡◌, ◌≢◌, ℕ, ◌+◌, ◌<◌, ◌≤◌, Bool, true, false, eqb, ◌∷◌, Option, Some, None, length, refl, sym, ap, subst, ◌∙◌, arith, ◌⊎◌, inl, inr, List, map, [], ◌++◌, ℤ, get_or, zero, suc}
 use Rattle.std.proofs.lemmas.Bool.{eqb-true, eq-eqb}
+use mathlib.Core.List.{IsPrefix}
+use Rattle.std.proofs.lemmas.List.{map-append, length-append, length-map}
+use Rattle.std.proofs.lemmas.Option.{same_Some}
+use Rattle.std.proofs.lemmas.List.FromFn.{length-map-range_with_len}
 use Rattle.phase_history.specs.declared.event.Event.{Event}
 use Rattle.phase_history.specs.Histories.{History, has_dropped, start_of}
+use Rattle.phase_history.specs.phase_base.declared.entry.Entry.{Entry}
+use Rattle.phase_history.specs.Phases.{received_by}
+use Rattle.phase_history.specs.Sent.{sent_by, IsSilent}
+use Rattle.phase_history.specs.declared.event.Event.TheVariants.{Signalled, Waited}
+use Rattle.phase_history.specs.phase_accum.declared.outcome.Outcome.{Outcome}
 use Rattle.stream_lists.specs.graph_base.declared.line.Parent.{Parent}
 use Rattle.stream_lists.specs.graph_base.Graphs.{task_at, Task, phaser_at}
 use Rattle.stream_lists.specs.graph_base.TaskLines.{IsGraph, IsTaskLine, HasEnds}
 use Rattle.stream_lists.specs.Jobs.{Job, samples_at, index_in}
 use Rattle.stream_lists.specs.Lists.{output_list, number}
-use Rattle.stream_lists.proofs.Growing.{map-same}
-use Rattle.graph_runs.specs.Moments.{Moment, BeginsBy, taken_now, made_now, IsRegistered, Joined, one, input_at, value_at, TaskRan, OnOutput, OnInput, OnPhaser, TakenOn, IsChild, HasEnded, PutOn, SilentOn, OnLine, HasNotPassed, AtMost, HasTaken, HasSamples, HasExchanged, first_input}
-use Rattle.graph_runs.specs.Moves.{HasMoved, further, MayBeginTo, SignalsAll, Signals, IsBlock, WaitsAll, Waits}
-use Rattle.stream_lists.proofs.SpansAbove.{parent-is}
-use Rattle.phase_history.specs.phase_base.declared.entry.Entry.{Entry}
-use Rattle.phase_history.specs.Phases.{received_by}
-use Rattle.phase_history.specs.Sent.{sent_by, IsSilent}
 use Rattle.stream_lists.specs.Spans.{signalled_by}
-use mathlib.Core.List.{IsPrefix}
-use Rattle.std.proofs.lemmas.List.{map-append, length-append, length-map}
-use Rattle.std.proofs.lemmas.Option.{same_Some}
-use Rattle.phase_history.specs.declared.event.Event.TheVariants.{Signalled, Waited}
 use Rattle.stream_lists.specs.graph_base.declared.line.Kind.{Kind}
 use Rattle.stream_lists.specs.graph_base.declared.line.Kind.TheVariants.{Source, Fir, Split, Join, Peer, Sink}
+use Rattle.stream_lists.proofs.Growing.{map-same}
+use Rattle.stream_lists.proofs.SpansAbove.{parent-is}
 use Rattle.stream_lists.proofs.Ordered.{place-at, place_of_input}
+use Rattle.graph_runs.specs.Moments.{Moment, BeginsBy, taken_now, made_now, IsRegistered, Joined, one, input_at, value_at, TaskRan, OnOutput, OnInput, OnPhaser, TakenOn, IsChild, HasEnded, PutOn, SilentOn, OnLine, HasNotPassed, AtMost, HasTaken, HasSamples, HasExchanged, first_input}
+use Rattle.graph_runs.specs.Moves.{HasMoved, further, MayBeginTo, SignalsAll, Signals, IsBlock, WaitsAll, Waits}
 use Rattle.graph_runs.proofs.StepsLemmas.{no_inputs}
-use Rattle.std.proofs.lemmas.List.FromFn.{length-map-range_with_len}
-use Rattle.phase_history.specs.phase_accum.declared.outcome.Outcome.{Outcome}
 use Rattle.graph_runs.proofs.Entries.{IsPrefix-refl, prefix_length}
 use Rattle.graph_runs.proofs.Nexts.{further-length, has_taken-block, has_taken-else, has_taken-peer}
 use Rattle.graph_runs.proofs.OutputLists.{outputs_begin}
