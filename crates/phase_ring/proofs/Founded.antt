@@ -42,8 +42,7 @@ kept_fresh {A} op bound = record {
   sealed_below = λ p slot low found.
       ap (λ (s : Slot A). s.sealed) (sym (slice_get-replicate (bound + 1) (p - 0) (empty_slot op) slot found)) ∙ sym (le-ltb p 0 (omega arith));
   unused = λ p slot low found above.
-      let U : Slot A → Type 0 = λ s. IsUnused op s in
-      subst U (slice_get-replicate (bound + 1) (p - 0) (empty_slot op) slot found) (record { part_is = refl; count_is = refl; named_is = refl });
+      rw (← (slice_get-replicate (bound + 1) (p - 0) (empty_slot op) slot found)) (record { part_is = refl; count_is = refl; named_is = refl });
 }
 
 -- ---- one task at phase 0

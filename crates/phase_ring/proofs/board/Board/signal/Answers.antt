@@ -28,13 +28,11 @@ join-requires g c =
 
 pub overflow_add-phase : goal.overflow_add-phase
 overflow_add-phase g c =
-    let far = c.requires.may.far in
-    omega arith
+    omega (arith, c.requires.may.far)
 
 pub overflow_add-phase-2 : goal.overflow_add-phase-2
 overflow_add-phase-2 g c =
-    let far = c.requires.may.far in
-    omega arith
+    omega (arith, c.requires.may.far)
 
 pub go_on-requires : goal.go_on-requires
 go_on-requires g c =

@@ -49,10 +49,7 @@ join-requires g c =
 pub overflow_add-next : goal.overflow_add-next
 overflow_add-next g c =
     let inv = c.loop-pending.invariant.0 in
-    let next_is = inv.next_is in
-    let inside : c.loop-pending.pending-index < length c.args.lists.now = c.loop-pending-test.true in
-    let far = c.requires.may.far in
-    omega arith
+    omega (arith, inv.next_is, c.loop-pending-test.true, c.requires.may.far)
 
 pub loop-pending-preserved : goal.loop-pending-preserved
 loop-pending-preserved g c =
