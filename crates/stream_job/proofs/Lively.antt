@@ -82,10 +82,8 @@ pub state_there : {job : Job} {machine : Machine} {t : ℕ} {next : Next}
     → IsNextIn job machine t next → next ≢ is_not_live → t < length machine.tasks.items
 state_there {job = job} {t = t} {next = next} is never =
     let at = is.some.1 in
-    let many = at.tasks_many in
     let living = live-is job is.some.0 t (live_next job is.some.0 t next (is.is is.some.0 at) never) in
-    let there = living.there in
-    omega arith
+    omega (arith, at.tasks_many, living.there)
 
 -- which was read
 pub state_read : {job : Job} {machine : Machine} {t : ℕ} {next : Next} {state : TaskState}

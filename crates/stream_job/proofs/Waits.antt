@@ -203,9 +203,8 @@ pub done_few : (job : Job) (m : Moment) (p : ℕ) → HasRun job m → p < lengt
 done_few job m p ran there =
     let h = m.history p in
     let legal = (ran.phasers p there).legal in
-    let below : done_of h ≤ top_of h = done_below_top h (sound_of (limits_at job p) h legal) in
-    let most : top_of h ≤ PHASES_MAX = top_within (limits_at job p) h legal in
-    omega arith
+    omega (arith, done_below_top h (sound_of (limits_at job p) h legal),
+    top_within (limits_at job p) h legal)
 
 -- nor does a wait get one
 pub phase_few : (job : Job) (m : Moment) (p n phase : ℕ) (outcome : Outcome) → HasRun job m
@@ -214,10 +213,7 @@ pub phase_few : (job : Job) (m : Moment) (p n phase : ℕ) (outcome : Outcome) �
     → phase < PHASES_MAX
 phase_few job m p n phase outcome ran there reply =
     let tells = reply_tells (value_at job p) (limits_at job p) (m.history p) n phase outcome reply in
-    let below : wait_phase (m.history p) n < done_of (m.history p) = tells.0 in
-    let is : phase ≡ wait_phase (m.history p) n = tells.1 in
-    let few = done_few job m p ran there in
-    omega arith
+    omega (arith, tells.0, tells.1, done_few job m p ran there)
 
 -- ---- what is asked of the phaser
 
@@ -279,8 +275,7 @@ pub exchange_few : (job : Job) (machine : Machine) (m : Moment) (t : ℕ)
 exchange_few job machine m t next at =
     let is = next.is m at in
     let there = (live-is job m t (live_next job m t turns.exchanges is (λ e. absurd (cc)))).there in
-    let ends = (peer_ends job t at.graph there (is_peer job m t is)).0 in
-    omega arith
+    omega (arith, (peer_ends job t at.graph there (is_peer job m t is)).0)
 
 pub exchange_waits_at : (job : Job) (machine : Machine) (m : Moment) (t : ℕ) (state : TaskState)
     → IsNextIn job machine t turns.exchanges → IsMachineAt job m machine
@@ -648,8 +643,7 @@ may_take job old m t k n p steps phase count outcomes state asks at all there =
       block = made.next.1.block;
       nothing = nothing_owed state.owed state.made.items (owes_nothing job m t
           (owed_in state.owed state.made.items) it.stands.owes b.step.none);
-      room = λ fir. (let room : (task_at job.graph t).block ≤ state.made.cap = it.made_room fir in
-          omega arith);
+      room = λ fir. (omega (arith, it.made_room fir));
       begun = omega arith;
     }
 
@@ -805,9 +799,6 @@ sink_there job old m t state sink at found is =
         let lt = slice_get_within (sinks_of job) state.sink t
         ((at.tasks t state found).sink (sink_kind (task_at job.graph t).kind e)) in
         let f : ℕ → ℕ × List ℤ = λ u. (u, kept_by job m u) in
-        let many : length (map sink_values old.lines.items) ≡ length (map f (sinks_of job)) =
-        ap length at.lines in
-        let one = length-map old.lines.items sink_values in
-        let two = length-map (sinks_of job) f in
-        omega arith
+        omega (arith, ap length at.lines, length-map old.lines.items sink_values,
+        length-map (sinks_of job) f)
     by false e = tt

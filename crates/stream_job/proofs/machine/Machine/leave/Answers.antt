@@ -25,9 +25,7 @@ bounds-deref-left c =
     let found = state_read c.requires (λ e. (cc)) c.index-state.ensures in
     let low = (leaves_now c.args.job.now c.args.self.now c.requires.some.0 c.args.t
     c.index-state.result.now c.requires c.requires.some.1 found).stays in
-    let same : length c.deref.result.now ≡ length c.index-state.result.now.numbers.items =
-    ap length c.deref.ensures in
-    omega arith
+    omega (arith, ap length c.deref.ensures)
 
 pub registration-phaser-requires-clause-number : goal.registration-phaser-requires-clause-number
 registration-phaser-requires-clause-number c =

@@ -34,10 +34,7 @@ begun c has =
     let at = c.requires.next.some.1 in
     let begun = made_begun c.args.job.now c.args.self.now m c.args.t 0 c.index-state.result.now
     c.requires.next at (state_read c.requires.next (λ e. (cc)) c.index-state.ensures) (has m at) in
-    let many : c.index-state.result.now.made.len ≡ length c.index-state.result.now.made.items =
-    c.index-state.result.now.made.ok.0 in
-    let len = c.len.ensures in
-    omega arith
+    omega (arith, c.index-state.result.now.made.ok.0, c.len.ensures)
 
 -- the first that is too big
 over : (c : In-Some) → ((m : Moment) → IsMachineAt c.args.job.now m c.args.self.now
@@ -63,10 +60,7 @@ pub overflow_sub-first : goal.overflow_sub-first
 overflow_sub-first c =
     let a = goal.at.overflow_sub-first c in
     let has = has_all a.After-index-state in
-    let m = c.requires.next.some.0 in
-    let at = c.requires.next.some.1 in
-    let begun = begun a.After-len has in
-    omega arith
+    omega (arith, c.requires.next.some.0, c.requires.next.some.1, begun a.After-len has)
 
 pub put_values-requires : goal.put_values-requires
 put_values-requires c =
@@ -115,10 +109,7 @@ bounds-deref-k c =
     let again = state_read c.requires.next (λ e. (cc)) c.index.ensures in
     let place = (signals_at c.args.job.now c.args.self.now c.requires.next.some.0 c.args.t 0
     c.index.result.now c.requires.next c.requires.next.some.1 again).place in
-    let same = c.output_of-k.ensures.registration in
-    let long : length c.deref-2.result.now ≡ length c.index.result.now.numbers.items =
-    ap length c.deref-2.ensures in
-    omega arith
+    omega (arith, c.output_of-k.ensures.registration, ap length c.deref-2.ensures)
 
 pub signal_values_on-requires-clause-sends : goal.signal_values_on-requires-clause-sends
 signal_values_on-requires-clause-sends c =

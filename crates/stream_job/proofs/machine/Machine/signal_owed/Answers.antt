@@ -72,8 +72,7 @@ signal_value-requires-clause-value c = λ m at.
 pub overflow_sub-result : goal.overflow_sub-result
 overflow_sub-result c =
     let over = over (goal.at.overflow_sub-result c).In-Err in
-    let begun = (over c.requires.next.some.0 c.requires.next.some.1).begun in
-    omega arith
+    omega (arith, (over c.requires.next.some.0 c.requires.next.some.1).begun)
 
 pub returns-in-Err-clause-made : goal.returns-in-Err-clause-made
 returns-in-Err-clause-made c =

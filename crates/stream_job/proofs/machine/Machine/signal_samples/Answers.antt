@@ -39,10 +39,7 @@ bounds-deref-k c =
     let found = state_read c.requires.next (λ e. (cc)) c.index-state.ensures in
     let place = (samples_at_place c.args.job.now c.args.self.now c.requires.next.some.0 c.args.t
     c.index-state.result.now c.requires.next c.requires.next.some.1 found).place in
-    let same = c.output_of-k.ensures.registration in
-    let long : length c.deref.result.now ≡ length c.index-state.result.now.numbers.items =
-    ap length c.deref.ensures in
-    omega arith
+    omega (arith, c.output_of-k.ensures.registration, ap length c.deref.ensures)
 
 pub overflow_add-samples : goal.overflow_add-samples
 overflow_add-samples c =
@@ -83,11 +80,7 @@ signal_values_on-requires-clause-sends c =
 pub signal_values_on-requires-clause-room : goal.signal_values_on-requires-clause-room
 signal_values_on-requires-clause-room c =
     let read = read (goal.at.signal_values_on-requires-clause-room c).After-samples in
-    let block = read.block in
-    let long = read.long in
-    let room = c.requires.places c.args.t read.there in
-    let same : c.buffers.inside.parcels ≡ c.args.buffers.now = c.buffers.view_is in
-    omega arith
+    omega (arith, read.block, read.long, c.requires.places c.args.t read.there, c.buffers.view_is)
 
 pub returns-in_default-clause-made : goal.returns-in_default-clause-made
 returns-in_default-clause-made c =

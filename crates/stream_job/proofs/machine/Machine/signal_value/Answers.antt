@@ -30,10 +30,7 @@ bounds-deref-k c =
     let found = state_read c.requires.next (λ e. (cc)) c.index.ensures in
     let place = (signals_at c.args.job.now c.args.self.now c.requires.next.some.0 c.args.t
     c.args.output c.index.result.now c.requires.next c.requires.next.some.1 found).place in
-    let same = c.output_of-k.ensures.registration in
-    let long : length c.deref.result.now ≡ length c.index.result.now.numbers.items =
-    ap length c.deref.ensures in
-    omega arith
+    omega (arith, c.output_of-k.ensures.registration, ap length c.deref.ensures)
 
 pub signal_on-requires-clause-send : goal.signal_on-requires-clause-send
 signal_on-requires-clause-send c =

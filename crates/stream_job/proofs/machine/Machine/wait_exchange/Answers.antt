@@ -18,9 +18,7 @@ bounds-deref-1 c =
     let found = state_read c.requires (λ e. (cc)) c.index-state.ensures in
     let place = (exchange_waits_at c.args.job.now c.args.self.now c.requires.some.0 c.args.t
     c.index-state.result.now c.requires c.requires.some.1 found).place in
-    let long : length c.deref.result.now ≡ length c.index-state.result.now.numbers.items =
-    ap length c.deref.ensures in
-    omega arith
+    omega (arith, ap length c.deref.ensures)
 
 pub unreachable-requires : goal.unreachable-requires
 unreachable-requires c =
