@@ -1,5 +1,5 @@
 -- Sends that join phases in a row.
-use Rattle.std.proofs.Common.{◌≡◌, ◌≢◌, ℕ, ℤ, ◌+◌, ◌-◌, ◌<◌, ◌≤◌, true, false, cond, ltb, Bool, zero, suc, drop, slice_index_or, map, ◌++◌, append_assoc, List, [], ◌∷◌, Option, Some, None, max, length, refl, sym, ◌∙◌, ap, ap₂, subst, arith, ⊎_elim}
+use Rattle.std.proofs.Common.{◌≡◌, ◌≢◌, ℕ, ℤ, ◌+◌, ◌-◌, ◌<◌, ◌≤◌, true, false, cond, ltb, Bool, zero, suc, drop, slice_index_or, map, ◌++◌, append_assoc, List, [], ◌∷◌, Option, Some, None, max, length, refl, sym, ◌∙◌, ap, ap₂, arith, ⊎_elim}
 use Rattle.std.specs.Prelude.{slice_set}
 use Rattle.std.specs.List.{range_with_len}
 use Rattle.std.proofs.Math.Seq.{set-append_seam}
@@ -168,8 +168,12 @@ hops_on op r r' new bound done top q to role later some left entered = record {
       (λ apart. let none = one-other q p apart in
       let b : standing r' role p ≡ standing r role p = left.apart p apart in
       ⊎_elim
-      (λ next. omega (arith, one-same to p next, ap (standing new role) next ∙ entered.at,
-      ap (standing r' role) next))
+      (λ next. omega (
+        arith,
+        one-same to p next,
+        ap (standing new role) next ∙ entered.at,
+        ap (standing r' role) next,
+      ))
       (λ away. omega (arith, one-other to p away, entered.apart p away))
       (cases_eq p to))
       (cases_eq p q);

@@ -1,5 +1,5 @@
 -- Somebody leaves a phase of a ring, or enters it.
-use Rattle.std.proofs.Common.{◌≡◌, ℕ, ◌+◌, ◌-◌, cond, Some, refl, sym, ap, subst}
+use Rattle.std.proofs.Common.{◌≡◌, ℕ, ◌+◌, ◌-◌, cond, Some, refl, sym, ap}
 use Rattle.std.proofs.lemmas.Bool.{eq-eqb, ne_eqb}
 use Rattle.phase_accum.specs.Operations.{Operation}
 use Rattle.phase_ring.specs.declared.role.Role.{Role}

@@ -1,8 +1,8 @@
 -- Each step gives up the base, for which nobody waits. Some waiter stands above it.
-use Rattle.std.proofs.Common.{◌≡◌, ◌<◌, length, sym, subst, ◌∙◌, ap, arith}
+use Rattle.std.proofs.Common.{◌≡◌, ◌<◌, length, sym, ◌∙◌, ap, arith}
 use Rattle.phase_ring.specs.declared.role.Role.{Role}
 use Rattle.phase_ring.specs.declared.role.Role.TheVariants.{Signaller, Waiter}
-use Rattle.phase_ring.specs.Rings.{Ring, KeepsSlots, standing, released}
+use Rattle.phase_ring.specs.Rings.{Ring, standing, released}
 use Rattle.phase_ring.specs.Boards.{IsRingAt}
 use Rattle.phase_ring.proofs.Slots.{waiter-above, releases, standing-released, KeepsSlots-released}
 use Rattle.phase_ring.proofs.board.Board.give_up.Goals as goal

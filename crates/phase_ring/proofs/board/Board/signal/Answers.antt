@@ -1,9 +1,7 @@
 -- The sends join their phase, and the task goes on to the next one.
-use Rattle.std.proofs.Common.{ℕ, ◌+◌, ◌<◌, [], ◌∷◌, max, sym, ap, subst, ◌∙◌, arith}
-use Rattle.phase_accum.specs.phase_base.Limits.{Limits}
+use Rattle.std.proofs.Common.{◌+◌, ◌<◌, [], ◌∷◌, max, ap, ◌∙◌, arith}
 use Rattle.phase_ring.specs.declared.role.Role.TheVariants.{Signaller, Waiter}
 use Rattle.phase_ring.specs.Rings.{Ring, sents}
-use Rattle.phase_ring.specs.Boards.{IsRingAt}
 use Rattle.phase_ring.specs.Blocks.{block_joined}
 use Rattle.phase_ring.proofs.Slots.{sealed-high}
 use Rattle.phase_ring.proofs.Blocks.{joins_first, joins_within, joins_unused, joins_next}

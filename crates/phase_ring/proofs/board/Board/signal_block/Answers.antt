@@ -1,10 +1,7 @@
 -- Each parcel joins its phase, the task goes on to the phase behind them, and then done moves up.
-use Rattle.std.proofs.Common.{◌≡◌, ℕ, ◌+◌, ◌<◌, ◌≤◌, length, max, drop, refl, sym, ap, subst, ◌∙◌, arith}
-use Rattle.phase_accum.specs.phase_base.Limits.{Limits}
-use Rattle.phase_accum.specs.phase_base.declared.limits.TheConstants.{MEMBERS_MAX}
+use Rattle.std.proofs.Common.{◌≡◌, ◌+◌, ◌<◌, ◌≤◌, length, max, drop, refl, ap, ◌∙◌, arith}
 use Rattle.phase_ring.specs.declared.role.Role.TheVariants.{Signaller, Waiter}
-use Rattle.phase_ring.specs.Rings.{Ring, standing, sents}
-use Rattle.phase_ring.specs.Boards.{IsRingAt}
+use Rattle.phase_ring.specs.Rings.{Ring, sents}
 use Rattle.phase_ring.specs.Standings.{one_if_same}
 use Rattle.phase_ring.specs.Blocks.{block_joined}
 use Rattle.phase_ring.proofs.Slots.{sealed-high}

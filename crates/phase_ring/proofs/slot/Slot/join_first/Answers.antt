@@ -1,6 +1,6 @@
 -- They are all that the slot has.
 use Rattle.std.proofs.Common.{sym, subst, ap, ap₂, ◌∙◌}
-use Rattle.phase_accum.specs.Parcels.{Parcel, parcel, StandsForSends}
+use Rattle.phase_accum.specs.Parcels.{parcel}
 use Rattle.phase_ring.specs.Choices.{named_of}
 use Rattle.phase_ring.specs.Slots.{Slot, joined, IsUnused}
 use Rattle.phase_ring.proofs.Blocks.{joined_first}

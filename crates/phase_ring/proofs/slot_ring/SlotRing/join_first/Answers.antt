@@ -1,6 +1,5 @@
 -- The slot then stands for their sends.
-use Rattle.std.proofs.Common.{◌≡◌, Some, sym, subst}
-use Rattle.phase_ring.specs.Rings.{Ring, slot_at}
+use Rattle.std.proofs.Common.{sym}
 use Rattle.phase_ring.proofs.Held.{IsRing-set}
 use Rattle.phase_ring.proofs.slot_ring.SlotRing.join_first.Goals as goal
 

@@ -1,8 +1,6 @@
 -- As many slots as before, each of which stands for some sends.
-use Rattle.std.proofs.Common.{◌≡◌, ◌++◌, [], ◌∷◌, drop, sym, subst, ap, ◌∙◌}
-use Rattle.circular_buffer.specs.Buffer.{Buffer, buffer}
-use Rattle.phase_ring.specs.Rings.{IsRing}
-use Rattle.phase_ring.specs.Slots.{Slot}
+use Rattle.std.proofs.Common.{◌≡◌, ◌++◌, [], ◌∷◌, drop, ap, ◌∙◌}
+use Rattle.circular_buffer.specs.Buffer.{buffer}
 use Rattle.phase_ring.proofs.Held.{IsRing-released, moved_items}
 use Rattle.phase_ring.proofs.slot_ring.SlotRing.release.Goals as goal
 
