@@ -51,8 +51,8 @@ module _ {A : Type 0} {op : Operation A} {reg : Roster} {b : Board A} {task : �
       pub within : e.signal_phase + length held ≤ PHASES_MAX
       within =
           let some = passed.some in
-          omega (arith, block_far b.limits slowest b.ring held single e some row,
-          phases_most m.core.stands)
+          let far = block_far b.limits slowest b.ring held single e some row in
+          omega (arith, phases_most m.core.stands)
 
       pub admitted : (h : History) (sends : List (List ℤ)) → StandsFor op (core_of reg b) h → StandForLists op held sends
           → signal_refusal b.limits h task sends single ≡ None

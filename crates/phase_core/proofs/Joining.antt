@@ -157,10 +157,12 @@ registers_core {A} op reg new_reg b new h parent child mode e stands boarded a r
     let now : IsBoarded op want.members new.ring new.limits.bound new.done new.top = record {
       kept = kept;
       done_at = ⊎_elim (λ at. inl (omega arith))
-          (λ some. inr (omega (arith, more Signaller b.done,
-          ap (standing new.ring Signaller) done_is))) boarded.done_at;
-      base_at = (omega (arith, more Waiter b.ring.base, ap (standing new.ring Waiter) base,
-      boarded.base_at));
+          (λ some. inr (let m = more Signaller b.done in
+          let s : standing new.ring Signaller new.done ≡ standing new.ring Signaller b.done = ap (standing new.ring Signaller) done_is in
+          omega arith)) boarded.done_at;
+      base_at = (let m = more Waiter b.ring.base in
+          let s : standing new.ring Waiter new.ring.base ≡ standing new.ring Waiter b.ring.base = ap (standing new.ring Waiter) base in
+          let w = boarded.base_at in omega arith);
       signallers_are = λ p. (let m = more Signaller p in let t = boarded.signallers_are p in
           let c = counts-push Signaller p reg.members child x in omega arith);
       waiters_are = λ p. (let m = more Waiter p in let t = boarded.waiters_are p in
@@ -168,8 +170,10 @@ registers_core {A} op reg new_reg b new h parent child mode e stands boarded a r
     } in
     let core_is : core_of want new ≡ core_with want b.limits new.ring b.top =
     ap (λ l. core_with want l new.ring new.top) limits_is ∙ ap (λ t. core_with want b.limits new.ring t) top_is in
-    let stands_now : StandsFor op (core_of want new) (event ∷ h) = rw core_is there in
-    rw reg_is (record {
+    let S : CoreState A → Type 0 = λ k. StandsFor op k (event ∷ h) in
+    let stands_now : StandsFor op (core_of want new) (event ∷ h) = subst S (sym core_is) there in
+    let J : Roster → Type 0 = λ r. Joined op r new (event ∷ h) in
+    subst J (sym reg_is) (record {
       stands = stands_now;
       holds = record { history = event ∷ h; stands = stands_now; boarded = inr now; used = refl };
     })
@@ -212,11 +216,11 @@ pub stands_beside : {A : Type 0} (op : Operation A) (ms : Members) (r : Ring A) 
     → (role : Role) → takes_part role (entry_at mode e.signal_phase e.wait_phase) ≡ true
     → 0 < standing r role (phase_for role (entry_at mode e.signal_phase e.wait_phase))
 stands_beside op ms r bound done top parent mode e b found held Signaller takes =
-    omega (arith, signaller-counted ms parent e found (holds_signals e.mode mode held takes),
-    b.signallers_are e.signal_phase)
+    let some = signaller-counted ms parent e found (holds_signals e.mode mode held takes) in
+    omega (arith, b.signallers_are e.signal_phase)
 stands_beside op ms r bound done top parent mode e b found held Waiter takes =
-    omega (arith, waiter-counted ms parent e found (holds_waits e.mode mode held takes),
-    b.waiters_are e.wait_phase)
+    let some = waiter-counted ms parent e found (holds_waits e.mode mode held takes) in
+    omega (arith, b.waiters_are e.wait_phase)
 
 -- there is room for one more at each phase
 pub room_for_one : {A : Type 0} (op : Operation A) (reg : Roster) (r : Ring A) (bound done top child : ℕ)
@@ -224,9 +228,9 @@ pub room_for_one : {A : Type 0} (op : Operation A) (reg : Roster) (r : Ring A) (
     → (role : Role) (p : ℕ) → standing r role p < MEMBERS_MAX
 room_for_one op reg r bound done top child b none Signaller p =
     let few = count_of-few p (signal_phases reg.members) in
-    omega (arith, (addable_from reg.members reg.greatest child none).room,
-    signal_phases-few reg.members, b.signallers_are p)
+    let room = (addable_from reg.members reg.greatest child none).room in
+    omega (arith, signal_phases-few reg.members, b.signallers_are p)
 room_for_one op reg r bound done top child b none Waiter p =
     let few = count_of-few p (wait_phases reg.members) in
-    omega (arith, (addable_from reg.members reg.greatest child none).room,
-    wait_phases-few reg.members, b.waiters_are p)
+    let room = (addable_from reg.members reg.greatest child none).room in
+    omega (arith, wait_phases-few reg.members, b.waiters_are p)

@@ -64,9 +64,12 @@ registers_now {A} op reg new_reg b new h parent child e stands boarded found non
     let now : IsBoarded op want.members new.ring new.limits.bound new.done new.top = record {
       kept = kept;
       done_at = ⊎_elim (λ at. inl (omega arith))
-          (λ some. inr (omega (arith, others b.done, ap (standing new.ring Signaller) done_is))) boarded.done_at;
-      base_at = (omega (arith, more b.ring.base, ap (standing new.ring Waiter) base,
-      boarded.base_at));
+          (λ some. inr (let m = others b.done in
+          let s : standing new.ring Signaller new.done ≡ standing new.ring Signaller b.done = ap (standing new.ring Signaller) done_is in
+          omega arith)) boarded.done_at;
+      base_at = (let m = more b.ring.base in
+          let s : standing new.ring Waiter new.ring.base ≡ standing new.ring Waiter b.ring.base = ap (standing new.ring Waiter) base in
+          let w = boarded.base_at in omega arith);
       signallers_are = λ p. (let m = others p in let t = boarded.signallers_are p in
           let c : count_of p (signal_phases want.members) ≡ count_of p (signal_phases reg.members) + 0 = counts-push Signaller p reg.members child x in omega arith);
       waiters_are = λ p. (let m = more p in let t = boarded.waiters_are p in
@@ -95,8 +98,10 @@ registers_now {A} op reg new_reg b new h parent child e stands boarded found non
     } in
     let core_is : core_of want new ≡ core_with want b.limits new.ring b.top =
     ap (λ l. core_with want l new.ring new.top) limits_is ∙ ap (λ t. core_with want b.limits new.ring t) top_is in
-    let stands_now : StandsFor op (core_of want new) (event ∷ h) = rw core_is there in
-    rw reg_is (record {
+    let S : CoreState A → Type 0 = λ k. StandsFor op k (event ∷ h) in
+    let stands_now : StandsFor op (core_of want new) (event ∷ h) = subst S (sym core_is) there in
+    let J : Roster → Type 0 = λ r. JoinedNow op r new (event ∷ h) in
+    subst J (sym reg_is) (record {
       stands = stands_now;
       holds = record { history = event ∷ h; stands = stands_now; boarded = inr now; used = refl };
     })

@@ -123,8 +123,8 @@ block_far_off op core h task n e stands found few =
     let sound : IsSound h = sound_of core.limits h stands.legal in
     let good : StandsWell (done_of h) (top_of h) (greatest_used h) (member task e) = Each-entry _ (members_of h) task e found_h sound in
     let limits = limits_of core.limits h stands.legal in
-    omega (arith, good.below, limits.bound_most, limits.phases_most,
-    top_within core.limits h stands.legal)
+    let top = top_within core.limits h stands.legal in
+    omega (arith, good.below, limits.bound_most, limits.phases_most)
 
 -- what is known of a block that meets no refusal, while a waiter is registered
 pub record BlockTaken {A : Type 0} (op : Operation A) (reg : Roster) (b : Board A) (e : Entry) (held : List (Parcel A)) (single : Option Single) : Type 0 where

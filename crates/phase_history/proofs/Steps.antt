@@ -90,8 +90,7 @@ joins h e child mode w sound parent found signals waits greatest grows new now m
     let all_low : P now.members = subst P (sym members_are)
     (Each-push _ (members_of h) (member child (entry_at mode e.signal_phase w)) lows (λ s. parent_low (signals s))) in
     let top_low : done_of h ≤ now.top = (let a : done_of h ≤ top_of h = done_below_top h sound in omega arith) in
-    let done_grows : done_of h ≤ done_at now = done_high now (done_of h) all_low top_low in
-    (
+    let done_grows : done_of h ≤ done_at now = done_high now (done_of h) all_low top_low in (
       done_grows,
       rw (← members_are) at (Each-push _ (members_of h) (member child (entry_at mode e.signal_phase w))
           (Each-from (StandsWell (done_of h) (top_of h) (greatest_used h)) (StandsWell (done_at now) now.top greatest)

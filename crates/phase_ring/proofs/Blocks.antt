@@ -161,20 +161,21 @@ hops_on op r r' new bound done top q to role later some left entered = record {
   base_same = entered.base_same ∙ left.base_same;
   sents_same = entered.sents_same ∙ left.sents_same;
   moved = λ p. ⊎_elim
-      (λ here. let one = one-same q p here in
-      let none = one-other to p (λ e. omega arith) in
+      (λ here. let one = one-same q p here in let none = one-other to p (λ e. omega arith) in
       let a : standing new role p ≡ standing r' role p = entered.apart p (λ e. omega arith) in
-      omega (arith, ap (standing r' role) here ∙ left.at, ap (standing r role) here))
+      let b : standing r' role p ≡ standing r role q - 1 = ap (standing r' role) here ∙ left.at in
+      let c : standing r role p ≡ standing r role q = ap (standing r role) here in
+      omega arith)
       (λ apart. let none = one-other q p apart in
       let b : standing r' role p ≡ standing r role p = left.apart p apart in
       ⊎_elim
-      (λ next. omega (
-        arith,
-        one-same to p next,
-        ap (standing new role) next ∙ entered.at,
-        ap (standing r' role) next,
-      ))
-      (λ away. omega (arith, one-other to p away, entered.apart p away))
+      (λ next. let one = one-same to p next in
+      let a : standing new role p ≡ standing r' role to + 1 = ap (standing new role) next ∙ entered.at in
+      let d : standing r' role p ≡ standing r' role to = ap (standing r' role) next in
+      omega arith)
+      (λ away. let none' = one-other to p away in
+      let a : standing new role p ≡ standing r' role p = entered.apart p away in
+      omega arith)
       (cases_eq p to))
       (cases_eq p q);
   others = λ p. entered.others p ∙ left.others p;

@@ -39,8 +39,8 @@ now_line job m machine c state at there found now =
     let within = slice_get_within (sinks_of job) state.sink c
     (now_place job m machine c state at there found now) in
     let f : ℕ → ℕ × List ℤ = λ t. (t, kept_by job m t) in
-    omega (arith, ap length at.lines, length-map machine.lines.items sink_values,
-    length-map (sinks_of job) f)
+    let lines = length-map machine.lines.items sink_values in
+    omega (arith, ap length at.lines, length-map (sinks_of job) f)
 
 -- at this phase
 pub lines_begin : (job : Job) (m : Moment) (machine : Machine) (c phase : ℕ) (state : TaskState)

@@ -41,9 +41,10 @@ taken_few job m t k p n is ran there on =
     let limits = limits_at job p in
     let got : HasReceivedFrom value h n on.start =
     received_law value limits h n on.start legal on.start_is on.waits in
-    omega (arith, length-received value limits h n legal,
-    ap length on.taken ∙ length-map (received_by value h n) number, got.complete,
-    done_below_top h (sound_of limits h legal), top_within limits h legal)
+    let long : length (m.taken t k) ≡ length (received_by value h n) =
+    ap length on.taken ∙ length-map (received_by value h n) number in
+    let below : done_of h ≤ top_of h = done_below_top h (sound_of limits h legal) in
+    omega (arith, length-received value limits h n legal, got.complete, top_within limits h legal)
 
 -- and so is what it has put on one
 put_few : (job : Job) (m : Moment) (t j p n : ℕ) → IsGraph job.graph → HasRun job m
@@ -52,8 +53,11 @@ put_few job m t j p n is ran there on =
     let h = m.history p in
     let legal = (ran.phasers p there).legal in
     let limits = limits_at job p in
-    omega (arith, length-sent_by h n, ap length on.sent ∙ length-map (m.put t j) one,
-    below_top limits h n on.start legal on.start_is, top_within limits h legal)
+    let long : length (sent_by h n) ≡ length (m.put t j) =
+    ap length on.sent ∙ length-map (m.put t j) one in
+    let below : on.start.signal_phase + phases_signalled h n ≤ top_of h =
+    below_top limits h n on.start legal on.start_is in
+    omega (arith, length-sent_by h n, top_within limits h legal)
 
 -- ---- a live task
 
@@ -100,8 +104,9 @@ begun_few job m t k is ran next =
 
     took : takes_from (task_at job.graph t) (m.begun t) 0 ≡ m.begun t → m.begun t ≤ PHASES_MAX
     took plain =
-        omega (arith, all_taken job m t is (ran.tasks t live.there) live.there b.step.none 0 some,
-        inputs_few job m t 0 is ran live some)
+        let all : length (m.taken t 0) ≡ takes_from (task_at job.graph t) (m.begun t) 0 =
+        all_taken job m t is (ran.tasks t live.there) live.there b.step.none 0 some in
+        omega (arith, inputs_few job m t 0 is ran live some)
 
     joined : (task_at job.graph t).kind ≡ Join → m.begun t ≤ PHASES_MAX
     joined e =

@@ -579,5 +579,5 @@ pub room_for_child : (job : Job) (machine : Machine) (m : Moment) (t c : ℕ) (s
     → slice_get machine.tasks.items c ≡ Some state → length (registrations_at job c) ≤ 9
     → length state.numbers.items + 1 ≤ state.numbers.capacity
 room_for_child job machine m t c state next at found few =
-    omega (arith, (at.tasks c state found).room,
-    (child_at job machine m t c state next at found).few)
+    let less = (child_at job machine m t c state next at found).few in
+    omega (arith, (at.tasks c state found).room)

@@ -970,8 +970,9 @@ filter_owes task vs kind = rw kind refl
 pub made_few : (job : Job) (machine : Machine) (m : Moment) (t j : ℕ) (state : TaskState)
     → HasMade job m t j state → length state.made.items ≤ (task_at job.graph t).block
 made_few job machine m t j state made =
-    omega (arith, values_few job m t j, length-map (next_values job m t j) ranged,
-    ap length made.here.next)
+    let long : length (map ranged (next_values job m t j)) ≡ length (next_values job m t j) =
+    length-map (next_values job m t j) ranged in
+    omega (arith, values_few job m t j, ap length made.here.next)
 
 -- and were begun
 pub made_begun : (job : Job) (machine : Machine) (m : Moment) (t j : ℕ) (state : TaskState)

@@ -49,8 +49,8 @@ pub room_for_one : (list : SmallVec ℕ) (stands : List Bool) (t : ℕ) → IsTa
     → t < 64 → list_any (λ u. eqb u t) list.items ≡ false → length list.items + 1 ≤ list.capacity
 room_for_one list stands t is lt none =
     let both = one_more_task list.items t is.distinct is.below lt none in
-    omega (arith, few (list.items ++ t ∷ []) both.0 both.1, length-append list.items (t ∷ []),
-    is.room)
+    let many = few (list.items ++ t ∷ []) both.0 both.1 in
+    omega (arith, length-append list.items (t ∷ []), is.room)
 
 -- an empty list
 pub empty_list : (list : SmallVec ℕ) (stands : List Bool) → list.items ≡ [] → 64 ≤ list.capacity

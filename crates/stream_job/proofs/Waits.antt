@@ -203,8 +203,8 @@ pub done_few : (job : Job) (m : Moment) (p : ℕ) → HasRun job m → p < lengt
 done_few job m p ran there =
     let h = m.history p in
     let legal = (ran.phasers p there).legal in
-    omega (arith, done_below_top h (sound_of (limits_at job p) h legal),
-    top_within (limits_at job p) h legal)
+    let below : done_of h ≤ top_of h = done_below_top h (sound_of (limits_at job p) h legal) in
+    omega (arith, top_within (limits_at job p) h legal)
 
 -- nor does a wait get one
 pub phase_few : (job : Job) (m : Moment) (p n phase : ℕ) (outcome : Outcome) → HasRun job m
@@ -799,6 +799,6 @@ sink_there job old m t state sink at found is =
         let lt = slice_get_within (sinks_of job) state.sink t
         ((at.tasks t state found).sink (sink_kind (task_at job.graph t).kind e)) in
         let f : ℕ → ℕ × List ℤ = λ u. (u, kept_by job m u) in
-        omega (arith, ap length at.lines, length-map old.lines.items sink_values,
-        length-map (sinks_of job) f)
+        let one = length-map old.lines.items sink_values in
+        omega (arith, ap length at.lines, length-map (sinks_of job) f)
     by false e = tt

@@ -130,8 +130,8 @@ fold-min_at f a from (suc many) k low high =
     by (inl more) rec = rec more
     by (inr here) rec =
         let same : from ≡ k = omega arith in
-        omega (arith, ap f same,
-        fold-min_start (min a (f from)) (map f (range_with_len (from + 1) many)))
+        let start = fold-min_start (min a (f from)) (map f (range_with_len (from + 1) many)) in
+        omega (arith, ap f same)
 
 -- a joiner stops in time
 join_steps : (inputs lengths : List ℕ) (n : ℕ) → AreBounded lengths n → 2 ≤ length inputs

@@ -90,8 +90,8 @@ entry_from job p n t there ends begun lt =
 entry_ends : (job : Job) (p n t : ℕ) → IsGraph job.graph → HasEntry job p n t
     → n < end_of job.graph (spans_of job) p t
 entry_ends job p n t is entry =
-    omega (arith, ends_there job p t entry.output is entry.there entry.live entry.signals,
-    entry.reaches)
+    let end = ends_there job p t entry.output is entry.there entry.live entry.signals in
+    omega (arith, entry.reaches)
 
 -- ---- each phase has an entry
 

@@ -29,8 +29,8 @@ signal_blocks-requires-clause-some c =
     let is = c.requires.is m at in
     let many = values_many c.args.job.now m c.args.t c.args.j
     (owed_in state.owed state.made.items) (c.state-state.ensures m at).stands.owes is in
-    omega (arith, values_some c.args.job.now m c.args.t c.args.j at.graph c.requires.there is,
-    c.owed_many.ensures)
+    let some = values_some c.args.job.now m c.args.t c.args.j at.graph c.requires.there is in
+    omega (arith, c.owed_many.ensures)
 
 pub returns : goal.returns
 returns c = λ m at.

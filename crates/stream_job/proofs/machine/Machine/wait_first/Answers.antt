@@ -208,8 +208,9 @@ told_got-requires c =
     let at = c.requires.next.some.1 in
     let p = c.input_of-phaser.result in
     let got = all a.In-Ok-Values (long a.After-wait_block_on) m at in
-    omega (arith, got.complete,
-    done_few c.args.job.now m p at.reached.ran c.input_of-phaser.ensures.within, got.many)
+    let last : done_of (m.history p) ≤ PHASES_MAX =
+    done_few c.args.job.now m p at.reached.ran c.input_of-phaser.ensures.within in
+    omega (arith, got.complete, got.many)
 
 pub unreachable-requires : goal.unreachable-requires
 unreachable-requires c =
