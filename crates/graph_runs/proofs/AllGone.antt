@@ -105,8 +105,7 @@ above_it : (m : Moment) (t : ℕ) (now : Bool) (o : Option Parent) (u : Parent) 
     → o ≡ Some u → AboveIt m u
 above_it m t now None u j e = absurd (cc)
 above_it m t now (Some v) u j e =
-    let P : Parent → Type 0 = λ w. AboveIt m w in
-    subst P (same_Some v u e) record { low = j.1; registered = j.2 }
+    rw (← (same_Some v u e)) record { low = j.1; registered = j.2 }
 
 -- ---- no task is left halfway
 
@@ -128,9 +127,7 @@ waits_for_parent job m t r u is ran there found parent joined above all dead =
     let passed : HasNotPassed m it.p (number_on m u.task it.p) u =
     (ran.tasks u.task above).children t it.p (number_on m u.task it.p) u there parent refl number
     it.absent it.on in
-    let early : m.begun u.task < u.at = passed.ended gone in
-    let low : u.at ≤ m.begun u.task = joined.low in
-    omega arith
+    omega (arith, passed.ended gone, joined.low)
 
 -- where no task is live, each that is registered somewhere is so on all its phasers
 all_there : (job : Job) (m : Moment) → IsGraph job.graph → HasRun job m

@@ -122,8 +122,7 @@ sends_within n member v e = by (cases_lt n member.0)
         let test : leb (suc n) member.0 ≡ false = lt-leb (suc n) member.0 (omega arith) in
         let some : slice_get member.1 (n - member.0) ≡ Some v =
         ap (λ b. cond b None (slice_get member.1 (n - member.0))) (sym test) ∙ e in
-        let below : n - member.0 < length member.1 = some_below member.1 (n - member.0) v some in
-        (later, omega arith)
+        (later, omega (arith, some_below member.1 (n - member.0) v some))
 
 -- a task that sends in phase n signals it
 pub signals_at : (job : Job) (p t n : ℕ) (member : Contribution) (v : ℤ) → IsGraph job.graph

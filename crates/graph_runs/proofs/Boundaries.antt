@@ -96,8 +96,7 @@ all_taken job m t is ran there none k lt = by (task_at job.graph t).kind k refl 
     by Sink i e at = exact (rw e tt)
     by Peer zero e at = exact (rw e at)
     by Peer (suc i) e at =
-        let two : length (task_at job.graph t).inputs ≡ 2 = (peer_ends job t is there e).0 in
-        peer e (omega arith)
+        peer e (omega (arith, (peer_ends job t is there e).0))
 
 -- ---- no child is due
 
@@ -163,9 +162,7 @@ more_samples : (job : Job) (m : Moment) (t : ℕ) (kind : Kind)
     → has_input_ended job m t kind ≡ false
     → HasSamples kind (suc (m.begun t)) (length (samples_at job t))
 more_samples job m t Source e =
-    let lt : m.begun t < length (samples_at job t) =
-    leb-false (length (samples_at job t)) (m.begun t) e in
-    omega arith
+    omega (arith, leb-false (length (samples_at job t)) (m.begun t) e)
 more_samples job m t Fir e = tt
 more_samples job m t Split e = tt
 more_samples job m t Join e = tt

@@ -36,9 +36,7 @@ use Rattle.graph_runs.proofs.OwnCalls.{AreOwn, own_on, own_came, own_put, own_go
 apart_from_parent : (job : Job) (c : ℕ) (u : Parent) → IsGraph job.graph
     → c < length job.graph.tasks → (task_at job.graph c).parent ≡ Some u → u.task ≢ c
 apart_from_parent job c u is there e same =
-    let above : u.task < c = (parent_of job c u is there e).above in
-    let at : u.task ≡ c = same in
-    omega arith
+    omega (arith, (parent_of job c u is there e).above, same)
 
 -- ---- a task's own calls
 
@@ -178,12 +176,9 @@ module _ (job : Job) (before after : Moment) (t c : ℕ) (is : IsGraph job.graph
   -- the parent of the parent is not the child
   above_apart : (u : Parent) → (task_at job.graph t).parent ≡ Some u → u.task ≢ c
   above_apart u e same =
-      let above : u.task < t = (parent_of job t u is there e).above in
       let below : child.parent.task < c =
       (parent_of job c child.parent is child.there child.has).above in
-      let by : child.parent.task ≡ t = child.by in
-      let at : u.task ≡ c = same in
-      omega arith
+      omega (arith, (parent_of job t u is there e).above, child.by, same)
 
   pub calls_begin : HasNewChild job before after t c [] → before.begun t ≡ child.parent.at
       → ((task_at job.graph c).joins_now ≡ false → before.offset c ≡ (opening job).offset c)

@@ -251,10 +251,7 @@ has_registration job c is there now =
     let long : length rs ≡ length (inputs ++ outputs) =
     sym (length-map rs (λ r. r.phaser))
     ∙ ap length (registrations-phasers job.graph c (task_at job.graph c) line) in
-    let both : length (inputs ++ outputs) ≡ length inputs + length outputs =
-    length-append inputs outputs in
-    let one : length inputs ≡ 1 = (sink_line job c 0 is there (line.now now).0).0 in
-    omega arith
+    omega (arith, length-append inputs outputs, (sink_line job c 0 is there (line.now now).0).0)
 
 module _ (job : Job) (m : Moment) (t c n a : ℕ) (u : Parent) (at : TaskPlace) (most : ℕ)
     (numbers : List ℕ) (before : History) (is : IsGraph job.graph)

@@ -38,10 +38,7 @@ owes_exchange job m t j nothing owes some first =
 owes_exchange job m t j (exchange x) owes some first = (x, refl)
 owes_exchange job m t j (values i ws) owes some first =
     let same : i ≡ j = same_Some i j (sym owes.0 ∙ some) in
-    let W : ℕ → Type 0 =
-    λ i. waits_first (task_at job.graph t).kind i (length (m.put t i)) (length (m.taken t 1))
-    ≡ true in
-    let is_first = subst W (sym same) first in
+    let is_first = rw (← same) at first in
     absurd (let clash : exchanges ≡ signals i =
     sym (ap (λ b. cond b exchanges (signals i)) is_first) ∙ owes.1 in cc)
 

@@ -111,12 +111,7 @@ wait_lacks job m after t k x owed w grows i lt =
     let step : puts_on (task_at job.graph t) (after.begun t) i
     ≡ puts_on (task_at job.graph t) (suc (m.begun t)) i =
     ap (λ b. puts_on (task_at job.graph t) b i) (one ∙ omega arith) in
-    let full : length (made_now job m t i) ≡ length (m.put t i) + 0 = w.lacks i lt in
-    let put : length (after.put t i) ≡ length (m.put t i) = ap length (w.waits.put i) in
-    let more : puts_on (task_at job.graph t) (suc (m.begun t)) i
-    ≡ puts_on (task_at job.graph t) (m.begun t) i
-    + lacking (task_at job.graph t).kind owed i = grows i lt in
-    omega arith
+    omega (arith, w.lacks i lt, ap length (w.waits.put i), grows i lt)
 
 -- the value that was taken is in range
 wait_ranged : {most : ℕ} (job : Job) (m after : Moment) (t k : ℕ) (x : ℤ)
@@ -454,9 +449,7 @@ wait_leaves {most} job m after t k xs w = by (task_at job.graph t).kind refl
         → LeavesOwed most job after t
         (owed_after_wait (task_at job.graph t) (m.begun t) (m.taken t 0) xs)
     by Source e =
-        let no_input : length (task_at job.graph t).inputs ≡ 0 = (ends Source e).0 in
-        let few : k < length (task_at job.graph t).inputs = w.few in
-        absurd (omega arith)
+        absurd (omega (arith, (ends Source e).0, w.few))
     by Fir e =
         let left : owed_after_wait (task_at job.graph t) (m.begun t) (m.taken t 0) xs
         ≡ values 0 (map ranged (outputs_of_block (task_at job.graph t).taps
@@ -513,13 +506,11 @@ first_wait_follows job m t k p n outcomes at is ran next now owes stands =
     let xs = map number outcomes in
     let s = first_waits_are job m t k p n outcomes next.1 in
     let none : at.owed ≡ nothing = owes_nothing job m t at.owed stands.owes owes.0 in
-    let L : Owed → Type 0 = λ o. Lacks job m t o in
     let steps : after.begun t ≡ further (m.begun t) outcomes =
     (let here : eqb t t ≡ true = eq-eqb t t refl in rw here refl) in
     let more : further (m.begun t) outcomes ≡ m.begun t + length outcomes =
     further-length (m.begun t) outcomes in
     let many : length xs ≡ length outcomes = length-map outcomes number in
-    let B : ℕ → Type 0 = λ i. IsBlock (task_at job.graph t).kind i in
     let some : 1 ≤ length outcomes =
     waits_some (limits_at job p) (m.history p) n (length outcomes) next.1.wait.accepted.0 in
     let most : length outcomes ≤ block_of job m t = owes.1 in
@@ -536,14 +527,13 @@ first_wait_follows job m t k p n outcomes at is ran next now owes stands =
       first = next.1.first;
       steps = omega arith;
       some = omega arith;
-      block = subst B (sym many) next.1.block;
+      block = subst (λ (i : ℕ). IsBlock (task_at job.graph t).kind i) (sym many) next.1.block;
       room = omega arith;
       all_taken = next.1.may_begin.taken k next.1.wait.few;
-      lacks = subst L none stands.lacks;
+      lacks = subst (λ (o : Owed). Lacks job m t o) none stands.lacks;
     } in
-    let A : ℕ → Type 0 = λ b. LeavesOwed (task_at job.graph t).block job after t
-    (owed_after_wait (task_at job.graph t) b (m.taken t 0) xs) in
-    let left = subst A stands.begun (wait_leaves job m after t k xs w) in
+    let left = subst (λ (b : ℕ). LeavesOwed (task_at job.graph t).block job after t (owed_after_wait
+    (task_at job.graph t) b (m.taken t 0) xs)) stands.begun (wait_leaves job m after t k xs w) in
     stays_at job m after t (further at.begun outcomes)
     (owed_after_wait (task_at job.graph t) at.begun (m.taken t 0) xs) at stands
     (keeps_moved job m after t p (Waited n (length outcomes)) t s.moved (λ b at. refl))

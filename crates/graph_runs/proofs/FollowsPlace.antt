@@ -67,12 +67,10 @@ in_turn job m t is there part staying e = by (m.number (output_at job t 0) t) re
 
     line : OnLine (task_at job.graph t) (output_at job t 0)
     line =
-        let both : length (signalled_by (task_at job.graph t)) ≡ 2 =
-        (peer_ends job t is there e).1 in
         inl (
           0,
           place_of_output job.graph t (task_at job.graph t) 0 (is.tasks t there)
-              (omega arith),
+              (omega (arith, (peer_ends job t is there e).1)),
         )
 
     same : output_at job t 0 ≡ input_at (task_at job.graph t) 1
@@ -86,8 +84,7 @@ in_turn job m t is there part staying e = by (m.number (output_at job t 0) t) re
         let few : length (task_at job.graph t).inputs ≡ 2 = two in
         let N : Option ℕ → Type 0 = λ o. TakenOn job m t 1 (output_at job t 0) o in
         let on = subst N at (rw same (part.ran.inputs 1 (omega arith))) in
-        let none : length (m.taken t 1) ≡ 0 = ap length on.0 in
-        omega arith
+        omega (arith, ap length on.0)
 
 pub put_follows : (job : Job) (m after : Moment) (t j p most : ℕ) (vs : List ℤ) (at : TaskPlace)
     (now : History) → IsGraph job.graph → t < length job.graph.tasks → HasPart job m t

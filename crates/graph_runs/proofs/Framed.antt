@@ -81,13 +81,10 @@ ran_out_later job before after t k grown on same out =
     length-map-range_with_len (value_of_phase value new) 0 (done_of new) in
     let b : length (stream_of value old) ≡ done_of old =
     length-map-range_with_len (value_of_phase value old) 0 (done_of old) in
-    let c : length (stream_of value new) ≡ length (stream_of value old) = ap length stream in
-    let past : done_of old ≤ before.offset t + length (before.taken t k) = out.1 in
-    let offset : after.offset t ≡ before.offset t = same.offset in
-    let taken : length (after.taken t k) ≡ length (before.taken t k) = ap length (same.taken k) in (
+    (
       signallers_closed (limits_at job x) old new out.0 (grown.was x on) (grown.legal x on)
           (grown.beginning x on),
-      omega arith,
+      omega (arith, ap length stream, out.1, same.offset, ap length (same.taken k)),
     )
 
 pub may_end_later : (job : Job) (before after : Moment) (t : ℕ) → IsGraph job.graph
@@ -259,8 +256,7 @@ task_later job before after t is there grown o ran = record {
           early =
               omega arith;
           ended =
-              λ gone. (let low : before.begun u.task < u.at = w.ended (sym dropped ∙ gone) in
-              omega arith);
+              λ gone. (omega (arith, w.ended (sym dropped ∙ gone)));
         }
 
     joined : (parent : Option Parent) → (task_at job.graph t).parent ≡ parent
@@ -274,12 +270,10 @@ task_later job before after t is there grown o ran = record {
         (before.offset u.task + u.at) × (u.at ≤ before.begun u.task)
         × IsRegistered before u.task = rw e at j in
         let up = o.parent u e in
-        let low : u.at ≤ before.begun u.task = b.1 in
-        let on : before.begun u.task ≤ after.begun u.task = up.1 in
         rw e (
           begins (task_at job.graph t).joins_now (after.offset t) (after.offset u.task + u.at)
               (before.offset t) (before.offset u.task + u.at) o.same.offset
               (ap (λ n. n + u.at) up.0) b.0,
-          omega arith,
+          omega (arith, b.1, up.1),
           up.2 b.2,
         )

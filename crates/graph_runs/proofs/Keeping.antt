@@ -87,22 +87,19 @@ phaser_keeps job before after t p n event there pp moved numbered leaves q qq ra
 
     names : q ≡ p → NamesAll (phaser_at job.graph q).single (event ∷ before.history q)
     names same =
-        let P : ℕ → Type 0 =
-        λ x. NamesAll (phaser_at job.graph x).single (event ∷ before.history x) in
-        subst P (sym same) leaves.names
+        subst (λ (x : ℕ). NamesAll (phaser_at job.graph x).single (event ∷ before.history x)) (sym
+        same) leaves.names
 
     starts : (x : ℕ) → q ≡ p → start_of (event ∷ before.history q) x ≡ start_of (before.history q) x
     starts x same =
-        let P : ℕ → Type 0 =
-        λ y. start_of (event ∷ before.history y) x ≡ start_of (before.history y) x in
-        subst P (sym same) (leaves.starts x)
+        subst (λ (y : ℕ). start_of (event ∷ before.history y) x ≡ start_of (before.history y) x)
+        (sym same) (leaves.starts x)
 
     other : (x : ℕ) → q ≡ p → is_in x (numbers_on job before q) ≡ false → x ≢ n
     other x same out me =
-        let N : ℕ → Type 0 = λ y. before.number y t ≡ Some n in
         let inside : is_in n (numbers_on job before q) ≡ true =
         in_numbers (before.number q) 0 (length job.graph.tasks) t n (omega arith) (omega arith)
-        (subst N (sym same) numbered) in
+        (subst (λ (y : ℕ). before.number y t ≡ Some n) (sym same) numbered) in
         let here : is_in x (numbers_on job before q) ≡ true =
         ap (λ y. is_in y (numbers_on job before q)) me ∙ inside in
         let f : true ≡ false = sym here ∙ out in cc
@@ -173,8 +170,7 @@ run_keeps job before after t p n event is there pp moved numbered leaves ran own
             × (IsRegistered before w.task → IsRegistered after w.task)
         parent w (inr apart) =
             let s = moved.others w.task apart in
-            let b : after.begun w.task ≡ before.begun w.task = s.begun in
-            (s.offset, omega arith, λ r. (r.0, r.1, moved.numbers r.0 w.task ∙ r.2))
+            (s.offset, omega (arith, s.begun), λ r. (r.0, r.1, moved.numbers r.0 w.task ∙ r.2))
         parent w (inl same) =
             let o : after.offset w.task ≡ before.offset w.task =
             ap (λ x. after.offset x) same ∙ moved.offset

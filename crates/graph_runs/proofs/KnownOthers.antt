@@ -36,8 +36,7 @@ known_first job m t numbers seen is first = record {
       let none : m.number p c ≡ None = first.others p c (λ same. omega arith) in
       absurd (let wrong : Some n ≡ None = sym at ∙ none in cc));
   unregistered = λ p d u there parent behind.
-      (let less : u.task < d = below job d u is there parent in
-      first.others p d (λ same. omega arith));
+      (first.others p d (λ same. omega (arith, below job d u is there parent)));
 }
 
 -- numbers and offsets are as they were

@@ -19,9 +19,7 @@ signalled_within job t p j is there place =
         → j < length (signalled_by (task_at job.graph t))
         → get_or (signalled_by (task_at job.graph t)) j 0 < length job.graph.phasers
     plain same lt =
-        let long : length (signalled_by (task_at job.graph t))
-        ≡ length (task_at job.graph t).outputs = ap length same in
-        rw same ((is.tasks t there).outputs j 0 (omega arith))
+        rw same ((is.tasks t there).outputs j 0 (omega (arith, ap length same)))
 
     peer : length (task_at job.graph t).inputs ≡ 2 → length (task_at job.graph t).outputs ≡ 1
         → (i : ℕ) → i < 2
@@ -45,8 +43,7 @@ signalled_within job t p j is there place =
         let is_two : signalled_by (task_at job.graph t)
         ≡ get_or (task_at job.graph t).inputs 1 0 ∷ get_or (task_at job.graph t).outputs 0
         0 ∷ [] = rw e refl in
-        let n : length (signalled_by (task_at job.graph t)) ≡ 2 = ap length is_two in
-        rw is_two (peer both.0 both.1 j (omega arith))
+        rw is_two (peer both.0 both.1 j (omega (arith, ap length is_two)))
 
 -- a phaser on a line is one of the graph
 pub on_phaser : (job : Job) (t p : ℕ) → IsGraph job.graph → t < length job.graph.tasks

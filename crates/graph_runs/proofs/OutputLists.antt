@@ -62,11 +62,9 @@ in_turn_begins xs ys a b le some long each counts =
     ranges_begin (turn_at xs) (turn_at ys) a b le
     (λ i lt. (let k = i % length xs in
     let below : k < length xs = mod_below i (length xs) some in
-    let turn : i / length xs < turns_below (length xs) k a = turn-taken (length xs) i a some lt in
-    let count : length (get_or xs k []) ≡ turns_below (length xs) k a = counts k below in
     ap (λ m. entry (get_or ys (i % m) []) (i / m)) long
     ∙ prefix_at (get_or xs k []) (get_or ys k []) (i / length xs) (pos 0) (each k below)
-    (omega arith)))
+    (omega (arith, turn-taken (length xs) i a some lt, counts k below))))
 
 -- a peer's Y, as far as both are there
 mixed_begins : (mul : ℤ) (xs es ys fs put : List ℤ) → IsPrefix xs ys → IsPrefix es fs

@@ -94,13 +94,11 @@ joined_later job before after t p event is there moved j = by ((task_at job.grap
         (is.tasks t there) e).above in
         let other : u.task ≢ t = λ same. omega arith in
         let s = moved.others u.task other in
-        let low : u.at ≤ before.begun u.task = b.1 in
-        let begun : after.begun u.task ≡ before.begun u.task = s.begun in
         rw e (
           begins (task_at job.graph t).joins_now (after.offset t) (after.offset u.task + u.at)
               (before.offset t) (before.offset u.task + u.at) moved.offset
               (ap (λ n. n + u.at) s.offset) b.0,
-          omega arith,
+          omega (arith, b.1, s.begun),
           (b.2.0, b.2.1, moved.numbers b.2.0 u.task ∙ b.2.2),
         )
 
@@ -247,9 +245,7 @@ own_signals job before after t j p n vs is there s ran = record {
             let long : length (signalled_by (task_at job.graph t))
             ≡ length (task_at job.graph t).outputs =
             (let e : (task_at job.graph t).kind ≡ Source = b.0 in rw e refl) in
-            let a : length (task_at job.graph t).outputs ≡ 1 = both.1 in
-            let c : j < length (signalled_by (task_at job.graph t)) = at_p.0 in
-            absurd (apart (let same : i ≡ j = omega arith in same))
+            absurd (apart (let same : i ≡ j = omega (arith, both.1, at_p.0) in same))
         by (inr b) = rw (s.other_puts i apart, made_still job before after t i s.taken b) (ran.puts i lt)
 
     exchanged : (i : ℕ) → (i ≡ j) ⊎ (i ≢ j)
@@ -371,8 +367,7 @@ made_more job before after t j put line ran lt le grows exchanged begins =
     (λ k below looks. now_counts job before t line ran k below looks)
     (exchanged_as task.kind j (length put) (length (before.taken t 1)) (length (get_or now 1 []))
     (λ e. (let both : (length task.inputs ≡ 2) × (length task.outputs ≡ 1) = rw e at line.ends in
-    let two : length task.inputs ≡ 2 = both.0 in
-    ap length (sym (now_at before task t 1 (omega arith)))))
+    ap length (sym (now_at before task t 1 (omega (arith, both.0))))))
     exchanged)
     begins
 

@@ -72,6 +72,5 @@ own_leave job before after t p n is there grown s ran = record {
           early =
               omega arith;
           ended =
-              λ gone. (let low : before.begun u.task < u.at = w.ended (sym dropped ∙ gone) in
-              omega arith);
+              λ gone. (omega (arith, w.ended (sym dropped ∙ gone)));
         }

@@ -59,13 +59,9 @@ pub has_some : (job : Job) (t : ℕ) → IsGraph job.graph → t < length job.gr
     → 0 < length (registrations_at job t)
 has_some job t is there =
     let task = task_at job.graph t in
-    let long : length (registrations_at job t) ≡ length (task.inputs ++ task.outputs) =
-    ends_many job t is there in
-    let both : length (task.inputs ++ task.outputs) ≡ length task.inputs + length task.outputs =
-    length-append task.inputs task.outputs in
     let one : 1 ≤ length task.inputs + length task.outputs =
     some_end task.kind (length task.inputs) (length task.outputs) (is.tasks t there).ends in
-    omega arith
+    omega (arith, ends_many job t is there, length-append task.inputs task.outputs)
   where
     some_end : (kind : Kind) (ins outs : ℕ) → HasEnds kind ins outs → 1 ≤ ins + outs
     some_end Source ins outs e = (let one : outs ≡ 1 = e.1 in omega arith)
@@ -126,8 +122,7 @@ owns job m end is = record {
 pub owns_as : (job : Job) (m : Moment) (end : TaskEnd) (t : ℕ) → end.task ≡ t
     → HasLeftAt job m end → HasOwn job m end t
 owns_as job m end t same is =
-    let P : ℕ → Type 0 = λ x. HasOwn job m end x in
-    subst P same (owns job m end is)
+    rw (← same) (owns job m end is)
 
 -- the number that it has on a phaser of its line
 pub record HasNumber (job : Job) (m : Moment) (end : TaskEnd) (t p : ℕ) : Type 0 where

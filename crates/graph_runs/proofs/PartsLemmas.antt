@@ -436,8 +436,7 @@ ran_out job m t k n h is there part sees staying lt reply =
     let took : length (m.taken t k) ≡ length (received_by value h n) =
     ap length on.taken ∙ length-map (received_by value (after.history x) n) number ∙ ap (λ y. length (received_by value y n)) here in
     let tells = ended_tells value limits h n reply in
-    let late : done_of h ≤ wait_phase h n = tells.1 in
-    (subst HasNoSignaller (sym here) tells.0, rw here (omega arith))
+    (subst HasNoSignaller (sym here) tells.0, rw here (omega (arith, tells.1)))
   where
     entry_is : (a b : Entry) → Some a ≡ Some b → a ≡ b
     entry_is a b e = cc

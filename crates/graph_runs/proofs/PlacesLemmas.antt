@@ -156,8 +156,7 @@ on_ends graph t task p line (inl out) = by task.kind refl
         let is : signalled_by task ≡ get_or task.inputs 1 0 ∷ get_or task.outputs 0 0 ∷ [] =
         rw e refl in
         let at = place-at (signalled_by task) p out.0 out.1 in
-        let long : length (signalled_by task) ≡ 2 = ap length is in
-        of_peer both.0 both.1 out.0 (omega arith)
+        of_peer both.0 both.1 out.0 (omega (arith, ap length is))
         (sym (ap (λ qs. get_or qs out.0 0) is) ∙ at.1)
 
 -- a task that misses no registration has its number on each phaser of its line

@@ -42,7 +42,6 @@ streams_whole job m p ready ran pp quiet =
     let c : Composes job m p = composes job m ready ran p pp in
     let stream = stream_of (value_at job p) (m.history p) in
     let list = list_over job (schedule_of job) (numbers_of job) p in
-    let low : get_or (lengths_of job) p 0 ≤ done_of (m.history p) = c.whole quiet in
     let a : length stream ≡ done_of (m.history p) =
     length-map-range_with_len (value_of_phase (value_at job p) (m.history p)) 0
     (done_of (m.history p)) in
@@ -50,7 +49,7 @@ streams_whole job m p ready ran pp quiet =
     length-map-range_with_len
     (phase_in (value_at job p) job p (contributions_on job (schedule_of job) (numbers_of job) p)) 0
     (get_or (lengths_of job) p 0) in
-    prefix_whole stream list (stream_begins job m p c) (omega arith)
+    prefix_whole stream list (stream_begins job m p c) (omega (arith, c.whole quiet))
 
 -- what a task has taken from an input begins what it takes from it
 pub taken_begin : (job : Job) (m : Moment) (t k : ℕ) → IsReadyAt job m → HasRun job m
@@ -129,9 +128,7 @@ came_in job m ready ran over (suc fuel) t k below there lt none live =
             let s : Stands job m u.task = stands_all job m ready ran u.task there_u registered in
             let same : m.begun u.task ≡ (span_in job u.task).steps =
             s.ended (over_ended job m ready ran over u.task there_u registered).may_end in
-            let early : m.begun u.task < u.at = a.ended (over.gone x u.task n there_u some) in
-            let comes : u.at ≤ (span_in job u.task).steps = fp.comes in
-            absurd (omega arith)
+            absurd (omega (arith, a.ended (over.gone x u.task n there_u some), fp.comes))
 
 -- and on each that it signals
 pub came_out : (job : Job) (m : Moment) → IsReadyAt job m → HasRun job m → IsOver job m

@@ -162,10 +162,7 @@ owes_values job m t j (values i ws) owes some first =
     ∙ ap (λ x. values x (map ranged (next_values job m t x))) same
 owes_values job m t j (exchange x) owes some first =
     let same : 1 ≡ j = same_Some 1 j (sym owes.0 ∙ some) in
-    let W : ℕ → Type 0 =
-    λ i. waits_first (task_at job.graph t).kind i (length (m.put t i)) (length (m.taken t 1))
-    ≡ false in
-    let not_first = subst W (sym same) first in
+    let not_first = rw (← same) at first in
     absurd (let clash : signals 1 ≡ exchanges =
     sym (ap (λ b. cond b exchanges (signals 1)) not_first) ∙ owes.1 in cc)
 
@@ -217,8 +214,7 @@ peer_in_turn job m t n is ran there staying legal at peer =
     let signals_is : mode_signals e.0.mode ≡ true =
     rw (mode_here ∙ ap (λ (x : Entry). x.mode) signalling) on.signals in
     let turn = turns_law limits h n e.0 legal e.1 signals_is waits_is in
-    let low : e.0.wait_phase ≤ e.0.signal_phase = turn.low in
-    omega arith
+    omega (arith, turn.low)
 
 -- a peer that has put its value on E lacks the one on Y
 peer_lacks : (ws : List (Result ℤ TooBigValue)) (x : ℤ) (i : ℕ) → i < 2 → (i ≡ 0 → ⊥)

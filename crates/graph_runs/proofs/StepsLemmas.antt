@@ -72,11 +72,9 @@ first_run_out-below values b some le =
     ≤ get_or (map (run_out values) (range_with_len 0 (length values))) k 0 =
     min-entry (map (run_out values) (range_with_len 0 (length values))) (run_out values 0) k
     (omega arith) in
-    let here : get_or (map (run_out values) (range_with_len 0 (length values))) k 0
-    ≡ run_out values k = run_outs-at values k lt in
     let after : k + length values * get_or values k 0 ≤ b =
     turns-after (length values) b (get_or values k 0) some le in
-    omega arith
+    omega (arith, run_outs-at values k lt)
 
 -- ---- steps
 
@@ -163,8 +161,7 @@ enough-below task samples values b ends long not le = by task.kind refl
         → enough_for task samples values ≡ get_or values 0 0 → enough_for task samples values ≤ b
     first at one is =
         let P : ℕ → Type 0 = λ k. get_or values k 0 ≤ takes_from task b k in
-        let here : get_or values 0 0 ≤ takes_from task b 0 = subst P at le in
-        omega arith
+        omega (arith, subst P at le)
 
     by : (kind : Kind) → task.kind ≡ kind → enough_for task samples values ≤ b
     by Source e = absurd (not e)
@@ -223,8 +220,7 @@ taken_count task b k n ends lt looks has = by task.kind k refl refl
         let r : n ≡ b = rw e at (subst Q at has) in
         r ∙ rw e refl
     by Peer (suc i) e at =
-        let none : k ≡ 0 = rw e at looks in
-        absurd (omega arith)
+        absurd (omega (arith, rw e at looks))
 
 -- and no input more
 pub taken_most : (task : Task) (b k n : ℕ)

@@ -90,8 +90,7 @@ met_is_fault job m t k n ready ran there lt registered low high complete met =
     let taken : is_taken job (schedule_of job) x n ≡ true =
     any-at (task_takes job (schedule_of job) x n) 0 (length job.graph.tasks) t (omega arith)
     (omega arith) takes in
-    let within : done_of (m.history x) ≤ get_or (lengths_of job) x 0 = c.within in
-    (omega arith, and_from _ _ big taken)
+    (omega (arith, c.within), and_from _ _ big taken)
 
 -- ---- a value that was made
 
@@ -153,8 +152,7 @@ taken_all job m t k ready ran over there lt registered =
     let same : m.begun t ≡ (span_in job t).steps = s.ended e.may_end in
     let steps : takes_from task (m.begun t) k ≡ takes_from task (span_in job t).steps k =
     ap (λ n. takes_from task n k) same in
-    let all : takes_from task (m.begun t) k ≤ length (m.taken t k) = by e task.kind k refl refl in
-    omega arith
+    omega (arith, by e task.kind k refl refl)
   where
     line : IsTaskLine job.graph t (task_at job.graph t)
     line = ready.graph.tasks t there
@@ -193,8 +191,7 @@ taken_all job m t k ready ran over there lt registered =
     by e Peer (suc (suc i)) is at =
         let both : (length (task_at job.graph t).inputs ≡ 2)
         × (length (task_at job.graph t).outputs ≡ 1) = rw is at line.ends in
-        let n : length (task_at job.graph t).inputs ≡ 2 = both.0 in
-        absurd (omega arith)
+        absurd (omega (arith, both.0))
 
 not_too_big : (single : Option Single) (o : Outcome) → is_too_big (applied single o) ≡ false
     → is_too_big o ≡ false

@@ -42,8 +42,7 @@ prefix_next xs ys v a lt e = by a.0 a.1
   where
     by : (rest : List ℤ) → xs ++ rest ≡ ys → IsPrefix (xs ++ v ∷ []) ys
     by [] is =
-        absurd (let l : length xs + 0 ≡ length ys = sym (length-append xs []) ∙ ap length is in
-        omega arith)
+        absurd (omega (arith, sym (length-append xs []) ∙ ap length is))
     by (r ∷ rs) is =
         let here : r ≡ v = sym (seam xs r rs) ∙ ap (λ l. get_or l (length xs) (pos 0)) is ∙ e in (
           rs,

@@ -134,9 +134,7 @@ puts_short job m t j line ran plain lt =
     let made : length (made_now job m t j) ≡ puts_on task (m.begun t) j =
     length_made (samples_at job t) task (taken_now m task t) (m.begun t) j line.ends lt ran.samples
     (λ k below looks. now_counts job m t line ran k below looks) in
-    let few : puts_on task (m.begun t) j ≡ m.begun t =
-    puts-few task (m.begun t) j line.ends plain in
-    omega arith
+    omega (arith, puts-few task (m.begun t) j line.ends plain)
 
 -- some other holds its first phase
 pub awaited : (job : Job) (m : Moment) → IsReadyAt job m → HasRun job m → (p : ℕ)
@@ -196,9 +194,7 @@ awaited job m ready ran p pp standing (suc fuel) t j below there place absent li
             → IsAwaited (m.history p) ((span_in job t).offset, out)
         number_case None none fp i at there_u ru short up =
             let rec : IsAwaited (m.history p) ((span_in job u.task).offset, out) = up none in
-            let low : done_of (m.history p) ≤ (span_in job u.task).offset = rec.later in
-            let begins : (span_in job u.task).offset + u.at ≤ (span_in job t).offset = fp.at in
-            record { later = omega arith; held = rec.held }
+            record { later = omega (arith, rec.later, fp.at); held = rec.held }
         number_case (Some n) some fp i at there_u ru short up =
             let st : Stands job m u.task = standing u.task i there_u at (p, n, some) in
             let P : Option ℕ → Type 0 = λ o. OnPhaser job m u.task p o in
@@ -212,11 +208,7 @@ awaited job m ready ran p pp standing (suc fuel) t j below there place absent li
                 → Stands job m u.task → OnOutput job m u.task i p n
                 → IsAwaited (m.history p) ((span_in job t).offset, out)
             drop_case true left a fp i short st on =
-                let same : m.begun u.task ≡ (span_in job u.task).steps =
-                st.ended (on.left left).may_end in
-                let early : m.begun u.task < u.at = a.ended left in
-                let comes : u.at ≤ (span_in job u.task).steps = fp.comes in
-                absurd (omega arith)
+                absurd (omega (arith, st.ended (on.left left).may_end, a.ended left, fp.comes))
             drop_case false stays a fp i short st on =
                 let h = m.history p in
                 let legal = (ran.phasers p pp).legal in
