@@ -119,7 +119,7 @@ child_begins job before after t p n c a mode u is there legal grown s parent chi
           start = entry_at mode (signal_phase (before.history p) n)
               (wait_phase (before.history p) n);
           start_is = subst (λ (g : History). start_of g a ≡ Some (entry_at mode (signal_phase
-          (before.history p) n) (wait_phase (before.history p) n))) (sym s.here) start_here;
+              (before.history p) n) (wait_phase (before.history p) n))) (sym s.here) start_here;
           signals = s.signals j place;
           at = parent_out j place ∙ sym (s.same c).offset;
           sent = ap (λ g. sent_by g a) s.here ∙ none_sent
@@ -177,7 +177,7 @@ child_begins job before after t p n c a mode u is there legal grown s parent chi
           start = entry_at mode (signal_phase (before.history p) n)
               (wait_phase (before.history p) n);
           start_is = subst (λ (g : History). start_of g a ≡ Some (entry_at mode (signal_phase
-          (before.history p) n) (wait_phase (before.history p) n))) (sym s.here) start_here;
+              (before.history p) n) (wait_phase (before.history p) n))) (sym s.here) start_here;
           waits = s.waits k lt at;
           at = (parent_in k lt at).0 ∙ sym (s.same c).offset;
           taken = (s.same c).taken k ∙ s.nothing_taken k lt at

@@ -80,8 +80,7 @@ ran_out_later job before after t k grown on same out =
     let a : length (stream_of value new) ≡ done_of new =
     length-map-range_with_len (value_of_phase value new) 0 (done_of new) in
     let b : length (stream_of value old) ≡ done_of old =
-    length-map-range_with_len (value_of_phase value old) 0 (done_of old) in
-    (
+    length-map-range_with_len (value_of_phase value old) 0 (done_of old) in (
       signallers_closed (limits_at job x) old new out.0 (grown.was x on) (grown.legal x on)
           (grown.beginning x on),
       omega (arith, ap length stream, out.1, same.offset, ap length (same.taken k)),

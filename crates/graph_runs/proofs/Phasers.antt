@@ -103,7 +103,7 @@ composes_from job m p is pp ran same each = record {
   values = λ n below. values n below;
   within = (let w : done_of h ≤ greatest (ends_on job p) =
       done_within (limits_at job p) h (m.number p) member ts ran.legal ran.strangers agree in
-  omega (arith, lengths_end job p is pp));
+      omega (arith, lengths_end job p is pp));
   whole = λ quiet.
       (let w : greatest (ends_on job p) ≤ done_of h =
       done_whole (limits_at job p) h (m.number p) member ts ran.legal quiet agree in

@@ -183,7 +183,7 @@ stands_from job m t is there ran span_is reads = record {
   offset = ap (λ (s : Span). s.offset) span_is;
   within = (let low : m.begun t ≤ cut_at (task_at job.graph t).until enough =
       within_cut (task_at job.graph t).until (m.begun t) enough ran.cut above in
-  omega (arith, steps_are));
+      omega (arith, steps_are));
   ended = λ e.
       (let low : m.begun t ≤ cut_at (task_at job.graph t).until enough =
       within_cut (task_at job.graph t).until (m.begun t) enough ran.cut above in

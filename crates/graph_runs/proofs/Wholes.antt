@@ -139,8 +139,7 @@ module _ (job : Job) (ends : Ends) (is : IsGraph job.graph) (r : IsRunEnd job en
         let begun : m.begun u.task ≡ other.0.begun =
         begun_there job ends is r u.task other.0 other.1 in
         let stays : (task_at job.graph u.task).joins_now ≡ false =
-        (parent_of job t u is there e).stays in
-        (
+        (parent_of job t u is there e).stays in (
           offset_of_parent u other.0 other.1 stays ∙ sym (own.own.above u e),
           omega (arith, own.own.parent u e, other.2),
           λ was. registered_there job ends is r u.task other.0 other.1,

@@ -36,8 +36,10 @@ pub stand_more : {A : Type 0} (op : Operation A) (places : List (Parcel A)) (val
     → StandsForSends op held (one (get_or values i d))
     → StandForLists op (take (i + 1) (set places i held)) (map one (take (i + 1) values))
 stand_more {A} op places values i held d there within stand stands =
-    rw (take_more_set places i held there)
-    (rw (map_more one values i d within)
+    let P : List (Parcel A) → Type 0 = λ l. StandForLists op l (map one (take (i + 1) values)) in
+    let Q : List (List ℤ) → Type 0 = λ l. StandForLists op (take i places ++ held ∷ []) l in
+    subst P (sym (take_more_set places i held there))
+    (subst Q (sym (map_more one values i d within))
     (stand-push op (take i places) (map one (take i values)) held (one (get_or values i d)) stand
     stands))
 

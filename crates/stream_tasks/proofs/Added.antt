@@ -170,8 +170,7 @@ module _ (job : Job) (spots : ℕ → Spot) (t : ℕ) (part : TaskKnowledge) (le
         (refl, refl, refl, refl, λ c. refl);
     phasers = λ p founder is.
         (let g = so.phasers p founder is in
-        let now = grown p g.0 g.1 in
-        (
+        let now = grown p g.0 g.1 in (
           now.0,
           now.1,
           gathered_more job ends (end_of t part lefts) p old new founder g.0 now.0 g.1 now.1 g.2
@@ -186,8 +185,7 @@ module _ (job : Job) (spots : ℕ → Spot) (t : ℕ) (part : TaskKnowledge) (le
       known u end (inl has) = so.tasks u end has
       known u end (inr new) =
           let same : end_of t part lefts ≡ end = same_Some (end_of t part lefts) end new.1 in
-          let at : u ≡ t = new.0 ∙ here in
-          (
+          let at : u ≡ t = new.0 ∙ here in (
             ap (λ (e : TaskEnd). e.task) (sym same) ∙ sym at,
             omega arith,
             (m, rw same at left_at),

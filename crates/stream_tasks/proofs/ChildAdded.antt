@@ -178,8 +178,7 @@ module _ (job : Job) (spots : ℕ → Spot) (m after : Moment) (s : TaskState) (
       (record s { holds = with_item s.holds k (On new); children = kids })
       × HasFirstHolds job spots after c (numbers ++ a ∷ []) (child_holds ++ On child ∷ [])
   first_holds_add =
-      let none : length s.lefts.items ≡ 0 = whole.staying going in
-      (
+      let none : length s.lefts.items ≡ 0 = whole.staying going in (
         record {
           part = has.part;
           own = has.own.0;

@@ -123,8 +123,7 @@ first_holds_begin job spots m s c whole at child boundary going nowhere =
     child_is_new job m t c child.parent whole.graph whole.there child.there at.part child.has
     child.by nowhere in
     let calls = calls_begin job m after t c whole.graph whole.there child new
-    (at.place.begun ∙ boundary) (at.knows.offset c) nowhere at.own in
-    (
+    (at.place.begun ∙ boundary) (at.knows.offset c) nowhere at.own in (
       new,
       record {
         part = new.part;
@@ -178,8 +177,7 @@ first_holds_wait job spots m s c k p numbers child_holds old new whole at first_
     child.there at.part first_holds.joining child.has child.by nowhere sees in
     let moved = both.seen.moved in
     let calls = calls_wait job m after t c whole.graph whole.there child p (member_in old).number
-    numbers now sees nowhere both at.own first_holds.own in
-    (
+    numbers now sees nowhere both at.own first_holds.own in (
       both,
       record {
         part = moved.part;

@@ -96,8 +96,7 @@ module _ (job : Job) (spots : ℕ → Spot) (founders joined : List (Option AnyL
       let founder : FounderEnd =
       record { number = 0; gave = gave p; seen = (left_in f.0).seen } in
       let limits : limits_on (left_in f.0).at ≡ limits_at job p =
-      ap limits_on f.2.is_left.at ∙ f.2.is_left.limits in
-      (
+      ap limits_on f.2.is_left.at ∙ f.2.is_left.limits in (
         founder,
         (left_in s.0).seen,
         record {

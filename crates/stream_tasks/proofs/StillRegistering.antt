@@ -231,9 +231,9 @@ module _ (job : Job) (spots : ℕ → Spot) (s : TaskState) (i : ℕ) (a : ℕ) 
           at_end = λ over. absurd (let no : false ≡ true = sym n.going ∙ over in cc);
         };
         first_holds = subst (λ (d : ℕ). HasFirstHolds job spots after d kid.numbers.items
-        child_holds.items) (sym same_task) first_holds;
+            child_holds.items) (sym same_task) first_holds;
         start = λ joins some. (subst (λ (d : ℕ). (task_at job.graph d).joins_now ≡ true →
-        after.offset d ≡ kid.start) (sym same_task) start) joins;
+            after.offset d ≡ kid.start) (sym same_task) start) joins;
       }
 
 -- a call that registered the child once more

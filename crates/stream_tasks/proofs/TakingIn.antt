@@ -98,8 +98,7 @@ grown_by old new p left s q one is = by (eq_case q p)
     by (inr other) = (one, s.elsewhere q other ∙ is, grown_to_refl one)
     by (inl e) =
         let was : IsAt old p one = subst (λ x. IsAt old x one) e is in
-        let same : s.one ≡ one = same_at old p s.one one s.was was in
-        (
+        let same : s.one ≡ one = same_at old p s.one one s.was was in (
           s.all,
           subst (λ x. IsAt new x s.all) (sym e) s.is,
           rw (← same) (record {

@@ -20,8 +20,9 @@ loop-k-preserved g c =
     let long = l.invariant.1 in
     let within : l.k < length c.args.values.now = c.loop-k-test.true in
     let v = get_or c.args.values.now l.k (pos 0) in
-    let sent : IsSend v = send-at c.args.values.now l.k (pos 0) c.requires.sends within in (
+    let sent : IsSend v = send-at c.args.values.now l.k (pos 0) c.requires.sends within in
+    let S : ℤ → Type 0 = λ x. StandsForSends g.A.Accumulate.operation c.one_send.result (one x) in (
       stand_more g.A.Accumulate.operation l.places c.args.values.now l.k c.one_send.result (pos 0)
-          (omega arith) within l.invariant.0 (rw (send-same v sent) at c.one_send.ensures),
+          (omega arith) within l.invariant.0 (subst S (send-same v sent) c.one_send.ensures),
       length-set l.places l.k c.one_send.result ∙ long,
     )

@@ -16,9 +16,10 @@ push_reserved-requires c =
     let within : i < length c.args.outcomes.now = c.loop-outcome-test.true in
     let long : length (map number first) ≡ i =
     length-map first number ∙ length-take-le i c.args.outcomes.now (omega arith) in
-    omega (arith, length-append c.args.lines.now.items (map number first),
-    ap length c.loop-outcome.invariant.0, c.requires, c.loop-outcome.invariant.1,
-    c.loop-outcome.lines.ok.0, c.args.lines.now.ok.0)
+    let sum = length-append c.args.lines.now.items (map number first) in
+    let many = ap length c.loop-outcome.invariant.0 in
+    let same = c.loop-outcome.invariant.1 in
+    omega (arith, c.requires, c.loop-outcome.lines.ok.0, c.args.lines.now.ok.0)
 
 pub loop-outcome-preserved : goal.loop-outcome-preserved
 loop-outcome-preserved c =

@@ -16,4 +16,7 @@ pub returns-in-len1-clause-after : goal.returns-in-len1-clause-after
 returns-in-len1-clause-after c = λ op limits h stands.
     let alone = one-alone c.args.values.now (pos 0) c.requires.sends c.in-len1.len_at_least
     c.in-len1.len_below in
-    rw alone (c.signal_one.ensures.after op limits h stands)
+    let P : List (List ℤ) → Type 0 =
+    λ lists. CoreStandsFor c.signal_one.new.self op limits
+    (after_signal c.signal_one.result c.args.task lists c.args.single h) in
+    subst P (sym alone) (c.signal_one.ensures.after op limits h stands)

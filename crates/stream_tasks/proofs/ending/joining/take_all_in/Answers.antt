@@ -49,8 +49,9 @@ registration-p-requires-clause-number c =
     let same : registrations_of c.graph-in-loop.result.now
     (task_at c.graph-in-loop.result.now c.args.t) ≡ registrations_at c.args.job.now c.args.t =
     ap (λ (g : Graph). registrations_of g (task_at g c.args.t)) c.graph-in-loop.ensures.graph in
-    omega (arith, ap length popped ∙ length-append c.pop.new.self.items (c.in-Some.left ∷ []),
-    ap length same, c.len.ensures)
+    let long : length c.loop.lefts.items ≡ length c.pop.new.self.items + 1 =
+    ap length popped ∙ length-append c.pop.new.self.items (c.in-Some.left ∷ []) in
+    omega (arith, ap length same, c.len.ensures)
 
 -- a registration as code reads it
 registration_is : (job : Job) (t k n : ℕ) (g : Graph) (r : Registration)

@@ -40,8 +40,7 @@ invariant_of-self-in-None g c =
     let is = c.self.invariant.0 in
     let spots = g.J.Run.spots in
     let s = c.self.inside.state in
-    let new = c.turn.new.self in
-    (
+    let new = c.turn.new.self in (
       is,
       rw is at (c.turn.ensures spots (rw is c.self.invariant.1)),
       rw c.in_default.is tt,

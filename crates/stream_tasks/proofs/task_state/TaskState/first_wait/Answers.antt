@@ -29,8 +29,8 @@ index_mut-requires g c =
 pub get_into-requires : goal.get_into-requires
 get_into-requires g c =
     let s = c.args.self.now in
-    omega (arith, c.requires.step.task.whole.places.outcomes, c.steps-steps.ensures.few,
-    s.outcomes.ok.0)
+    let enough = c.requires.step.task.whole.places.outcomes in
+    omega (arith, c.steps-steps.ensures.few, s.outcomes.ok.0)
 
 pub owed_after-requires-clause-filter : goal.owed_after-requires-clause-filter
 owed_after-requires-clause-filter g c =
