@@ -97,8 +97,7 @@ length-registrations graph task ends = by task.kind refl
     by Split e = many (λ peer. absurd (let no = sym e ∙ peer in cc))
     by Join e = many (λ peer. absurd (let no = sym e ∙ peer in cc))
     by Peer e =
-        let Ends : Kind → Type 0 = λ kind. HasEnds kind (length task.inputs) (length task.outputs) in
-        let two : (length task.inputs ≡ 2) × (length task.outputs ≡ 1) = subst Ends e ends in
+        let two : (length task.inputs ≡ 2) × (length task.outputs ≡ 1) = rw e at ends in
         let three : length (registrations_of graph task) ≡ 3 = rw e refl in
         omega (arith, three, two.0, two.1)
     by Sink e = many (λ peer. absurd (let no = sym e ∙ peer in cc))

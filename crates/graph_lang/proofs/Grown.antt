@@ -37,16 +37,14 @@ pub IsParent-stays : (before after : Graph) (t : ℕ) (task : Task) (parent : Pa
 IsParent-stays before after t task parent grows few is =
     let same : task_at after parent.task ≡ task_at before parent.task =
     grows.task parent.task (omega (arith, is.above, few)) in
-    let Waits : Task → Type 0 = λ above. AreAmong task.inputs above.inputs in
-    let Signals : Task → Type 0 = λ above. AreAmong task.outputs above.outputs in
     record {
       above = is.above;
       steps = is.steps;
       kind = ap (λ above. has_children above.kind) same ∙ is.kind;
       child_kind = is.child_kind;
       stays = ap (λ above. above.joins_now) same ∙ is.stays;
-      waits = subst Waits (sym same) is.waits;
-      signals = subst Signals (sym same) is.signals;
+      waits = rw same is.waits;
+      signals = rw same is.signals;
     }
 
 pub IsTaskLine-stays : (before after : Graph) (t : ℕ) (task : Task)

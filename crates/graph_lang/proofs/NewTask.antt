@@ -173,8 +173,7 @@ same-phaser : (before : Graph) → AreNames before → (word other : Word)
     → is_phaser before.names word ≡ true → is_phaser before.names other ≡ true
     → number_in before.names other ≡ number_in before.names word → word ≡ other
 same-phaser before are word other is also same =
-    let Found : ℕ → Type 0 = λ p. place_of before.names other ≡ Some (place.Phaser p) in
-    let there = subst Found same (phaser-found (place_of before.names other) also) in
+    let there = rw same at (phaser-found (place_of before.names other) also) in
     sym (are.found word (place.Phaser (number_in before.names word))
     (phaser-found (place_of before.names word) is))
     ∙ are.found other (place.Phaser (number_in before.names word)) there

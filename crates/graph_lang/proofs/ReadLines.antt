@@ -26,16 +26,14 @@ pub declares : (version : Version) (line : List ℕ) (words : List Word) (d : De
     → are_printable line ≡ true → words ≡ words_of line → Spells version words d
     → Declares version line d
 declares version line words d printable same spells =
-    let P : List Word → Type 0 = λ words. Spells version words d in
-    record { printable = printable; spells = subst P same spells }
+    record { printable = printable; spells = rw same at spells }
 
 -- a line whose words spell no declaration
 pub declares-none : (version : Version) (line : List ℕ) (words : List Word)
     → words ≡ words_of line → ((d : Decl) → ¬ (Spells version words d))
     → (d : Decl) → ¬ (Declares version line d)
 declares-none version line words same none d declared =
-    let P : List Word → Type 0 = λ words. Spells version words d in
-    none d (subst P (sym same) declared.spells)
+    none d (rw same declared.spells)
 
 -- a line with a byte of no word
 pub declares-unprintable : (version : Version) (line : List ℕ) → are_printable line ≡ false
@@ -205,10 +203,8 @@ pub continues-more : (pieces : List (Bor (List ℕ))) (i n : ℕ) (known next : 
 continues-more pieces i n known next before after d below so_far same step outcome rest =
     let line = without_cr (get_or pieces i d).now in
     let lines = lines_in (drop (i + 1) pieces) in
-    let P : List (List ℕ) → Type 0 = λ lines. ReadsOn known n before lines outcome in
-    let Q : Option Version → Type 0 = λ known. ReadsOn known (n + 1) after lines outcome in
-    so_far outcome (subst P (sym (lines_in-drop pieces i d below))
-    (reads-more known n before after line lines outcome step (subst Q same rest)))
+    so_far outcome (rw (lines_in-drop pieces i d below)
+    (reads-more known n before after line lines outcome step (rw same at rest)))
 
 -- a line that stopped the reading
 pub continues-fault : (pieces : List (Bor (List ℕ))) (i n : ℕ) (known : Option Version)
@@ -219,8 +215,7 @@ pub continues-fault : (pieces : List (Bor (List ℕ))) (i n : ℕ) (known : Opti
     → Tells (lines_in pieces) (Err e)
 continues-fault pieces i n known before d (refusal.Fault f) below so_far step =
     let line = without_cr (get_or pieces i d).now in
-    let P : List (List ℕ) → Type 0 = λ lines. ReadsOn known n before lines (Err f) in
-    so_far (Err f) (subst P (sym (lines_in-drop pieces i d below))
+    so_far (Err f) (rw (lines_in-drop pieces i d below)
     (reads-fault known n before line (lines_in (drop (i + 1) pieces)) f step))
 continues-fault pieces i n known before d refusal.OutOfMemory below so_far step = tt
 

@@ -45,5 +45,4 @@ one_reading_from version n before (line ∷ lines) a b (inr (after, p, x)) (inl 
 one_reading_from version n before (line ∷ lines) a b (inr (after, p, x)) (inr (other, q, y)) =
     let same : Ok after ≡ Ok other = one_step version n before line (Ok after) (Ok other) p q in
     let state : after ≡ other = cc in
-    let P : Graph → Type 0 = λ s. Reads version (n + 1) s lines a in
-    one_reading_from version (n + 1) other lines a b (subst P state x) y
+    one_reading_from version (n + 1) other lines a b (rw state at x) y

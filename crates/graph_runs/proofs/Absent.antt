@@ -33,8 +33,7 @@ absent_ran job m t is there begins absent = record {
   outputs = λ p pp. outputs p (index_in (signalled_by (task_at job.graph t)) p);
   inputs = λ k lt.
       (let p = input_at (task_at job.graph t) k in
-      let T : Option ℕ → Type 0 = λ o. TakenOn job m t k p o in
-      subst T (sym (absent.nowhere p)) (absent.taken k, absent.child));
+      rw (absent.nowhere p) (absent.taken k, absent.child));
   joined = λ p n at. absurd (nobody p n at);
   children = λ c p n u there_c e by at none on. absurd (nobody p n at);
 }
@@ -57,7 +56,6 @@ absent_ran job m t is there begins absent = record {
 
     outputs : (p : ℕ) (place : Option ℕ) → OnPhaser job m t p place
     outputs p None =
-        let S : Option ℕ → Type 0 = λ o. SilentOn m p o in subst S (sym (absent.nowhere p)) tt
+        rw (absent.nowhere p) tt
     outputs p (Some j) =
-        let P : Option ℕ → Type 0 = λ o. PutOn job m t j p o in
-        subst P (sym (absent.nowhere p)) absent.child
+        rw (absent.nowhere p) absent.child

@@ -81,8 +81,7 @@ sent_is limits h task member n legal below has =
                 let whole : has.rest ≡ [] = has.whole left in
                 let all : has.put ≡ member.1 =
                 sym (append-nil has.put) ∙ ap (λ l. has.put ++ l) (sym whole) ∙ has.first in
-                let long : length has.put ≡ length member.1 = ap length all in
-                omega arith
+                omega (arith, ap length all)
             ended false stays =
                 let held : done_of h ≤ has.start.signal_phase + phases_signalled h task =
                 holds_open limits h task has.start legal has.start_is has.signals stays in
@@ -183,8 +182,7 @@ agrees_at h number member (u ∷ ts) t e agree =
     split : (eqb u t ≡ true) ⊎ (is_in t ts ≡ true)
         → (is_in t ts ≡ true → Agrees h (number t) (member t)) → Agrees h (number t) (member t)
     split (inl same) rec =
-        let P : ℕ → Type 0 = λ n. Agrees h (number n) (member n) in
-        subst P (eqb-true _ _ same) agree.0
+        rw (eqb-true _ _ same) at agree.0
     split (inr rest) rec = rec rest
 
 greatest-front : (ns : List ℕ) (a : ℕ) → a ≤ fold max a ns
@@ -213,15 +211,11 @@ end_within member (u ∷ ts) t a e =
         → end_of_contribution (member t)
         ≤ fold max (max a (end_of_contribution (member u))) (map (λ t. end_of_contribution (member t)) ts)
     split (inl same) rec =
-        let P : ℕ → Type 0 =
-        λ n. end_of_contribution (member n)
-        ≤ fold max (max a (end_of_contribution (member u)))
-        (map (λ t. end_of_contribution (member t)) ts) in
         let r : max a (end_of_contribution (member u))
         ≤ fold max (max a (end_of_contribution (member u))) (map (λ t. end_of_contribution (member t)) ts) =
         greatest-front (map (λ t. end_of_contribution (member t)) ts)
         (max a (end_of_contribution (member u))) in
-        subst P (eqb-true _ _ same) (omega arith)
+        rw (← (eqb-true _ _ same)) (omega arith)
     split (inr f) rec = rec f
 
 -- all ends are at most n
@@ -273,14 +267,9 @@ done_within limits h number member ts legal strangers agree =
         let same : a.start ≡ r.start = same_Some _ _ (sym a.start_is ∙ r.start_is) in
         let same_at : a.start.signal_phase ≡ r.start.signal_phase =
         ap (λ (x : Entry). x.signal_phase) same in
-        let at : a.start.signal_phase ≡ m.0 = a.at in
-        let counted : length (sent_by h r.task) ≡ phases_signalled h r.task =
-        length-sent_by h r.task in
-        let put_count : length (sent_by h r.task) ≡ length a.put =
-        ap length a.sent ∙ length-map a.put one in
         let all : length a.put + length a.rest ≡ length m.1 =
         sym (length-append a.put a.rest) ∙ ap length a.first in
-        omega arith
+        omega (arith, a.at, length-sent_by h r.task, ap length a.sent ∙ length-map a.put one)
 
     split : done_of h ≤ top_of h → (r : ReachesTop h)
         → top_of h ≤ r.start.signal_phase + phases_signalled h r.task
@@ -292,12 +281,9 @@ done_within limits h number member ts legal strangers agree =
     split top r reach (inl known) =
         let f : Found number ts r.task = found number ts r.task known in
         let a : Agrees h (number f.0) (member f.0) = agrees_at h number member ts f.0 f.1 agree in
-        let P : Option ℕ → Type 0 = λ o. Agrees h o (member f.0) in
         let at : top_of h ≤ end_of_contribution (member f.0) =
-        reached r reach f (member f.0) refl (subst P f.2 a) in
-        let within : end_of_contribution (member f.0)
-        ≤ greatest (map (λ t. end_of_contribution (member t)) ts) = end_within member ts f.0 0 f.1 in
-        omega arith
+        reached r reach f (member f.0) refl (rw f.2 at a) in
+        omega (arith, end_within member ts f.0 0 f.1)
 
 -- where no task signals, all phases are complete
 pub done_whole : (limits : Limits) (h : History) (number : ℕ → Option ℕ)
@@ -315,14 +301,10 @@ done_whole limits h number member ts legal quiet agree =
         let left : has_dropped h task ≡ true =
         all_dropped limits h task a.start legal quiet a.start_is a.signals in
         let whole : a.rest ≡ [] = a.whole left in
-        let none : length a.rest ≡ 0 = ap length whole in
         let all : length a.put + length a.rest ≡ length m.1 =
         sym (length-append a.put a.rest) ∙ ap length a.first in
-        let counted : length (sent_by h task) ≡ phases_signalled h task = length-sent_by h task in
         let put_count : length (sent_by h task) ≡ length a.put =
         ap length a.sent ∙ length-map a.put one in
-        let at : a.start.signal_phase ≡ m.0 = a.at in
         let below : a.start.signal_phase + phases_signalled h task ≤ top_of h =
         below_top limits h task a.start legal a.start_is in
-        let top : done_of h ≡ top_of h = done_at_top h quiet in
-        omega arith
+        omega (arith, ap length whole, length-sent_by h task, a.at, done_at_top h quiet)

@@ -71,14 +71,9 @@ absent_child : (job : Job) (m : Moment) (t p : ℕ) → IsGraph job.graph → Ha
     → t < length job.graph.tasks → OnLine (task_at job.graph t) p → m.number p t ≡ None
     → IsChild (task_at job.graph t).parent
 absent_child job m t p is ran there (inl out) absent =
-    let O : Option ℕ → Type 0 = λ o. OnPhaser job m t p o in
-    let N : Option ℕ → Type 0 = λ o. PutOn job m t out.0 p o in
-    subst N absent (subst O out.1
-    ((ran.tasks t there).outputs p (on_phaser job t p is there (inl out))))
+    rw absent at (rw out.1 at ((ran.tasks t there).outputs p (on_phaser job t p is there (inl out))))
 absent_child job m t p is ran there (inr into) absent =
-    let P : ℕ → Type 0 = λ q. TakenOn job m t into.0 q (m.number q t) in
-    let N : Option ℕ → Type 0 = λ o. TakenOn job m t into.0 p o in
-    (subst N absent (subst P into.2 ((ran.tasks t there).inputs into.0 into.1))).1
+    (rw absent at (rw into.2 at ((ran.tasks t there).inputs into.0 into.1))).1
 
 has_parent : (o : Option Parent) → IsChild o → (u : Parent) × (o ≡ Some u)
 has_parent None is = absurd is
@@ -95,10 +90,9 @@ misses : (job : Job) (m : Moment) (t : ℕ) (r : Registration) → IsGraph job.g
 misses job m t r is there found =
     let f = find-some (λ x. not (has_registered m t x)) (registrations_at job t) r no_registration
     found in
-    let On : Registration → Type 0 = λ x. OnLine (task_at job.graph t) x.phaser in
     record {
       p = r.phaser;
-      on = subst On f.1.2 (is_for job t f.1.0 is there f.1.1).on_line;
+      on = rw f.1.2 at (is_for job t f.1.0 is there f.1.1).on_line;
       absent = none_is (m.number r.phaser t) (not-true (has_registered m t r) f.0);
     }
 
@@ -111,8 +105,7 @@ above_it : (m : Moment) (t : ℕ) (now : Bool) (o : Option Parent) (u : Parent) 
     → o ≡ Some u → AboveIt m u
 above_it m t now None u j e = absurd (cc)
 above_it m t now (Some v) u j e =
-    let P : Parent → Type 0 = λ w. AboveIt m w in
-    subst P (same_Some v u e) record { low = j.1; registered = j.2 }
+    rw (← (same_Some v u e)) record { low = j.1; registered = j.2 }
 
 -- ---- no task is left halfway
 
@@ -134,9 +127,7 @@ waits_for_parent job m t r u is ran there found parent joined above all dead =
     let passed : HasNotPassed m it.p (number_on m u.task it.p) u =
     (ran.tasks u.task above).children t it.p (number_on m u.task it.p) u there parent refl number
     it.absent it.on in
-    let early : m.begun u.task < u.at = passed.ended gone in
-    let low : u.at ≤ m.begun u.task = joined.low in
-    omega arith
+    omega (arith, passed.ended gone, joined.low)
 
 -- where no task is live, each that is registered somewhere is so on all its phasers
 all_there : (job : Job) (m : Moment) → IsGraph job.graph → HasRun job m

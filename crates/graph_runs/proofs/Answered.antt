@@ -31,8 +31,7 @@ received_none value (Waited task phases ∷ before) n none =
     elim (eqb task n) as (λ b. (eqb task n ≡ b)
     → All Small (received_by value (Waited task phases ∷ before) n)) [
       | true ↦ λ e.
-          let Answer : ℕ → Type 0 = λ waiter. All Small (answer waiter) in
-          let mine : All Small (answer n) = subst Answer (eqb-true task n e) none.0 in
+          let mine : All Small (answer n) = rw (eqb-true task n e) at none.0 in
           rw e (All-append Small earlier (answer n) small mine)
       | false ↦ λ e. rw e small
     ] refl

@@ -58,7 +58,7 @@ with_one : (P : ℕ → History → Type 0) (p : ℕ) (h : History) (hs : ℕ �
 with_one P p h hs here others q = by (eqb q p) refl
   where
     by : (b : Bool) → eqb q p ≡ b → P q (cond b h (hs q))
-    by true e = let Q : ℕ → Type 0 = λ r. P r h in subst Q (sym (eqb-true q p e)) here
+    by true e = rw (eqb-true q p e) here
     by false e = others q
 
 -- on a phaser of the graph
@@ -108,12 +108,11 @@ none_after job m event next small none = by event next small
         → received_by (value_at job p) (Waited n (length outcomes) ∷ m.history p) n
         ≡ received_by (value_at job p) (m.history p) n ++ outcomes
         → AreSmall outcomes → On job AnsweredNone p (Waited n (length outcomes) ∷ m.history p)
-    waits p n outcomes answered small pp =
-        let A : List Outcome → Type 0 = λ l. AreSmall l in (
-          subst A (sym (answer_is (value_at job p) (m.history p) n (length outcomes) outcomes answered))
-              small,
-          none p pp,
-        )
+    waits p n outcomes answered small pp = (
+      rw (answer_is (value_at job p) (m.history p) n (length outcomes) outcomes answered)
+          small,
+      none p pp,
+    )
 
     by : (event : TaskEvent) → IsNext job m event → HasSmall event
         → HasAnsweredNone job (after_turn job event m)

@@ -122,8 +122,7 @@ sends_within n member v e = by (cases_lt n member.0)
         let test : leb (suc n) member.0 ≡ false = lt-leb (suc n) member.0 (omega arith) in
         let some : slice_get member.1 (n - member.0) ≡ Some v =
         ap (λ b. cond b None (slice_get member.1 (n - member.0))) (sym test) ∙ e in
-        let below : n - member.0 < length member.1 = some_below member.1 (n - member.0) v some in
-        (later, omega arith)
+        (later, omega (arith, some_below member.1 (n - member.0) v some))
 
 -- a task that sends in phase n signals it
 pub signals_at : (job : Job) (p t n : ℕ) (member : Contribution) (v : ℤ) → IsGraph job.graph
@@ -202,12 +201,9 @@ are_gathered job m p ready pp ran agree n below = by (op_case (phaser_at job.gra
     signals a f some =
         let there : f.0 < 0 + length job.graph.tasks =
         in_range f.0 0 (length job.graph.tasks) f.1 in
-        let A : Option ℕ → Type 0 =
-        λ o. Agrees (m.history p) o (contribution_at job (schedule_of job) (numbers_of job) p f.0) in
         let a_is : Agrees (m.history p) (Some a)
         (contribution_at job (schedule_of job) (numbers_of job) p f.0) =
-        subst A f.2
-        (agrees_at (m.history p) (m.number p) (contribution_at job (schedule_of job) (numbers_of job) p)
+        rw f.2 at (agrees_at (m.history p) (m.number p) (contribution_at job (schedule_of job) (numbers_of job) p)
         (range_with_len 0 (length job.graph.tasks)) f.0 f.1 agree) in
         member_case f.0 (omega arith) (contribution_at job (schedule_of job) (numbers_of job) p f.0) refl
         a_is

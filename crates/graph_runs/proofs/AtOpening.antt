@@ -53,8 +53,7 @@ are_limits job p is pp =
 pub rooted_at : (job : Job) (p n : ℕ) → IsGraph job.graph → p < length job.graph.phasers
     → n ≤ length job.graph.tasks → Rooted job p n
 rooted_at job p n is pp le =
-    let few = is.few_tasks in
-    rooted job p n (are_limits job p is pp) (omega arith)
+    rooted job p n (are_limits job p is pp) (omega (arith, is.few_tasks))
 
 -- a task that is not there is registered nowhere
 no_root : (job : Job) (p t : ℕ) → length job.graph.tasks ≤ t → root_mode job t p ≡ None
@@ -117,8 +116,7 @@ apart job p t u n is pp less first second =
     let a = has_number job p t n is pp first in
     let b = has_number job p u n is pp second in
     let low = a.within u less (omega (arith, b.there)) in
-    let high = b.root.is in
-    omega arith
+    omega (arith, b.root.is)
 
 pub phaser_opened : (job : Job) (p : ℕ) → IsGraph job.graph → p < length job.graph.phasers
     → PhaserOpened job (opening job) p
@@ -131,8 +129,7 @@ phaser_opened job p is pp =
       distinct = λ t u n there less first second. same t u n first second;
       used = λ t n e. ap is_some (has_number job p t n is pp e).begins;
       apart = λ t n e.
-          (let is_n = (has_number job p t n is pp e).root.is in
-          λ zero. (omega arith));
+          (λ zero. (omega (arith, (has_number job p t n is pp e).root.is)));
     }
   where
     same : (t u n : ℕ) → root_number job p t ≡ Some n → root_number job p u ≡ Some n → t ≡ u
@@ -288,8 +285,7 @@ task_opened job t is there = record {
 
 has_modes : (job : Job) → IsGraph job.graph → HasModes job (opening job)
 has_modes job is t there k d lt =
-    let R : Registration → Type 0 = λ r. HasMode (opening job) t r in
-    subst R (get_or-any (registrations_at job t) k no_registration d lt) (λ n start e begun.
+    rw (← (get_or-any (registrations_at job t) k no_registration d lt)) (λ n start e begun.
     (let p = (get_or (registrations_at job t) k no_registration).phaser in
     let pp = on_phaser job t p is there (is_for job t k is there lt).on_line in
     let has = has_number job p t n is pp e in

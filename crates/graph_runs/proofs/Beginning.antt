@@ -181,25 +181,20 @@ without-fewer (m ∷ ms) gone entry e =
         → suc (length (cond (not (eqb m.task gone)) (m ∷ without gone ms) (without gone ms)))
         ≤ suc (length ms)
     by true here f later =
-        let le = at_most ms in
         let it : cond (not (eqb m.task gone)) (m ∷ without gone ms) (without gone ms)
         ≡ without gone ms = rw here refl in
-        let same = ap length it in
-        omega arith
+        omega (arith, at_most ms, ap length it)
     by false here f later =
-        let le = later f in
         let it : cond (not (eqb m.task gone)) (m ∷ without gone ms) (without gone ms)
         ≡ m ∷ without gone ms = rw here refl in
-        let same = ap length it in
-        omega arith
+        omega (arith, later f, ap length it)
 
 pub only_roots : (job : Job) (p : ℕ) → Rooted job p (length job.graph.tasks)
     → length (members_of ((opening job).history p)) ≤ length (numbers_on job (opening job) p)
 only_roots job p is =
     let few = without-fewer (members_of (roots_joined job p (length job.graph.tasks))) 0 founder
     is.founds in
-    let many = is.members in
-    omega arith
+    omega (arith, is.members)
 
 -- ---- the numbers there
 

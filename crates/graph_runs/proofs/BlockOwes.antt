@@ -45,9 +45,8 @@ pub fir_owes_block : (job : Job) (m after : Moment) (t : ℕ) (xs : List ℤ)
     → m.put t 0 ≡ made_now job m t 0 → OwesBlock job m after t xs
 fir_owes_block job m after t xs is there e ran now w steps whole =
     let task = task_at job.graph t in
-    let H : Kind → Type 0 = λ kind. HasEnds kind (length task.inputs) (length task.outputs) in
     let ends : (length task.inputs ≡ 1) × (length task.outputs ≡ 1) =
-    subst H e (is.tasks t there).ends in
+    rw e at (is.tasks t there).ends in
     let inputs : length task.inputs ≡ 1 = ends.0 in
     let outs : signalled_by task ≡ task.outputs = rw e refl in
     let many : length (signalled_by task) ≡ 1 = ap length outs ∙ ends.1 in

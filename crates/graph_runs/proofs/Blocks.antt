@@ -43,8 +43,7 @@ use Rattle.graph_runs.proofs.Refusing.{MaySignal, differs-none}
 fold-most : (f : ℕ → ℕ → ℕ) (s : ℕ) (cs : List ℕ) → ((s c : ℕ) → f s c ≤ s) → fold f s cs ≤ s
 fold-most f s [] less = omega arith
 fold-most f s (c ∷ cs) less =
-    let rest : fold f (f s c) cs ≤ f s c = fold-most f (f s c) cs less in
-    let here : f s c ≤ s = less s c in omega arith
+    omega (arith, fold-most f (f s c) cs less, less s c)
 
 fold-some : (f : ℕ → ℕ → ℕ) (s : ℕ) (cs : List ℕ) → 1 ≤ s
     → ((s c : ℕ) → 1 ≤ s → 1 ≤ f s c) → 1 ≤ fold f s cs
@@ -134,9 +133,8 @@ until_less (Some until) begun s = omega arith
 
 pub block_few : (job : Job) (m : Moment) (t : ℕ) → block_of job m t ≤ (task_at job.graph t).block
 block_few job m t =
-    let most = block_most job m t in
     let less = until_less (task_at job.graph t).until (m.begun t) (task_at job.graph t).block in
-    omega arith
+    omega (arith, block_most job m t)
 
 -- none past the boundary of a child that comes later
 pub block_before : (job : Job) (m : Moment) (t c : ℕ) (u : Parent) → c < length job.graph.tasks
@@ -164,9 +162,7 @@ may_go_on job m t steps is ran there none due low most samples = record {
   children = λ p c n u below parent by at absent on.
       (let later : m.begun t < u.at =
       none_due job m t p is ran there due c n u below parent by at absent on in
-      let before : block_of job m t ≤ u.at - m.begun t =
-      block_before job m t c u below parent by later in
-      omega arith);
+      omega (arith, block_before job m t c u below parent by later));
 }
   where
     cut : (until : Option ℕ) → AtMost (m.begun t) until
@@ -174,10 +170,7 @@ may_go_on job m t steps is ran there none due low most samples = record {
         → AtMost steps until
     cut None le few = tt
     cut (Some until) le few =
-        let begun : m.begun t ≤ until = le in
-        let many : block_of job m t ≤ min (task_at job.graph t).block (until - m.begun t) = few in
-        let high : steps ≤ m.begun t + block_of job m t = most in
-        omega arith
+        omega (arith, le, few, most)
 
 -- ---- a signal
 
@@ -208,7 +201,6 @@ rows_pass job m p is ran pp (v ∷ vs) entry quiet =
     let single = (phaser_at job.graph p).single in
     let slowest = is_some (least (wait_phases (members_of h))) in
     let sent : length (sends_of_phase h s) ≤ length job.graph.tasks = sends_few job m p s ran pp in
-    let tasks : length job.graph.tasks ≤ TASKS_MAX = is.few_tasks in
     first_pass (mode_waits entry.mode && eqb s (entry.wait_phase + 1))
     (nat_le (limits_at job p).phases_max s)
     (is_ahead (least (wait_phases (members_of h))) (limits_at job p).bound s)
@@ -219,7 +211,7 @@ rows_pass job m p is ran pp (v ∷ vs) entry quiet =
     (and_right slowest (differs (named_in_phase h s) single)
     (differs-none single h s (ran.phasers p pp).names))
     (and_right slowest (nat_lt SENDS_MAX (length (sends_of_phase h s) + 1))
-    (le-ltb SENDS_MAX (length (sends_of_phase h s) + 1) (omega arith)))
+    (le-ltb SENDS_MAX (length (sends_of_phase h s) + 1) (omega (arith, is.few_tasks))))
     (rows_pass job m p is ran pp vs (signalled 1 entry) quiet)
 
 front_pass : (no_signal not_single bad : Bool) (rest : Option SignalRefusal) → no_signal ≡ false
@@ -240,17 +232,14 @@ may_signal_block job m p n vs mode is ran pp e signals quiet named good =
     let h = m.history p in
     let single = (phaser_at job.graph p).single in
     let long : length (map one vs) ≡ length vs = length-map vs one in
-    let Q : Mode → Type 0 = λ x. mode_waits x ≡ false in
-    let S : Mode → Type 0 = λ x. not (mode_signals x) ≡ false in
-    let N : Mode → Type 0 = λ x. (is_some single && not (is_single x)) ≡ false in
     rw (e.is) (front_pass (not (mode_signals e.entry.mode))
     (is_some single && not (is_single e.entry.mode))
     (is_bad_block (limits_at job p) (length (map one vs)))
     (first_row (list_rows (limits_at job p) h (map one vs) single e.entry))
-    (subst S (sym e.mode_is) (not_from_true (mode_signals mode) signals))
-    (subst N (sym e.mode_is) named)
+    (rw e.mode_is (not_from_true (mode_signals mode) signals))
+    (rw e.mode_is named)
     (ap (λ k. is_bad_block (limits_at job p) k) long ∙ good)
-    (rows_pass job m p is ran pp vs e.entry (subst Q (sym e.mode_is) quiet)))
+    (rows_pass job m p is ran pp vs e.entry (rw e.mode_is quiet)))
 
 -- ---- a wait
 

@@ -48,10 +48,8 @@ pub peer_ends : (job : Job) (t : ℕ) → IsGraph job.graph → t < length job.g
     → (length (task_at job.graph t).inputs ≡ 2)
     × (length (signalled_by (task_at job.graph t)) ≡ 2)
 peer_ends job t is there e =
-    let H : Kind → Type 0 = λ kind. HasEnds kind (length (task_at job.graph t).inputs)
-    (length (task_at job.graph t).outputs) in
     let both : (length (task_at job.graph t).inputs ≡ 2)
-    × (length (task_at job.graph t).outputs ≡ 1) = subst H e (is.tasks t there).ends in
+    × (length (task_at job.graph t).outputs ≡ 1) = rw e at (is.tasks t there).ends in
     let two : length (signalled_by (task_at job.graph t)) ≡ 2 = rw e refl in
     (both.0, two)
 
@@ -77,17 +75,12 @@ all_taken job m t is ran there none k lt = by (task_at job.graph t).kind k refl 
         let long : length (m.put t 1) ≡ m.begun t =
         ap length (all_put job m t ran there none 1 below)
         ∙ made_many job m t 1 is ran there below ∙ plain in
-        let X : Kind → Type 0 =
-        λ kind. HasExchanged kind 1 (length (m.put t 1)) (length (m.taken t 1)) in
         let low : length (m.put t 1) ≤ length (m.taken t 1) =
-        subst X e (ran.exchanged 1) in
+        rw e at (ran.exchanged 1) in
         let K : ℕ → Type 0 =
         λ i. HasTaken (task_at job.graph t) (m.begun t) i (length (m.taken t i)) in
-        let T : Kind → Type 0 =
-        λ kind. HasTaken (record (task_at job.graph t) { kind = kind }) (m.begun t) 1
-        (length (m.taken t 1)) in
         let has : (length (m.taken t 1) ≤ m.begun t) × (m.begun t ≤ length (m.taken t 1) + 1) =
-        subst T e (subst K at (ran.takes k lt)) in
+        rw e at (subst K at (ran.takes k lt)) in
         let high : length (m.taken t 1) ≤ m.begun t = has.0 in
         let takes : takes_from (task_at job.graph t) (m.begun t) k ≡ m.begun t = rw e refl in
         let here : length (m.taken t k) ≡ length (m.taken t 1) =
@@ -103,8 +96,7 @@ all_taken job m t is ran there none k lt = by (task_at job.graph t).kind k refl 
     by Sink i e at = exact (rw e tt)
     by Peer zero e at = exact (rw e at)
     by Peer (suc i) e at =
-        let two : length (task_at job.graph t).inputs ≡ 2 = (peer_ends job t is there e).0 in
-        peer e (omega arith)
+        peer e (omega (arith, (peer_ends job t is there e).0))
 
 -- ---- no child is due
 
@@ -119,9 +111,7 @@ none_due job m t p is ran there none c n u below parent of_t at absent on =
   where
     early : m.begun t ≤ u.at
     early =
-        let E : ℕ → Type 0 = λ x. m.begun x ≤ u.at in
-        subst E of_t
-        (ran.children c p n u below parent of_t at absent on).early
+        rw of_t at (ran.children c p n u below parent of_t at absent on).early
 
     not_due : is_due job m t c ≡ false
     not_due =
@@ -172,9 +162,7 @@ more_samples : (job : Job) (m : Moment) (t : ℕ) (kind : Kind)
     → has_input_ended job m t kind ≡ false
     → HasSamples kind (suc (m.begun t)) (length (samples_at job t))
 more_samples job m t Source e =
-    let lt : m.begun t < length (samples_at job t) =
-    leb-false (length (samples_at job t)) (m.begun t) e in
-    omega arith
+    omega (arith, leb-false (length (samples_at job t)) (m.begun t) e)
 more_samples job m t Fir e = tt
 more_samples job m t Split e = tt
 more_samples job m t Join e = tt

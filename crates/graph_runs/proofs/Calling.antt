@@ -88,12 +88,11 @@ answered_wait job m t k event made is ran live lt more a =
     let n = number_on m t p in
     let h = m.history p in
     let tells = reply_tells (value_at job p) (limits_at job p) h n a.phase a.outcome a.reply in
-    let within : wait_phase h n < done_of h = tells.0 in
     record {
       accepted = (
         not_refused (wait_refusal (limits_at job p) h n 1)
             (got_at (value_at job p) h (wait_phase h n)) (got.Value a.phase a.outcome) a.reply,
-        omega arith,
+        omega (arith, tells.0),
       );
       numbered = number_there job m t p is live (inr (k, lt, refl));
       few = lt;
@@ -218,8 +217,7 @@ first_wait_next job m t event is ran live no_source none due uncut more answer =
     further-length (m.begun t) outcomes in
     let phaser : p < length job.graph.phasers =
     on_phaser job t p is live.there (inr (k, lt, refl)) in
-    let Next : TaskEvent → Type 0 = λ e. IsNext job m e in
-    subst Next a.is (
+    rw (← a.is) (
       record { task = live.there; phaser = phaser },
       record {
         wait = answered_waits job m t k steps (first_wait t k p n) event is ran live lt
@@ -285,10 +283,8 @@ exchange_next job m t j event is ran live owes first answer =
 pub source_ends : (job : Job) (t : ℕ) → IsGraph job.graph → t < length job.graph.tasks
     → (task_at job.graph t).kind ≡ Source → length (signalled_by (task_at job.graph t)) ≡ 1
 source_ends job t is there e =
-    let H : Kind → Type 0 = λ kind. HasEnds kind (length (task_at job.graph t).inputs)
-    (length (task_at job.graph t).outputs) in
     let both : (length (task_at job.graph t).inputs ≡ 0)
-    × (length (task_at job.graph t).outputs ≡ 1) = subst H e (is.tasks t there).ends in
+    × (length (task_at job.graph t).outputs ≡ 1) = rw e at (is.tasks t there).ends in
     let same : signalled_by (task_at job.graph t) ≡ (task_at job.graph t).outputs = rw e refl in
     ap length same ∙ both.1
 
@@ -327,8 +323,7 @@ sample_next job m t event is ran live source none due uncut more answer =
     let T : Kind → Type 0 = λ k. HasSamples k (further (m.begun t) vs)
     (length (samples_at job t)) in
     let enough : T Source = omega arith in
-    let Next : TaskEvent → Type 0 = λ e. IsNext job m e in
-    subst Next a.2 (
+    subst (λ (e : TaskEvent). IsNext job m e) a.2 (
       record { task = live.there; phaser = phaser },
       record {
         signal = record {
@@ -427,8 +422,7 @@ leave_next job m t event is ran live none due end answer =
         ≡ false =
         find-none (λ x. not (has_registered m t x)) (registrations_at job t) f.1.0 no_registration
         live.all f.1.1 in
-        let P : Registration → Type 0 = λ x. not (has_registered m t x) ≡ false in
-        at (m.number r.phaser t) (subst P f.1.2 there)
+        at (m.number r.phaser t) (rw (← f.1.2) there)
 
     by : (o : Option Registration) → first_kept job m t ≡ o → call_leave m t o ≡ makes event
         → IsNext job m event
@@ -440,8 +434,7 @@ leave_next job m t event is ran live none due end answer =
         let here : m.number p t ≡ Some n = kept r found in
         let phaser : p < length job.graph.phasers =
         on_phaser job t p is live.there ((ran.tasks t live.there).lines p n here) in
-        let Next : TaskEvent → Type 0 = λ e. IsNext job m e in
-        subst Next a.1 (
+        rw (← a.1) (
           record { task = live.there; phaser = phaser },
           record {
             accepted = a.0;

@@ -36,9 +36,7 @@ use Rattle.graph_runs.proofs.OwnCalls.{AreOwn, own_on, own_came, own_put, own_go
 apart_from_parent : (job : Job) (c : ℕ) (u : Parent) → IsGraph job.graph
     → c < length job.graph.tasks → (task_at job.graph c).parent ≡ Some u → u.task ≢ c
 apart_from_parent job c u is there e same =
-    let above : u.task < c = (parent_of job c u is there e).above in
-    let at : u.task ≡ c = same in
-    omega arith
+    omega (arith, (parent_of job c u is there e).above, same)
 
 -- ---- a task's own calls
 
@@ -62,9 +60,8 @@ module _ (job : Job) (before after : Moment) (t p : ℕ) (is : IsGraph job.graph
   goes_on n now moved numbered own step =
       let same = begins_same now moved in
       let here : AreOwn job before t p n now = step (own_on job before t p n own numbered) in
-      let A : History → Type 0 = λ h. AreOwn job after t p n h in
       calls_go_on job before after t p n same own numbered moved.elsewhere
-      (subst A (sym moved.here) (own_later job before after t p n now same here))
+      (rw moved.here (own_later job before after t p n now same here))
 
   pub calls_seen : (n : ℕ) (now : History) → SeesOthers job before t p n now
       → HasSeen job before after t p now → HasOwnCalls job before t → HasOwnCalls job after t
@@ -152,10 +149,9 @@ calls_root job m t numbers seen is there root whole on first = record {
         let same : k ≡ n =
         same_Some k n (sym number ∙ ap (λ x. m.number x t) f.phaser ∙ at) in
         let r = on f.i f.few in
-        let L : History → Type 0 = λ h. IsLegal (limits_at job q) h in
         let none : events_of k (Registered 0 k (registration_at job t f.i).mode ∷ r.before) ≡ [] =
         none_yet (limits_at job q) 0 k (registration_at job t f.i).mode r.before
-        (subst L r.is r.legal) in
+        (rw r.is at r.legal) in
         own_new job m t p n (m.history p)
         (ap (λ x. events_of n (m.history x)) (sym f.phaser)
         ∙ ap (events_of n) (first.history f.i f.few)
@@ -180,12 +176,9 @@ module _ (job : Job) (before after : Moment) (t c : ℕ) (is : IsGraph job.graph
   -- the parent of the parent is not the child
   above_apart : (u : Parent) → (task_at job.graph t).parent ≡ Some u → u.task ≢ c
   above_apart u e same =
-      let above : u.task < t = (parent_of job t u is there e).above in
       let below : child.parent.task < c =
       (parent_of job c child.parent is child.there child.has).above in
-      let by : child.parent.task ≡ t = child.by in
-      let at : u.task ≡ c = same in
-      omega arith
+      omega (arith, (parent_of job t u is there e).above, child.by, same)
 
   pub calls_begin : HasNewChild job before after t c [] → before.begun t ≡ child.parent.at
       → ((task_at job.graph c).joins_now ≡ false → before.offset c ≡ (opening job).offset c)
@@ -232,8 +225,7 @@ module _ (job : Job) (before after : Moment) (t c : ℕ) (is : IsGraph job.graph
 
       kept : (p n : ℕ) → after.number p t ≡ Some n → AreOwn job after t p n (after.history p)
       kept p n at =
-          let H : History → Type 0 = λ h. AreOwn job after t p n h in
-          subst H (sym (new.history p))
+          rw (new.history p)
           (own_later job before after t p n (before.history p) same
           (own_on job before t p n own (sym (new.numbers_stay p t) ∙ at)))
 
@@ -253,8 +245,7 @@ module _ (job : Job) (before after : Moment) (t c : ℕ) (is : IsGraph job.graph
       kept : (p n : ℕ) → after.number p c ≡ Some n → AreOwn job after c p n (after.history p)
       kept p n at =
           let was : before.number p c ≡ Some n = sym (same.own_numbers p) ∙ at in
-          let H : History → Type 0 = λ h. AreOwn job after c p n h in
-          subst H (sym (quiet p n was))
+          rw (quiet p n was)
           (own_later job before after c p n (before.history p) same
           (own_on job before c p n own was))
 
@@ -339,10 +330,9 @@ module _ (job : Job) (before after : Moment) (t c : ℕ) (is : IsGraph job.graph
         where
           by : (q ≡ p) ⊎ (q ≢ p) → AreOwn job after c q k (after.history q)
           by (inr other) =
-              let H : History → Type 0 = λ h. AreOwn job after c q k h in
               let was : AreOwn job before c q k (before.history q) =
               own_on job before c q k own_c (sym (added.other_numbers q c (inl other)) ∙ at) in
-              subst H (sym (added.elsewhere q other)) (record {
+              rw (added.elsewhere q other) (record {
                 named = was.named;
                 met_none = was.met_none;
                 children = λ b e.

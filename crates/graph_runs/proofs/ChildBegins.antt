@@ -79,8 +79,7 @@ child_begins job before after t p n c a mode u is there legal grown s parent chi
           part = λ q b at. part_stays job before after t p n c a mode u s q b;
           children = λ d q w there_d e same none. none;
           parent = λ w e.
-              (let begun : after.begun w.task ≡ before.begun w.task = (s.same w.task).begun in
-              ((s.same w.task).offset, omega arith, λ r. r));
+              (((s.same w.task).offset, omega (arith, (s.same w.task).begun), λ r. r));
         }) child
 
     start_here : start_of (Registered n a mode ∷ before.history p) a
@@ -111,22 +110,16 @@ child_begins job before after t p n c a mode u is there legal grown s parent chi
         let stands : signal_phase (before.history p) n
         ≡ before.offset t + length (before.put t i.0) =
         signals_from job before t i.0 p n a mode legal on s.accepted in
-        let put : length (before.put t i.0) ≡ before.begun t = s.all_put i.0 at in
-        let off : before.offset c ≡ before.offset t + u.at = s.offset in
-        let b : before.begun t ≡ u.at = s.boundary in
-        omega arith
+        omega (arith, s.all_put i.0 at, s.offset, s.boundary)
 
     out_here : (j : ℕ) → index_in (signalled_by (task_at job.graph c)) p ≡ Some j
         → OnOutput job after c j p a
     out_here j place =
-        let A : History → Type 0 =
-        λ g. start_of g a
-        ≡ Some (entry_at mode (signal_phase (before.history p) n)
-        (wait_phase (before.history p) n)) in
         record {
           start = entry_at mode (signal_phase (before.history p) n)
               (wait_phase (before.history p) n);
-          start_is = subst A (sym s.here) start_here;
+          start_is = subst (λ (g : History). start_of g a ≡ Some (entry_at mode (signal_phase
+              (before.history p) n) (wait_phase (before.history p) n))) (sym s.here) start_here;
           signals = s.signals j place;
           at = parent_out j place ∙ sym (s.same c).offset;
           sent = ap (λ g. sent_by g a) s.here ∙ none_sent
@@ -171,9 +164,8 @@ child_begins job before after t p n c a mode u is there legal grown s parent chi
             → input_at (task_at job.graph t) i ≡ p → has_children (task_at job.graph t).kind ≡ true
             → IsSilent (before.history p) n
         quiet None e on i lti is_p plain =
-            let O : Option ℕ → Type 0 = λ o. OnPhaser job before t p o in
             let N : Option ℕ → Type 0 = λ o. SilentOn before p o in
-            subst N s.numbered (subst O e on)
+            subst N s.numbered (subst (λ (o : Option ℕ). OnPhaser job before t p o) e on)
         quiet (Some j) e on i lti is_p plain =
             absurd (read_not_signalled job t i j (is.tasks t there) plain lti
             (ap (λ q. index_in (signalled_by (task_at job.graph t)) q) is_p ∙ e))
@@ -181,14 +173,11 @@ child_begins job before after t p n c a mode u is there legal grown s parent chi
     in_here : (k : ℕ) → k < length (task_at job.graph c).inputs
         → input_at (task_at job.graph c) k ≡ p → OnInput job after c k p a
     in_here k lt at =
-        let A : History → Type 0 =
-        λ g. start_of g a
-        ≡ Some (entry_at mode (signal_phase (before.history p) n)
-        (wait_phase (before.history p) n)) in
         record {
           start = entry_at mode (signal_phase (before.history p) n)
               (wait_phase (before.history p) n);
-          start_is = subst A (sym s.here) start_here;
+          start_is = subst (λ (g : History). start_of g a ≡ Some (entry_at mode (signal_phase
+              (before.history p) n) (wait_phase (before.history p) n))) (sym s.here) start_here;
           waits = s.waits k lt at;
           at = (parent_in k lt at).0 ∙ sym (s.same c).offset;
           taken = (s.same c).taken k ∙ s.nothing_taken k lt at
@@ -271,8 +260,7 @@ child_begins job before after t p n c a mode u is there legal grown s parent chi
         → OnPhaser job (record after { number = before.number }) c q place
         → OnPhaser job after c q place
     on_same q same None on =
-        let S : Option ℕ → Type 0 = λ y. SilentOn after q y in
-        subst S (sym same) (silent_as q (before.number q c) on)
+        subst (λ (y : Option ℕ). SilentOn after q y) (sym same) (silent_as q (before.number q c) on)
     on_same q same (Some j) on =
         let S : Option ℕ → Type 0 = λ y. PutOn job after c j q y in
         subst S (sym same) (put_as j q (before.number q c) on)
@@ -284,23 +272,21 @@ child_begins job before after t p n c a mode u is there legal grown s parent chi
         on_same q (s.other_numbers q c (inl apart))
         (index_in (signalled_by (task_at job.graph c)) q) (mid_ran.outputs q qq)
     child_outputs q qq (Some j) e (inl same) =
-        let Q : ℕ → Type 0 =
-        λ x. OnPhaser job after c x (index_in (signalled_by (task_at job.graph c)) x) in
         let O : Option ℕ → Type 0 = λ o. OnPhaser job after c p o in
         let N : Option ℕ → Type 0 = λ o. PutOn job after c j p o in
         let place : index_in (signalled_by (task_at job.graph c)) p ≡ Some j =
         ap (λ x. index_in (signalled_by (task_at job.graph c)) x) (sym same) ∙ e in
-        subst Q (sym same) (subst O (sym place) (subst N (sym s.number) (out_here j place)))
+        subst (λ (x : ℕ). OnPhaser job after c x (index_in (signalled_by (task_at job.graph c)) x))
+        (sym same) (subst O (sym place) (subst N (sym s.number) (out_here j place)))
     child_outputs q qq None e (inl same) =
-        let Q : ℕ → Type 0 =
-        λ x. OnPhaser job after c x (index_in (signalled_by (task_at job.graph c)) x) in
         let O : Option ℕ → Type 0 = λ o. OnPhaser job after c p o in
         let N : Option ℕ → Type 0 = λ o. SilentOn after p o in
         let place : index_in (signalled_by (task_at job.graph c)) p ≡ None =
         ap (λ x. index_in (signalled_by (task_at job.graph c)) x) (sym same) ∙ e in
         let k = reads_here place in
         let S : History → Type 0 = λ g. IsSilent g a in
-        subst Q (sym same)
+        subst (λ (x : ℕ). OnPhaser job after c x (index_in (signalled_by (task_at job.graph c)) x))
+        (sym same)
         (subst O (sym place) (subst N (sym s.number) (subst S (sym s.here) (record {
           nothing = unused.signals;
           from_0 = λ start found.
@@ -315,9 +301,8 @@ child_begins job before after t p n c a mode u is there legal grown s parent chi
         → TakenOn job after c k (input_at (task_at job.graph c) k)
         (after.number (input_at (task_at job.graph c) k) c)
     child_inputs k lt (inr apart) =
-        let T : Option ℕ → Type 0 =
-        λ o. TakenOn job after c k (input_at (task_at job.graph c) k) o in
-        subst T (sym (s.other_numbers (input_at (task_at job.graph c) k) c (inl apart)))
+        subst (λ (o : Option ℕ). TakenOn job after c k (input_at (task_at job.graph c) k) o) (sym
+        (s.other_numbers (input_at (task_at job.graph c) k) c (inl apart)))
         (taken_as k (input_at (task_at job.graph c) k)
         (before.number (input_at (task_at job.graph c) k) c) (mid_ran.inputs k lt))
     child_inputs k lt (inl same) =
@@ -335,17 +320,13 @@ child_begins job before after t p n c a mode u is there legal grown s parent chi
     child_joined : Joined after c (task_at job.graph c).joins_now (task_at job.graph c).parent
     child_joined =
         let P : Option Parent → Type 0 = λ o. Joined after c (task_at job.graph c).joins_now o in
-        let U : ℕ → Type 0 =
-        λ x. BeginsBy (task_at job.graph c).joins_now (after.offset c) (after.offset x + u.at)
-        × (u.at ≤ after.begun x)
-        × IsRegistered after x in
         let off : after.offset c ≡ after.offset t + u.at =
         (s.same c).offset ∙ s.offset ∙ ap (λ y. y + u.at) (sym (s.same t).offset) in
-        let begun : after.begun t ≡ before.begun t = (s.same t).begun in
-        let b : before.begun t ≡ u.at = s.boundary in
-        subst P (sym s.parent) (subst U (sym s.by) (
+        subst P (sym s.parent) (subst (λ (x : ℕ). BeginsBy (task_at job.graph c).joins_now
+        (after.offset c) (after.offset x + u.at) × (u.at ≤ after.begun x) × IsRegistered after x)
+        (sym s.by) (
           begins_there (task_at job.graph c).joins_now (after.offset c) (after.offset t + u.at) off,
-          omega arith,
+          omega (arith, (s.same t).begun, s.boundary),
           (p, n, still_there),
         ))
 

@@ -62,11 +62,9 @@ register_keeps job before after t p n c a mode u is there s ran = record {
     new_number : (b : ℕ) → IsUsed (before.history p) b → b ≢ a
     new_number b used same =
         let st = start_from (start_of (before.history p) b) used in
-        let low : b ≤ greatest_used (before.history p) =
-        start_used (before.history p) b st.0 st.1 in
         let high : greatest_used (before.history p) < a =
         (registers_from (before.history p) n a mode s.accepted).new_number in
-        omega arith
+        omega (arith, start_used (before.history p) b st.0 st.1)
 
     by_phaser : (P : History → Type 0) (q : ℕ)
         → (q ≡ p → P (Registered n a mode ∷ before.history q)) → (q ≢ p → P (before.history q))
@@ -90,19 +88,17 @@ register_keeps job before after t p n c a mode u is there s ran = record {
         → start_of (before.history q) b ≡ Some start → start_of (after.history q) b ≡ Some start
     start_now q b start qq e =
         by_phaser (λ g. start_of g b ≡ Some start) q
-        (λ same. (let P : ℕ → Type 0 =
-        λ x. IsLegal (limits_at job x) (Registered n a mode ∷ before.history x) in
-        start_of-longer (limits_at job q) (before.history q)
-        (Registered n a mode ∷ before.history q) b start (subst P (sym same) legal_now)
+        (λ same. (start_of-longer (limits_at job q) (before.history q)
+        (Registered n a mode ∷ before.history q) b start (subst (λ (x : ℕ). IsLegal (limits_at job
+        x) (Registered n a mode ∷ before.history x)) (sym same) legal_now)
         (record { later = Registered n a mode ∷ []; is = refl }) e))
         (λ apart. e)
 
     phasers : (q : ℕ) → q < length job.graph.phasers → PhaserRan job after q
     phasers q qq = record {
       legal = by_phaser (λ g. IsLegal (limits_at job q) g) q
-          (λ same. (let P : ℕ → Type 0 =
-          λ x. IsLegal (limits_at job x) (Registered n a mode ∷ before.history x) in
-          subst P (sym same) legal_now)) (λ apart. (ran.phasers q qq).legal);
+          (λ same. (subst (λ (x : ℕ). IsLegal (limits_at job x) (Registered n a mode ∷
+          before.history x)) (sym same) legal_now)) (λ apart. (ran.phasers q qq).legal);
       names = by_phaser (λ g. NamesAll (phaser_at job.graph q).single g) q
           (λ same. (ran.phasers q qq).names) (λ apart. (ran.phasers q qq).names);
       distinct =
@@ -197,8 +193,7 @@ register_keeps job before after t p n c a mode u is there s ran = record {
 
     tasks : (x : ℕ) → x < length job.graph.tasks → (x ≡ c) ⊎ (x ≢ c) → TaskRan job after x
     tasks x there_x (inl same) =
-        let Ran : ℕ → Type 0 = λ y. TaskRan job after y in
-        subst Ran (sym same)
+        subst (λ (y : ℕ). TaskRan job after y) (sym same)
         (child_begins job before after t p n c a mode u is there (ran.phasers p pp).legal
         (grown c s.child) s (ran.tasks t there) (ran.tasks c s.child))
     tasks x there_x (inr other) =

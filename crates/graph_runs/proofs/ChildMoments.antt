@@ -136,11 +136,10 @@ child_is_new job m t c u is there there_c part parent of_t none = record {
 
     legal : (p : ℕ) → OnLine (task_at job.graph c) p → IsLegal (limits_at job p) (m.history p)
     legal p on =
-        let L : ℕ → Type 0 = λ x. OnLine (task_at job.graph x) p in
-        part.legal p (subst L of_t (on_parent job c p u is there_c parent on))
+        part.legal p (rw of_t at (on_parent job c p u is there_c parent on))
 
     is_child : IsChild (task_at job.graph c).parent
-    is_child = let P : Option Parent → Type 0 = λ o. IsChild o in subst P (sym parent) tt
+    is_child = rw parent tt
 
     -- no number is its own
     no_number : (p n : ℕ) → m.number p c ≡ Some n → ⊥
@@ -150,13 +149,9 @@ child_is_new job m t c u is there there_c part parent of_t none = record {
         → index_in (signalled_by (task_at job.graph c)) p ≡ place
         → OnPhaser job (with_child c m) c p (index_in (signalled_by (task_at job.graph c)) p)
     outputs p None e =
-        let O : Option ℕ → Type 0 = λ o. OnPhaser job (with_child c m) c p o in
-        let N : Option ℕ → Type 0 = λ x. SilentOn (with_child c m) p x in
-        subst O (sym e) (subst N (sym (none p)) tt)
+        rw e (rw (none p) tt)
     outputs p (Some j) e =
-        let O : Option ℕ → Type 0 = λ o. OnPhaser job (with_child c m) c p o in
-        let N : Option ℕ → Type 0 = λ x. PutOn job (with_child c m) c j p x in
-        subst O (sym e) (subst N (sym (none p)) is_child)
+        rw e (rw (none p) is_child)
 
     lists : ListsRan job (with_child c m) c
     lists = nothing_ran job (with_child c m) c begun_none put_none taken_none
@@ -172,8 +167,7 @@ child_is_new job m t c u is there there_c part parent of_t none = record {
       outputs = λ p pp. outputs p (index_in (signalled_by (task_at job.graph c)) p) refl;
       inputs = λ k lt.
           (let p = input_at (task_at job.graph c) k in
-          let N : Option ℕ → Type 0 = λ x. TakenOn job (with_child c m) c k p x in
-          subst N (sym (none p)) (taken_none k, is_child));
+          rw (none p) (taken_none k, is_child));
       joined = λ p n at. absurd (no_number p n at);
       children = λ d p n w there_d e same at absent on. absurd (no_number p n at);
     }
@@ -223,13 +217,11 @@ both_see job m t c p n u numbers now is there there_c part joining parent of_t a
       was = joining.part.legal;
       legal = λ q on.
           where_at p now m q (λ h. IsLegal (limits_at job q) h)
-          (λ e. (let L : ℕ → Type 0 = λ x. IsLegal (limits_at job x) now in
-          subst L (sym e) sees.legal))
+          (λ e. (rw e sees.legal))
           (joining.part.legal q on);
       beginning = λ q on.
           where_at p now m q (λ h. IsBeginning (m.history q) h)
-          (λ e. (let B : ℕ → Type 0 = λ x. IsBeginning (m.history x) now in
-          subst B (sym e) (record { later = sees.others.later; is = sees.others.is })))
+          (λ e. (rw e (record { later = sees.others.later; is = sees.others.is })))
           (still (m.history q));
     }
 
@@ -259,10 +251,7 @@ has_registration job c is there now =
     let long : length rs ≡ length (inputs ++ outputs) =
     sym (length-map rs (λ r. r.phaser))
     ∙ ap length (registrations-phasers job.graph c (task_at job.graph c) line) in
-    let both : length (inputs ++ outputs) ≡ length inputs + length outputs =
-    length-append inputs outputs in
-    let one : length inputs ≡ 1 = (sink_line job c 0 is there (line.now now).0).0 in
-    omega arith
+    omega (arith, length-append inputs outputs, (sink_line job c 0 is there (line.now now).0).0)
 
 module _ (job : Job) (m : Moment) (t c n a : ℕ) (u : Parent) (at : TaskPlace) (most : ℕ)
     (numbers : List ℕ) (before : History) (is : IsGraph job.graph)
@@ -296,18 +285,15 @@ module _ (job : Job) (m : Moment) (t c n a : ℕ) (u : Parent) (at : TaskPlace) 
   accepted_now : (event : Event) → IsAccepted (limits_at job p) before event
       → IsAccepted (limits_at job p) (now.history p) event
   accepted_now event accepted =
-      let A : History → Type 0 = λ h. IsAccepted (limits_at job p) h event in
-      subst A (sym (same_at p before m)) accepted
+      rw (same_at p before m) accepted
 
   legal_now : IsLegal (limits_at job p) (now.history p)
   legal_now =
-      let L : History → Type 0 = λ h. IsLegal (limits_at job p) h in
-      subst L (sym (same_at p before m)) sees.legal
+      rw (same_at p before m) sees.legal
 
   plain : has_children (task_at job.graph t).kind ≡ true
   plain =
-      let K : ℕ → Type 0 = λ x. has_children (task_at job.graph x).kind ≡ true in
-      subst K of_t (parent_of job c u is there_c parent).kind
+      rw of_t at (parent_of job c u is there_c parent).kind
 
   idle : first_owed job m t ≡ None
   idle = owes_as job m t at nothing stands owed_is
@@ -336,17 +322,13 @@ module _ (job : Job) (m : Moment) (t c n a : ℕ) (u : Parent) (at : TaskPlace) 
       legal : (q : ℕ) → OnLine (task_at job.graph x) q → (q ≡ p) ⊎ (q ≢ p)
           → IsLegal (limits_at job q) (after.history q)
       legal q on (inl e) =
-          let L : ℕ → Type 0 = λ y. IsLegal (limits_at job y) (after.history y) in
-          let H : History → Type 0 = λ h. IsLegal (limits_at job p) h in
-          subst L (sym e) (subst H (sym here) both_legal)
+          rw e (rw here both_legal)
       legal q on (inr other) =
-          let H : History → Type 0 = λ h. IsLegal (limits_at job q) h in
-          subst H (sym (elsewhere q other)) (own.legal q on)
+          rw (elsewhere q other) (own.legal q on)
 
       begins : (q : ℕ) → (q ≡ p) ⊎ (q ≢ p) → IsBeginning (now.history q) (after.history q)
       begins q (inl e) =
-          let B : ℕ → Type 0 = λ y. IsBeginning (now.history y) (after.history y) in
-          subst B (sym e) (record { later = event ∷ []; is = here })
+          rw e (record { later = event ∷ []; is = here })
       begins q (inr other) = record { later = []; is = elsewhere q other }
 
   -- the parent's place stays

@@ -78,8 +78,7 @@ peer_registration : (job : Job) (t i : ℕ) (r : Registration) → (task_at job.
     → HasRegistration job t r.phaser r.mode
 peer_registration job t i r peer lt is =
     let same = peer_registrations job t peer in
-    let long : length (registrations_at job t) ≡ 3 = ap length same in
-    registered_as job t i r (omega arith)
+    registered_as job t i r (omega (arith, ap length same))
     (ap (λ rs. get_or rs i no_registration) same ∙ is)
 
 -- ---- an output
@@ -154,10 +153,8 @@ signal_mode job t j is there lt = by (task_at job.graph t).kind refl
         ≡ get_or (task_at job.graph t).inputs 1 0 ∷ y ∷ [] = rw e refl in
         let ends = peer_ends job t is there e in
         let long : length (signalled_by (task_at job.graph t)) ≡ 2 = ends.1 in
-        let H : Kind → Type 0 = λ kind. HasEnds kind (length (task_at job.graph t).inputs)
-        (length (task_at job.graph t).outputs) in
         let both : (length (task_at job.graph t).inputs ≡ 2)
-        × (length (task_at job.graph t).outputs ≡ 1) = subst H e (is.tasks t there).ends in
+        × (length (task_at job.graph t).outputs ≡ 1) = rw e at (is.tasks t there).ends in
         let few : length (task_at job.graph t).outputs ≡ 1 = both.1 in
         let no_single : (phaser_at job.graph y).single ≡ None =
         (is.tasks t there).plain 0 0 (omega arith) in
@@ -170,9 +167,7 @@ signal_mode job t j is there lt = by (task_at job.graph t).kind refl
           in_turn = inl refl;
         })
     peer e (suc (suc i)) at =
-        let long : length (signalled_by (task_at job.graph t)) ≡ 2 =
-        (peer_ends job t is there e).1 in
-        absurd (omega arith)
+        absurd (omega (arith, (peer_ends job t is there e).1))
 
     by : (kind : Kind) → (task_at job.graph t).kind ≡ kind
         → SignalMode job t j (output_at job t j)
@@ -230,8 +225,7 @@ wait_mode job t k is there lt = by (task_at job.graph t).kind refl
           first = inr (e, at);
         })
     peer e (suc (suc i)) at =
-        let two : length (task_at job.graph t).inputs ≡ 2 = (peer_ends job t is there e).0 in
-        absurd (omega arith)
+        absurd (omega (arith, (peer_ends job t is there e).0))
 
     by : (kind : Kind) → (task_at job.graph t).kind ≡ kind
         → WaitMode job t k (input_at (task_at job.graph t) k)

@@ -13,8 +13,7 @@ IsPrefix-trans xs ys zs a b =
 
 pub prefix_length : {X : Type 0} (xs ys : List X) → IsPrefix xs ys → length xs ≤ length ys
 prefix_length xs ys a =
-    let l : length xs + length a.0 ≡ length ys = sym (length-append xs a.0) ∙ ap length a.1 in
-    omega arith
+    omega (arith, sym (length-append xs a.0) ∙ ap length a.1)
 
 -- the longer has the entries of the shorter
 pub prefix_at : {X : Type 0} (xs ys : List X) (i : ℕ) (d : X) → IsPrefix xs ys → i < length xs

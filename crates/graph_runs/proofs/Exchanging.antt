@@ -38,10 +38,7 @@ owes_exchange job m t j nothing owes some first =
 owes_exchange job m t j (exchange x) owes some first = (x, refl)
 owes_exchange job m t j (values i ws) owes some first =
     let same : i ≡ j = same_Some i j (sym owes.0 ∙ some) in
-    let W : ℕ → Type 0 =
-    λ i. waits_first (task_at job.graph t).kind i (length (m.put t i)) (length (m.taken t 1))
-    ≡ true in
-    let is_first = subst W (sym same) first in
+    let is_first = rw (← same) at first in
     absurd (let clash : exchanges ≡ signals i =
     sym (ap (λ b. cond b exchanges (signals i)) is_first) ∙ owes.1 in cc)
 
@@ -87,10 +84,8 @@ exchange_owes most job m after t outcome x some is ran now there e s owes before
     let ends = peer_ends job t is there e in
     let two : length task.inputs ≡ 2 = ends.0 in
     let both : length (signalled_by task) ≡ 2 = ends.1 in
-    let X : Kind → Type 0 =
-    λ kind. HasExchanged kind 1 (length (m.put t 1)) (length (m.taken t 1)) in
     let low : length (m.put t 1) ≤ length (m.taken t 1) =
-    subst X e (ran.exchanged 1) in
+    rw e at (ran.exchanged 1) in
     let turn : waits_first Peer 1 (length (m.put t 1)) (length (m.taken t 1)) ≡ true =
     ap (λ k. waits_first k 1 (length (m.put t 1)) (length (m.taken t 1))) (sym e) ∙ first in
     let high : length (m.taken t 1) ≤ length (m.put t 1) =
@@ -175,23 +170,16 @@ exchange_follows job m t p n outcome at is ran next now for_event stands =
     let owed_is = owes_exchange job m t for_event.0 at.owed stands.owes for_event.1 for_event.2 in
     let x = owed_is.0 in
     let w = ranged (((task_at job.graph t).mul *ℤ x) -ℤ number outcome) in
-    let O : Owed → Type 0 = λ o. Owes job m t o in
-    let owes : Owes job m t (exchange x) = subst O owed_is.1 stands.owes in
-    let L : Owed → Type 0 = λ o. Lacks job m t o in
-    let before : Lacks job m t (exchange x) = subst L owed_is.1 stands.lacks in
+    let owes : Owes job m t (exchange x) = rw owed_is.1 at stands.owes in
+    let before : Lacks job m t (exchange x) = rw owed_is.1 at stands.lacks in
     let same : for_event.0 ≡ 1 = same_Some for_event.0 1 (sym for_event.1 ∙ owes.0) in
-    let W : ℕ → Type 0 =
-    λ i. waits_first (task_at job.graph t).kind i (length (m.put t i)) (length (m.taken t 1))
-    ≡ true in
     let steps : after.begun t ≡ m.begun t =
     (let here : eqb t t ≡ true = eq-eqb t t refl in rw here refl) in
     let lacks : Lacks job after t (values 1 (w ∷ [])) =
     exchange_lacks job m after t outcome x w is ran_before ran_now there peer got steps before in
-    let P : Owed → Type 0 = λ o. StandsAt job after t
-    (record at { owed = owed_after_exchange (task_at job.graph t) o (number outcome) }) in
-    subst P (sym owed_is.1)
+    rw owed_is.1
     (stays_at job m after t at.begun (values 1 (w ∷ [])) at stands
     (keeps_moved job m after t p (Waited n 1) t s.moved (λ b at. refl)) (steps ∙ stands.begun)
     (exchange_owes (task_at job.graph t).block job m after t outcome x
     (is.tasks t there).block.some is ran_before ran_now there peer got owes before
-    (subst W same for_event.2) lacks) lacks)
+    (rw same at for_event.2) lacks) lacks)

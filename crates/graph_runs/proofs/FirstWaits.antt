@@ -111,12 +111,7 @@ wait_lacks job m after t k x owed w grows i lt =
     let step : puts_on (task_at job.graph t) (after.begun t) i
     ≡ puts_on (task_at job.graph t) (suc (m.begun t)) i =
     ap (λ b. puts_on (task_at job.graph t) b i) (one ∙ omega arith) in
-    let full : length (made_now job m t i) ≡ length (m.put t i) + 0 = w.lacks i lt in
-    let put : length (after.put t i) ≡ length (m.put t i) = ap length (w.waits.put i) in
-    let more : puts_on (task_at job.graph t) (suc (m.begun t)) i
-    ≡ puts_on (task_at job.graph t) (m.begun t) i
-    + lacking (task_at job.graph t).kind owed i = grows i lt in
-    omega arith
+    omega (arith, w.lacks i lt, ap length (w.waits.put i), grows i lt)
 
 -- the value that was taken is in range
 wait_ranged : {most : ℕ} (job : Job) (m after : Moment) (t k : ℕ) (x : ℤ)
@@ -181,17 +176,15 @@ fir_owes {most} job m after t k xs w e =
     let task = task_at job.graph t in
     let vs = outputs_of_block task.taps task.shift (m.taken t 0) xs in
     let rs = map ranged vs in
-    let H : Kind → Type 0 = λ kind. HasEnds kind (length task.inputs) (length task.outputs) in
     let ends : (length task.inputs ≡ 1) × (length task.outputs ≡ 1) =
-    subst H e (w.is.tasks t w.there).ends in
+    rw e at (w.is.tasks t w.there).ends in
     let inputs : length task.inputs ≡ 1 = ends.0 in
     let outs : signalled_by task ≡ task.outputs = rw e refl in
     let many : length (signalled_by task) ≡ 1 = ap length outs ∙ ends.1 in
     let few : k < length task.inputs = w.few in
     let zero_k : k ≡ 0 = omega arith in
-    let G : ℕ → Type 0 = λ i. GetsAll m after t i xs in
     let block = fir_owes_block job m after t xs w.is w.there e w.ran w.now
-    (subst G zero_k w.waits) w.steps
+    (rw zero_k at w.waits) w.steps
     (all_put job m t w.ran w.there (first_none job m t w.lacks) 0 (omega arith)) in
     let made : length (made_now job after t 0) ≡ length (after.put t 0) + length xs =
     block.many in
@@ -205,10 +198,8 @@ fir_owes {most} job m after t k xs w e =
     let room : length xs ≤ most = w.room in
     let here : length (made_now job after t 0)
     ≡ length (after.put t 0) + lacking task.kind (values 0 rs) 0 = omega arith in
-    let L : ℕ → Type 0 = λ i. length (made_now job after t i)
-    ≡ length (after.put t i) + lacking task.kind (values 0 rs) i in
     let lacks : Lacks job after t (values 0 rs) =
-    λ i lt. subst L (sym (single_output i (length (signalled_by task)) many lt)) here in (
+    λ i lt. rw (single_output i (length (signalled_by task)) many lt) here in (
       (
         first_is job after t 0 (values 0 rs) lacks (omega arith) (omega arith)
             (λ i lt. absurd (omega arith)),
@@ -263,8 +254,7 @@ join_owes : {most : ℕ} (job : Job) (m after : Moment) (t k : ℕ) (x : ℤ)
 join_owes job m after t k x w e =
     let task = task_at job.graph t in
     let b = m.begun t in
-    let H : Kind → Type 0 = λ kind. HasEnds kind (length task.inputs) (length task.outputs) in
-    let ends = subst H e (w.is.tasks t w.there).ends in
+    let ends = rw e at (w.is.tasks t w.there).ends in
     let outs : signalled_by task ≡ task.outputs = rw e refl in
     let many : length (signalled_by task) ≡ 1 = ap length outs ∙ ends.2 in
     let some : 2 ≤ length task.inputs = ends.0 in
@@ -318,8 +308,7 @@ split_owes job m after t k x w e =
     let b = m.begun t in
     let outs_many = length task.outputs in
     let j = b % outs_many in
-    let H : Kind → Type 0 = λ kind. HasEnds kind (length task.inputs) (length task.outputs) in
-    let ends = subst H e (w.is.tasks t w.there).ends in
+    let ends = rw e at (w.is.tasks t w.there).ends in
     let inputs : length task.inputs ≡ 1 = ends.0 in
     let some : 2 ≤ outs_many = ends.1 in
     let outs : signalled_by task ≡ task.outputs = rw e refl in
@@ -443,9 +432,7 @@ wait_leaves {most} job m after t k xs w = by (task_at job.graph t).kind refl
     ends : (kind : Kind) → (task_at job.graph t).kind ≡ kind
         → HasEnds kind (length (task_at job.graph t).inputs) (length (task_at job.graph t).outputs)
     ends kind e =
-        let H : Kind → Type 0 = λ kind. HasEnds kind (length (task_at job.graph t).inputs)
-        (length (task_at job.graph t).outputs) in
-        subst H e (w.is.tasks t w.there).ends
+        rw e at (w.is.tasks t w.there).ends
 
     -- where a block is a step
     single : (kind : Kind) → (task_at job.graph t).kind ≡ kind → (IsBlock kind (length xs)
@@ -455,20 +442,14 @@ wait_leaves {most} job m after t k xs w = by (task_at job.graph t).kind refl
         → LeavesOwed most job after t
         (owed_after_wait (task_at job.graph t) (m.begun t) (m.taken t 0) xs)
     single kind e one step =
-        let B : Kind → Type 0 = λ kind. IsBlock kind (length xs) in
-        let x = single_is xs (one (subst B e w.block)) in
-        let W : List ℤ → Type 0 = λ l. FirstWait most job m after t k l in
-        let O : List ℤ → Type 0 = λ l. LeavesOwed most job after t
-        (owed_after_wait (task_at job.graph t) (m.begun t) (m.taken t 0) l) in
-        subst O (sym x.1) (step x.0 (subst W x.1 w))
+        let x = single_is xs (one (rw e at w.block)) in
+        rw x.1 (step x.0 (rw x.1 at w))
 
     by : (kind : Kind) → (task_at job.graph t).kind ≡ kind
         → LeavesOwed most job after t
         (owed_after_wait (task_at job.graph t) (m.begun t) (m.taken t 0) xs)
     by Source e =
-        let no_input : length (task_at job.graph t).inputs ≡ 0 = (ends Source e).0 in
-        let few : k < length (task_at job.graph t).inputs = w.few in
-        absurd (omega arith)
+        absurd (omega (arith, (ends Source e).0, w.few))
     by Fir e =
         let left : owed_after_wait (task_at job.graph t) (m.begun t) (m.taken t 0) xs
         ≡ values 0 (map ranged (outputs_of_block (task_at job.graph t).taps
@@ -525,13 +506,11 @@ first_wait_follows job m t k p n outcomes at is ran next now owes stands =
     let xs = map number outcomes in
     let s = first_waits_are job m t k p n outcomes next.1 in
     let none : at.owed ≡ nothing = owes_nothing job m t at.owed stands.owes owes.0 in
-    let L : Owed → Type 0 = λ o. Lacks job m t o in
     let steps : after.begun t ≡ further (m.begun t) outcomes =
     (let here : eqb t t ≡ true = eq-eqb t t refl in rw here refl) in
     let more : further (m.begun t) outcomes ≡ m.begun t + length outcomes =
     further-length (m.begun t) outcomes in
     let many : length xs ≡ length outcomes = length-map outcomes number in
-    let B : ℕ → Type 0 = λ i. IsBlock (task_at job.graph t).kind i in
     let some : 1 ≤ length outcomes =
     waits_some (limits_at job p) (m.history p) n (length outcomes) next.1.wait.accepted.0 in
     let most : length outcomes ≤ block_of job m t = owes.1 in
@@ -548,14 +527,13 @@ first_wait_follows job m t k p n outcomes at is ran next now owes stands =
       first = next.1.first;
       steps = omega arith;
       some = omega arith;
-      block = subst B (sym many) next.1.block;
+      block = subst (λ (i : ℕ). IsBlock (task_at job.graph t).kind i) (sym many) next.1.block;
       room = omega arith;
       all_taken = next.1.may_begin.taken k next.1.wait.few;
-      lacks = subst L none stands.lacks;
+      lacks = subst (λ (o : Owed). Lacks job m t o) none stands.lacks;
     } in
-    let A : ℕ → Type 0 = λ b. LeavesOwed (task_at job.graph t).block job after t
-    (owed_after_wait (task_at job.graph t) b (m.taken t 0) xs) in
-    let left = subst A stands.begun (wait_leaves job m after t k xs w) in
+    let left = subst (λ (b : ℕ). LeavesOwed (task_at job.graph t).block job after t (owed_after_wait
+    (task_at job.graph t) b (m.taken t 0) xs)) stands.begun (wait_leaves job m after t k xs w) in
     stays_at job m after t (further at.begun outcomes)
     (owed_after_wait (task_at job.graph t) at.begun (m.taken t 0) xs) at stands
     (keeps_moved job m after t p (Waited n (length outcomes)) t s.moved (λ b at. refl))

@@ -278,8 +278,7 @@ child_stands {most} job before after p c a at is there legal s same stands room 
   numbered = λ i lt. numbered i lt (cases_lt i (length at.numbers))
       (cases_lt (length at.numbers) i);
   leaves = λ i lt.
-      (let l = length-append at.numbers (a ∷ []) in
-      leaves i (omega arith) (cases_lt i (length at.numbers)));
+      (leaves i (omega (arith, length-append at.numbers (a ∷ []))) (cases_lt i (length at.numbers)));
   begun = steps.begun;
   owes = steps.owes;
   lacks = steps.lacks;
@@ -341,8 +340,7 @@ child_stands {most} job before after p c a at is there legal s same stands room 
         (unused (λ sends. Empty)
         (limits_at job p) (before.history p) a legal
         (start_of-above (before.history p) a new)).stays in
-        let few : at.left ≤ length at.numbers = stands.few_left in
         ap (λ x. has_dropped (after.history x) (unwrap_or (after.number x c) 0)) at_p
         ∙ ap (λ o. has_dropped (after.history p) (unwrap_or o 0)) s.number
         ∙ s.left p a ∙ none
-        ∙ sym (le-ltb i at.left (omega arith))
+        ∙ sym (le-ltb i at.left (omega (arith, stands.few_left)))

@@ -45,7 +45,7 @@ keeps_staying m after t numbers before now = record {
 lacks_as : {most : ℕ} (job : Job) (m : Moment) (t : ℕ) (at : TaskPlace) (o : Owed)
     → StandsUpTo most job m t at → at.owed ≡ o → Lacks job m t o
 lacks_as job m t at o stands is =
-    let L : Owed → Type 0 = λ x. Lacks job m t x in subst L is stands.lacks
+    rw is at stands.lacks
 
 pub seen_follows : {most : ℕ} (job : Job) (m after : Moment) (t p : ℕ) (at : TaskPlace)
     (now : History) → StandsUpTo most job m t at → HasSeen job m after t p now
@@ -67,12 +67,10 @@ in_turn job m t is there part staying e = by (m.number (output_at job t 0) t) re
 
     line : OnLine (task_at job.graph t) (output_at job t 0)
     line =
-        let both : length (signalled_by (task_at job.graph t)) ≡ 2 =
-        (peer_ends job t is there e).1 in
         inl (
           0,
           place_of_output job.graph t (task_at job.graph t) 0 (is.tasks t there)
-              (omega arith),
+              (omega (arith, (peer_ends job t is there e).1)),
         )
 
     same : output_at job t 0 ≡ input_at (task_at job.graph t) 1
@@ -84,11 +82,9 @@ in_turn job m t is there part staying e = by (m.number (output_at job t 0) t) re
         peer_in_turn job m t n is part.ran there staying (part.legal (output_at job t 0) line) at e
     by None at =
         let few : length (task_at job.graph t).inputs ≡ 2 = two in
-        let T : ℕ → Type 0 = λ q. TakenOn job m t 1 q (m.number q t) in
         let N : Option ℕ → Type 0 = λ o. TakenOn job m t 1 (output_at job t 0) o in
-        let on = subst N at (subst T (sym same) (part.ran.inputs 1 (omega arith))) in
-        let none : length (m.taken t 1) ≡ 0 = ap length on.0 in
-        omega arith
+        let on = subst N at (rw same (part.ran.inputs 1 (omega arith))) in
+        omega (arith, ap length on.0)
 
 pub put_follows : (job : Job) (m after : Moment) (t j p most : ℕ) (vs : List ℤ) (at : TaskPlace)
     (now : History) → IsGraph job.graph → t < length job.graph.tasks → HasPart job m t
@@ -140,7 +136,6 @@ first_wait_follows job m after t k p most outcomes at now is there part stands n
     let xs = map number outcomes in
     let many : length xs ≡ length outcomes = length-map outcomes number in
     let begun : after.begun t ≡ m.begun t + length outcomes = s.begun_is in
-    let K : ℕ → Type 0 = λ n. IsBlock (task_at job.graph t).kind n in
     let staying = staying_at job m t at is there part.ran stands none in
     let w : FirstWait most job m after t k xs = record {
       is = is;
@@ -153,14 +148,12 @@ first_wait_follows job m after t k p most outcomes at now is there part stands n
       first = next.first;
       steps = omega arith;
       some = omega arith;
-      block = subst K (sym many) next.block;
+      block = rw many next.block;
       room = omega arith;
       all_taken = next.may_begin.taken k next.few;
       lacks = lacks_as job m t at nothing stands owed_is;
     } in
-    let B : ℕ → Type 0 = λ b. LeavesOwed most job after t
-    (owed_after_wait (task_at job.graph t) b (m.taken t 0) xs) in
-    let left = subst B stands.begun (wait_leaves job m after t k xs w) in
+    let left = rw stands.begun at (wait_leaves job m after t k xs w) in
     stays_at job m after t (at.begun + length outcomes)
     (owed_after_wait (task_at job.graph t) at.begun (m.taken t 0) xs) at stands
     (keeps_staying m after t s.moved.numbers staying s.staying)
@@ -189,9 +182,7 @@ exchanged_follows job m after t p most x outcome at now is there part allowed st
     let lacks : Lacks job after t (values 1 (w ∷ [])) =
     exchange_lacks job m after t outcome x w is part.ran ran_now there peer gets s.begun_is
     before in
-    let P : Owed → Type 0 = λ o. StandsUpTo most job after t
-    (owing (owed_after_exchange (task_at job.graph t) o (number outcome)) at) in
-    subst P (sym owed_is)
+    rw owed_is
     (stays_at job m after t at.begun (values 1 (w ∷ [])) at stands
     (keeps_staying m after t s.moved.numbers staying s.staying) (s.begun_is ∙ stands.begun)
     (exchange_owes most job m after t outcome x allowed.some is part.ran ran_now there peer gets

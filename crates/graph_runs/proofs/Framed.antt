@@ -80,14 +80,10 @@ ran_out_later job before after t k grown on same out =
     let a : length (stream_of value new) ≡ done_of new =
     length-map-range_with_len (value_of_phase value new) 0 (done_of new) in
     let b : length (stream_of value old) ≡ done_of old =
-    length-map-range_with_len (value_of_phase value old) 0 (done_of old) in
-    let c : length (stream_of value new) ≡ length (stream_of value old) = ap length stream in
-    let past : done_of old ≤ before.offset t + length (before.taken t k) = out.1 in
-    let offset : after.offset t ≡ before.offset t = same.offset in
-    let taken : length (after.taken t k) ≡ length (before.taken t k) = ap length (same.taken k) in (
+    length-map-range_with_len (value_of_phase value old) 0 (done_of old) in (
       signallers_closed (limits_at job x) old new out.0 (grown.was x on) (grown.legal x on)
           (grown.beginning x on),
-      omega arith,
+      omega (arith, ap length stream, out.1, same.offset, ap length (same.taken k)),
     )
 
 pub may_end_later : (job : Job) (before after : Moment) (t : ℕ) → IsGraph job.graph
@@ -104,8 +100,7 @@ may_end_later job before after t is there grown same (no_input not out) =
     let lt : k < length task.inputs =
     (first_looks task (before.begun t) (is.tasks t there).ends not).0 in
     let on : OnLine task (input_at task k) = inr (k, lt, refl) in
-    let B : ℕ → Type 0 = λ b. RanOut after task t (first_input task b) in
-    no_input not (subst B (sym same.begun) (ran_out_later job before after t k grown on same out))
+    no_input not (rw same.begun (ran_out_later job before after t k grown on same out))
 
 pub ended_later : (job : Job) (before after : Moment) (t : ℕ) → IsGraph job.graph
     → t < length job.graph.tasks → HasGrown job before after t
@@ -133,26 +128,15 @@ pub lists_later : (job : Job) (before after : Moment) (t : ℕ) → SameTask bef
     → TaskRan job before t → ListsRan job after t
 lists_later job before after t same ran = record {
   puts = λ j lt.
-      (let A : List ℤ → Type 0 = λ l. IsPrefix l (made_now job after t j) in
-      let B : List ℤ → Type 0 = λ l. IsPrefix (before.put t j) l in
-      subst A (sym (same.put j))
-      (subst B (sym (made_same job before after t j same)) (ran.puts j lt)));
+      (rw (same.put j)
+      (rw (made_same job before after t j same) (ran.puts j lt)));
   exchanged = λ j.
-      (let A : List ℤ → Type 0 =
-      λ l. HasExchanged (task_at job.graph t).kind j (length l) (length (after.taken t 1)) in
-      let B : List ℤ → Type 0 =
-      λ l. HasExchanged (task_at job.graph t).kind j (length (before.put t j)) (length l) in
-      subst A (sym (same.put j)) (subst B (sym (same.taken 1)) (ran.exchanged j)));
+      (rw (same.put j) (rw (same.taken 1) (ran.exchanged j)));
   takes = λ k below.
-      (let A : List ℤ → Type 0 = λ l. HasTaken (task_at job.graph t) (after.begun t) k (length l) in
-      let D : ℕ → Type 0 = λ b. HasTaken (task_at job.graph t) b k (length (before.taken t k)) in
-      subst A (sym (same.taken k)) (subst D (sym same.begun) (ran.takes k below)));
+      (rw (same.taken k) (rw same.begun (ran.takes k below)));
   samples =
-      (let D : ℕ → Type 0 =
-      λ b. HasSamples (task_at job.graph t).kind b (length (samples_at job t)) in
-      subst D (sym same.begun) ran.samples);
-  cut = (let D : ℕ → Type 0 = λ b. AtMost b (task_at job.graph t).until in
-      subst D (sym same.begun) ran.cut);
+      (rw same.begun ran.samples);
+  cut = (rw same.begun ran.cut);
 }
 
 pub task_later : (job : Job) (before after : Moment) (t : ℕ) → IsGraph job.graph
@@ -185,41 +169,36 @@ task_later job before after t is there grown o ran = record {
         → (start : Entry) × (start_of (before.history p) n ≡ Some start)
     start_on p n at (inl out) =
         let pp : p < length job.graph.phasers = on_phaser job t p is there (inl out) in
-        let O : Option ℕ → Type 0 = λ o. OnPhaser job before t p o in
         let N : Option ℕ → Type 0 = λ o. PutOn job before t out.0 p o in
-        let on : OnOutput job before t out.0 p n = subst N at (subst O out.1 (ran.outputs p pp)) in
+        let on : OnOutput job before t out.0 p n = subst N at (rw out.1 at (ran.outputs p pp)) in
         (on.start, on.start_is)
     start_on p n at (inr into) =
-        let T : ℕ → Type 0 = λ q. TakenOn job before t into.0 q (before.number q t) in
         let N : Option ℕ → Type 0 = λ o. TakenOn job before t into.0 p o in
         let on : OnInput job before t into.0 p n =
-        subst N at (subst T into.2 (ran.inputs into.0 into.1)) in
+        subst N at (rw into.2 at (ran.inputs into.0 into.1)) in
         (on.start, on.start_is)
 
     outputs : (p : ℕ) → p < length job.graph.phasers → (place x : Option ℕ) → before.number p t ≡ x
         → OnPhaser job before t p place → OnPhaser job after t p place
     outputs p pp None None at on =
-        let S : Option ℕ → Type 0 = λ x. SilentOn after p x in subst S (sym (o.number p ∙ at)) tt
+        rw (o.number p ∙ at) tt
     outputs p pp None (Some n) at on =
-        let S : Option ℕ → Type 0 = λ x. SilentOn after p x in
         let B : Option ℕ → Type 0 = λ x. SilentOn before p x in
         let u = start_on p n at (ran.lines p n at) in
-        subst S (sym (o.number p ∙ at))
+        rw (o.number p ∙ at)
         (silent_stays n (before.history p) (after.history p) u.0 (o.part p n at) u.1
         (start_of-longer (limits_at job p) (before.history p) (after.history p) n u.0
         (grown.legal p (ran.lines p n at)) (grown.beginning p (ran.lines p n at)) u.1)
         (subst B at on))
     outputs p pp (Some j) None at on =
-        let S : Option ℕ → Type 0 = λ x. PutOn job after t j p x in
         let B : Option ℕ → Type 0 = λ x. PutOn job before t j p x in
-        subst S (sym (o.number p ∙ at)) (subst B at on)
+        rw (o.number p ∙ at) (subst B at on)
     outputs p pp (Some j) (Some n) at on =
-        let S : Option ℕ → Type 0 = λ x. PutOn job after t j p x in
         let B : Option ℕ → Type 0 = λ x. PutOn job before t j p x in
         let b : OnOutput job before t j p n = subst B at on in
         let part = o.part p n at in
         let on_line = ran.lines p n at in
-        subst S (sym (o.number p ∙ at)) (record {
+        rw (o.number p ∙ at) (record {
           start = b.start;
           start_is =
               start_of-longer (limits_at job p) (before.history p) (after.history p) n b.start
@@ -238,18 +217,16 @@ task_later job before after t is there grown o ran = record {
         (after.number (input_at (task_at job.graph t) k) t)
     inputs k lt None at on =
         let p = input_at (task_at job.graph t) k in
-        let S : Option ℕ → Type 0 = λ x. TakenOn job after t k p x in
         let B : Option ℕ → Type 0 = λ x. TakenOn job before t k p x in
         let b = subst B at on in
-        subst S (sym (o.number p ∙ at)) (o.same.taken k ∙ b.0, b.1)
+        rw (o.number p ∙ at) (o.same.taken k ∙ b.0, b.1)
     inputs k lt (Some n) at on =
         let p = input_at (task_at job.graph t) k in
-        let S : Option ℕ → Type 0 = λ x. TakenOn job after t k p x in
         let B : Option ℕ → Type 0 = λ x. TakenOn job before t k p x in
         let b : OnInput job before t k p n = subst B at on in
         let part = o.part p n at in
         let on_line = ran.lines p n at in
-        subst S (sym (o.number p ∙ at)) (record {
+        rw (o.number p ∙ at) (record {
           start = b.start;
           start_is =
               start_of-longer (limits_at job p) (before.history p) (after.history p) n b.start
@@ -278,31 +255,24 @@ task_later job before after t is there grown o ran = record {
           early =
               omega arith;
           ended =
-              λ gone. (let low : before.begun u.task < u.at = w.ended (sym dropped ∙ gone) in
-              omega arith);
+              λ gone. (omega (arith, w.ended (sym dropped ∙ gone)));
         }
 
     joined : (parent : Option Parent) → (task_at job.graph t).parent ≡ parent
         → Joined before t (task_at job.graph t).joins_now (task_at job.graph t).parent
         → Joined after t (task_at job.graph t).joins_now (task_at job.graph t).parent
     joined None e j =
-        let A : Option Parent → Type 0 = λ u. Joined after t (task_at job.graph t).joins_now u in
-        let B : Option Parent → Type 0 = λ u. Joined before t (task_at job.graph t).joins_now u in
-        let b : before.offset t ≡ 0 = subst B e j in
-        subst A (sym e) (o.same.offset ∙ b)
+        let b : before.offset t ≡ 0 = rw e at j in
+        rw e (o.same.offset ∙ b)
     joined (Some u) e j =
-        let A : Option Parent → Type 0 = λ u. Joined after t (task_at job.graph t).joins_now u in
-        let B : Option Parent → Type 0 = λ u. Joined before t (task_at job.graph t).joins_now u in
         let b : BeginsBy (task_at job.graph t).joins_now (before.offset t)
         (before.offset u.task + u.at) × (u.at ≤ before.begun u.task)
-        × IsRegistered before u.task = subst B e j in
+        × IsRegistered before u.task = rw e at j in
         let up = o.parent u e in
-        let low : u.at ≤ before.begun u.task = b.1 in
-        let on : before.begun u.task ≤ after.begun u.task = up.1 in
-        subst A (sym e) (
+        rw e (
           begins (task_at job.graph t).joins_now (after.offset t) (after.offset u.task + u.at)
               (before.offset t) (before.offset u.task + u.at) o.same.offset
               (ap (λ n. n + u.at) up.0) b.0,
-          omega arith,
+          omega (arith, b.1, up.1),
           up.2 b.2,
         )

@@ -73,9 +73,6 @@ next_signals_are job m t j p n vs s ran =
     let put = put_now job m t j p n vs (m.begun t) in
     let made : made_now job after t j ≡ made_now job m t j =
     made_still job m after t j (λ k. refl) still in
-    let A : List ℤ → Type 0 = λ l. IsPrefix l (made_now job after t j) in
-    let B : List ℤ → Type 0 = λ l. IsPrefix (m.put t j ++ vs) l in
-    let X : ℕ → Type 0 = λ c. HasExchanged (task_at job.graph t).kind j c (length (m.taken t 1)) in
     record {
       moved = moved_signal job m t j p n vs (m.begun t) s.signal (omega arith);
       numbered = s.signal.numbered;
@@ -85,8 +82,8 @@ next_signals_are job m t j p n vs s ran =
       put = put;
       other_puts = λ i apart. put_else job m t j p n vs (m.begun t) i apart;
       begun = inr still;
-      made = subst A (sym put) (subst B (sym made) s.entries);
-      exchanged = subst X (sym (ap length put ∙ length-append (m.put t j) vs)) s.exchanged;
+      made = rw put (rw made s.entries);
+      exchanged = rw (ap length put ∙ length-append (m.put t j) vs) s.exchanged;
     }
 
 pub next_signals_keep : (job : Job) (m : Moment) (t j p n : ℕ) (vs : List ℤ) → IsGraph job.graph
@@ -112,15 +109,13 @@ next_samples_are job m t j p n vs s ran =
     let put = put_now job m t j p n vs next in
     let lt : j < length (signalled_by (task_at job.graph t)) =
     (place-at (signalled_by (task_at job.graph t)) p j s.signal.place).0 in
-    let H : Kind → Type 0 = λ kind. HasSamples kind next (length samples) in
-    let few : further b vs ≤ length samples = subst H s.source s.may_begin.samples in
+    let few : further b vs ≤ length samples = rw s.source at s.may_begin.samples in
     let before_is : made_now job m t j ≡ take b samples =
     source_makes (task_at job.graph t).kind s.source b (taken_now m (task_at job.graph t) t) in
     let after_is : made_now job after t j ≡ take (b + c) samples =
     source_makes (task_at job.graph t).kind s.source (after.begun t)
     (taken_now after (task_at job.graph t) t) ∙ ap (λ n. take n samples) (now ∙ many) in
-    let P : List ℤ → Type 0 = λ l. IsPrefix (m.put t j) l in
-    let begins : IsPrefix (m.put t j) (take b samples) = subst P before_is (ran.puts j lt) in
+    let begins : IsPrefix (m.put t j) (take b samples) = rw before_is at (ran.puts j lt) in
     let long : length (take b samples) ≡ b = take_full b samples (omega arith) in
     let all : length (m.put t j) ≡ b = s.all_put in
     let whole : m.put t j ≡ take b samples =
@@ -128,10 +123,6 @@ next_samples_are job m t j p n vs s ran =
     let both : m.put t j ++ vs ≡ take (b + c) samples =
     ap (λ l. l ++ vs) whole ∙ ap (λ l. take b samples ++ l) s.samples
     ∙ sym (take-add b c samples) in
-    let A : List ℤ → Type 0 = λ l. IsPrefix l (made_now job after t j) in
-    let B : List ℤ → Type 0 = λ l. IsPrefix (m.put t j ++ vs) l in
-    let X : Kind → Type 0 =
-    λ kind. HasExchanged kind j (length (after.put t j)) (length (after.taken t 1)) in
     record {
       moved = moved_signal job m t j p n vs next s.signal (omega arith);
       numbered = s.signal.numbered;
@@ -141,9 +132,9 @@ next_samples_are job m t j p n vs s ran =
       put = put;
       other_puts = λ i apart. put_else job m t j p n vs next i apart;
       begun = inl (s.source, now, s.may_begin);
-      made = subst A (sym put)
-          (subst B (sym after_is) ([], append-nil (m.put t j ++ vs) ∙ both));
-      exchanged = subst X (sym s.source) tt;
+      made = rw put
+          (rw after_is ([], append-nil (m.put t j ++ vs) ∙ both));
+      exchanged = rw s.source tt;
     }
   where
     source_makes : (kind : Kind) → (task_at job.graph t).kind ≡ Source

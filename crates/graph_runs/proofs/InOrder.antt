@@ -37,7 +37,7 @@ OwesFor job m (child_now t p n c a) = Unit {0}
 owes_for : (job : Job) (m : Moment) (made event : TaskEvent) → made ≡ event
     → OwesFor job m made → OwesFor job m event
 owes_for job m made event same owes =
-    let P : TaskEvent → Type 0 = λ e. OwesFor job m e in subst P same owes
+    rw same at owes
 
 leave_owes : (job : Job) (m : Moment) (t : ℕ) (event : TaskEvent)
     → answer_to job m t leaves ≡ makes event → OwesFor job m event

@@ -100,9 +100,8 @@ pub own_join : (job : Job) (before after : Moment) (t p n c a : ℕ) (u : Parent
     → TaskRan job before t → TaskRan job after t
 own_join job before after t p n c a u is there grown s ran =
     let above : u.task < c = (parent_of job c u is s.child s.parent).above in
-    let by : u.task ≡ t = s.by in
     task_later job before after t is there grown
-    (others_join job before after t p n c a u is s t there (λ same. omega arith)) ran
+    (others_join job before after t p n c a u is s t there (λ same. omega (arith, s.by))) ran
 
 -- ---- the child
 
@@ -112,11 +111,8 @@ pub sink_line : (job : Job) (c p : ℕ) → IsGraph job.graph → c < length job
     → (length (task_at job.graph c).inputs ≡ 1)
     × (length (signalled_by (task_at job.graph c)) ≡ 0)
 sink_line job c p is there sink =
-    let H : Kind → Type 0 =
-    λ kind. HasEnds kind (length (task_at job.graph c).inputs)
-    (length (task_at job.graph c).outputs) in
     let both : (length (task_at job.graph c).inputs ≡ 1)
-    × (length (task_at job.graph c).outputs ≡ 0) = subst H sink (is.tasks c there).ends in
+    × (length (task_at job.graph c).outputs ≡ 0) = rw sink at (is.tasks c there).ends in
     let outs : signalled_by (task_at job.graph c) ≡ (task_at job.graph c).outputs = rw sink refl in
     (both.0, ap length outs ∙ both.1)
 
@@ -133,13 +129,10 @@ child_joins job before after t p n c a u is there legal s parent child = record 
   puts = λ j lt. absurd (omega (arith, lt, ends.1));
   exchanged = λ j. rw sink tt;
   takes = λ k lt.
-      (let T : List _ → Type 0 = λ l. HasTaken (task_at job.graph c) (after.begun c) k (length l) in
-      let B : ℕ → Type 0 = λ b. HasTaken (task_at job.graph c) b k 0 in
-      let none : takes_from (task_at job.graph c) 0 k ≡ 0 = rw sink refl in
-      subst T (sym (s.nothing_taken k)) (subst B (sym s.nothing_begun) (rw sink (sym none))));
+      (let none : takes_from (task_at job.graph c) 0 k ≡ 0 = rw sink refl in
+      rw (s.nothing_taken k) (rw s.nothing_begun (rw sink (sym none))));
   samples = rw sink tt;
-  cut = (let B : ℕ → Type 0 = λ b. AtMost b (task_at job.graph c).until in
-      subst B (sym s.nothing_begun) (none_cut (task_at job.graph c).until));
+  cut = (rw s.nothing_begun (none_cut (task_at job.graph c).until));
   lines = λ q b at. lines q b at (eq_case q p);
   outputs = λ q qq.
       outputs q qq (index_in (signalled_by (task_at job.graph c)) q) refl (eq_case q p);
@@ -236,19 +229,17 @@ child_joins job before after t p n c a u is there legal s parent child = record 
             → input_at (task_at job.graph t) i ≡ p → has_children (task_at job.graph t).kind ≡ true
             → IsSilent (before.history p) n
         quiet None e on i lti is_p plain =
-            let O : Option ℕ → Type 0 = λ o. OnPhaser job before t p o in
             let N : Option ℕ → Type 0 = λ o. SilentOn before p o in
-            subst N s.numbered (subst O e on)
+            subst N s.numbered (subst (λ (o : Option ℕ). OnPhaser job before t p o) e on)
         quiet (Some j) e on i lti is_p plain =
             absurd (read_not_signalled job t i j (is.tasks t there) plain lti
             (ap (λ q. index_in (signalled_by (task_at job.graph t)) q) is_p ∙ e))
 
     in_here : (k : ℕ) → OnInput job after c k p a
     in_here k =
-        let A : History → Type 0 = λ g. start_of g a ≡ Some start in
         record {
           start = start;
-          start_is = subst A (sym s.here) start_here;
+          start_is = subst (λ (g : History). start_of g a ≡ Some start) (sym s.here) start_here;
           waits = refl;
           at = sym s.offset;
           taken = s.nothing_taken k
@@ -319,19 +310,15 @@ child_joins job before after t p n c a u is there legal s parent child = record 
 
     joined : Joined after c (task_at job.graph c).joins_now (task_at job.graph c).parent
     joined =
-        let P : Option Parent → Type 0 =
-        λ o. Joined after c (task_at job.graph c).joins_now o in
-        let J : Bool → Type 0 = λ b. Joined after c b (Some u) in
-        let U : ℕ → Type 0 =
-        λ x. (after.offset x + u.at ≤ after.offset c) × (u.at ≤ after.begun x)
-        × IsRegistered after x in
         let was : after.offset t ≡ before.offset t = (s.same t apart_t).offset in
         let begun : after.begun t ≡ before.begun t = (s.same t apart_t).begun in
         let b : before.begun t ≡ u.at = s.boundary in
         let low : before.offset t + u.at ≤ done_of (before.history p) = parent_in.0 in
         let off : after.offset c ≡ done_of (before.history p) = s.offset in
-        subst P (sym s.parent) (subst J (sym s.now)
-        (subst U (sym s.by) (omega arith, omega arith, (p, n, still_there))))
+        subst (λ (o : Option Parent). Joined after c (task_at job.graph c).joins_now o) (sym
+        s.parent) (subst (λ (b : Bool). Joined after c b (Some u)) (sym s.now)
+        (subst (λ (x : ℕ). (after.offset x + u.at ≤ after.offset c) × (u.at ≤ after.begun x) ×
+        IsRegistered after x) (sym s.by) (omega arith, omega arith, (p, n, still_there))))
 
 -- ---- the whole
 
@@ -352,11 +339,9 @@ join_keeps job before after t p n c a u is there s ran = record {
     new_number : (b : ℕ) → IsUsed (before.history p) b → b ≢ a
     new_number b used same =
         let st = start_from (start_of (before.history p) b) used in
-        let low : b ≤ greatest_used (before.history p) =
-        start_used (before.history p) b st.0 st.1 in
         let high : greatest_used (before.history p) < a =
         (registers_from (before.history p) n a Wait s.accepted).new_number in
-        omega arith
+        omega (arith, start_used (before.history p) b st.0 st.1)
 
     by_phaser : (P : History → Type 0) (q : ℕ)
         → (q ≡ p → P (RegisteredNow n a ∷ before.history q)) → (q ≢ p → P (before.history q))
@@ -379,19 +364,17 @@ join_keeps job before after t p n c a u is there s ran = record {
         → start_of (before.history q) b ≡ Some start → start_of (after.history q) b ≡ Some start
     start_now q b start qq e =
         by_phaser (λ g. start_of g b ≡ Some start) q
-        (λ same. (let P : ℕ → Type 0 =
-        λ x. IsLegal (limits_at job x) (RegisteredNow n a ∷ before.history x) in
-        start_of-longer (limits_at job q) (before.history q)
-        (RegisteredNow n a ∷ before.history q) b start (subst P (sym same) legal_now)
+        (λ same. (start_of-longer (limits_at job q) (before.history q)
+        (RegisteredNow n a ∷ before.history q) b start (subst (λ (x : ℕ). IsLegal (limits_at job x)
+        (RegisteredNow n a ∷ before.history x)) (sym same) legal_now)
         (record { later = RegisteredNow n a ∷ []; is = refl }) e))
         (λ apart. e)
 
     phasers : (q : ℕ) → q < length job.graph.phasers → PhaserRan job after q
     phasers q qq = record {
       legal = by_phaser (λ g. IsLegal (limits_at job q) g) q
-          (λ same. (let P : ℕ → Type 0 =
-          λ x. IsLegal (limits_at job x) (RegisteredNow n a ∷ before.history x) in
-          subst P (sym same) legal_now)) (λ apart. (ran.phasers q qq).legal);
+          (λ same. (subst (λ (x : ℕ). IsLegal (limits_at job x) (RegisteredNow n a ∷ before.history
+          x)) (sym same) legal_now)) (λ apart. (ran.phasers q qq).legal);
       names = by_phaser (λ g. NamesAll (phaser_at job.graph q).single g) q
           (λ same. (ran.phasers q qq).names) (λ apart. (ran.phasers q qq).names);
       distinct =
@@ -486,8 +469,7 @@ join_keeps job before after t p n c a u is there s ran = record {
 
     tasks : (x : ℕ) → x < length job.graph.tasks → (x ≡ c) ⊎ (x ≢ c) → TaskRan job after x
     tasks x there_x (inl same) =
-        let Ran : ℕ → Type 0 = λ y. TaskRan job after y in
-        subst Ran (sym same)
+        subst (λ (y : ℕ). TaskRan job after y) (sym same)
         (child_joins job before after t p n c a u is there (ran.phasers p pp).legal s
         (ran.tasks t there) (ran.tasks c s.child))
     tasks x there_x (inr other) =
@@ -550,9 +532,8 @@ join_now_is job m t p n c a u next = record {
         ap (λ f. f x) (at_other p (with_at c (Some a) (m.number p)) m.number q apart)
     other q x (inl apart) (inl same) = absurd (apart same)
     other q x (inr apart) (inl same) =
-        let N : ℕ → Type 0 =
-        λ y. with_at p (with_at c (Some a) (m.number p)) m.number y x ≡ m.number y x in
-        subst N (sym same)
+        subst (λ (y : ℕ). with_at p (with_at c (Some a) (m.number p)) m.number y x ≡ m.number y x)
+        (sym same)
         (ap (λ f. f x) (at_same p (with_at c (Some a) (m.number p)) m.number)
         ∙ at_other c (Some a) (m.number p) x apart)
 

@@ -21,9 +21,7 @@ use Rattle.graph_runs.specs.Moves.{HasGrown, HasMoved, SignalsAll, Signals, Wait
 use Rattle.graph_runs.proofs.Numbers.{in_numbers}
 use Rattle.graph_runs.proofs.OnLines.{on_phaser}
 use Rattle.graph_runs.proofs.Framed.{task_later, part_came}
-use Rattle.graph_runs.proofs.OwnEvents.{eq_case, history_by}
-use Rattle.graph_runs.proofs.OwnSignals.{own_signals}
-use Rattle.graph_runs.proofs.OwnWaits.{own_waits}
+use Rattle.graph_runs.proofs.OwnEvents.{eq_case, history_by, own_signals, own_waits}
 use Rattle.graph_runs.proofs.OwnLeaves.{own_leave}
 
 -- what an event of number n leaves of a phaser's history
@@ -89,22 +87,19 @@ phaser_keeps job before after t p n event there pp moved numbered leaves q qq ra
 
     names : q ≡ p → NamesAll (phaser_at job.graph q).single (event ∷ before.history q)
     names same =
-        let P : ℕ → Type 0 =
-        λ x. NamesAll (phaser_at job.graph x).single (event ∷ before.history x) in
-        subst P (sym same) leaves.names
+        subst (λ (x : ℕ). NamesAll (phaser_at job.graph x).single (event ∷ before.history x)) (sym
+        same) leaves.names
 
     starts : (x : ℕ) → q ≡ p → start_of (event ∷ before.history q) x ≡ start_of (before.history q) x
     starts x same =
-        let P : ℕ → Type 0 =
-        λ y. start_of (event ∷ before.history y) x ≡ start_of (before.history y) x in
-        subst P (sym same) (leaves.starts x)
+        subst (λ (y : ℕ). start_of (event ∷ before.history y) x ≡ start_of (before.history y) x)
+        (sym same) (leaves.starts x)
 
     other : (x : ℕ) → q ≡ p → is_in x (numbers_on job before q) ≡ false → x ≢ n
     other x same out me =
-        let N : ℕ → Type 0 = λ y. before.number y t ≡ Some n in
         let inside : is_in n (numbers_on job before q) ≡ true =
         in_numbers (before.number q) 0 (length job.graph.tasks) t n (omega arith) (omega arith)
-        (subst N (sym same) numbered) in
+        (subst (λ (y : ℕ). before.number y t ≡ Some n) (sym same) numbered) in
         let here : is_in x (numbers_on job before q) ≡ true =
         ap (λ y. is_in y (numbers_on job before q)) me ∙ inside in
         let f : true ≡ false = sym here ∙ out in cc
@@ -147,16 +142,15 @@ run_keeps job before after t p n event is there pp moved numbered leaves ran own
         history_by job before after t p event (λ h. OthersCame (a ∷ []) (before.history q) h) q
         moved
         (λ same. OthersCame-event (a ∷ []) (before.history q) event (λ x inside. leaves.by x (λ me.
-        (let N : ℕ → Type 0 = λ y. before.number y t ≡ Some n in
-        let mine : before.number q u ≡ Some n =
+        (let mine : before.number q u ≡ Some n =
         at ∙ ap (λ y. Some y) (sym (one_in x a inside) ∙ me) in
         other ((ran.phasers q qq).distinct u t n there_u there mine
-        (subst N (sym same) numbered))))))
+        (rw same numbered))))))
         (λ apart. OthersCame-refl (a ∷ []) (before.history q))
 
     tasks : (u : ℕ) → u < length job.graph.tasks → (u ≡ t) ⊎ (u ≢ t) → TaskRan job after u
     tasks u there_u (inl same) =
-        let P : ℕ → Type 0 = λ u. TaskRan job after u in subst P (sym same) (own (grown t there))
+        rw same (own (grown t there))
     tasks u there_u (inr other) =
         task_later job before after u is there_u (grown u there_u)
         (record {
@@ -176,15 +170,13 @@ run_keeps job before after t p n event is there pp moved numbered leaves ran own
             × (IsRegistered before w.task → IsRegistered after w.task)
         parent w (inr apart) =
             let s = moved.others w.task apart in
-            let b : after.begun w.task ≡ before.begun w.task = s.begun in
-            (s.offset, omega arith, λ r. (r.0, r.1, moved.numbers r.0 w.task ∙ r.2))
+            (s.offset, omega (arith, s.begun), λ r. (r.0, r.1, moved.numbers r.0 w.task ∙ r.2))
         parent w (inl same) =
             let o : after.offset w.task ≡ before.offset w.task =
             ap (λ x. after.offset x) same ∙ moved.offset
             ∙ ap (λ x. before.offset x) (sym same) in
             let b : before.begun w.task ≤ after.begun w.task =
-            (let P : ℕ → Type 0 = λ x. before.begun x ≤ after.begun x in
-            subst P (sym same) moved.onward) in
+            (rw same moved.onward) in
             (o, b, λ r. (r.0, r.1, moved.numbers r.0 w.task ∙ r.2))
 
 -- ---- the three events

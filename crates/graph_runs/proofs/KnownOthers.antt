@@ -36,8 +36,7 @@ known_first job m t numbers seen is first = record {
       let none : m.number p c ≡ None = first.others p c (λ same. omega arith) in
       absurd (let wrong : Some n ≡ None = sym at ∙ none in cc));
   unregistered = λ p d u there parent behind.
-      (let less : u.task < d = below job d u is there parent in
-      first.others p d (λ same. omega arith));
+      (first.others p d (λ same. omega (arith, below job d u is there parent)));
 }
 
 -- numbers and offsets are as they were
@@ -87,9 +86,7 @@ known_added job m after t c p u parent of_t on numbers offset known = record {
         → (task_at job.graph d).parent ≡ Some w → w.task ≡ t → after.number q d ≡ Some n
         → (q ≡ p) ⊎ (q ≢ p) → (d ≡ c) ⊎ (d ≢ c) → OnLine (task_at job.graph d) q
     lines q d n w there e by at (inl here) (inl same) =
-        let P : ℕ → Type 0 = λ x. OnLine (task_at job.graph d) x in
-        let D : ℕ → Type 0 = λ x. OnLine (task_at job.graph x) p in
-        subst P (sym here) (subst D (sym same) on)
+        rw here (rw same on)
     lines q d n w there e by at (inl here) (inr other) =
         known.lines q d n w there e by (sym (numbers q d (inr other)) ∙ at)
     lines q d n w there e by at (inr other) case =

@@ -56,17 +56,13 @@ not_owed : (job : Job) (m : Moment) (t j : ℕ) (owed : Owed) → Lacks job m t 
     → j < length (signalled_by (task_at job.graph t))
     → lacking (task_at job.graph t).kind owed j ≡ 0 → is_owed job m t j ≡ false
 not_owed job m t j owed lacks lt none =
-    let long : length (made_now job m t j)
-    ≡ length (m.put t j) + lacking (task_at job.graph t).kind owed j = lacks j lt in
-    le-ltb (length (m.put t j)) (length (made_now job m t j)) (omega arith)
+    le-ltb (length (m.put t j)) (length (made_now job m t j)) (omega (arith, lacks j lt))
 
 is_lacking : (job : Job) (m : Moment) (t j : ℕ) (owed : Owed) → Lacks job m t owed
     → j < length (signalled_by (task_at job.graph t))
     → 0 < lacking (task_at job.graph t).kind owed j → is_owed job m t j ≡ true
 is_lacking job m t j owed lacks lt some =
-    let long : length (made_now job m t j)
-    ≡ length (m.put t j) + lacking (task_at job.graph t).kind owed j = lacks j lt in
-    lt-ltb (length (m.put t j)) (length (made_now job m t j)) (omega arith)
+    lt-ltb (length (m.put t j)) (length (made_now job m t j)) (omega (arith, lacks j lt))
 
 pub first_none : (job : Job) (m : Moment) (t : ℕ) → Lacks job m t nothing
     → first_owed job m t ≡ None
@@ -152,9 +148,8 @@ none_put task j lt = by task.kind refl
     by Sink e = rw e refl
     by Split e =
         let same : signalled_by task ≡ task.outputs = rw e refl in
-        let long : length (signalled_by task) ≡ length task.outputs = ap length same in
         let is : puts_on task 0 j ≡ turns_below (length task.outputs) j 0 = rw e refl in
-        is ∙ no_turn (length task.outputs) j (omega arith)
+        is ∙ no_turn (length task.outputs) j (omega (arith, ap length same))
 
 -- a task that has begun no step and put nothing lacks nothing
 pub nothing_lacks : (job : Job) (m : Moment) (t : ℕ) → IsGraph job.graph → TaskRan job m t
@@ -166,5 +161,4 @@ nothing_lacks job m t is ran there begun put j lt =
     let none : puts_on (task_at job.graph t) 0 j ≡ 0 = none_put (task_at job.graph t) j lt in
     let at : puts_on (task_at job.graph t) (m.begun t) j ≡ puts_on (task_at job.graph t) 0 j =
     ap (λ b. puts_on (task_at job.graph t) b j) begun in
-    let empty : length (m.put t j) ≡ 0 = ap length (put j) in
-    omega arith
+    omega (arith, ap length (put j))

@@ -30,9 +30,6 @@ pub mod Nexts
 pub mod Opened
 pub mod OwnEvents
 pub mod OwnLeaves
-pub mod OwnPlaces
-pub mod OwnSignals
-pub mod OwnWaits
 pub mod Registering
 pub mod Turned
 pub mod JoinsNow

@@ -88,8 +88,7 @@ has_taken-next task b k n ends lt first count = by task.kind refl
         let at : first_input task b ≡ 0 = rw e refl in
         let c : takes_from task b k ≡ b = rw e refl in
         let r : suc n ≡ suc b = omega arith in
-        let P : ℕ → Type 0 = λ i. HasTaken task (suc b) i (suc n) in
-        subst P (sym (first ∙ at)) (rw e r)
+        rw (first ∙ at) (rw e r)
 
 -- and every other as many as before
 pub has_taken-stay : (task : Task) (b k n : ℕ)
@@ -103,15 +102,12 @@ has_taken-stay task b k n ends lt not count = by task.kind k refl refl
     by : (kind : Kind) (i : ℕ) → task.kind ≡ kind → k ≡ i → HasTaken task (suc b) k n
     by Source i e at = has_taken_source task (suc b) k n e
     by Fir i e at =
-        (let H : Kind → Type 0 = λ kind. HasEnds kind (length task.inputs) (length task.outputs) in
-        let both : (length task.inputs ≡ 1) × (length task.outputs ≡ 1) = subst H e ends in
+        (let both : (length task.inputs ≡ 1) × (length task.outputs ≡ 1) = rw e at ends in
         absurd (one_input both.0 (rw e refl)))
     by Split i e at =
-        (let H : Kind → Type 0 = λ kind. HasEnds kind (length task.inputs) (length task.outputs) in
-        let both = subst H e ends in absurd (one_input both.0 (rw e refl)))
+        (let both = rw e at ends in absurd (one_input both.0 (rw e refl)))
     by Sink i e at =
-        (let H : Kind → Type 0 = λ kind. HasEnds kind (length task.inputs) (length task.outputs) in
-        let both : (length task.inputs ≡ 1) × (length task.outputs ≡ 0) = subst H e ends in
+        (let both : (length task.inputs ≡ 1) × (length task.outputs ≡ 0) = rw e at ends in
         absurd (one_input both.0 (rw e refl)))
     by Join i e at =
         let first : first_input task b ≡ b % length task.inputs = rw e refl in
@@ -125,15 +121,13 @@ has_taken-stay task b k n ends lt not count = by task.kind k refl refl
         let c : takes_from task b k ≡ b = rw e refl in
         let low : n ≤ suc b = omega arith in
         let high : suc b ≤ n + 1 = omega arith in
-        let P : ℕ → Type 0 = λ i. HasTaken task (suc b) i n in
-        subst P (sym at) (rw e (low, high))
+        rw at (rw e (low, high))
 
 -- a peer's second wait
 pub has_taken-peer : (task : Task) (b n : ℕ) → task.kind ≡ Peer → HasTaken task b 1 n → n < b
     → HasTaken task b 1 (suc n)
 has_taken-peer task b n e has less =
-    let P : Kind → Type 0 = λ kind. HasTaken (record task { kind = kind }) b 1 n in
-    let r : (n ≤ b) × (b ≤ n + 1) = subst P e has in
+    let r : (n ≤ b) × (b ≤ n + 1) = rw e at has in
     let low : suc n ≤ b = omega arith in
     let most : b ≤ n + 1 = r.1 in
     let high : b ≤ suc n + 1 = omega arith in
@@ -155,11 +149,9 @@ has_taken-block task b c k n ends lt first block count = by task.kind refl
   where
     one_step : c ≡ 1 → HasTaken task (b + c) k (n + c)
     one_step one =
-        let B : ℕ → Type 0 = λ x. HasTaken task x k (n + c) in
-        let N : ℕ → Type 0 = λ x. HasTaken task (suc b) k x in
         let steps : suc b ≡ b + c = omega arith in
         let more : suc n ≡ n + c = omega arith in
-        subst B steps (subst N more (has_taken-next task b k n ends lt first count))
+        rw steps at (rw more at (has_taken-next task b k n ends lt first count))
 
     by : (kind : Kind) → task.kind ≡ kind → HasTaken task (b + c) k (n + c)
     by Source e = has_taken_source task (b + c) k (n + c) e
@@ -180,9 +172,8 @@ has_taken-else task b c k n ends lt not block count = by task.kind refl
   where
     one_step : c ≡ 1 → HasTaken task (b + c) k n
     one_step one =
-        let B : ℕ → Type 0 = λ x. HasTaken task x k n in
         let steps : suc b ≡ b + c = omega arith in
-        subst B steps (has_taken-stay task b k n ends lt not count)
+        rw steps at (has_taken-stay task b k n ends lt not count)
 
     one_input : length task.inputs ≡ 1 → first_input task b ≡ 0 → ⊥
     one_input one first = not (let same : k ≡ first_input task b = omega arith in same)
@@ -190,12 +181,10 @@ has_taken-else task b c k n ends lt not block count = by task.kind refl
     by : (kind : Kind) → task.kind ≡ kind → HasTaken task (b + c) k n
     by Source e = has_taken_source task (b + c) k n e
     by Fir e =
-        (let H : Kind → Type 0 = λ kind. HasEnds kind (length task.inputs) (length task.outputs) in
-        let both : (length task.inputs ≡ 1) × (length task.outputs ≡ 1) = subst H e ends in
+        (let both : (length task.inputs ≡ 1) × (length task.outputs ≡ 1) = rw e at ends in
         absurd (one_input both.0 (rw e refl)))
     by Sink e =
-        (let H : Kind → Type 0 = λ kind. HasEnds kind (length task.inputs) (length task.outputs) in
-        let both : (length task.inputs ≡ 1) × (length task.outputs ≡ 0) = subst H e ends in
+        (let both : (length task.inputs ≡ 1) × (length task.outputs ≡ 0) = rw e at ends in
         absurd (one_input both.0 (rw e refl)))
     by Split e = one_step (subst (λ kind. IsBlock kind c) e block)
     by Join e = one_step (subst (λ kind. IsBlock kind c) e block)

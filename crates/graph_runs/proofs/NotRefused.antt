@@ -96,13 +96,10 @@ pub member_on : (job : Job) (m : Moment) (t p n : ℕ) (mode : Mode) → IsReach
     → m.number p t ≡ Some n → has_dropped (m.history p) n ≡ false → IsMember m p n mode
 member_on job m t p n mode reached there r pp at stays =
     let reg = get_or (registrations_at job t) r.at no_registration in
-    let P : ℕ → Type 0 = λ q. q < length job.graph.phasers → m.number q t ≡ Some n
-    → has_dropped (m.history q) n ≡ false → IsMember m q n reg.mode in
-    let M : Mode → Type 0 = λ x. IsMember m p n x in
     let here : p < length job.graph.phasers → m.number p t ≡ Some n
     → has_dropped (m.history p) n ≡ false → IsMember m p n reg.mode =
-    subst P r.phaser (λ pp at stays. member job m t r.at n reached there r.few pp at stays) in
-    subst M r.mode_is (here pp at stays)
+    rw (← r.phaser) (λ pp at stays. member job m t r.at n reached there r.few pp at stays) in
+    rw (← r.mode_is) (here pp at stays)
 
 -- ---- signals
 
@@ -122,11 +119,7 @@ block_fits job t j is there lt pp = by (task_at job.graph t).kind refl
         → (task_at job.graph t).block ≤ (phaser_at job.graph (output_at job t j)).bound
     other plain =
         let outs = plain_outputs job t plain in
-        let P : List ℕ → Type 0 =
-        λ l. (task_at job.graph t).block ≤ (phaser_at job.graph (get_or l j 0)).bound in
-        let long : length (signalled_by (task_at job.graph t))
-        ≡ length (task_at job.graph t).outputs = ap length outs in
-        subst P (sym outs) ((is.tasks t there).block.outputs j 0 (omega arith))
+        rw outs ((is.tasks t there).block.outputs j 0 (omega (arith, ap length outs)))
 
     by : (kind : Kind) → (task_at job.graph t).kind ≡ kind
         → (task_at job.graph t).block ≤ (phaser_at job.graph (output_at job t j)).bound
@@ -138,9 +131,7 @@ block_fits job t j is there lt pp = by (task_at job.graph t).kind refl
     by Peer e =
         let one : (task_at job.graph t).block ≡ 1 =
         (is.tasks t there).block.kind (ap has_blocks e) in
-        let some : 1 ≤ (phaser_at job.graph (output_at job t j)).bound =
-        (is.phasers (output_at job t j) pp).bound.0 in
-        omega arith
+        omega (arith, (is.phasers (output_at job t j) pp).bound.0)
 
 -- a list of one
 one_of : (vs : List ℤ) → 1 ≤ length vs → length vs ≤ 1 → (v : ℤ) × (vs ≡ v ∷ [])
@@ -202,9 +193,7 @@ signal_passes job m t j vs is reached live lt more turn some few =
         let block : (task_at job.graph t).block ≡ 1 =
         (is.tasks t live.there).block.kind (ap has_blocks peer.0) in
         let v = one_of vs some (omega arith) in
-        let S : List ℤ → Type 0 = λ l. MaySignal (signal_refusal (limits_at job p) (m.history p) n
-        (map one l) (phaser_at job.graph p).single) in
-        subst S (sym v.1) (may_signal job m p n v.0 mode.mode is reached.ran pp e mode.signals
+        rw v.1 (may_signal job m p n v.0 mode.mode is reached.ran pp e mode.signals
         mode.named
         (and_right (mode_waits mode.mode) (eqb e.entry.signal_phase (e.entry.wait_phase + 1))
         (ne_eqb e.entry.signal_phase (e.entry.wait_phase + 1) (λ clash. omega arith))))
@@ -262,9 +251,7 @@ wait_passes job m t k steps is reached live lt more some few turn later =
     (is.tasks t live.there).block.inputs k 0 lt in
     may_wait job m p n steps mode.mode e mode.waits
     (good_block (limits_at job p) steps some (omega arith)) (by mode e w pp at mode.first)
-    (λ quiet. (let w_is : e.entry.wait_phase ≡ m.offset t + length (m.taken t k) = w in
-    let below : m.offset t + length (m.taken t k) < done_of (m.history p) = later quiet in
-    omega arith))
+    (λ quiet. (omega (arith, w, later quiet)))
   where
     by : (mode : WaitMode job t k (input_at (task_at job.graph t) k))
         (e : IsMember m (input_at (task_at job.graph t) k)
@@ -328,8 +315,7 @@ leave_told job m t is reached live some = by (first_kept job m t) refl some
         ≡ false =
         find-none (λ x. not (has_registered m t x)) (registrations_at job t) f.1.0 no_registration
         live.all f.1.1 in
-        let P : Registration → Type 0 = λ x. not (has_registered m t x) ≡ false in
-        let at : m.number p t ≡ Some n = number_is (m.number p t) (subst P f.1.2 there) in
+        let at : m.number p t ≡ Some n = number_is (m.number p t) (rw f.1.2 at there) in
         let line = (reached.ran.tasks t live.there).lines p n at in
         let pp = on_phaser job t p is live.there line in
         let ran = reached.ran.phasers p pp in
@@ -369,11 +355,10 @@ parent_holds job m t c i is there d lt = by (cases_lt i (length (task_at job.gra
     input k few =
         let x = get_or (task_at job.graph c).inputs k 0 in
         let above = parent_waits job.graph c (task_at job.graph c) d.comes.by k d.parent few in
-        let I : ℕ → Type 0 = λ u. (above.0 < length (task_at job.graph u).inputs)
-        × (get_or (task_at job.graph u).inputs above.0 0 ≡ x) in
         let into : (above.0 < length (task_at job.graph t).inputs)
         × (get_or (task_at job.graph t).inputs above.0 0 ≡ x) =
-        subst I d.comes.task (above.1, above.2) in
+        subst (λ (u : ℕ). (above.0 < length (task_at job.graph u).inputs) × (get_or (task_at
+        job.graph u).inputs above.0 0 ≡ x)) d.comes.task (above.1, above.2) in
         let mode = wait_mode job t above.0 is there into.0 in
         let R : ℕ → Type 0 = λ p. HasRegistration job t p mode.mode in
         record { mode = mode.mode; on = subst R into.1 mode.on; holding = mode.waits }
@@ -453,14 +438,12 @@ register_told job m t c is reached live due =
     by (Some r) missing d some =
         let f = find-some (λ x. not (has_registered m c x)) (registrations_at job c) r
         no_registration missing in
-        let Holds : Registration → Type 0 = λ x. ParentHolds job t x in
         let held : ParentHolds job t r =
-        subst Holds f.1.2 (parent_holds job m t c f.1.0 is live.there d f.1.1) in
+        rw f.1.2 at (parent_holds job m t c f.1.0 is live.there d f.1.1) in
         let p = r.phaser in
         let n = number_on m t p in
-        let For : Registration → Type 0 = λ x. IsFor job c x in
         let use_of : IsFor job c r =
-        subst For f.1.2 (is_for job c f.1.0 is d.there f.1.1) in
+        rw f.1.2 at (is_for job c f.1.0 is d.there f.1.1) in
         let line = on_parents_line job m t c p is d use_of.on_line in
         let pp = on_phaser job t p is live.there line in
         let at = number_there job m t p is live line in
@@ -477,7 +460,6 @@ register_told job m t c is reached live due =
         reached.only_tasks p pp in
         let numbers : length (numbers_on job m p) ≤ length job.graph.tasks =
         numbers_few job m p in
-        let tasks : length job.graph.tasks ≤ TASKS_MAX = is.few_tasks in
         told r (task_at job.graph c).joins_now
-        (may_register m p n held.mode r.mode e held.holding (omega arith))
+        (may_register m p n held.mode r.mode e held.holding (omega (arith, is.few_tasks)))
         (joins r f.1.0 f.1.1 f.1.2 d)

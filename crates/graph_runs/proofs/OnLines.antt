@@ -13,17 +13,13 @@ pub signalled_within : (job : Job) (t p j : ℕ) → IsGraph job.graph → t < l
     → index_in (signalled_by (task_at job.graph t)) p ≡ Some j → p < length job.graph.phasers
 signalled_within job t p j is there place =
     let at = place-at (signalled_by (task_at job.graph t)) p j place in
-    let P : ℕ → Type 0 = λ q. q < length job.graph.phasers in
-    subst P at.1 (by (task_at job.graph t).kind refl at.0)
+    rw at.1 at (by (task_at job.graph t).kind refl at.0)
   where
     plain : signalled_by (task_at job.graph t) ≡ (task_at job.graph t).outputs
         → j < length (signalled_by (task_at job.graph t))
         → get_or (signalled_by (task_at job.graph t)) j 0 < length job.graph.phasers
     plain same lt =
-        let L : List ℕ → Type 0 = λ qs. get_or qs j 0 < length job.graph.phasers in
-        let long : length (signalled_by (task_at job.graph t))
-        ≡ length (task_at job.graph t).outputs = ap length same in
-        subst L (sym same) ((is.tasks t there).outputs j 0 (omega arith))
+        rw same ((is.tasks t there).outputs j 0 (omega (arith, ap length same)))
 
     peer : length (task_at job.graph t).inputs ≡ 2 → length (task_at job.graph t).outputs ≡ 1
         → (i : ℕ) → i < 2
@@ -42,22 +38,16 @@ signalled_within job t p j is there place =
     by Join e lt = plain (rw e refl) lt
     by Sink e lt = plain (rw e refl) lt
     by Peer e lt =
-        let H : Kind → Type 0 =
-        λ kind. HasEnds kind (length (task_at job.graph t).inputs)
-        (length (task_at job.graph t).outputs) in
         let both : (length (task_at job.graph t).inputs ≡ 2)
-        × (length (task_at job.graph t).outputs ≡ 1) = subst H e (is.tasks t there).ends in
+        × (length (task_at job.graph t).outputs ≡ 1) = rw e at (is.tasks t there).ends in
         let is_two : signalled_by (task_at job.graph t)
         ≡ get_or (task_at job.graph t).inputs 1 0 ∷ get_or (task_at job.graph t).outputs 0
         0 ∷ [] = rw e refl in
-        let L : List ℕ → Type 0 = λ qs. get_or qs j 0 < length job.graph.phasers in
-        let n : length (signalled_by (task_at job.graph t)) ≡ 2 = ap length is_two in
-        subst L (sym is_two) (peer both.0 both.1 j (omega arith))
+        rw is_two (peer both.0 both.1 j (omega (arith, ap length is_two)))
 
 -- a phaser on a line is one of the graph
 pub on_phaser : (job : Job) (t p : ℕ) → IsGraph job.graph → t < length job.graph.tasks
     → OnLine (task_at job.graph t) p → p < length job.graph.phasers
 on_phaser job t p is there (inl out) = signalled_within job t p out.0 is there out.1
 on_phaser job t p is there (inr into) =
-    let P : ℕ → Type 0 = λ q. q < length job.graph.phasers in
-    subst P into.2 ((is.tasks t there).inputs into.0 0 into.1)
+    rw into.2 at ((is.tasks t there).inputs into.0 0 into.1)

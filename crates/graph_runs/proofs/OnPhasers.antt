@@ -102,13 +102,11 @@ module _ (job : Job) (ends : Ends) (is : IsGraph job.graph) (r : IsRunEnd job en
   pub only_used : OnlyUsed all (whole_history job ends is r p)
   only_used =
       let H = whole_history job ends is r p in
-      let L : History → Type 0 = λ g. IsLegal (limits_at job p) g in
-      let O : History → Type 0 = λ g. OnlyUsed all g in
       let first : is_in founder.number all ≡ true =
       ap (λ b. b || is_in founder.number (numbers_on job m p)) (eq-eqb founder.number founder.number refl) in
-      subst O (sym begins.is)
+      rw begins.is
       (OnlyUsed-descent (limits_at job p) founder.number all begins.later
-      (subst L begins.is w.legal) first
+      (rw begins.is at w.legal) first
       (λ task child inside given. closed task child inside
       (ap (λ (g : History). is_in child (children_in (events_of task g))) begins.is ∙ given)))
 
@@ -147,8 +145,7 @@ module _ (job : Job) (ends : Ends) (is : IsGraph job.graph) (r : IsRunEnd job en
           (events_of n (whole_history job ends is r p))
       by n None e =
           let single = (phaser_at job.graph p).single in
-          let N : History → Type 0 = λ g. NamesAll single g in
-          subst N (sym (events_of-unused (limits_at job p) (whole_history job ends is r p) n w.legal e)) tt
+          rw (events_of-unused (limits_at job p) (whole_history job ends is r p) n w.legal e) tt
       by n (Some start) e = of (case_of n (only_used n (ap is_some e)))
         where
           of : (n ≡ founder.number) ⊎ ((t : ℕ) × IsNumbered job ends is r t p n)
@@ -156,16 +153,13 @@ module _ (job : Job) (ends : Ends) (is : IsGraph job.graph) (r : IsRunEnd job en
               (events_of n (whole_history job ends is r p))
           of (inl same) =
               let single = (phaser_at job.graph p).single in
-              let N : ℕ → Type 0 = λ x. NamesAll single (events_of x (whole_history job ends is r p)) in
-              let S : History → Type 0 = λ g. NamesAll single g in
-              subst N (sym same)
-              (subst S (sym founders_events)
+              rw same
+              (rw founders_events
               (names_any single (events_of founder.number founder.seen) w.founds.founded.silent))
           of (inr numbered) =
               let single = (phaser_at job.graph p).single in
-              let S : History → Type 0 = λ g. NamesAll single g in
               let g : IsNumbered job ends is r numbered.0 p n = numbered.1 in
-              subst S (sym (events_stay n (g.m.history p) (whole_history job ends is r p) (came_to numbered.0 n g)))
+              rw (events_stay n (g.m.history p) (whole_history job ends is r p) (came_to numbered.0 n g))
               (g.own.own.named p n g.numbered)
 
   silent : (n : ℕ) → is_in n (numbers_on job m p) ≡ false
@@ -182,9 +176,7 @@ module _ (job : Job) (ends : Ends) (is : IsGraph job.graph) (r : IsRunEnd job en
               → (b || is_in n (numbers_on job m p)) ≡ true
               → IsSilent (whole_history job ends is r p) n
           of true same inside =
-              let S : ℕ → Type 0 = λ x. IsSilent (whole_history job ends is r p) x in
-              subst S (eqb-true founder.number n same)
-              (founder_silent (limits_at job p) founder.number (whole_history job ends is r p) w.legal begins
+              rw (eqb-true founder.number n same) at (founder_silent (limits_at job p) founder.number (whole_history job ends is r p) w.legal begins
               (let N = founders_events in
               subst HasNoSignal (sym N) w.founds.founded.silent))
           of false same inside = absurd (let no : true ≡ false = sym inside ∙ none in cc)

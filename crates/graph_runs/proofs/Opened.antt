@@ -37,7 +37,7 @@ use Rattle.graph_runs.proofs.Framed.{ListsRan}
 none_signalled : (f : ℕ) (h : History) (x : ℕ) → IsOpening f h → phases_signalled h x ≡ 0
 none_signalled f [] x o = absurd o
 none_signalled f (Made t ∷ before) x o =
-    let P : History → Type 0 = λ b. phases_signalled (Made t ∷ b) x ≡ 0 in subst P (sym o.1) refl
+    rw o.1 refl
 none_signalled f (Registered a b c ∷ before) x o = none_signalled f before x o.1
 none_signalled f (RegisteredNow a b ∷ before) x o = absurd o
 none_signalled f (Signalled t lists single ∷ before) x o = absurd o
@@ -47,7 +47,7 @@ none_signalled f (Dropped t ∷ before) x o = none_signalled f before x o.1
 none_waited : (f : ℕ) (h : History) (x : ℕ) → IsOpening f h → phases_waited h x ≡ 0
 none_waited f [] x o = absurd o
 none_waited f (Made t ∷ before) x o =
-    let P : History → Type 0 = λ b. phases_waited (Made t ∷ b) x ≡ 0 in subst P (sym o.1) refl
+    rw o.1 refl
 none_waited f (Registered a b c ∷ before) x o = none_waited f before x o.1
 none_waited f (RegisteredNow a b ∷ before) x o = absurd o
 none_waited f (Signalled t lists single ∷ before) x o = absurd o
@@ -57,7 +57,7 @@ none_waited f (Dropped t ∷ before) x o = none_waited f before x o.1
 none_sent : (f : ℕ) (h : History) (x : ℕ) → IsOpening f h → sent_by h x ≡ []
 none_sent f [] x o = absurd o
 none_sent f (Made t ∷ before) x o =
-    let P : History → Type 0 = λ b. sent_by (Made t ∷ b) x ≡ [] in subst P (sym o.1) refl
+    rw o.1 refl
 none_sent f (Registered a b c ∷ before) x o = none_sent f before x o.1
 none_sent f (RegisteredNow a b ∷ before) x o = absurd o
 none_sent f (Signalled t lists single ∷ before) x o = absurd o
@@ -68,7 +68,7 @@ none_received : (value : List ℤ → Outcome) (f : ℕ) (h : History) (x : ℕ)
     → received_by value h x ≡ []
 none_received value f [] x o = absurd o
 none_received value f (Made t ∷ before) x o =
-    let P : History → Type 0 = λ b. received_by value (Made t ∷ b) x ≡ [] in subst P (sym o.1) refl
+    rw o.1 refl
 none_received value f (Registered a b c ∷ before) x o = none_received value f before x o.1
 none_received value f (RegisteredNow a b ∷ before) x o = absurd o
 none_received value f (Signalled t lists single ∷ before) x o = absurd o
@@ -78,7 +78,7 @@ none_received value f (Dropped t ∷ before) x o = none_received value f before 
 all_named : (single : Option Single) (f : ℕ) (h : History) → IsOpening f h → NamesAll single h
 all_named single f [] o = absurd o
 all_named single f (Made t ∷ before) o =
-    let P : History → Type 0 = λ b. NamesAll single (Made t ∷ b) in subst P (sym o.1) tt
+    rw o.1 tt
 all_named single f (Registered a b c ∷ before) o = all_named single f before o.1
 all_named single f (RegisteredNow a b ∷ before) o = absurd o
 all_named single f (Signalled t lists named ∷ before) o = absurd o
@@ -89,7 +89,7 @@ all_named single f (Dropped t ∷ before) o = all_named single f before o.1
 pub none_dropped : (f : ℕ) (h : History) (x : ℕ) → IsOpening f h → x ≢ f → has_dropped h x ≡ false
 none_dropped f [] x o apart = absurd o
 none_dropped f (Made t ∷ before) x o apart =
-    let P : History → Type 0 = λ b. has_dropped (Made t ∷ b) x ≡ false in subst P (sym o.1) refl
+    rw o.1 refl
 none_dropped f (Registered a b c ∷ before) x o apart = none_dropped f before x o.1 apart
 none_dropped f (RegisteredNow a b ∷ before) x o apart = absurd o
 none_dropped f (Signalled t lists single ∷ before) x o apart = absurd o
@@ -180,11 +180,11 @@ taken_none task k lt = by task.kind k refl refl
         let r : 0 ≡ turns_below m k 0 = omega arith in
         rw e r
     by Peer zero e at =
-        let P : ℕ → Type 0 = λ i. HasTaken task 0 i 0 in subst P (sym at) (rw e refl)
+        rw at (rw e refl)
     by Peer (suc i) e at =
         let low : 0 ≤ 0 = omega arith in
         let high : 0 ≤ 0 + 1 = omega arith in
-        let P : ℕ → Type 0 = λ i. HasTaken task 0 i 0 in subst P (sym at) (rw e (low, high))
+        rw at (rw e (low, high))
 
 samples_none : (kind : Kind) (n : ℕ) → HasSamples kind 0 n
 samples_none Source n = omega arith
@@ -208,25 +208,17 @@ pub nothing_ran : (job : Job) (m : Moment) (t : ℕ) → m.begun t ≡ 0 → ((j
     → ((k : ℕ) → m.taken t k ≡ []) → ListsRan job m t
 nothing_ran job m t begun put taken = record {
   puts = λ j lt.
-      (let P : List ℤ → Type 0 = λ l. IsPrefix l (made_now job m t j) in
-      subst P (sym (put j)) (made_now job m t j, refl));
+      (rw (put j) (made_now job m t j, refl));
   exchanged = λ j.
-      (let P : ℕ → Type 0 = λ n. HasExchanged (task_at job.graph t).kind j n
-      (length (m.taken t 1)) in
-      subst P (sym (ap length (put j)))
+      (rw (ap length (put j))
       (exchanged_none (task_at job.graph t).kind j (length (m.taken t 1))));
   takes = λ k lt.
-      (let B : ℕ → Type 0 = λ b. HasTaken (task_at job.graph t) b k (length (m.taken t k)) in
-      let N : ℕ → Type 0 = λ n. HasTaken (task_at job.graph t) 0 k n in
-      subst B (sym begun)
-      (subst N (sym (ap length (taken k))) (taken_none (task_at job.graph t) k lt)));
+      (rw begun
+      (rw (ap length (taken k)) (taken_none (task_at job.graph t) k lt)));
   samples =
-      (let B : ℕ → Type 0 =
-      λ b. HasSamples (task_at job.graph t).kind b (length (samples_at job t)) in
-      subst B (sym begun)
+      (rw begun
       (samples_none (task_at job.graph t).kind (length (samples_at job t))));
-  cut = (let B : ℕ → Type 0 = λ b. AtMost b (task_at job.graph t).until in
-      subst B (sym begun) (at_least_none (task_at job.graph t).until));
+  cut = (rw begun (at_least_none (task_at job.graph t).until));
 }
 
 -- at the opening a moment has what every moment has
@@ -257,8 +249,7 @@ opened_ran job m is o = record { phasers = phasers; tasks = tasks }
           refl;
       inputs = λ k lt. inputs k lt (m.number (input_at (task_at job.graph t) k) t) refl;
       joined = λ p n at.
-          (let P : Option Parent → Type 0 = λ u. Joined m t (task_at job.graph t).joins_now u in
-          subst P (sym (a.rooted p n at)) (a.offset (a.rooted p n at)));
+          (rw (a.rooted p n at) (a.offset (a.rooted p n at)));
       children = λ c p n u there_c e same at none on.
           (let pp : p < length job.graph.phasers = on_phaser job t p is there (a.lines p n at) in
           let b : m.begun u.task ≡ 0 = ap (λ x. m.begun x) same ∙ a.nothing_begun in
@@ -286,7 +277,7 @@ opened_ran job m is o = record { phasers = phasers; tasks = tasks }
           where
             by : (u : Option Parent) → (task_at job.graph t).parent ≡ u
                 → IsChild (task_at job.graph t).parent
-            by (Some u) e = let P : Option Parent → Type 0 = λ u. IsChild u in subst P (sym e) tt
+            by (Some u) e = rw e tt
             by None e =
                 absurd (let s : is_some (m.number p t) ≡ true = a.present p e on in
                 let f : true ≡ false = sym s ∙ ap is_some none in cc)
@@ -296,22 +287,15 @@ opened_ran job m is o = record { phasers = phasers; tasks = tasks }
             → m.number p t ≡ x
             → OnPhaser job m t p (index_in (signalled_by (task_at job.graph t)) p)
         outputs p pp None e None at =
-            let O : Option ℕ → Type 0 = λ o. OnPhaser job m t p o in
-            let N : Option ℕ → Type 0 = λ x. SilentOn m p x in subst O (sym e) (subst N (sym at) tt)
+            rw e (rw at tt)
         outputs p pp None e (Some n) at =
-            let O : Option ℕ → Type 0 = λ o. OnPhaser job m t p o in
-            let N : Option ℕ → Type 0 = λ x. SilentOn m p x in
-            subst O (sym e) (subst N (sym at) (opened_silent job m p n (o.phasers p pp)))
+            rw e (rw at (opened_silent job m p n (o.phasers p pp)))
         outputs p pp (Some j) e None at =
-            let O : Option ℕ → Type 0 = λ o. OnPhaser job m t p o in
-            let N : Option ℕ → Type 0 = λ x. PutOn job m t j p x in
-            subst O (sym e) (subst N (sym at) (rooted p (inl (j, e)) at))
+            rw e (rw at (rooted p (inl (j, e)) at))
         outputs p pp (Some j) e (Some n) at =
-            let O : Option ℕ → Type 0 = λ o. OnPhaser job m t p o in
-            let N : Option ℕ → Type 0 = λ x. PutOn job m t j p x in
             let q = o.phasers p pp in
             let st = start_from (start_of (m.history p) n) (q.used t n at) in
-            subst O (sym e) (subst N (sym at) (record {
+            rw e (rw at (record {
               start = st.0;
               start_is = st.1;
               signals = a.signals p n j st.0 at e st.1;
@@ -328,15 +312,13 @@ opened_ran job m is o = record { phasers = phasers; tasks = tasks }
             (m.number (input_at (task_at job.graph t) k) t)
         inputs k lt None at =
             let p = input_at (task_at job.graph t) k in
-            let N : Option ℕ → Type 0 = λ x. TakenOn job m t k p x in
-            subst N (sym at) (a.nothing_taken k, rooted p (inr (k, lt, refl)) at)
+            rw at (a.nothing_taken k, rooted p (inr (k, lt, refl)) at)
         inputs k lt (Some n) at =
             let p = input_at (task_at job.graph t) k in
             let pp : p < length job.graph.phasers = (is.tasks t there).inputs k 0 lt in
-            let N : Option ℕ → Type 0 = λ x. TakenOn job m t k p x in
             let q = o.phasers p pp in
             let st = start_from (start_of (m.history p) n) (q.used t n at) in
-            subst N (sym at) (record {
+            rw at (record {
               start = st.0;
               start_is = st.1;
               waits = a.waits k n st.0 lt at st.1;

@@ -62,11 +62,9 @@ in_turn_begins xs ys a b le some long each counts =
     ranges_begin (turn_at xs) (turn_at ys) a b le
     (λ i lt. (let k = i % length xs in
     let below : k < length xs = mod_below i (length xs) some in
-    let turn : i / length xs < turns_below (length xs) k a = turn-taken (length xs) i a some lt in
-    let count : length (get_or xs k []) ≡ turns_below (length xs) k a = counts k below in
     ap (λ m. entry (get_or ys (i % m) []) (i / m)) long
     ∙ prefix_at (get_or xs k []) (get_or ys k []) (i / length xs) (pos 0) (each k below)
-    (omega arith)))
+    (omega (arith, turn-taken (length xs) i a some lt, counts k below))))
 
 -- a peer's Y, as far as both are there
 mixed_begins : (mul : ℤ) (xs es ys fs put : List ℤ) → IsPrefix xs ys → IsPrefix es fs
@@ -111,8 +109,7 @@ outputs_begin samples task now all b steps j put ends lt le long_now long_all ea
         → output_list samples all task steps j ≡ ys → IsPrefix xs ys
         → IsPrefix put (output_list samples all task steps j)
     after xs ys now_is all_is begins =
-        let P : List ℤ → Type 0 = λ l. IsPrefix put l in
-        subst P (sym all_is) (IsPrefix-trans put xs ys (subst P now_is is) begins)
+        rw all_is (IsPrefix-trans put xs ys (rw now_is at is) begins)
 
     by : (kind : Kind) (i : ℕ) → task.kind ≡ kind → j ≡ i
         → IsPrefix put (output_list samples all task steps j)
@@ -125,8 +122,7 @@ outputs_begin samples task now all b steps j put ends lt le long_now long_all ea
         (fir_begins task.taps task.shift (get_or now 0 []) (get_or all 0 [])
         (one (λ s. (let no : Fir ≡ Source = sym e ∙ s in cc)) (rw e tt)))
     by Split i e at =
-        let S : Kind → Type 0 = λ kind. j < length (signalled_by (record task { kind = kind })) in
-        let few : j < length task.outputs = subst S e lt in
+        let few : j < length task.outputs = rw e at lt in
         after (every (length task.outputs) j (get_or now 0 []))
         (every (length task.outputs) j (get_or all 0 [])) (rw e refl) (rw e refl)
         (every_begins (length task.outputs) j (get_or now 0 []) (get_or all 0 []) few
@@ -145,25 +141,21 @@ outputs_begin samples task now all b steps j put ends lt le long_now long_all ea
         after (get_or now 0 []) (get_or all 0 []) (rw (e, at) refl) (rw (e, at) refl)
         (one (λ s. (let no : Peer ≡ Source = sym e ∙ s in cc)) (rw (e, at) refl))
     by Peer (suc i) e at =
-        let H : Kind → Type 0 = λ kind. HasEnds kind (length task.inputs) (length task.outputs) in
-        let both : (length task.inputs ≡ 2) × (length task.outputs ≡ 1) = subst H e ends in
+        let both : (length task.inputs ≡ 2) × (length task.outputs ≡ 1) = rw e at ends in
         let two : length task.inputs ≡ 2 = both.0 in
-        let X : Kind → Type 0 =
-        λ kind. HasExchanged kind (suc i) (length put) (length (get_or now 1 [])) in
         let J : ℕ → Type 0 =
         λ j. HasExchanged task.kind j (length put) (length (get_or now 1 [])) in
-        let fits : length put ≤ length (get_or now 1 []) = subst X e (subst J at exchanged) in
-        let P : List ℤ → Type 0 = λ l. IsPrefix put l in
+        let fits : length put ≤ length (get_or now 1 []) = rw e at (subst J at exchanged) in
         let yes : nat_lt 0 (suc i) ≡ true = le-leb 1 (suc i) (omega arith) in
         let now_is : output_list samples now task b j
         ≡ mixed task.mul (get_or now 0 []) (get_or now 1 []) = rw (e, at, yes) refl in
         let all_is : output_list samples all task steps j
         ≡ mixed task.mul (get_or all 0 []) (get_or all 1 []) = rw (e, at, yes) refl in
-        subst P (sym all_is)
+        rw all_is
         (mixed_begins task.mul (get_or now 0 []) (get_or now 1 []) (get_or all 0 [])
         (get_or all 1 []) put
         (each 0 (omega arith) (rw (e, at) tt)) (each 1 (omega arith) (rw (e, at) tt)) fits
-        (subst P now_is is))
+        (rw now_is at is))
 
 -- ---- how long it is
 
@@ -175,8 +167,7 @@ pub length_made : (samples : List ℤ) (task : Task) (now : List (List ℤ)) (b 
     → length (get_or now k []) ≡ takes_from task b k)
     → length (output_list samples now task b j) ≡ puts_on task b j
 length_made samples task now b j ends lt has counts =
-    let Samples : Kind → Type 0 = λ kind. HasSamples kind b (length samples) in
-    steps_long samples now task b j ends lt (λ source. subst Samples source has) counts
+    steps_long samples now task b j ends lt (λ source. rw source at has) counts
 
 -- and no more than its steps
 pub puts-few : (task : Task) (b j : ℕ)

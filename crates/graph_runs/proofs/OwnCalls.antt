@@ -48,11 +48,9 @@ pub own_came : (job : Job) (m : Moment) (t p n : ℕ) (old new : History)
 own_came job m t p n old new came own =
     let same : events_of n new ≡ events_of n old = events_stay n old new came in
     let part = part_came n old new came in
-    let N : History → Type 0 = λ h. NamesAll (phaser_at job.graph p).single h in
-    let A : List Outcome → Type 0 = λ l. All (λ outcome. is_too_big outcome ≡ false) l in
     record {
-      named = subst N (sym same) own.named;
-      met_none = subst A (sym (part.received (value_at job p))) own.met_none;
+      named = rw same own.named;
+      met_none = rw (part.received (value_at job p)) own.met_none;
       children = λ a e. own.children a (ap (λ h. is_in a (children_in h)) (sym same) ∙ e);
     }
 
@@ -67,9 +65,8 @@ own_put job m t p n vs before own =
     let event = put_event job p n vs in
     let events : events_of n (event ∷ before) ≡ event ∷ events_of n before =
     mine n event before (eqb n n) (eq-eqb n n refl) in
-    let N : History → Type 0 = λ h. NamesAll (phaser_at job.graph p).single h in
     record {
-      named = subst N (sym events) (refl, own.named);
+      named = rw events (refl, own.named);
       met_none = own.met_none;
       children = λ a e. own.children a (ap (λ h. is_in a (children_in h)) (sym events) ∙ e);
     }
@@ -81,12 +78,10 @@ own_got job m t p n outcomes before answered fits own =
     let event : Event = Waited n (length outcomes) in
     let events : events_of n (event ∷ before) ≡ event ∷ events_of n before =
     mine n event before (eqb n n) (eq-eqb n n refl) in
-    let N : History → Type 0 = λ h. NamesAll (phaser_at job.graph p).single h in
     let Fit : Outcome → Type 0 = λ o. is_too_big o ≡ false in
-    let A : List Outcome → Type 0 = λ l. All Fit l in
     record {
-      named = subst N (sym events) own.named;
-      met_none = subst A (sym answered)
+      named = rw events own.named;
+      met_none = rw answered
           (All-append Fit (received_by (value_at job p) before n) outcomes own.met_none fits);
       children = λ a e. own.children a (ap (λ h. is_in a (children_in h)) (sym events) ∙ e);
     }
@@ -97,9 +92,8 @@ own_left job m t p n before own =
     let event : Event = Dropped n in
     let events : events_of n (event ∷ before) ≡ event ∷ events_of n before =
     mine n event before (eqb n n) (eq-eqb n n refl) in
-    let N : History → Type 0 = λ h. NamesAll (phaser_at job.graph p).single h in
     record {
-      named = subst N (sym events) own.named;
+      named = rw events own.named;
       met_none = own.met_none;
       children = λ a e. own.children a (ap (λ h. is_in a (children_in h)) (sym events) ∙ e);
     }
@@ -135,11 +129,9 @@ pub own_registered : (job : Job) (m : Moment) (t p n a : ℕ) (event : Event) (b
     → IsRegistration n a event before → HasGiven job m t p a → AreOwn job m t p n before
     → AreOwn job m t p n (event ∷ before)
 own_registered job m t p n a event before is given own =
-    let N : History → Type 0 = λ h. NamesAll (phaser_at job.graph p).single h in
-    let A : List Outcome → Type 0 = λ l. All (λ outcome. is_too_big outcome ≡ false) l in
     record {
-      named = subst N (sym is.events) (is.named (phaser_at job.graph p).single own.named);
-      met_none = subst A (sym (is.received (value_at job p))) own.met_none;
+      named = rw is.events (is.named (phaser_at job.graph p).single own.named);
+      met_none = rw (is.received (value_at job p)) own.met_none;
       children = λ b e.
           by b (eqb a b) refl
           (ap (λ l. is_in b l) (sym is.children)
@@ -149,21 +141,19 @@ own_registered job m t p n a event before is given own =
     by : (b : ℕ) (c : Bool) → eqb a b ≡ c
         → (c || is_in b (children_in (events_of n before))) ≡ true → HasGiven job m t p b
     by b true same e =
-        let G : ℕ → Type 0 = λ x. HasGiven job m t p x in subst G (eqb-true a b same) given
+        rw (eqb-true a b same) at given
     by b false same e = own.children b e
 
 -- who has no events has done nothing
 pub own_new : (job : Job) (m : Moment) (t p n : ℕ) (h : History) → events_of n h ≡ []
     → AreOwn job m t p n h
 own_new job m t p n h none =
-    let N : History → Type 0 = λ g. NamesAll (phaser_at job.graph p).single g in
-    let A : List Outcome → Type 0 = λ l. All (λ outcome. is_too_big outcome ≡ false) l in
     let nothing : received_by (value_at job p) h n ≡ [] =
     ap (λ g. received_by (value_at job p) g n) (sym (append-nil h))
     ∙ received_by-others (value_at job p) h [] n none in
     record {
-      named = subst N (sym none) tt;
-      met_none = subst A (sym nothing) (All-nil (λ outcome. is_too_big outcome ≡ false));
+      named = rw none tt;
+      met_none = rw nothing (All-nil (λ outcome. is_too_big outcome ≡ false));
       children = λ a e.
           absurd (let no : false ≡ true = ap (λ l. is_in a (children_in l)) (sym none) ∙ e in cc);
     }
@@ -218,11 +208,8 @@ calls_go_on job before after t p n same own numbered elsewhere here = record {
             let was : before.number p t ≡ Some k =
             ap (λ x. before.number x t) (sym e) ∙ sym (same.own_numbers q) ∙ at in
             let one : n ≡ k = same_Some n k (sym numbered ∙ was) in
-            let N : ℕ → Type 0 = λ x. AreOwn job after t p x (after.history p) in
-            let Q : ℕ → Type 0 = λ x. AreOwn job after t x k (after.history x) in
-            subst Q (sym e) (subst N one here)
+            rw e (rw one at here)
         by (inr apart) =
-            let H : History → Type 0 = λ h. AreOwn job after t q k h in
-            subst H (sym (elsewhere q apart))
+            rw (elsewhere q apart)
             (own_later job before after t q k (before.history q) same
             (own_on job before t q k own (sym (same.own_numbers q) ∙ at)))

@@ -14,8 +14,7 @@ use Rattle.stream_lists.specs.Lists.{number}
 use Rattle.graph_runs.specs.Moments.{one, Moment, input_at, value_at, TaskRan, HasEnded, OnOutput, OnInput, OnPhaser, PutOn, TakenOn, SilentOn, OnLine, HasNotPassed}
 use Rattle.graph_runs.specs.Moves.{HasGrown, Leaves}
 use Rattle.graph_runs.proofs.Framed.{ListsRan, lists_later, ended_later}
-use Rattle.graph_runs.proofs.OwnPlaces.{outputs_later, inputs_later}
-use Rattle.graph_runs.proofs.OwnEvents.{eq_case, history_by, joined_later}
+use Rattle.graph_runs.proofs.OwnEvents.{outputs_later, inputs_later, eq_case, history_by, joined_later}
 
 pub own_leave : (job : Job) (before after : Moment) (t p n : ℕ) → IsGraph job.graph
     → t < length job.graph.tasks → HasGrown job before after t
@@ -56,12 +55,9 @@ own_leave job before after t p n is there grown s ran = record {
         → before.number q t ≡ Some a → before.number q c ≡ None → OnLine (task_at job.graph c) q
         → (q ≡ p) ⊎ (q ≢ p) → HasNotPassed after q a u
     children c q a u there_c e same at none on (inl here) =
-        let P : ℕ → Type 0 = λ x. before.number x t ≡ Some a in
-        let N : ℕ → Type 0 = λ x. before.number x c ≡ None in
-        let L : ℕ → Type 0 = λ x. OnLine (task_at job.graph c) x in
         let less : before.begun t < u.at =
-        s.children c a u there_c e same (subst P here at) (subst N here none)
-        (subst L here on) in
+        s.children c a u there_c e same (rw here at at) (rw here at none)
+        (rw here at on) in
         let begun : after.begun u.task ≡ before.begun t =
         ap (λ x. after.begun x) same ∙ s.same.begun in
         record { early = omega arith; ended = λ gone. omega arith }
@@ -76,6 +72,5 @@ own_leave job before after t p n is there grown s ran = record {
           early =
               omega arith;
           ended =
-              λ gone. (let low : before.begun u.task < u.at = w.ended (sym dropped ∙ gone) in
-              omega arith);
+              λ gone. (omega (arith, w.ended (sym dropped ∙ gone)));
         }

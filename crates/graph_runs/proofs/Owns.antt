@@ -59,13 +59,9 @@ pub has_some : (job : Job) (t : ℕ) → IsGraph job.graph → t < length job.gr
     → 0 < length (registrations_at job t)
 has_some job t is there =
     let task = task_at job.graph t in
-    let long : length (registrations_at job t) ≡ length (task.inputs ++ task.outputs) =
-    ends_many job t is there in
-    let both : length (task.inputs ++ task.outputs) ≡ length task.inputs + length task.outputs =
-    length-append task.inputs task.outputs in
     let one : 1 ≤ length task.inputs + length task.outputs =
     some_end task.kind (length task.inputs) (length task.outputs) (is.tasks t there).ends in
-    omega arith
+    omega (arith, ends_many job t is there, length-append task.inputs task.outputs)
   where
     some_end : (kind : Kind) (ins outs : ℕ) → HasEnds kind ins outs → 1 ≤ ins + outs
     some_end Source ins outs e = (let one : outs ≡ 1 = e.1 in omega arith)
@@ -126,8 +122,7 @@ owns job m end is = record {
 pub owns_as : (job : Job) (m : Moment) (end : TaskEnd) (t : ℕ) → end.task ≡ t
     → HasLeftAt job m end → HasOwn job m end t
 owns_as job m end t same is =
-    let P : ℕ → Type 0 = λ x. HasOwn job m end x in
-    subst P same (owns job m end is)
+    rw (← same) (owns job m end is)
 
 -- the number that it has on a phaser of its line
 pub record HasNumber (job : Job) (m : Moment) (end : TaskEnd) (t p : ℕ) : Type 0 where
@@ -170,13 +165,11 @@ used_by job m t p n is there ran at = by (ran.lines p n at)
     by : OnLine (task_at job.graph t) p → IsUsed (m.history p) n
     by (inl out) =
         let pp : p < length job.graph.phasers = on_phaser job t p is there (inl out) in
-        let O : Option ℕ → Type 0 = λ o. OnPhaser job m t p o in
         let N : Option ℕ → Type 0 = λ o. PutOn job m t out.0 p o in
-        let on : OnOutput job m t out.0 p n = subst N at (subst O out.1 (ran.outputs p pp)) in
+        let on : OnOutput job m t out.0 p n = subst N at (rw out.1 at (ran.outputs p pp)) in
         ap is_some on.start_is
     by (inr into) =
-        let T : ℕ → Type 0 = λ q. TakenOn job m t into.0 q (m.number q t) in
         let N : Option ℕ → Type 0 = λ o. TakenOn job m t into.0 p o in
         let on : OnInput job m t into.0 p n =
-        subst N at (subst T into.2 (ran.inputs into.0 into.1)) in
+        subst N at (rw into.2 at (ran.inputs into.0 into.1)) in
         ap is_some on.start_is

@@ -28,9 +28,7 @@ use Rattle.graph_runs.specs.Moments.{Moment, TaskRan, OnLine, OnInput, TakenOn, 
 use Rattle.graph_runs.specs.Moves.{further, SameTask, HasGrown, OthersMoved, PartStays, IsStaying, MayBeginTo, HasMoved, SignalsAll, WaitsAll, NoneDue}
 use Rattle.graph_runs.specs.Turned.{with_at, after_signals, after_waits, after_leave}
 use Rattle.graph_runs.proofs.Framed.{part_came, task_later, ended_later}
-use Rattle.graph_runs.proofs.OwnEvents.{eq_case}
-use Rattle.graph_runs.proofs.OwnSignals.{own_signals}
-use Rattle.graph_runs.proofs.OwnWaits.{own_waits}
+use Rattle.graph_runs.proofs.OwnEvents.{eq_case, own_signals, own_waits}
 use Rattle.graph_runs.proofs.OwnLeaves.{own_leave}
 use Rattle.graph_runs.proofs.InBlocks.{next_signals_are, next_samples_are, first_waits_are}
 use Rattle.graph_runs.proofs.Nexts.{further-length}
@@ -418,8 +416,7 @@ ran_out job m t k n h is there part sees staying lt reply =
     let x = input_at (task_at job.graph t) k in
     let after = with_history x h m in
     let part_now = later_part job m t x n h sees is there part in
-    let T : Option ℕ → Type 0 = λ o. TakenOn job after t k x o in
-    let on : OnInput job after t k x n = subst T sees.numbered (part_now.ran.inputs k lt) in
+    let on : OnInput job after t k x n = rw sees.numbered at (part_now.ran.inputs k lt) in
     let here : after.history x ≡ h = same_at x h m in
     let start : start_of h n ≡ Some on.start = ap (λ x. start_of x n) (sym here) ∙ on.start_is in
     let kept : has_dropped h n ≡ false =
@@ -439,9 +436,7 @@ ran_out job m t k n h is there part sees staying lt reply =
     let took : length (m.taken t k) ≡ length (received_by value h n) =
     ap length on.taken ∙ length-map (received_by value (after.history x) n) number ∙ ap (λ y. length (received_by value y n)) here in
     let tells = ended_tells value limits h n reply in
-    let late : done_of h ≤ wait_phase h n = tells.1 in
-    let D : History → Type 0 = λ y. done_of y ≤ m.offset t + length (m.taken t k) in
-    (subst HasNoSignaller (sym here) tells.0, subst D (sym here) (omega arith))
+    (subst HasNoSignaller (sym here) tells.0, rw here (omega (arith, tells.1)))
   where
     entry_is : (a b : Entry) → Some a ≡ Some b → a ≡ b
     entry_is a b e = cc

@@ -53,8 +53,7 @@ agrees_from job m p t (Some j) (Some n) at =
     let o = at.2 in
     let out : ℕ × List ℤ =
     ((span_in job t).offset, output_on job (schedule_of job) (numbers_of job) t j) in
-    let P : Bool → Type 0 = λ b. Agrees (m.history p) (Some n) (cond b (Some out) None) in
-    subst P (sym s.live) (record {
+    rw s.live (record {
       start = on.start;
       start_is = on.start_is;
       signals = on.signals;
@@ -104,13 +103,11 @@ composes_from job m p is pp ran same each = record {
   values = λ n below. values n below;
   within = (let w : done_of h ≤ greatest (ends_on job p) =
       done_within (limits_at job p) h (m.number p) member ts ran.legal ran.strangers agree in
-      let ends : get_or (lengths_of job) p 0 ≡ greatest (ends_on job p) = lengths_end job p is pp in
-      omega arith);
+      omega (arith, lengths_end job p is pp));
   whole = λ quiet.
       (let w : greatest (ends_on job p) ≤ done_of h =
       done_whole (limits_at job p) h (m.number p) member ts ran.legal quiet agree in
-      let ends : get_or (lengths_of job) p 0 ≡ greatest (ends_on job p) = lengths_end job p is pp in
-      omega arith);
+      omega (arith, lengths_end job p is pp));
 }
   where
     h : History

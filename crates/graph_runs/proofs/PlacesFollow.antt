@@ -113,10 +113,7 @@ child_is : (job : Job) (m after : Moment) (c d a b : ℕ) (at : TaskPlace) → d
     → (StandsAt job m d at → StandsAt job after d (child_place b at))
     → StandsAt job after c (child_place a at)
 child_is job m after c d a b at same number stands follows =
-    let P : ℕ → Type 0 = λ x. StandsAt job m x at in
-    let Q : ℕ → Type 0 = λ x. StandsAt job after x (child_place b at) in
-    let R : ℕ → Type 0 = λ y. StandsAt job after c (child_place y at) in
-    subst R number (subst Q same (follows (subst P (sym same) stands)))
+    rw number at (rw same at (follows (rw same stands)))
 
 pub child_follows : (job : Job) (m : Moment) (c a : ℕ) (event : TaskEvent) (at : TaskPlace)
     → IsGraph job.graph → HasRun job m → IsNext job m event → IsInOrder job m event

@@ -51,8 +51,7 @@ distinct-signalled graph t task line = by task.kind refl
     by Join e = plain (rw e refl)
     by Sink e = plain (rw e refl)
     by Peer e =
-        let H : Kind → Type 0 = λ kind. HasEnds kind (length task.inputs) (length task.outputs) in
-        let both : (length task.inputs ≡ 2) × (length task.outputs ≡ 1) = subst H e line.ends in
+        let both : (length task.inputs ≡ 2) × (length task.outputs ≡ 1) = rw e at line.ends in
         let is : signalled_by task ≡ get_or task.inputs 1 0 ∷ get_or task.outputs 0 0 ∷ [] =
         rw e refl in
         ap (λ qs. is_distinct qs) is
@@ -153,13 +152,11 @@ on_ends graph t task p line (inl out) = by task.kind refl
     by Join e = plain (rw e refl)
     by Sink e = plain (rw e refl)
     by Peer e =
-        let H : Kind → Type 0 = λ kind. HasEnds kind (length task.inputs) (length task.outputs) in
-        let both : (length task.inputs ≡ 2) × (length task.outputs ≡ 1) = subst H e line.ends in
+        let both : (length task.inputs ≡ 2) × (length task.outputs ≡ 1) = rw e at line.ends in
         let is : signalled_by task ≡ get_or task.inputs 1 0 ∷ get_or task.outputs 0 0 ∷ [] =
         rw e refl in
         let at = place-at (signalled_by task) p out.0 out.1 in
-        let long : length (signalled_by task) ≡ 2 = ap length is in
-        of_peer both.0 both.1 out.0 (omega arith)
+        of_peer both.0 both.1 out.0 (omega (arith, ap length is))
         (sym (ap (λ qs. get_or qs out.0 0) is) ∙ at.1)
 
 -- a task that misses no registration has its number on each phaser of its line
@@ -180,8 +177,7 @@ numbered job m t p line phasers none on =
     ∙ ap (λ ps. get_or ps at.0 0) phasers ∙ at.2 in
     let there : not (has_registered m t (get_or rs at.0 no_registration)) ≡ false =
     find-none (λ r. not (has_registered m t r)) rs at.0 no_registration none lt in
-    let P : ℕ → Type 0 = λ q. not (is_some (m.number q t)) ≡ false in
-    some (m.number p t) (subst P here there)
+    some (m.number p t) (rw here at there)
   where
     some : (o : Option ℕ) → not (is_some o) ≡ false → o ≡ Some (unwrap_or o 0)
     some (Some n) e = refl

@@ -123,7 +123,7 @@ taken_ranged job m t k ran legal lt =
     by : (o : Option ℕ) → TakenOn job m t k (input_at (task_at job.graph t) k) o
         → AreRanged (m.taken t k)
     by None on =
-        let R : List ℤ → Type 0 = λ l. AreRanged l in subst R (sym on.0) none_ranged
+        rw on.0 none_ranged
     by (Some n) on =
         let p = input_at (task_at job.graph t) k in
         let op = (phaser_at job.graph p).op in
@@ -132,10 +132,9 @@ taken_ranged job m t k ran legal lt =
         on.waits in
         let a = on.start.wait_phase in
         let many = a + phases_waited h n - a in
-        let R : List ℤ → Type 0 = λ l. AreRanged l in
-        subst R (sym (on.taken ∙ ap (λ l. map number l) got.received
+        rw (on.taken ∙ ap (λ l. map number l) got.received
         ∙ map_take many (drop a (stream_of (value_by op) h))
-        ∙ ap (λ l. take many l) (map_drop a (stream_of (value_by op) h))))
+        ∙ ap (λ l. take many l) (map_drop a (stream_of (value_by op) h)))
         (take_ranged many (drop a (map number (stream_of (value_by op) h)))
         (drop_ranged a (map number (stream_of (value_by op) h))
         (numbers_ranged op (limits_at job p) h (range_with_len 0 (done_of h)) legal)))

@@ -131,18 +131,12 @@ tasks_moved job before after t p event moved none only q lt = by (eqb q p) refl
         ap (λ x. length (members_of (after.history x))) same
         ∙ ap (λ h. length (members_of h)) moved.here
         ∙ ap (λ x. length (members_of (event ∷ before.history x))) (sym same) in
-        let less : length (members_of (event ∷ before.history q))
-        ≤ length (members_of (before.history q)) = none.members (before.history q) in
-        let was : length (members_of (before.history q)) ≤ length (numbers_on job before q) = few in
-        let many : length (numbers_on job after q) ≡ length (numbers_on job before q) = numbers in
-        omega arith
+        omega (arith, none.members (before.history q), few, numbers)
     by false e =
         let now : length (members_of (after.history q)) ≡ length (members_of (before.history q)) =
         ap (λ h. length (members_of h))
         (moved.elsewhere q (λ same. (let no = sym (eq-eqb q p same) ∙ e in cc))) in
-        let was : length (members_of (before.history q)) ≤ length (numbers_on job before q) = few in
-        let many : length (numbers_on job after q) ≡ length (numbers_on job before q) = numbers in
-        omega arith
+        omega (arith, few, numbers)
 
 -- ---- whose the members are
 
@@ -189,9 +183,7 @@ one_number job before after p c a there absent number others elsewhere used stay
     by : (b : Bool) → eqb q p ≡ b → IsOfTask job after q x
     by true e =
         let same : p ≡ q = sym (eqb-true q p e) in
-        let P : ℕ → Type 0 = λ r. r < length job.graph.phasers → IsUsed (after.history r) x
-        → has_dropped (after.history r) x ≡ false → IsOfTask job after r x in
-        (subst P same (here (eqb x a) refl)) qq now kept
+        (rw same at (here (eqb x a) refl)) qq now kept
     by false e =
         let apart : q ≢ p = λ same. (let no = sym (eq-eqb q p same) ∙ e in cc) in
         let it = were q x qq (ap (λ h. is_some (start_of h x)) (sym (elsewhere q apart)) ∙ now)
@@ -358,8 +350,7 @@ pub modes_registered : (job : Job) (before after : Moment) (t p n c a : ℕ) (mo
     → IsInOrder job before (child t p n c a mode) → p < length job.graph.phasers
     → HasModes job before → HasModes job after
 modes_registered job before after t p n c a mode u is ran now s missing pp modes x there k d lt =
-    let R : Registration → Type 0 = λ r. HasMode after x r in
-    subst R (get_or-any (registrations_at job x) k no_registration d lt) (λ b start at start_is.
+    rw (← (get_or-any (registrations_at job x) k no_registration d lt)) (λ b start at start_is.
     (let r = get_or (registrations_at job x) k no_registration in
     by (eqb r.phaser p) refl b start at start_is))
   where
@@ -378,8 +369,7 @@ modes_registered job before after t p n c a mode u is ran now s missing pp modes
         let f = find-some (λ r. not (has_registered before c r)) (registrations_at job c) missing.0
         no_registration missing.1 in
         let i = f.1.0 in
-        let L : ℕ → Type 0 = λ y. k < length (registrations_at job y) in
-        let few : k < length (registrations_at job c) = subst L same lt in
+        let few : k < length (registrations_at job c) = rw (← same) lt in
         let at_c : get_or (registrations_at job x) k no_registration
         ≡ get_or (registrations_at job c) k no_registration =
         ap (λ y. get_or (registrations_at job y) k no_registration) same in
@@ -523,8 +513,7 @@ tasks_registered job before after t p n c a mode u s only q lt = by (eqb q p) re
         ap length
         (filter_map-same (after.number q) (before.number q) 0 (length job.graph.tasks)
         (λ x less. s.other_numbers q x (inl apart))) in
-        let was : length (members_of (before.history q)) ≤ length (numbers_on job before q) = few in
-        omega arith
+        omega (arith, few)
 
 pub to_come_registered : (job : Job) (before after : Moment) (t p n c a : ℕ) (mode : Mode) (u : Parent)
     → Registers job before after t p n c a mode u → HasChildrenToCome job before

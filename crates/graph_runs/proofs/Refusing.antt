@@ -104,18 +104,7 @@ may_signal job m p n v mode is ran pp e signals named twice =
     let slowest = is_some (least (wait_phases (members_of h))) in
     let bound : 1 ≤ (phaser_at job.graph p).bound = (is.phasers p pp).bound.0 in
     let sent : length (sends_of_phase h s) ≤ length job.graph.tasks = sends_few job m p s ran pp in
-    let tasks : length job.graph.tasks ≤ TASKS_MAX = is.few_tasks in
-    let M : Mode → Type 0 = λ x. MaySignal (first_row
-    ((not (mode_signals x), signal.NoSignal)
-    ∷ (is_some single && not (is_single x), signal.NotSingle)
-    ∷ (is_bad_block (limits_at job p) 1, signal.BadBlock)
-    ∷ (mode_waits x && eqb s (e.entry.wait_phase + 1), signal.SignalTwice)
-    ∷ (nat_le (limits_at job p).phases_max s, signal.Spent)
-    ∷ (is_ahead (least (wait_phases (members_of h))) (limits_at job p).bound s, signal.Ahead)
-    ∷ (slowest && differs (named_in_phase h s) single, signal.SingleDiffers)
-    ∷ (slowest && nat_lt SENDS_MAX (length (sends_of_phase h s) + 1), signal.PhaseFull)
-    ∷ [])) in
-    rw (e.is) (subst M (sym e.mode_is) (signal_rows_pass (not (mode_signals mode))
+    rw (e.is) (rw e.mode_is (signal_rows_pass (not (mode_signals mode))
     (is_some single && not (is_single mode)) (is_bad_block (limits_at job p) 1)
     (mode_waits mode && eqb s (e.entry.wait_phase + 1)) (nat_le (limits_at job p).phases_max s)
     (is_ahead (least (wait_phases (members_of h))) (limits_at job p).bound s)
@@ -126,7 +115,7 @@ may_signal job m p n v mode is ran pp e signals named twice =
     (and_right slowest (differs (named_in_phase h s) single)
     (differs-none single h s (ran.phasers p pp).names))
     (and_right slowest (nat_lt SENDS_MAX (length (sends_of_phase h s) + 1))
-    (le-ltb SENDS_MAX (length (sends_of_phase h s) + 1) (omega arith)))))
+    (le-ltb SENDS_MAX (length (sends_of_phase h s) + 1) (omega (arith, is.few_tasks))))))
 
 -- ---- a wait
 
@@ -178,11 +167,9 @@ may_wait job m p n steps mode e waits good first later =
 
     below : (nat_le (done_of h) w ≡ false) ⊎ (has_signaller h ≡ false) → wait_phase h n < done_of h
     below (inl early) =
-        let more : w < done_of h = leb-false (done_of h) w early in
-        let same : wait_phase h n ≡ w = at in omega arith
+        omega (arith, leb-false (done_of h) w early, at)
     below (inr quiet) =
-        let more : w < done_of h = later quiet in
-        let same : wait_phase h n ≡ w = at in omega arith
+        omega (arith, later quiet, at)
 
     by : (b : Bool) → (nat_le (done_of h) w && has_signaller h) ≡ b
         → WaitMay (limits_at job p) h n steps
@@ -207,10 +194,7 @@ pub may_register : (m : Moment) (p n : ℕ) (mode child : Mode) → (e : IsMembe
 may_register m p n mode child e holding room =
     let h = m.history p in
     let a = greatest_used h + 1 in
-    let M : Mode → Type 0 = λ x. first_row ((not (holds x child), register.NotAllowed)
-    ∷ (nat_le a (greatest_used h), register.NotNew)
-    ∷ (nat_le MEMBERS_MAX (length (members_of h)), register.TooManyTasks) ∷ []) ≡ None in
-    rw (e.is) (subst M (sym e.mode_is) (register_rows_pass (not (holds mode child))
+    rw (e.is) (rw e.mode_is (register_rows_pass (not (holds mode child))
     (nat_le a (greatest_used h)) (nat_le MEMBERS_MAX (length (members_of h)))
     (not_from_true (holds mode child) holding) (lt-leb a (greatest_used h) (omega arith))
     (lt-leb MEMBERS_MAX (length (members_of h)) room)))

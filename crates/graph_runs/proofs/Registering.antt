@@ -129,12 +129,7 @@ signals_from job m t i p n a mode legal on accepted =
     let same : c.start ≡ on.start = same_Some _ _ (sym c.start_is ∙ on.start_is) in
     let from : c.start.signal_phase ≡ on.start.signal_phase =
     ap (λ (x : Entry). x.signal_phase) same in
-    let at : on.start.signal_phase ≡ m.offset t = on.at in
-    let counted : length (sent_by h n) ≡ phases_signalled h n = length-sent_by h n in
-    let put : length (sent_by h n) ≡ length (m.put t i) =
-    ap length on.sent ∙ length-map (m.put t i) one in
-    let stands : signal_phase h n ≡ r.0.signal_phase = r.2 in
-    omega arith
+    omega (arith, on.at, length-sent_by h n, ap length on.sent ∙ length-map (m.put t i) one, r.2)
 
 -- a task that waits stands past what it has taken
 pub waits_at : (job : Job) (m : Moment) (t k p n : ℕ) (entry : Entry)
@@ -184,11 +179,7 @@ silent_from job m p n a mode legal silent accepted =
     let h = m.history p in
     let r = parent_entry job m p n a mode legal accepted in
     let c : HasCounted h n r.0 = r.1 in
-    let counts : c.start.signal_phase + phases_signalled h n ≡ r.0.signal_phase = c.signals in
-    let from : c.start.signal_phase ≡ 0 = silent.from_0 c.start c.start_is in
-    let nothing : phases_signalled h n ≡ 0 = silent.nothing in
-    let stands : signal_phase h n ≡ r.0.signal_phase = r.2 in
-    omega arith
+    omega (arith, c.signals, silent.from_0 c.start c.start_is, silent.nothing, r.2)
 
 -- ---- who is not the new child
 
@@ -245,6 +236,5 @@ pub own_register : (job : Job) (before after : Moment) (t p n c a : ℕ) (mode :
     → TaskRan job before t → TaskRan job after t
 own_register job before after t p n c a mode u is there grown s ran =
     let above : u.task < c = (parent_of job c u is s.child s.parent).above in
-    let by : u.task ≡ t = s.by in
     task_later job before after t is there grown
-    (others_register job before after t p n c a mode u s t (λ same. omega arith)) ran
+    (others_register job before after t p n c a mode u s t (λ same. omega (arith, s.by))) ran

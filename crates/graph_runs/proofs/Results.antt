@@ -42,7 +42,6 @@ streams_whole job m p ready ran pp quiet =
     let c : Composes job m p = composes job m ready ran p pp in
     let stream = stream_of (value_at job p) (m.history p) in
     let list = list_over job (schedule_of job) (numbers_of job) p in
-    let low : get_or (lengths_of job) p 0 ≤ done_of (m.history p) = c.whole quiet in
     let a : length stream ≡ done_of (m.history p) =
     length-map-range_with_len (value_of_phase (value_at job p) (m.history p)) 0
     (done_of (m.history p)) in
@@ -50,7 +49,7 @@ streams_whole job m p ready ran pp quiet =
     length-map-range_with_len
     (phase_in (value_at job p) job p (contributions_on job (schedule_of job) (numbers_of job) p)) 0
     (get_or (lengths_of job) p 0) in
-    prefix_whole stream list (stream_begins job m p c) (omega arith)
+    prefix_whole stream list (stream_begins job m p c) (omega (arith, c.whole quiet))
 
 -- what a task has taken from an input begins what it takes from it
 pub taken_begin : (job : Job) (m : Moment) (t k : ℕ) → IsReadyAt job m → HasRun job m
@@ -67,8 +66,7 @@ taken_begin job m t k ready ran there lt = by (m.number x t) refl ((ran.tasks t 
         → IsPrefix (m.taken t k)
         (taken_from (numbers_of job) (task_at job.graph t) (span_in job t) k)
     by None none on =
-        let T : Option ℕ → Type 0 = λ o. TakenOn job m t k (input_at (task_at job.graph t) k) o in
-        let nothing : m.taken t k ≡ [] = (subst T none on).0 in
+        let nothing : m.taken t k ≡ [] = (rw none at on).0 in
         let values = taken_from (numbers_of job) (task_at job.graph t) (span_in job t) k in
         (values, ap (λ l. l ++ values) nothing)
     by (Some n) some on =
@@ -85,9 +83,8 @@ pub came_in : (job : Job) (m : Moment) → IsReadyAt job m → HasRun job m → 
     → m.number (input_at (task_at job.graph t) k) t ≡ None → (span_in job t).live ≡ true → ⊥
 came_in job m ready ran over zero t k below there lt none live = absurd (omega arith)
 came_in job m ready ran over (suc fuel) t k below there lt none live =
-    let T : Option ℕ → Type 0 = λ o. TakenOn job m t k (input_at (task_at job.graph t) k) o in
     let gone : IsChild (task_at job.graph t).parent =
-    (subst T none ((ran.tasks t there).inputs k lt)).1 in
+    (rw none at ((ran.tasks t there).inputs k lt)).1 in
     by ((task_at job.graph t).parent) refl gone (spans_all job t ready.graph there)
     (λ u i e lti n live_u.
     (let ip : IsParent job.graph t (task_at job.graph t) u =
@@ -131,9 +128,7 @@ came_in job m ready ran over (suc fuel) t k below there lt none live =
             let s : Stands job m u.task = stands_all job m ready ran u.task there_u registered in
             let same : m.begun u.task ≡ (span_in job u.task).steps =
             s.ended (over_ended job m ready ran over u.task there_u registered).may_end in
-            let early : m.begun u.task < u.at = a.ended (over.gone x u.task n there_u some) in
-            let comes : u.at ≤ (span_in job u.task).steps = fp.comes in
-            absurd (omega arith)
+            absurd (omega (arith, a.ended (over.gone x u.task n there_u some), fp.comes))
 
 -- and on each that it signals
 pub came_out : (job : Job) (m : Moment) → IsReadyAt job m → HasRun job m → IsOver job m
@@ -188,12 +183,9 @@ sinks_whole job m t ready ran over there sink =
     by (m.number (input_at (task_at job.graph t) 0) t) refl (dead_or ((span_in job t).live))
   where
     lt : 0 < length (task_at job.graph t).inputs
-    lt = (let H : Kind → Type 0 =
-        λ kind. HasEnds kind (length (task_at job.graph t).inputs)
-        (length (task_at job.graph t).outputs) in
-        let both : (length (task_at job.graph t).inputs ≡ 1)
+    lt = (let both : (length (task_at job.graph t).inputs ≡ 1)
         × (length (task_at job.graph t).outputs ≡ 0) =
-        subst H sink (ready.graph.tasks t there).ends in
+        rw sink at (ready.graph.tasks t there).ends in
         let one : length (task_at job.graph t).inputs ≡ 1 = both.0 in omega arith)
 
     by : (o : Option ℕ) → m.number (input_at (task_at job.graph t) 0) t ≡ o
@@ -205,8 +197,7 @@ sinks_whole job m t ready ran over there sink =
     by None none (inl live) =
         absurd (came_in job m ready ran over (suc t) t 0 (omega arith) there lt none live)
     by None none (inr dead) =
-        let T : Option ℕ → Type 0 = λ o. TakenOn job m t 0 (input_at (task_at job.graph t) 0) o in
-        let nothing : m.taken t 0 ≡ [] = (subst T none ((ran.tasks t there).inputs 0 lt)).0 in
+        let nothing : m.taken t 0 ≡ [] = (rw none at ((ran.tasks t there).inputs 0 lt)).0 in
         let no_step : (span_in job t).steps ≡ 0 =
         dead_span job t (length (samples_at job t)) (task_at job.graph t) _
         (spans_all job t ready.graph there) dead in

@@ -269,17 +269,13 @@ first_is job t numbers seen is there root all roots = record {
         → IsLegal (limits_at job (registration_at job t i).phaser)
         ((first_moment job t numbers seen).history (registration_at job t i).phaser)
     legal_at i lt =
-        let L : History → Type 0 =
-        λ h. IsLegal (limits_at job (registration_at job t i).phaser) h in
-        subst L (sym (history_is i lt)) (roots i lt).legal
+        rw (history_is i lt) (roots i lt).legal
 
     legal : (p : ℕ) → OnLine (task_at job.graph t) p
         → IsLegal (limits_at job p) ((first_moment job t numbers seen).history p)
     legal p on =
         let r = registration_on job t p is there on in
-        let P : ℕ → Type 0 =
-        λ q. IsLegal (limits_at job q) ((first_moment job t numbers seen).history q) in
-        subst P r.2 (legal_at r.0 r.1)
+        rw r.2 at (legal_at r.0 r.1)
 
     facts_at : (i : ℕ) → i < length (registrations_at job t)
         → RootFacts (seen i) (get_or numbers i 0) (registration_at job t i).mode
@@ -288,11 +284,9 @@ first_is job t numbers seen is there root all roots = record {
         let p = (registration_at job t i).phaser in
         let n = get_or numbers i 0 in
         let mode = (registration_at job t i).mode in
-        let L : History → Type 0 = λ h. IsLegal (limits_at job p) h in
         let legal_now : IsLegal (limits_at job p) (Registered 0 n mode ∷ r.before) =
-        subst L r.is r.legal in
-        let F : History → Type 0 = λ h. RootFacts h n mode in
-        subst F (sym r.is) (root_facts (limits_at job p) r.before n mode legal_now
+        rw r.is at r.legal in
+        rw r.is (root_facts (limits_at job p) r.before n mode legal_now
         (start_of-longer (limits_at job p) (Made 0 ∷ []) r.before 0 founder legal_now.0 r.made refl)
         r.founder)
 
@@ -308,10 +302,9 @@ first_is job t numbers seen is there root all roots = record {
         ∙ ap (λ q. (first_moment job t numbers seen).number q t) here ∙ at) in
         let H : History → Type 0 =
         λ h. RootFacts h n (registration_at job t i).mode in
-        let N : ℕ → Type 0 = λ x. RootFacts (seen i) x (registration_at job t i).mode in
         subst H (sym (history_is i lt)
         ∙ ap (λ q. (first_moment job t numbers seen).history q) here)
-        (subst N is_n (facts_at i lt))
+        (rw is_n at (facts_at i lt))
 
     -- it has a number on each phaser of its line
     present : (p : ℕ) → OnLine (task_at job.graph t) p
@@ -327,8 +320,7 @@ first_is job t numbers seen is there root all roots = record {
         → OnLine (task_at job.graph t) p
     on_line p n at =
         let w = which p n at in
-        let O : ℕ → Type 0 = λ q. OnLine (task_at job.graph t) q in
-        subst O w.2 (is_for job t w.0 is there w.1).on_line
+        rw w.2 at (is_for job t w.0 is there w.1).on_line
 
     zero_offset : (opening job).offset t ≡ 0
     zero_offset = ((opening_has_begun job is).opened.tasks t there).offset root
@@ -339,16 +331,12 @@ first_is job t numbers seen is there root all roots = record {
         → OnPhaser job (first_moment job t numbers seen) t p
         (index_in (signalled_by (task_at job.graph t)) p)
     outputs p None e None at =
-        let O : Option ℕ → Type 0 = λ o. OnPhaser job (first_moment job t numbers seen) t p o in
-        let N : Option ℕ → Type 0 = λ x. SilentOn (first_moment job t numbers seen) p x in
-        subst O (sym e) (subst N (sym at) tt)
+        rw e (rw at tt)
     outputs p None e (Some n) at =
-        let O : Option ℕ → Type 0 = λ o. OnPhaser job (first_moment job t numbers seen) t p o in
-        let N : Option ℕ → Type 0 = λ x. SilentOn (first_moment job t numbers seen) p x in
         let w = which p n at in
         let f = facts w.0 p n w.1 w.2 at in
         let mode = (registration_at job t w.0).mode in
-        subst O (sym e) (subst N (sym at) (record {
+        rw e (rw at (record {
           nothing = f.signalled;
           from_0 = λ start begun.
               sym (ap (λ (x : Entry). x.signal_phase)
@@ -356,8 +344,6 @@ first_is job t numbers seen is there root all roots = record {
         }))
     outputs p (Some j) e None at = absurd (present p (inl (j, e)) at)
     outputs p (Some j) e (Some n) at =
-        let O : Option ℕ → Type 0 = λ o. OnPhaser job (first_moment job t numbers seen) t p o in
-        let N : Option ℕ → Type 0 = λ x. PutOn job (first_moment job t numbers seen) t j p x in
         let w = which p n at in
         let f = facts w.0 p n w.1 w.2 at in
         let place : index_in (signalled_by (task_at job.graph t)) (registration_at job t w.0).phaser
@@ -370,7 +356,7 @@ first_is job t numbers seen is there root all roots = record {
           sent = f.sent;
           left = λ gone. absurd (let wrong : true ≡ false = sym gone ∙ f.kept in cc);
         } in
-        subst O (sym e) (subst N (sym at) on)
+        rw e (rw at on)
 
     inputs : (k : ℕ) → k < length (task_at job.graph t).inputs → (x : Option ℕ)
         → (first_moment job t numbers seen).number (input_at (task_at job.graph t) k) t ≡ x
@@ -380,7 +366,6 @@ first_is job t numbers seen is there root all roots = record {
         absurd (present (input_at (task_at job.graph t) k) (inr (k, lt, refl)) at)
     inputs k lt (Some n) at =
         let p = input_at (task_at job.graph t) k in
-        let N : Option ℕ → Type 0 = λ x. TakenOn job (first_moment job t numbers seen) t k p x in
         let w = which p n at in
         let f = facts w.0 p n w.1 w.2 at in
         let on : OnInput job (first_moment job t numbers seen) t k p n = record {
@@ -391,7 +376,7 @@ first_is job t numbers seen is there root all roots = record {
           taken = ap (λ l. map number l) (sym (f.received (value_at job p)));
           left = λ gone. absurd (let wrong : true ≡ false = sym gone ∙ f.kept in cc);
         } in
-        subst N (sym at) on
+        rw at on
 
     lists : ListsRan job (first_moment job t numbers seen) t
     lists = nothing_ran job (first_moment job t numbers seen) t refl (λ j. refl) (λ k. refl)
@@ -411,9 +396,7 @@ first_is job t numbers seen is there root all roots = record {
           inputs k lt
           ((first_moment job t numbers seen).number (input_at (task_at job.graph t) k) t) refl;
       joined = λ p n at.
-          (let J : Option Parent → Type 0 =
-          λ u. Joined (first_moment job t numbers seen) t (task_at job.graph t).joins_now u in
-          subst J (sym root) zero_offset);
+          (rw root zero_offset);
       children = λ c p n u below e same at none on.
           (let w = which p n at in
           let kept : has_dropped ((first_moment job t numbers seen).history p) n ≡ false =

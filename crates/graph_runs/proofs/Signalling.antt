@@ -69,16 +69,14 @@ stays job m t is ran there more p n at =
     on_line : OnLine (task_at job.graph t) p → has_dropped (m.history p) n ≡ true
         → HasEnded job m t
     on_line (inl out) gone =
-        let O : Option ℕ → Type 0 = λ o. OnPhaser job m t p o in
         let here : PutOn job m t out.0 p (m.number p t) =
-        subst O out.1 (ran.outputs p (on_phaser job t p is there (inl out))) in
+        rw out.1 at (ran.outputs p (on_phaser job t p is there (inl out))) in
         let N : Option ℕ → Type 0 = λ o. PutOn job m t out.0 p o in
         let on : OnOutput job m t out.0 p n = subst N at here in
         on.left gone
     on_line (inr into) gone =
-        let P : ℕ → Type 0 = λ q. TakenOn job m t into.0 q (m.number q t) in
         let here : TakenOn job m t into.0 p (m.number p t) =
-        subst P into.2 (ran.inputs into.0 into.1) in
+        rw into.2 at (ran.inputs into.0 into.1) in
         let N : Option ℕ → Type 0 = λ o. TakenOn job m t into.0 p o in
         let on : OnInput job m t into.0 p n = subst N at here in
         on.left gone
@@ -157,8 +155,7 @@ may_put Join j put taken many one e = tt
 may_put Sink j put taken many one e = tt
 may_put Peer zero put taken many one e = tt
 may_put Peer (suc j) put taken many one e =
-    let few : many ≤ 1 = one refl in
-    let more : put < taken = leb-false taken put e in omega arith
+    omega (arith, one refl, leb-false taken put e)
 
 pub sendable : (v : ℤ) → is_out_of_range v ≡ false → IsSend v
 sendable v e = by (nat_le (unsigned_abs v) value_max) refl e
@@ -188,8 +185,7 @@ found_below test n x e =
     let long : length (range_with_len 0 n) ≡ n = length-range_with_len 0 n in
     let at : get_or (range_with_len 0 n) f.1.0 0 ≡ 0 + f.1.0 =
     get_or-range_with_len 0 n f.1.0 0 (omega arith) in
-    let is : get_or (range_with_len 0 n) f.1.0 0 ≡ x = f.1.2 in
-    (f.0, omega arith)
+    (f.0, omega (arith, f.1.2))
 
 pub owed : (job : Job) (m : Moment) (t j : ℕ) → first_owed job m t ≡ Some j
     → (j < length (signalled_by (task_at job.graph t)))
@@ -203,8 +199,7 @@ pub not_ended : (job : Job) (m : Moment) (t j : ℕ)
     → j < length (signalled_by (task_at job.graph t))
     → length (m.put t j) < length (made_now job m t j) → HasEnded job m t → ⊥
 not_ended job m t j lt few ended =
-    let same : length (m.put t j) ≡ length (made_now job m t j) = ap length (ended.all_put j lt) in
-    omega arith
+    omega (arith, ap length (ended.all_put j lt))
 
 -- a list goes on as a prefix by some of what it lacks
 pub begins_some : (k : ℕ) (xs ys : List ℤ) → IsPrefix xs ys
@@ -250,8 +245,7 @@ signal_next job m t j event is ran live owes first answer =
     place_of_output job.graph t (task_at job.graph t) j line o.0 in
     let on : OnLine (task_at job.graph t) p = inl (j, place) in
     let phaser : p < length job.graph.phasers = on_phaser job t p is live.there on in
-    let Next : TaskEvent → Type 0 = λ e. IsNext job m e in
-    subst Next a.2 (
+    rw (← a.2) (
       record { task = live.there; phaser = phaser },
       record {
         signal = record {

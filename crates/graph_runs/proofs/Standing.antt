@@ -59,8 +59,7 @@ kept job m t at stands all =
 
     below : (i : ℕ) → i < at.left → not (has_left m t (registration_at job t i)) ≡ false
     below i lt =
-        let less : at.left ≤ length at.numbers = stands.few_left in
-        ap not (stands.leaves i (omega arith) ∙ lt-ltb i at.left lt)
+        ap not (stands.leaves i (omega (arith, stands.few_left)) ∙ lt-ltb i at.left lt)
 
     here : at.left < length (registrations_at job t)
         → not (has_left m t (registration_at job t at.left)) ≡ true
@@ -90,8 +89,7 @@ pub of_input : (job : Job) (t k : ℕ) → IsGraph job.graph → t < length job.
     → k < length (task_at job.graph t).inputs
     → (registration_at job t k).phaser ≡ input_at (task_at job.graph t) k
 of_input job t k is there lt =
-    let all = many job t is there in
-    phaser-is job t k is there (omega arith)
+    phaser-is job t k is there (omega (arith, many job t is there))
     ∙ get_or_append_left (task_at job.graph t).inputs (task_at job.graph t).outputs 0 k lt
 
 -- that of output j is on output j
@@ -153,10 +151,8 @@ of_output job t j is there lt = by (task_at job.graph t).kind refl
     by Join e = plain (rw e refl) (rw e refl)
     by Sink e = plain (rw e refl) (rw e refl)
     by Peer e =
-        let H : Kind → Type 0 = λ kind. HasEnds kind (length task.inputs) (length task.outputs) in
         let both : (length task.inputs ≡ 2) × (length task.outputs ≡ 1) =
-        subst H e (is.tasks t there).ends in
+        rw e at (is.tasks t there).ends in
         let same : signalled_by task ≡ get_or task.inputs 1 0 ∷ get_or task.outputs 0 0 ∷ [] =
         rw e refl in
-        let long : length (signalled_by task) ≡ 2 = ap length same in
-        of_peer both.0 both.1 same (rw e refl) j refl (omega arith)
+        of_peer both.0 both.1 same (rw e refl) j refl (omega (arith, ap length same))

@@ -22,13 +22,11 @@ has_input : (job : Job) (t : ℕ) → IsGraph job.graph → t < length job.graph
     → (task_at job.graph t).joins_now ≡ true → 0 < length (task_at job.graph t).inputs
 has_input job t is there now =
     let line = is.tasks t there in
-    let H : Kind → Type 0 =
-    λ kind. HasEnds kind (length (task_at job.graph t).inputs)
-    (length (task_at job.graph t).outputs) in
     let both : (length (task_at job.graph t).inputs ≡ 1)
-    × (length (task_at job.graph t).outputs ≡ 0) = subst H (line.now now).0 line.ends in
-    let one : length (task_at job.graph t).inputs ≡ 1 = both.0 in
-    omega arith
+    × (length (task_at job.graph t).outputs ≡ 0) = subst (λ (kind : Kind). HasEnds kind (length
+    (task_at job.graph t).inputs) (length (task_at job.graph t).outputs)) (line.now now).0 line.ends
+    in
+    omega (arith, both.0)
 
 -- a task that does not join now has no start
 pub start_of_others : (job : Job) (t : ℕ) → (task_at job.graph t).joins_now ≡ false
@@ -73,10 +71,7 @@ start_within job m t k n ready ran there lt on =
     let got : HasReceivedFrom (value_at job p) h n on.start =
     received_law (value_at job p) (limits_at job p) h n on.start (ran.phasers p pp).legal
     on.start_is on.waits in
-    let complete : on.start.wait_phase + phases_waited h n ≤ done_of h = got.complete in
-    let at : on.start.wait_phase ≡ m.offset t = on.at in
-    let within : done_of h ≤ get_or (lengths_of job) p 0 = (composes job m ready ran p pp).within in
-    omega arith
+    omega (arith, got.complete, on.at, (composes job m ready ran p pp).within)
 
 -- a start is at most the length of its phaser's list, one phase past its last
 pub start_in_time : (job : Job) (m : Moment) (t start : ℕ) → IsReadyAt job m → HasRun job m
@@ -92,16 +87,13 @@ start_in_time job m t start ready ran over there is =
     registered now live lt None none =
         absurd (came_in job m ready ran over (suc t) t 0 (omega arith) there lt none live)
     registered now live lt (Some n) some =
-        let T : Option ℕ → Type 0 = λ o. TakenOn job m t 0 (input_at (task_at job.graph t) 0) o in
         let on : OnInput job m t 0 (input_at (task_at job.graph t) 0) n =
-        subst T some ((ran.tasks t there).inputs 0 lt) in
-        let within : m.offset t ≤ get_or (lengths_of job) (input_at (task_at job.graph t) 0) 0 =
-        start_within job m t 0 n ready ran there lt on in
+        rw some at ((ran.tasks t there).inputs 0 lt) in
         let s : Stands job m t =
         stands_all job m ready ran t there (input_at (task_at job.graph t) 0, n, some) in
         let same : m.offset t ≡ start =
         same_Some (m.offset t) start (sym (start_registered job m t now s) ∙ is) in
-        omega arith
+        omega (arith, start_within job m t 0 n ready ran there lt on)
 
     by : (b c : Bool) → (task_at job.graph t).joins_now ≡ b → (span_in job t).live ≡ c
         → start ≤ get_or (lengths_of job) (input_at (task_at job.graph t) 0) 0

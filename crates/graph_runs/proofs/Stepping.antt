@@ -95,7 +95,6 @@ sample_follows job m t j p n vs at is ran next now idle stands =
     let source = next.1.source in
     let s = next_samples_are job m t j p n vs next.1 (ran.tasks t there) in
     let none : at.owed ≡ nothing = owes_nothing job m t at.owed stands.owes idle in
-    let L : Owed → Type 0 = λ o. Lacks job m t o in
     let single : length (signalled_by (task_at job.graph t)) ≡ 1 =
     source_ends job t is there source in
     let lt = (place-at (signalled_by (task_at job.graph t)) p j s.place).0 in
@@ -104,14 +103,12 @@ sample_follows job m t j p n vs at is ran next now idle stands =
     let lacks : Lacks job after t nothing =
     sample_lacks job m after t j vs is (ran.tasks t there) (now.tasks t there) there source
     (puts_all job m after t j p n vs s) (omega arith) (steps ∙ further-length (m.begun t) vs)
-    (subst L none stands.lacks) in
-    let O : Owed → Type 0 = λ o. Owes job after t o in
-    let A : Owed → Type 0 = λ o. Lacks job after t o in
+    (rw none at stands.lacks) in
     stays_at job m after t (further at.begun vs) at.owed at stands
     (keeps_moved job m after t p
     (Signalled n (map one vs) (phaser_at job.graph p).single) t s.moved (λ b at. refl))
     (steps ∙ ap (λ b. further b vs) stands.begun)
-    (subst O (sym none) (first_none job after t lacks)) (subst A (sym none) lacks)
+    (rw none (first_none job after t lacks)) (rw none lacks)
 
 -- ---- a signal
 
@@ -165,10 +162,7 @@ owes_values job m t j (values i ws) owes some first =
     ∙ ap (λ x. values x (map ranged (next_values job m t x))) same
 owes_values job m t j (exchange x) owes some first =
     let same : 1 ≡ j = same_Some 1 j (sym owes.0 ∙ some) in
-    let W : ℕ → Type 0 =
-    λ i. waits_first (task_at job.graph t).kind i (length (m.put t i)) (length (m.taken t 1))
-    ≡ false in
-    let not_first = subst W (sym same) first in
+    let not_first = rw (← same) at first in
     absurd (let clash : signals 1 ≡ exchanges =
     sym (ap (λ b. cond b exchanges (signals 1)) not_first) ∙ owes.1 in cc)
 
@@ -211,19 +205,16 @@ peer_in_turn job m t n is ran there staying legal at peer =
     wait_phase_is job m t 1 p n e.0.mode legal into member in
     let mode_here : e.0.mode ≡ c.start.mode =
     mode_of_start limits h n c.start e.0 legal c.start_is e.1 in
-    let W : Mode → Type 0 = λ x. mode_waits x ≡ true in
     let waiting : c.start ≡ into.start =
     same_Some c.start into.start (sym c.start_is ∙ into.start_is) in
     let waits_is : mode_waits e.0.mode ≡ true =
-    subst W (sym (mode_here ∙ ap (λ (x : Entry). x.mode) waiting)) into.waits in
-    let S : Mode → Type 0 = λ x. mode_signals x ≡ true in
+    rw (mode_here ∙ ap (λ (x : Entry). x.mode) waiting) into.waits in
     let signalling : c.start ≡ on.start =
     same_Some c.start on.start (sym c.start_is ∙ on.start_is) in
     let signals_is : mode_signals e.0.mode ≡ true =
-    subst S (sym (mode_here ∙ ap (λ (x : Entry). x.mode) signalling)) on.signals in
+    rw (mode_here ∙ ap (λ (x : Entry). x.mode) signalling) on.signals in
     let turn = turns_law limits h n e.0 legal e.1 signals_is waits_is in
-    let low : e.0.wait_phase ≤ e.0.signal_phase = turn.low in
-    omega arith
+    omega (arith, turn.low)
 
 -- a peer that has put its value on E lacks the one on Y
 peer_lacks : (ws : List (Result ℤ TooBigValue)) (x : ℤ) (i : ℕ) → i < 2 → (i ≡ 0 → ⊥)
@@ -312,7 +303,7 @@ line_most job t is there = record {
 pub peer_most : (job : Job) (t most : ℕ) → IsMost job t most
     → (task_at job.graph t).kind ≡ Peer → most ≡ 1
 peer_most job t most allowed e =
-    let B : Kind → Type 0 = λ kind. IsBlock kind most in subst B e allowed.block
+    rw e at allowed.block
 
 -- and puts one value at a time
 peer_next : (most : ℕ) (job : Job) (m : Moment) (t j : ℕ) → IsMost job t most
@@ -356,12 +347,11 @@ puts_stand {most} job m after t j vs at is there allowed ran in_turn puts keeps 
         → owed_after_signal (task_at job.graph t) j vs ≡ nothing
         → Place (owed_after_signal (task_at job.graph t) j vs)
     alone kind e none left =
-        let L : Owed → Type 0 = λ o. Lacks job m t o in
         let many : lacking (task_at job.graph t).kind (values j (map ranged vs)) j ≡ length vs =
         lacks_here (task_at job.graph t).kind j (map ranged vs) ∙ length-map vs ranged in
         let lacks : Lacks job after t nothing =
         signal_lacks job m after t j vs (values j (map ranged vs)) nothing puts steps
-        (subst L owed_is stands.lacks)
+        (rw owed_is at stands.lacks)
         (λ i lt apart. ap (λ k. lacking k (values j (map ranged vs)) i) e ∙ none i apart)
         (omega arith) in
         subst Place (sym left) (stay nothing (first_none job after t lacks) lacks)
@@ -374,15 +364,12 @@ puts_stand {most} job m after t j vs at is there allowed ran in_turn puts keeps 
         let left : owed_after_signal (task_at job.graph t) j vs ≡ exchange v =
         ap (λ l. owed_after_signal (task_at job.graph t) j l) single
         ∙ ap (λ i. owed_after_signal (task_at job.graph t) i (v ∷ [])) same ∙ rw e refl in
-        let L : Owed → Type 0 = λ o. Lacks job m t o in
         let owed_one : at.owed ≡ values 0 (ranged v ∷ []) =
         owed_is ∙ ap (λ l. values j (map ranged l)) single
         ∙ ap (λ i. values i (ranged v ∷ [])) same in
         let before : Lacks job m t (values 0 (ranged v ∷ [])) =
-        subst L owed_one stands.lacks in
-        let P : ℕ → Type 0 = λ i. PutsAll m after t i vs in
-        let Q : List ℤ → Type 0 = λ l. PutsAll m after t 0 l in
-        let puts_one = subst Q single (subst P same puts) in
+        rw owed_one at stands.lacks in
+        let puts_one = rw single at (rw same at puts) in
         let lacks = peer_left_lacks job m after t v (ranged v) is there e puts_one steps before in
         subst Place (sym left)
         (stay (exchange v)

@@ -72,11 +72,9 @@ first_run_out-below values b some le =
     ≤ get_or (map (run_out values) (range_with_len 0 (length values))) k 0 =
     min-entry (map (run_out values) (range_with_len 0 (length values))) (run_out values 0) k
     (omega arith) in
-    let here : get_or (map (run_out values) (range_with_len 0 (length values))) k 0
-    ≡ run_out values k = run_outs-at values k lt in
     let after : k + length values * get_or values k 0 ≤ b =
     turns-after (length values) b (get_or values k 0) some le in
-    omega arith
+    omega (arith, run_outs-at values k lt)
 
 -- ---- steps
 
@@ -104,7 +102,7 @@ has_inputs Sink inputs outputs ends not = omega (arith, ends.0)
 pub no_inputs : (kind : Kind) (inputs outputs : ℕ) → HasEnds kind inputs outputs → kind ≡ Source
     → inputs ≡ 0
 no_inputs kind inputs outputs ends is =
-    let H : Kind → Type 0 = λ kind. HasEnds kind inputs outputs in (subst H is ends).0
+    (rw is at ends).0
 
 -- what a step needs is there
 pub enough-above : (task : Task) (samples : ℕ) (values : List ℕ) (b : ℕ)
@@ -124,8 +122,7 @@ enough-above task samples values b ends long has each = by task.kind refl
 
     by : (kind : Kind) → task.kind ≡ kind → b ≤ enough_for task samples values
     by Source e =
-        let H : Kind → Type 0 = λ kind. HasSamples kind b samples in
-        let few : b ≤ samples = subst H e has in
+        let few : b ≤ samples = rw e at has in
         let is : enough_for task samples values ≡ samples = rw e refl in
         omega arith
     by Fir e =
@@ -164,8 +161,7 @@ enough-below task samples values b ends long not le = by task.kind refl
         → enough_for task samples values ≡ get_or values 0 0 → enough_for task samples values ≤ b
     first at one is =
         let P : ℕ → Type 0 = λ k. get_or values k 0 ≤ takes_from task b k in
-        let here : get_or values 0 0 ≤ takes_from task b 0 = subst P at le in
-        omega arith
+        omega (arith, subst P at le)
 
     by : (kind : Kind) → task.kind ≡ kind → enough_for task samples values ≤ b
     by Source e = absurd (not e)
@@ -177,9 +173,8 @@ enough-below task samples values b ends long not le = by task.kind refl
         let is : enough_for task samples values ≡ first_run_out values = rw e refl in
         let at : first_input task b ≡ b % length task.inputs = rw e refl in
         let turned : b % length task.inputs ≡ b % length values = ap (λ n. b % n) (sym long) in
-        let P : ℕ → Type 0 = λ k. get_or values k 0 ≤ takes_from task b k in
         let here : get_or values (b % length values) 0 ≤ takes_from task b (b % length values) =
-        subst P (at ∙ turned) le in
+        rw (at ∙ turned) at le in
         let count : takes_from task b (b % length values)
         ≡ turns_below (length values) (b % length values) b =
         (let c : takes_from task b (b % length values)
@@ -213,26 +208,19 @@ taken_count task b k n ends lt looks has = by task.kind k refl refl
     by Source i e at =
         let none : length task.inputs ≡ 0 = no_inputs task.kind _ _ ends e in absurd (omega arith)
     by Fir i e at =
-        let P : Kind → Type 0 = λ kind. HasTaken (record task { kind = kind }) b k n in
-        (let r : n ≡ takes_from (record task { kind = Fir }) b k = subst P e has in r ∙ rw e refl)
+        (let r : n ≡ takes_from (record task { kind = Fir }) b k = rw e at has in r ∙ rw e refl)
     by Split i e at =
-        let P : Kind → Type 0 = λ kind. HasTaken (record task { kind = kind }) b k n in
-        (let r : n ≡ takes_from (record task { kind = Split }) b k = subst P e has in r ∙ rw e refl)
+        (let r : n ≡ takes_from (record task { kind = Split }) b k = rw e at has in r ∙ rw e refl)
     by Join i e at =
-        let P : Kind → Type 0 = λ kind. HasTaken (record task { kind = kind }) b k n in
-        (let r : n ≡ takes_from (record task { kind = Join }) b k = subst P e has in r ∙ rw e refl)
+        (let r : n ≡ takes_from (record task { kind = Join }) b k = rw e at has in r ∙ rw e refl)
     by Sink i e at =
-        let P : Kind → Type 0 = λ kind. HasTaken (record task { kind = kind }) b k n in
-        (let r : n ≡ takes_from (record task { kind = Sink }) b k = subst P e has in r ∙ rw e refl)
+        (let r : n ≡ takes_from (record task { kind = Sink }) b k = rw e at has in r ∙ rw e refl)
     by Peer zero e at =
-        let P : Kind → Type 0 = λ kind. HasTaken (record task { kind = kind }) b 0 n in
         let Q : ℕ → Type 0 = λ k. HasTaken task b k n in
-        let r : n ≡ b = subst P e (subst Q at has) in
+        let r : n ≡ b = rw e at (subst Q at has) in
         r ∙ rw e refl
     by Peer (suc i) e at =
-        let L : Kind → Type 0 = λ kind. LooksAt kind 0 k in
-        let none : k ≡ 0 = subst L e looks in
-        absurd (omega arith)
+        absurd (omega (arith, rw e at looks))
 
 -- and no input more
 pub taken_most : (task : Task) (b k n : ℕ)
@@ -252,9 +240,8 @@ taken_most task b k n ends lt has = by task.kind k refl refl
     by Sink i e at = exact (rw e tt)
     by Peer zero e at = exact (rw e at)
     by Peer (suc i) e at =
-        let P : Kind → Type 0 = λ kind. HasTaken (record task { kind = kind }) b (suc i) n in
         let Q : ℕ → Type 0 = λ k. HasTaken task b k n in
-        let r : (n ≤ b) × (b ≤ n + 1) = subst P e (subst Q at has) in
+        let r : (n ≤ b) × (b ≤ n + 1) = rw e at (subst Q at has) in
         let is : takes_from task b k ≡ b = rw e refl in
         let le : n ≤ b = r.0 in
         omega arith

@@ -183,8 +183,7 @@ stands_from job m t is there ran span_is reads = record {
   offset = ap (λ (s : Span). s.offset) span_is;
   within = (let low : m.begun t ≤ cut_at (task_at job.graph t).until enough =
       within_cut (task_at job.graph t).until (m.begun t) enough ran.cut above in
-      let same : (span_in job t).steps ≡ cut_at (task_at job.graph t).until enough = steps_are in
-      omega arith);
+      omega (arith, steps_are));
   ended = λ e.
       (let low : m.begun t ≤ cut_at (task_at job.graph t).until enough =
       within_cut (task_at job.graph t).until (m.begun t) enough ran.cut above in
@@ -226,16 +225,10 @@ stands_from job m t is there ran span_is reads = record {
         (values_from (task_at job.graph t) (lengths_of job) (m.offset t)) (m.begun t) line.ends many
         ran.samples
         (λ k lt looks. (let read : HasRead job m t k = (reads k lt looks).0 in
-        let room : length (m.taken t k)
-        ≤ get_or (lengths_of job) (input_at (task_at job.graph t) k) 0 - m.offset t =
-        read.room in
         let count : length (m.taken t k) ≡ takes_from (task_at job.graph t) (m.begun t) k =
         taken_count (task_at job.graph t) (m.begun t) k (length (m.taken t k)) line.ends lt
         looks (ran.takes k lt) in
-        let v : get_or (values_from (task_at job.graph t) (lengths_of job) (m.offset t)) k 0
-        ≡ get_or (lengths_of job) (input_at (task_at job.graph t) k) 0 - m.offset t =
-        value_is k lt in
-        omega arith))
+        omega (arith, read.room, value_is k lt)))
 
     stops : MayStop m (task_at job.graph t) t (length (samples_at job t))
         → cut_at (task_at job.graph t).until
@@ -253,20 +246,13 @@ stands_from job m t is there ran span_is reads = record {
         let k = first_input (task_at job.graph t) (m.begun t) in
         let at = first_looks (task_at job.graph t) (m.begun t) line.ends not in
         let both = reads k at.0 at.1 in
-        let whole : get_or (lengths_of job) (input_at (task_at job.graph t) k) 0
-        ≤ done_of (m.history (input_at (task_at job.graph t) k)) = both.1.whole out.0 in
-        let past : done_of (m.history (input_at (task_at job.graph t) k))
-        ≤ m.offset t + length (m.taken t k) = out.1 in
         let count : length (m.taken t k) ≡ takes_from (task_at job.graph t) (m.begun t) k =
         taken_count (task_at job.graph t) (m.begun t) k (length (m.taken t k)) line.ends at.0
         at.1 (ran.takes k at.0) in
-        let v : get_or (values_from (task_at job.graph t) (lengths_of job) (m.offset t)) k 0
-        ≡ get_or (lengths_of job) (input_at (task_at job.graph t) k) 0 - m.offset t =
-        value_is k at.0 in
         cut_below (task_at job.graph t).until (m.begun t) _
         (enough-below (task_at job.graph t) (length (samples_at job t))
         (values_from (task_at job.graph t) (lengths_of job) (m.offset t)) (m.begun t) line.ends
-        many not (omega arith))
+        many not (omega (arith, both.1.whole out.0, out.1, value_is k at.0)))
 
 -- ---- what it has put
 
@@ -316,16 +302,11 @@ taken_begins job m t k line ran stands lt read =
     let within : m.begun t ≤ span.steps = stands.within in
     let few : length (m.taken t k) ≤ takes_from task (m.begun t) k =
     taken_most task (m.begun t) k (length (m.taken t k)) line.ends lt (ran.takes k lt) in
-    let more : takes_from task (m.begun t) k ≤ takes_from task span.steps k =
-    takes-mono task (m.begun t) span.steps k lt within in
-    let L : List ℤ → Type 0 = λ l. IsPrefix l (taken_from (numbers_of job) task span k) in
-    let O : ℕ → Type 0 =
-    λ o. IsPrefix (take (length (m.taken t k)) (drop o list))
-    (taken_from (numbers_of job) task span k) in
-    subst L (sym read.is)
-    (subst O stands.offset
+    subst (λ (l : List ℤ). IsPrefix l (taken_from (numbers_of job) task span k)) (sym read.is)
+    (subst (λ (o : ℕ). IsPrefix (take (length (m.taken t k)) (drop o list)) (taken_from (numbers_of
+    job) task span k)) stands.offset
     (take_prefix (length (m.taken t k)) (takes_from task span.steps k)
-    (drop span.offset list) (omega arith)))
+    (drop span.offset list) (omega (arith, takes-mono task (m.begun t) span.steps k lt within))))
 
 -- what begins all that its begun steps make begins its output list
 pub made_begins : (job : Job) (m : Moment) (t j : ℕ) (put : List ℤ) → IsGraph job.graph
@@ -346,18 +327,13 @@ made_begins job m t j put is there ran stands lt reads exchanged begins =
     stands.within
     (length-map-range_with_len (m.taken t) 0 (length task.inputs))
     (length-map-range_with_len (taken_from (numbers_of job) task span) 0 (length task.inputs))
-    (λ k below looks. (let L : List ℤ → Type 0 = λ l. IsPrefix l (get_or all k []) in
-    let R : List ℤ → Type 0 = λ l. IsPrefix (m.taken t k) l in
-    subst L (sym (now_at m task t k below))
-    (subst R (sym (all_at (numbers_of job) task span k below))
+    (λ k below looks. (rw (now_at m task t k below)
+    (rw (all_at (numbers_of job) task span k below)
     (taken_begins job m t k line ran stands below (reads k below looks)))))
     (λ k below looks. now_counts job m t line ran k below looks)
     (exchanged_as task.kind j (length put) (length (m.taken t 1)) (length (get_or now 1 []))
-    (λ e. (let H : Kind → Type 0 =
-    λ kind. HasEnds kind (length task.inputs) (length task.outputs) in
-    let both : (length task.inputs ≡ 2) × (length task.outputs ≡ 1) = subst H e line.ends in
-    let two : length task.inputs ≡ 2 = both.0 in
-    ap length (sym (now_at m task t 1 (omega arith)))))
+    (λ e. (let both : (length task.inputs ≡ 2) × (length task.outputs ≡ 1) = rw e at line.ends in
+    ap length (sym (now_at m task t 1 (omega (arith, both.0))))))
     exchanged)
     begins
 

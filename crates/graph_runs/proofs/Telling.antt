@@ -61,10 +61,7 @@ pub peer_taken : (job : Job) (m : Moment) (t : ℕ) → IsGraph job.graph → Ta
     → t < length job.graph.tasks → (task_at job.graph t).kind ≡ Peer
     → (length (m.taken t 1) ≤ m.begun t) × (m.begun t ≤ length (m.taken t 1) + 1)
 peer_taken job m t is ran there peer =
-    let two : length (task_at job.graph t).inputs ≡ 2 = (peer_ends job t is there peer).0 in
-    let T : Kind → Type 0 = λ kind. HasTaken (record (task_at job.graph t) { kind = kind })
-    (m.begun t) 1 (length (m.taken t 1)) in
-    subst T peer (ran.takes 1 (omega arith))
+    rw peer at (ran.takes 1 (omega (arith, (peer_ends job t is there peer).0)))
 
 signals_told : (job : Job) (m : Moment) (t j : ℕ) → IsGraph job.graph
     → AreSends (samples_at job t) → IsReachable job m → Live job m t
@@ -80,13 +77,12 @@ signals_told job m t j is samples reached live owes =
     let many : length vs ≡ min block (length rest) = length-take block rest in
     let left : length rest ≡ length (made_now job m t j) - put =
     length-drop put (made_now job m t j) in
-    let few : put < length (made_now job m t j) = o.1 in
     signal_turn_told job m t j vs (signal t j p (number_on m t p) vs)
     (λ plain. all_fail is_out_of_range put vs (pos 0) (λ i lt.
     (take_ranged block rest (drop_ranged put (made_now job m t j)
     (made_ranged job m t j is reached.ran live.there samples plain))).at i))
     (signal_passes job m t j vs is reached live o.0 (not_ended job m t j o.0 o.1)
-    (λ peer first. in_turn peer first o.1) (omega arith) (values_few job m t j))
+    (λ peer first. in_turn peer first o.1) (omega (arith, o.1)) (values_few job m t j))
   where
     in_turn : (task_at job.graph t).kind ≡ Peer → j ≡ 0
         → length (m.put t j) < length (made_now job m t j)
@@ -146,9 +142,7 @@ exchange_told job m t j is reached live owes first =
         let first_many : length (made_now job m t 0)
         ≡ puts_on (task_at job.graph t) (m.begun t) 0 =
         made_many job m t 0 is (reached.ran.tasks t live.there) live.there (omega arith) in
-        let many : length (made_now job m t j) ≡ puts_on (task_at job.graph t) (m.begun t) j =
-        made_many job m t j is (reached.ran.tasks t live.there) live.there lt in
-        omega arith
+        omega (arith, made_many job m t j is (reached.ran.tasks t live.there) live.there lt)
 
     -- the peer itself signals there
     noisy : (task_at job.graph t).kind ≡ Peer

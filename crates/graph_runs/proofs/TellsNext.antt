@@ -112,7 +112,7 @@ ranged_values (x ∷ xs) (v ∷ vs) e =
 pub owes_as : {most : ℕ} (job : Job) (m : Moment) (t : ℕ) (at : TaskPlace) (o : Owed)
     → StandsUpTo most job m t at → at.owed ≡ o → OwesUpTo most job m t o
 owes_as {most} job m t at o stands is =
-    let O : Owed → Type 0 = λ x. OwesUpTo most job m t x in subst O is stands.owes
+    rw is at stands.owes
 
 pub next_values_are : (job : Job) (m : Moment) (t j most : ℕ) (vs : List ℤ) (at : TaskPlace)
     → IsGraph job.graph → t < length job.graph.tasks → HasPart job m t → IsMost job t most
@@ -126,12 +126,10 @@ next_values_are job m t j most vs at is there part allowed stands none owed_is =
     ranged_values (next_up_to most job m t j) vs owes.2 in
     let many : length (next_up_to most job m t j) ≡ length vs = ap length next in
     let cut = length-take most rest in
-    let P : List ℤ → Type 0 = λ l. IsPrefix (m.put t j ++ l) (made_now job m t j) in
     record {
       place = place_of_output job.graph t (task_at job.graph t) j (is.tasks t there) o.0;
       staying = staying_at job m t at is there part.ran stands none;
-      entries = subst P next
-          (begins_some most (m.put t j) (made_now job m t j) (part.ran.puts j o.0));
+      entries = rw next at (begins_some most (m.put t j) (made_now job m t j) (part.ran.puts j o.0));
       exchanged = may_put (task_at job.graph t).kind j (length (m.put t j))
           (length (m.taken t 1)) (length vs)
           (λ peer. (let one : most ≡ 1 = peer_most job t most allowed peer in omega arith))
@@ -176,8 +174,7 @@ none_due_at job m t p at is part stands children c n u below parent of_t number 
   where
     early : m.begun t ≤ u.at
     early =
-        let E : ℕ → Type 0 = λ x. m.begun x ≤ u.at in
-        subst E of_t (part.ran.children c p n u below parent of_t number absent on).early
+        rw of_t at (part.ran.children c p n u below parent of_t number absent on).early
 
     clash : u.at ≡ m.begun t → ⊥
     clash same =
@@ -203,8 +200,7 @@ begins_at : {most : ℕ} (job : Job) (m : Moment) (t steps : ℕ) (at : TaskPlac
     → HasSamples (task_at job.graph t).kind (m.begun t + steps) (length (samples_at job t))
     → MayBeginTo job m t (m.begun t + steps)
 begins_at job m t steps at is there part stands owed_is may children samples =
-    let B : ℕ → Type 0 = λ b. MayMake job t b steps in
-    let now : MayMake job t (m.begun t) steps = subst B (sym stands.begun) may in
+    let now : MayMake job t (m.begun t) steps = rw stands.begun may in
     record {
       taken = λ k lt.
           all_taken job m t is part.ran there (owes_as job m t at nothing stands owed_is) k lt;
@@ -229,21 +225,18 @@ next_samples_at job m t vs at is there part stands none owed_is source samples m
     let lt : 0 < length (signalled_by (task_at job.graph t)) = omega arith in
     let plain : puts_on (task_at job.graph t) (m.begun t) 0 ≡ m.begun t = rw source refl in
     let here : m.begun t ≡ at.begun = stands.begun in
-    let B : Kind → Type 0 = λ kind. HasSamples kind (m.begun t) (length (samples_at job t)) in
-    let begun : m.begun t ≤ length (samples_at job t) = subst B source part.ran.samples in
+    let begun : m.begun t ≤ length (samples_at job t) = rw source at part.ran.samples in
     let rest = drop at.begun (samples_at job t) in
     let many : length vs ≡ length (take (length vs) rest) = ap length samples in
     let cut = length-take (length vs) rest in
     let left = length-drop at.begun (samples_at job t) in
     let more : m.begun t + length vs ≤ length (samples_at job t) = omega arith in
-    let S : Kind → Type 0 =
-    λ kind. HasSamples kind (m.begun t + length vs) (length (samples_at job t)) in
     record {
       place = place_of_output job.graph t (task_at job.graph t) 0 (is.tasks t there) lt;
       staying = staying_at job m t at is there part.ran stands none;
       source = source;
       may_begin = begins_at job m t (length vs) at is there part stands owed_is may children
-          (subst S (sym source) more);
+          (rw source more);
       all_put = ap length (all_put job m t part.ran there idle 0 lt)
           ∙ made_many job m t 0 is part.ran there lt ∙ plain;
       samples = samples
@@ -338,7 +331,5 @@ pub ended_no_input : {most : ℕ} (job : Job) (m : Moment) (t : ℕ) (at : TaskP
     → RanOut m (task_at job.graph t) t (first_input (task_at job.graph t) at.begun)
     → HasEnded job m t
 ended_no_input job m t at there part stands owed_is never out =
-    let R : ℕ → Type 0 = λ b. RanOut m (task_at job.graph t) t
-    (first_input (task_at job.graph t) b) in
     ended_by job m t at there part stands owed_is
-    (no_input never (subst R (sym stands.begun) out))
+    (no_input never (rw stands.begun out))

@@ -114,10 +114,9 @@ met_fault : (job : Job) (m : Moment) (t k p n begun i : ℕ) (outcomes : List Ou
     → is_too_big (get_or outcomes i outcome.Empty) ≡ true
     → IsFaultAt (started job m) (place.Phaser p, wait_phase (m.history p) n + i)
 met_fault job m t k p n begun i outcomes ready ran now there pp wait few big =
-    let Faulty : ℕ → Type 0 = λ q. w + i < done_of (after.history q)
-    → value_of_phase (value_at job q) (after.history q) (w + i) ≡ outcome.TooBig
-    → IsFaultAt (started job m) (place.Phaser q, w + i) in
-    (subst Faulty wait.place (λ done value.
+    (subst (λ (q : ℕ). w + i < done_of (after.history q) → value_of_phase (value_at job q)
+    (after.history q) (w + i) ≡ outcome.TooBig → IsFaultAt (started job m) (place.Phaser q, w + i))
+    wait.place (λ done value.
     met_is_fault (started job m) after t k (w + i) (ready_as job after ready)
     (run_started job after now) there wait.few (p, n, wait.numbered)
     (let phase : w ≡ m.offset t + length (m.taken t k) = at in omega arith)
@@ -140,12 +139,11 @@ met_fault job m t k p n begun i outcomes ready ran now there pp wait few big =
     taken_many : length (after.taken t k) ≡ length (m.taken t k) + length outcomes
     taken_many =
         let more = m.taken t k ++ map number outcomes in
-        let long : length (map number outcomes) ≡ length outcomes = length-map outcomes number in
         let all : length more ≡ length (m.taken t k) + length (map number outcomes) =
         length-append (m.taken t k) (map number outcomes) in
         ap (λ b. length ((cond b (with_at k more (m.taken t)) (m.taken t)) k)) (eq-eqb t t refl)
         ∙ ap (λ b. length (cond b more (m.taken t k))) (eq-eqb k k refl)
-        ∙ omega arith
+        ∙ omega (arith, length-map outcomes number)
 
     here : after.history p ≡ Waited n (length outcomes) ∷ h
     here = ap (λ b. cond b (Waited n (length outcomes) ∷ h) h) (eq-eqb p p refl)
@@ -161,12 +159,7 @@ met_fault job m t k p n begun i outcomes ready ran now there pp wait few big =
 
     done : w + i < done_of (after.history p)
     done =
-        let more : done_of h ≤ done_of (Waited n (length outcomes) ∷ h) = grows.grows in
-        let same : done_of (after.history p) ≡ done_of (Waited n (length outcomes) ∷ h) =
-        ap done_of here in
-        let low : w + length outcomes ≤ done_of h = fits in
-        let less : i < length outcomes = few in
-        omega arith
+        omega (arith, grows.grows, ap done_of here, fits, few)
 
     value : value_of_phase (value_at job p) (after.history p) (w + i) ≡ outcome.TooBig
     value =

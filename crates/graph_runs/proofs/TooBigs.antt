@@ -90,8 +90,7 @@ met_is_fault job m t k n ready ran there lt registered low high complete met =
     let taken : is_taken job (schedule_of job) x n ≡ true =
     any-at (task_takes job (schedule_of job) x n) 0 (length job.graph.tasks) t (omega arith)
     (omega arith) takes in
-    let within : done_of (m.history x) ≤ get_or (lengths_of job) x 0 = c.within in
-    (omega arith, and_from _ _ big taken)
+    (omega (arith, c.within), and_from _ _ big taken)
 
 -- ---- a value that was made
 
@@ -110,12 +109,11 @@ made_is_fault job m t j p i ready ran there pp registered placed made lt exchang
     let all = output_on job (schedule_of job) (numbers_of job) t j in
     let front = take (suc i) (made_now job m t j) in
     let long : length front ≡ suc i = take_full (suc i) (made_now job m t j) (omega arith) in
-    let X : ℕ → Type 0 = λ n. HasExchanged (task_at job.graph t).kind j n (length (m.taken t 1)) in
     let whole : IsPrefix front (made_now job m t j) = front_begins (suc i) (made_now job m t j) in
     let begins : IsPrefix front all =
     made_begins job m t j front ready.graph there (ran.tasks t there) s
     (place-at (signalled_by (task_at job.graph t)) p j placed).0
-    (λ k below looks. reads_all job m ready ran t k there below) (subst X (sym long) exchanged)
+    (λ k below looks. reads_all job m ready ran t k there below) (rw long exchanged)
     whole in
     let fits : length front ≤ length all = prefix_length front all begins in
     let same : get_or all i (pos 0) ≡ get_or (made_now job m t j) i (pos 0) =
@@ -154,8 +152,7 @@ taken_all job m t k ready ran over there lt registered =
     let same : m.begun t ≡ (span_in job t).steps = s.ended e.may_end in
     let steps : takes_from task (m.begun t) k ≡ takes_from task (span_in job t).steps k =
     ap (λ n. takes_from task n k) same in
-    let all : takes_from task (m.begun t) k ≤ length (m.taken t k) = by e task.kind k refl refl in
-    omega arith
+    omega (arith, by e task.kind k refl refl)
   where
     line : IsTaskLine job.graph t (task_at job.graph t)
     line = ready.graph.tasks t there
@@ -187,20 +184,14 @@ taken_all job m t k ready ran over there lt registered =
         r.samples (λ k below looks. now_counts job m t line r k below looks) in
         let puts : puts_on task (m.begun t) 1 ≡ m.begun t = rw is refl in
         let takes : takes_from task (m.begun t) k ≡ m.begun t = rw is refl in
-        let X : Kind → Type 0 =
-        λ kind. HasExchanged kind 1 (length (m.put t 1)) (length (m.taken t 1)) in
-        let fits : length (m.put t 1) ≤ length (m.taken t 1) = subst X is (r.exchanged 1) in
+        let fits : length (m.put t 1) ≤ length (m.taken t 1) = rw is at (r.exchanged 1) in
         let here : length (m.taken t k) ≡ length (m.taken t 1) =
         ap (λ i. length (m.taken t i)) at in
         omega arith
     by e Peer (suc (suc i)) is at =
-        let H : Kind → Type 0 =
-        λ kind. HasEnds kind (length (task_at job.graph t).inputs)
-        (length (task_at job.graph t).outputs) in
         let both : (length (task_at job.graph t).inputs ≡ 2)
-        × (length (task_at job.graph t).outputs ≡ 1) = subst H is line.ends in
-        let n : length (task_at job.graph t).inputs ≡ 2 = both.0 in
-        absurd (omega arith)
+        × (length (task_at job.graph t).outputs ≡ 1) = rw is at line.ends in
+        absurd (omega (arith, both.0))
 
 not_too_big : (single : Option Single) (o : Outcome) → is_too_big (applied single o) ≡ false
     → is_too_big o ≡ false
@@ -237,20 +228,15 @@ all_fit job m ready ran over none = record {
     output p t j pp there place live None absent =
         absurd (came_out job m ready ran over t p j there pp place absent live)
     output p t j pp there place live (Some n) some =
-        let P : Option ℕ → Type 0 = λ o. OnPhaser job m t p o in
-        let A : Option ℕ → Type 0 = λ o. PutOn job m t j p o in
         let on : OnOutput job m t j p n =
-        subst A some (subst P place ((ran.tasks t there).outputs p pp)) in
+        rw some at (rw place at ((ran.tasks t there).outputs p pp)) in
         let o : PutsOut job m t j =
         puts_all job m ready ran t j there (p, n, some)
         (place-at (signalled_by (task_at job.graph t)) p j place).0 in
         let whole : m.put t j ≡ output_on job (schedule_of job) (numbers_of job) t j =
         o.ended (over_ended job m ready ran over t there (p, n, some)) in
-        let S : List (List ℤ) → Type 0 = λ l. AreLists l in
-        let T : List ℤ → Type 0 = λ l. AreSends l in
-        subst T whole (puts_are_sends (m.put t j)
-        (subst S on.sent
-        (sent_are_lists (limits_at job p) (m.history p) n (ran.phasers p pp).legal)))
+        rw whole at (puts_are_sends (m.put t j)
+        (rw on.sent at (sent_are_lists (limits_at job p) (m.history p) n (ran.phasers p pp).legal)))
 
     phase : (p t n : ℕ) → p < length job.graph.phasers → t < length job.graph.tasks
         → Takes job p n t
@@ -276,8 +262,7 @@ all_fit job m ready ran over none = record {
             let x = input_at (task_at job.graph t) k in
             let px : x < length job.graph.phasers = (ready.graph.tasks t there).inputs k 0 lt in
             let registered : IsRegistered m t = (x, a, some) in
-            let I : Option ℕ → Type 0 = λ o. TakenOn job m t k x o in
-            let on : OnInput job m t k x a = subst I some ((ran.tasks t there).inputs k lt) in
+            let on : OnInput job m t k x a = rw some at ((ran.tasks t there).inputs k lt) in
             let s : Stands job m t = stands_all job m ready ran t there registered in
             let offset : (span_in job t).offset ≡ m.offset t = s.offset in
             let value = value_at job x in
@@ -317,12 +302,7 @@ all_fit job m ready ran over none = record {
             let composed : value_of_phase value h n
             ≡ phase_in value job x (contributions_on job (schedule_of job) (numbers_of job) x) n =
             c.values n (omega arith) in
-            let B : ℕ → Type 0 =
-            λ q. is_too_big
-            (value_at job q (sends_in (contributions_on job (schedule_of job) (numbers_of job) q) n))
-            ≡ false in
-            subst B is
-            (not_too_big (phaser_at job.graph x).single _
+            rw is at (not_too_big (phaser_at job.graph x).single _
             (ap is_too_big (sym (entry ∙ composed)) ∙ fine))
 
 -- where no wait was answered a value that is too big, all fit, and the answer is what the sinks

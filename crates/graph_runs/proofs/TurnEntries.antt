@@ -35,17 +35,15 @@ pub on_output : (job : Job) (m : Moment) (t j p n : ℕ) → TaskRan job m t
     → index_in (signalled_by (task_at job.graph t)) p ≡ Some j → m.number p t ≡ Some n
     → OnOutput job m t j p n
 on_output job m t j p n ran there pp place at =
-    let O : Option ℕ → Type 0 = λ o. OnPhaser job m t p o in
     let N : Option ℕ → Type 0 = λ o. PutOn job m t j p o in
-    subst N at (subst O place (ran.outputs p pp))
+    subst N at (rw place at (ran.outputs p pp))
 
 pub on_input : (job : Job) (m : Moment) (t k p n : ℕ) → TaskRan job m t
     → t < length job.graph.tasks → k < length (task_at job.graph t).inputs
     → input_at (task_at job.graph t) k ≡ p → m.number p t ≡ Some n → OnInput job m t k p n
 on_input job m t k p n ran there lt place at =
-    let P : ℕ → Type 0 = λ q. TakenOn job m t k q (m.number q t) in
     let N : Option ℕ → Type 0 = λ o. TakenOn job m t k p o in
-    subst N at (subst P place (ran.inputs k lt))
+    subst N at (rw place at (ran.inputs k lt))
 
 -- ---- its entry
 
@@ -95,14 +93,9 @@ pub signal_phase_is : (job : Job) (m : Moment) (t j p n : ℕ) (mode : Mode)
 signal_phase_is job m t j p n mode on e =
     let same : Some e.start ≡ Some on.start = sym e.start_is ∙ on.start_is in
     let S : Option Entry → ℕ = λ o. signal_phase_or o in
-    let at : e.start.signal_phase ≡ m.offset t = ap S same ∙ on.at in
-    let sent : length (sent_by (m.history p) n) ≡ phases_signalled (m.history p) n =
-    length-sent_by (m.history p) n in
     let put : length (sent_by (m.history p) n) ≡ length (m.put t j) =
     ap length on.sent ∙ length-map (m.put t j) one in
-    let sum : e.start.signal_phase + phases_signalled (m.history p) n ≡ e.entry.signal_phase =
-    e.signals in
-    omega arith
+    omega (arith, ap S same ∙ on.at, length-sent_by (m.history p) n, e.signals)
   where
     signal_phase_or : Option Entry → ℕ
     signal_phase_or None = 0
@@ -115,14 +108,10 @@ pub wait_phase_is : (job : Job) (m : Moment) (t k p n : ℕ) (mode : Mode)
 wait_phase_is job m t k p n mode legal on e =
     let same : Some e.start ≡ Some on.start = sym e.start_is ∙ on.start_is in
     let at : e.start.wait_phase ≡ m.offset t = ap (λ o. wait_phase_or o) same ∙ on.at in
-    let got : length (received_by (value_at job p) (m.history p) n)
-    ≡ phases_waited (m.history p) n =
-    length-received (value_at job p) (limits_at job p) (m.history p) n legal in
     let taken : length (m.taken t k)
     ≡ length (received_by (value_at job p) (m.history p) n) =
     ap length on.taken ∙ length-map (received_by (value_at job p) (m.history p) n) number in
-    let sum : e.start.wait_phase + phases_waited (m.history p) n ≡ e.entry.wait_phase = e.waits in
-    omega arith
+    omega (arith, length-received (value_at job p) (limits_at job p) (m.history p) n legal, e.waits)
   where
     wait_phase_or : Option Entry → ℕ
     wait_phase_or None = 0
@@ -149,14 +138,12 @@ sent_few job m p s n ran pp among =
         → (s < start.signal_phase) ⊎ (start.signal_phase ≤ s)
         → length (sent_in (m.history p) n s) ≤ 1
     put start turn xs sent (inl early) =
-        let none : length (sent_in (m.history p) n s) ≡ 0 = ap length (turn.below s early) in
-        omega arith
+        omega (arith, ap length (turn.below s early))
     put start turn xs sent (inr late) =
         let k = s - start.signal_phase in
         let is : length (sent_in (m.history p) n s) ≡ length (get_or (map one xs) k []) =
         ap length (turn.placed k s (omega arith) ∙ ap (λ l. get_or l k []) sent) in
-        let few : length (get_or (map one xs) k []) ≤ 1 = one_sent xs k in
-        omega arith
+        omega (arith, one_sent xs k)
 
     by : (t : ℕ) → t < length job.graph.tasks → m.number p t ≡ Some n → (o : Option ℕ)
         → index_in (signalled_by (task_at job.graph t)) p ≡ o
@@ -167,13 +154,10 @@ sent_few job m p s n ran pp among =
         (SentInTurn-of (limits_at job p) (m.history p) n on.start (ran.phasers p pp).legal
         on.start_is) (m.put t j) on.sent (cases_lt s on.start.signal_phase)
     by t there at None place =
-        let O : Option ℕ → Type 0 = λ o. OnPhaser job m t p o in
         let N : Option ℕ → Type 0 = λ o. SilentOn m p o in
         let silent : IsSilent (m.history p) n =
-        subst N at (subst O place ((ran.tasks t there).outputs p pp)) in
-        let none : length (sent_in (m.history p) n s) ≡ 0 =
-        ap length (sent_in-none (m.history p) n s silent.nothing) in
-        omega arith
+        subst N at (rw place at ((ran.tasks t there).outputs p pp)) in
+        omega (arith, ap length (sent_in-none (m.history p) n s silent.nothing))
 
 gathered_few : (h : History) (tasks : List ℕ) (s : ℕ)
     → ((n : ℕ) → is_in n tasks ≡ true → length (sent_in h n s) ≤ 1)
@@ -224,16 +208,12 @@ sends_few job m p s ran pp =
     (λ n stranger. ((ran.phasers p pp).strangers n stranger).nothing) in
     let sent : length (gathered h numbers s) ≤ length numbers =
     gathered_few h numbers s (λ n among. sent_few job m p s n ran pp among) in
-    let few : length numbers ≤ length job.graph.tasks = numbers_few job m p in
-    omega arith
+    omega (arith, numbers_few job m p)
   where
     exchanges : (front xs ys back : List ℤ)
         → length (front ++ (xs ++ (ys ++ back))) ≡ length (front ++ (ys ++ (xs ++ back)))
     exchanges front xs ys back =
         let a = length-append front (xs ++ (ys ++ back)) in
         let b = length-append xs (ys ++ back) in
-        let c = length-append ys back in
         let d = length-append front (ys ++ (xs ++ back)) in
-        let e = length-append ys (xs ++ back) in
-        let f = length-append xs back in
-        omega arith
+        omega (arith, length-append ys back, length-append ys (xs ++ back), length-append xs back)

@@ -48,9 +48,8 @@ module _ (job : Job) (before after : Moment) (t p n c a : ℕ) (u : Parent) (is 
 
   ends : (length (task_at job.graph c).inputs ≡ 1) × (length (task_at job.graph c).outputs ≡ 0)
   ends =
-      let E : Kind → Type 0 =
-      λ k. HasEnds k (length (task_at job.graph c).inputs) (length (task_at job.graph c).outputs) in
-      subst E kind line.ends
+      subst (λ (k : Kind). HasEnds k (length (task_at job.graph c).inputs) (length (task_at
+      job.graph c).outputs)) kind line.ends
 
   input_is : get_or (task_at job.graph c).inputs 0 0 ≡ p
   input_is = by s.on_line
@@ -60,11 +59,7 @@ module _ (job : Job) (before after : Moment) (t p n c a : ℕ) (u : Parent) (is 
           let plain : signalled_by (task_at job.graph c) ≡ (task_at job.graph c).outputs =
           plain_outputs job c (λ peer. (let wrong = sym kind ∙ peer in cc)) in
           let at = place-at (signalled_by (task_at job.graph c)) p on.0 on.1 in
-          let none : length (task_at job.graph c).outputs ≡ 0 = ends.1 in
-          let long : length (signalled_by (task_at job.graph c))
-          ≡ length (task_at job.graph c).outputs = ap length plain in
-          let lt = at.0 in
-          absurd (omega arith)
+          absurd (omega (arith, ends.1, ap length plain, at.0))
       by (inr on) =
           let one : length (task_at job.graph c).inputs ≡ 1 = ends.0 in
           let lt = on.1 in
@@ -229,9 +224,7 @@ module _ (job : Job) (before after : Moment) (t p n c a : ℕ) (u : Parent) (is 
           ap length
           (filter_map-same (after.number q) (before.number q) 0 (length job.graph.tasks)
           (λ x less. s.other_numbers q x (inl apart))) in
-          let was : length (members_of (before.history q))
-          ≤ length (numbers_on job before q) = few in
-          omega arith
+          omega (arith, few)
 
   join_members : HasRun job before → HasRun job after → HasTaskMembers job before
       → HasTaskMembers job after

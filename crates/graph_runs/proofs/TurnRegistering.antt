@@ -88,9 +88,7 @@ apart : (job : Job) (c k j p : ℕ) → IsGraph job.graph → c < length job.gra
     → k < length (task_at job.graph c).inputs → get_or (task_at job.graph c).inputs k 0 ≡ p
     → j < length (task_at job.graph c).outputs → get_or (task_at job.graph c).outputs j 0 ≡ p → ⊥
 apart job c k j p is there few at less on =
-    let below : get_or (task_at job.graph c).inputs k 0 < get_or (task_at job.graph c).outputs j 0 =
-    (is.tasks c there).in_order k 0 few j 0 less in
-    omega arith
+    omega (arith, (is.tasks c there).in_order k 0 few j 0 less)
 
 -- the phaser is on the line, and the mode is that of its use there
 pub record IsFor (job : Job) (c : ℕ) (r : Registration) : Type 0 where
@@ -109,10 +107,8 @@ for_input job c k is there plain lt = record {
   signals = λ j place.
       (let at = place-at (signalled_by (task_at job.graph c))
       (get_or (task_at job.graph c).inputs k 0) j place in
-      let long : length (signalled_by (task_at job.graph c))
-      ≡ length (task_at job.graph c).outputs = ap length plain in
       absurd (apart job c k j (get_or (task_at job.graph c).inputs k 0) is there lt refl
-      (omega arith) (sym (ap (λ qs. get_or qs j 0) plain) ∙ at.1)));
+      (omega (arith, ap length plain)) (sym (ap (λ qs. get_or qs j 0) plain) ∙ at.1)));
   waits = λ k lt at. refl;
 }
 
@@ -184,9 +180,8 @@ for_peer job c i is there peer lt =
     let all : registrations_at job c ≡ as_input (0, x) ∷ as_exchange job.graph e
     ∷ as_output (1, y) ∷ [] = rw peer refl in
     let outs : signalled_by task ≡ e ∷ y ∷ [] = rw peer refl in
-    let many : length (registrations_at job c) ≡ 3 = ap length all in
     subst (IsFor job c) (sym (ap (λ rs. get_or rs i no_registration) all))
-    (at i (omega arith) ends.0 ends.1 below outs)
+    (at i (omega (arith, ap length all)) ends.0 ends.1 below outs)
   where
     task : Task
     task = task_at job.graph c
@@ -253,13 +248,11 @@ for_peer job c i is there peer lt =
         ap (λ p. index_in (signalled_by (task_at job.graph c)) p)
             (sym (ap (λ qs. get_or qs 1 0) outs))
             ∙ place_of_output job.graph c (task_at job.graph c) 1 line
-            (let long : length (signalled_by (task_at job.graph c)) ≡ 2 = ap length outs in
-            omega arith),
+            (omega (arith, ap length outs)),
       );
       signals = λ j place. refl;
       waits = λ k few same.
-          (let less : get_or (task_at job.graph c).inputs k 0 < y = above k few one in
-          absurd (omega arith));
+          (absurd (omega (arith, above k few one)));
     }
     at (suc (suc (suc k))) lt two one below outs = absurd (omega arith)
 
@@ -310,21 +303,19 @@ due_child job m t c is due =
     let comes = comes-is t (m.begun t) (task_at job.graph c).parent parts.0 in
     let parent = parent-is job.graph c (task_at job.graph c) comes.by (is.tasks c found.1)
     comes.is in
-    let P : ℕ → Type 0 = λ x. has_children (task_at job.graph x).kind ≡ true in
     record {
       there = found.1;
       missing = parts.1;
       comes = comes;
       parent = parent;
-      parent_plain = subst P comes.task parent.kind;
+      parent_plain = rw comes.task at parent.kind;
     }
 
 -- a phaser on the child's line, and so on its parent's
 pub on_parents_line : (job : Job) (m : Moment) (t c p : ℕ) → IsGraph job.graph
     → IsDueChild job m t c → OnLine (task_at job.graph c) p → OnLine (task_at job.graph t) p
 on_parents_line job m t c p is d on =
-    let L : ℕ → Type 0 = λ x. OnLine (task_at job.graph x) p in
-    subst L d.comes.task (on_parent job c p d.comes.by is d.there d.comes.is on)
+    rw d.comes.task at (on_parent job c p d.comes.by is d.there d.comes.is on)
 
 -- ---- the event
 
@@ -335,16 +326,13 @@ pub sink_mode : (job : Job) (c i : ℕ) → IsGraph job.graph → c < length job
 sink_mode job c i is there kind lt =
     let task = task_at job.graph c in
     let line = is.tasks c there in
-    let E : Kind → Type 0 = λ k. HasEnds k (length task.inputs) (length task.outputs) in
-    let ends : (length task.inputs ≡ 1) × (length task.outputs ≡ 0) = subst E kind line.ends in
+    let ends : (length task.inputs ≡ 1) × (length task.outputs ≡ 0) = rw kind at line.ends in
     let same : registrations_at job c ≡ ends_of task =
     registrations-plain job.graph task (λ peer. (let wrong = sym kind ∙ peer in cc)) in
     let long : length (registrations_at job c) ≡ length task.inputs + length task.outputs =
     length-registrations job.graph task line.ends in
-    let inputs : length task.inputs ≡ 1 = ends.0 in
-    let outputs : length task.outputs ≡ 0 = ends.1 in
     ap (λ rs. (get_or rs i no_registration).mode) same
-    ∙ ap (λ r. r.mode) (end-input task i (omega arith))
+    ∙ ap (λ r. r.mode) (end-input task i (omega (arith, ends.0, ends.1)))
 
 -- the child that is due is the next one, where the phaser accepts it in this mode
 next_child : (job : Job) (m : Moment) (t c : ℕ) (r : Registration) (mode : Mode)
@@ -358,9 +346,8 @@ next_child : (job : Job) (m : Moment) (t c : ℕ) (r : Registration) (mode : Mod
 next_child job m t c r mode is ran to_come live none d missing accepts same =
     let f = find-some (λ x. not (has_registered m c x)) (registrations_at job c) r
     no_registration missing in
-    let For : Registration → Type 0 = λ x. IsFor job c x in
     let use_of : IsFor job c r =
-    subst For f.1.2 (is_for job c f.1.0 is d.there f.1.1) in
+    rw f.1.2 at (is_for job c f.1.0 is d.there f.1.1) in
     let p = r.phaser in
     let above : OnLine (task_at job.graph t) p =
     on_parents_line job m t c p is d use_of.on_line in (

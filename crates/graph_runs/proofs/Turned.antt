@@ -42,8 +42,7 @@ prefix_next xs ys v a lt e = by a.0 a.1
   where
     by : (rest : List ℤ) → xs ++ rest ≡ ys → IsPrefix (xs ++ v ∷ []) ys
     by [] is =
-        absurd (let l : length xs + 0 ≡ length ys = sym (length-append xs []) ∙ ap length is in
-        omega arith)
+        absurd (omega (arith, sym (length-append xs []) ∙ ap length is))
     by (r ∷ rs) is =
         let here : r ≡ v = sym (seam xs r rs) ∙ ap (λ l. get_or l (length xs) (pos 0)) is ∙ e in (
           rs,
@@ -103,9 +102,6 @@ next_signal_is job m t j p n v s ran =
     made_still job m after t j (λ k. refl) still in
     let lt : j < length (signalled_by (task_at job.graph t)) =
     (place-at (signalled_by (task_at job.graph t)) p j s.signal.place).0 in
-    let A : List ℤ → Type 0 = λ l. IsPrefix l (made_now job after t j) in
-    let B : List ℤ → Type 0 = λ l. IsPrefix (m.put t j ++ v ∷ []) l in
-    let X : ℕ → Type 0 = λ c. HasExchanged (task_at job.graph t).kind j c (length (m.taken t 1)) in
     record {
       moved = moved_signal job m t j p n v (m.begun t) s.signal (omega arith);
       numbered = s.signal.numbered;
@@ -115,10 +111,10 @@ next_signal_is job m t j p n v s ran =
       put = put;
       other_puts = λ i apart. put_else job m t j p n v (m.begun t) i apart;
       begun = inr still;
-      made = subst A (sym put)
-          (subst B (sym made)
+      made = rw put
+          (rw made
           (prefix_next (m.put t j) (made_now job m t j) v (ran.puts j lt) s.few s.entry));
-      exchanged = subst X (sym (ap length put ∙ one_longer (m.put t j) v)) s.exchanged;
+      exchanged = rw (ap length put ∙ one_longer (m.put t j) v) s.exchanged;
     }
 
 pub next_signal_keeps : (job : Job) (m : Moment) (t j p n : ℕ) (v : ℤ) → IsGraph job.graph
@@ -141,27 +137,21 @@ next_sample_is job m t j p n v s ran =
     let put = put_now job m t j p n v (suc b) in
     let lt : j < length (signalled_by (task_at job.graph t)) =
     (place-at (signalled_by (task_at job.graph t)) p j s.signal.place).0 in
-    let H : Kind → Type 0 = λ kind. HasSamples kind (suc b) (length samples) in
-    let few : suc b ≤ length samples = subst H s.source s.may_begin.samples in
+    let few : suc b ≤ length samples = rw s.source at s.may_begin.samples in
     let before_is : made_now job m t j ≡ take b samples =
     source_makes (task_at job.graph t).kind s.source b (taken_now m (task_at job.graph t) t) in
     let after_is : made_now job after t j ≡ take (suc b) samples =
     source_makes (task_at job.graph t).kind s.source (after.begun t)
     (taken_now after (task_at job.graph t) t) ∙ ap (λ n. take n samples) now in
-    let P : List ℤ → Type 0 = λ l. IsPrefix (m.put t j) l in
     let begins : IsPrefix (m.put t j) (take (suc b) samples) =
     IsPrefix-trans (m.put t j) (take b samples) (take (suc b) samples)
-    (subst P before_is (ran.puts j lt))
+    (rw before_is at (ran.puts j lt))
     (take_prefix b (suc b) samples (omega arith)) in
     let long : length (take (suc b) samples) ≡ suc b = take_full (suc b) samples few in
     let all : length (m.put t j) ≡ b = s.all_put in
     let entry : get_or (take (suc b) samples) (length (m.put t j)) (pos 0) ≡ v =
     ap (λ i. get_or (take (suc b) samples) i (pos 0)) all
     ∙ get_or-take samples (suc b) b (pos 0) (omega arith) ∙ s.sample in
-    let A : List ℤ → Type 0 = λ l. IsPrefix l (made_now job after t j) in
-    let B : List ℤ → Type 0 = λ l. IsPrefix (m.put t j ++ v ∷ []) l in
-    let X : Kind → Type 0 =
-    λ kind. HasExchanged kind j (length (after.put t j)) (length (after.taken t 1)) in
     record {
       moved = moved_signal job m t j p n v (suc b) s.signal (omega arith);
       numbered = s.signal.numbered;
@@ -171,10 +161,10 @@ next_sample_is job m t j p n v s ran =
       put = put;
       other_puts = λ i apart. put_else job m t j p n v (suc b) i apart;
       begun = inl (s.source, now, s.may_begin);
-      made = subst A (sym put)
-          (subst B (sym after_is)
+      made = rw put
+          (rw after_is
           (prefix_next (m.put t j) (take (suc b) samples) v begins (omega arith) entry));
-      exchanged = subst X (sym s.source) tt;
+      exchanged = rw s.source tt;
     }
   where
     source_makes : (kind : Kind) → (task_at job.graph t).kind ≡ Source
@@ -368,9 +358,7 @@ next_child_is job m t p n c a mode u s =
         ap (λ f. f x) (at_other p (with_at c (Some a) (m.number p)) m.number q apart)
     other q x (inl apart) (inl same) = absurd (apart same)
     other q x (inr apart) (inl same) =
-        let N : ℕ → Type 0 =
-        λ y. with_at p (with_at c (Some a) (m.number p)) m.number y x ≡ m.number y x in
-        subst N (sym same)
+        rw same
         (ap (λ f. f x) (at_same p (with_at c (Some a) (m.number p)) m.number)
         ∙ at_other c (Some a) (m.number p) x apart)
 

@@ -22,8 +22,7 @@ turn-within m j n k lt turn =
     div-add-mod' (n + (m - 1 - j)) m in
     let under : (k + 1) * m ≤ (n + (m - 1 - j)) / m * m =
     mul-le (k + 1) m ((n + (m - 1 - j)) / m) m (omega arith) (omega arith) in
-    let next : (k + 1) * m ≡ k * m + m = row k m in
-    omega arith
+    omega (arith, row k m)
 
 -- a step is a turn of its input
 pub turn-taken : (m i b : ℕ) → 0 < m → i < b → i / m < turns_below m (i % m) b
@@ -44,8 +43,7 @@ turns-before m k b v lt le =
     div-add-mod' (b + (m - 1 - k)) m in
     let rest : (b + (m - 1 - k)) % m < m = mod_below (b + (m - 1 - k)) m some in
     let more : q * m ≤ v * m = mul-le q m v m le (omega arith) in
-    let turned : m * v ≡ v * m = mul_comm m v in
-    omega arith
+    omega (arith, mul_comm m v)
 
 -- the input that step b waits for has run out by then, where it has no more values than its turns
 pub turns-after : (m b v : ℕ) → 0 < m → v ≤ turns_below m (b % m) b → b % m + m * v ≤ b
@@ -58,8 +56,7 @@ turns-after m b v some le =
     div-add-mod' (b + (m - 1 - r)) m in
     let low : q ≤ b / m = below q (b / m) m (omega arith) in
     let more : v * m ≤ b / m * m = mul-le v m (b / m) m (omega arith) (omega arith) in
-    let turned : m * v ≡ v * m = mul_comm m v in
-    omega arith
+    omega (arith, mul_comm m v)
   where
     below : (q p m : ℕ) → q * m < p * m + m → q ≤ p
     below q p m lt = by (cases_lt p q)
@@ -68,5 +65,4 @@ turns-after m b v some le =
         by (inr le) = le
         by (inl more) =
             let over : (p + 1) * m ≤ q * m = mul-le (p + 1) m q m (omega arith) (omega arith) in
-            let next : (p + 1) * m ≡ p * m + m = row p m in
-            absurd (omega arith)
+            absurd (omega (arith, row p m))

@@ -42,9 +42,7 @@ waiter job m t k is ran live few there stays =
 
     on : OnInput job m t k p n
     on =
-        let N : Option ℕ → Type 0 = λ o. TakenOn job m t k p o in
-        subst N (number_there job m t p is live (inr (k, few, refl)))
-        ((ran.tasks t live.there).inputs k few)
+        rw (number_there job m t p is live (inr (k, few, refl))) at ((ran.tasks t live.there).inputs k few)
 
     by : (o : Option Entry) → entry_of (members_of h) n ≡ o → Waiter job m t k
     by (Some e) found = record {

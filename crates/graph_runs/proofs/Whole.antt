@@ -51,8 +51,7 @@ pub parent_registered : (m : Moment) (t : ℕ) (now : Bool) (parent : Option Par
     → Joined m t now parent → parent ≡ Some u → IsRegistered m u.task
 parent_registered m t now None u j e = absurd (cc)
 parent_registered m t now (Some v) u j e =
-    let same : v ≡ u = same_Some _ _ e in let P : Parent → Type 0 = λ w. IsRegistered m w.task in
-    subst P same j.2
+    let same : v ≡ u = same_Some _ _ e in rw same at j.2
 
 pub parent_of : (job : Job) (t : ℕ) (u : Parent) → IsGraph job.graph → t < length job.graph.tasks
     → (task_at job.graph t).parent ≡ Some u
@@ -135,9 +134,7 @@ puts_short job m t j line ran plain lt =
     let made : length (made_now job m t j) ≡ puts_on task (m.begun t) j =
     length_made (samples_at job t) task (taken_now m task t) (m.begun t) j line.ends lt ran.samples
     (λ k below looks. now_counts job m t line ran k below looks) in
-    let few : puts_on task (m.begun t) j ≡ m.begun t =
-    puts-few task (m.begun t) j line.ends plain in
-    omega arith
+    omega (arith, puts-few task (m.begun t) j line.ends plain)
 
 -- some other holds its first phase
 pub awaited : (job : Job) (m : Moment) → IsReadyAt job m → HasRun job m → (p : ℕ)
@@ -152,10 +149,8 @@ awaited job m ready ran p pp standing zero t j below there place absent live out
     absurd (omega arith)
 awaited job m ready ran p pp standing (suc fuel) t j below there place absent live out =
     let r : TaskRan job m t = ran.tasks t there in
-    let P : Option ℕ → Type 0 = λ o. OnPhaser job m t p o in
-    let on : PutOn job m t j p (m.number p t) = subst P place (r.outputs p pp) in
-    let A : Option ℕ → Type 0 = λ o. PutOn job m t j p o in
-    let gone : IsChild (task_at job.graph t).parent = subst A absent on in
+    let on : PutOn job m t j p (m.number p t) = rw place at (r.outputs p pp) in
+    let gone : IsChild (task_at job.graph t).parent = rw absent at on in
     by ((task_at job.graph t).parent) refl gone (spans_all job t ready.graph there)
     (λ u e n live_u.
     (let ip : IsParent job.graph t (task_at job.graph t) u =
@@ -199,14 +194,11 @@ awaited job m ready ran p pp standing (suc fuel) t j below there place absent li
             → IsAwaited (m.history p) ((span_in job t).offset, out)
         number_case None none fp i at there_u ru short up =
             let rec : IsAwaited (m.history p) ((span_in job u.task).offset, out) = up none in
-            let low : done_of (m.history p) ≤ (span_in job u.task).offset = rec.later in
-            let begins : (span_in job u.task).offset + u.at ≤ (span_in job t).offset = fp.at in
-            record { later = omega arith; held = rec.held }
+            record { later = omega (arith, rec.later, fp.at); held = rec.held }
         number_case (Some n) some fp i at there_u ru short up =
             let st : Stands job m u.task = standing u.task i there_u at (p, n, some) in
             let P : Option ℕ → Type 0 = λ o. OnPhaser job m u.task p o in
-            let A : Option ℕ → Type 0 = λ o. PutOn job m u.task i p o in
-            let on : OnOutput job m u.task i p n = subst A some (subst P at (ru.outputs p pp)) in
+            let on : OnOutput job m u.task i p n = rw some at (subst P at (ru.outputs p pp)) in
             drop_case (has_dropped (m.history p) n) refl
             (ru.children t p n u there e refl some absent (inl (j, place))) fp i
             (short (place-at (signalled_by (task_at job.graph u.task)) p i at).0) st on
@@ -216,11 +208,7 @@ awaited job m ready ran p pp standing (suc fuel) t j below there place absent li
                 → Stands job m u.task → OnOutput job m u.task i p n
                 → IsAwaited (m.history p) ((span_in job t).offset, out)
             drop_case true left a fp i short st on =
-                let same : m.begun u.task ≡ (span_in job u.task).steps =
-                st.ended (on.left left).may_end in
-                let early : m.begun u.task < u.at = a.ended left in
-                let comes : u.at ≤ (span_in job u.task).steps = fp.comes in
-                absurd (omega arith)
+                absurd (omega (arith, st.ended (on.left left).may_end, a.ended left, fp.comes))
             drop_case false stays a fp i short st on =
                 let h = m.history p in
                 let legal = (ran.phasers p pp).legal in
@@ -281,17 +269,13 @@ compose_one job m ready ran p pp above =
         → (o : Option ℕ) → m.number p t ≡ o → At job m p t place o
     at t there None is None none = tt
     at t there None is (Some n) some =
-        let P : Option ℕ → Type 0 = λ o. OnPhaser job m t p o in
-        let A : Option ℕ → Type 0 = λ o. SilentOn m p o in
-        subst A some (subst P is ((ran.tasks t there).outputs p pp))
+        rw some at (rw is at ((ran.tasks t there).outputs p pp))
     at t there (Some j) is None none = λ live.
         awaited job m ready ran p pp standing (suc t) t j (omega arith) there is none live
         (output_on job (schedule_of job) (numbers_of job) t j)
     at t there (Some j) is (Some n) some =
-        let P : Option ℕ → Type 0 = λ o. OnPhaser job m t p o in
-        let A : Option ℕ → Type 0 = λ o. PutOn job m t j p o in
         let st : Stands job m t = standing t j there is (p, n, some) in (
-          subst A some (subst P is ((ran.tasks t there).outputs p pp)),
+          rw some at (rw is at ((ran.tasks t there).outputs p pp)),
           st,
           puts_from job m t j ready.graph there (ran.tasks t there) st
               (place-at (signalled_by (task_at job.graph t)) p j is).0
@@ -358,14 +342,10 @@ over_ended job m ready ran over t there r = by ((ran.tasks t there).lines r.0 r.
     by : OnLine (task_at job.graph t) r.0 → HasEnded job m t
     by (inl out) =
         let pp : r.0 < length job.graph.phasers = on_phaser job t r.0 ready.graph there (inl out) in
-        let O : Option ℕ → Type 0 = λ o. OnPhaser job m t r.0 o in
-        let N : Option ℕ → Type 0 = λ o. PutOn job m t out.0 r.0 o in
         let on : OnOutput job m t out.0 r.0 r.1 =
-        subst N r.2 (subst O out.1 ((ran.tasks t there).outputs r.0 pp)) in
+        rw r.2 at (rw out.1 at ((ran.tasks t there).outputs r.0 pp)) in
         on.left gone
     by (inr into) =
-        let T : ℕ → Type 0 = λ q. TakenOn job m t into.0 q (m.number q t) in
-        let N : Option ℕ → Type 0 = λ o. TakenOn job m t into.0 r.0 o in
         let on : OnInput job m t into.0 r.0 r.1 =
-        subst N r.2 (subst T into.2 ((ran.tasks t there).inputs into.0 into.1)) in
+        rw r.2 at (rw into.2 at ((ran.tasks t there).inputs into.0 into.1)) in
         on.left gone

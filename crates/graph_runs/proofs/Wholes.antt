@@ -138,12 +138,10 @@ module _ (job : Job) (ends : Ends) (is : IsGraph job.graph) (r : IsRunEnd job en
         let other = r.parents t u end has e in
         let begun : m.begun u.task ≡ other.0.begun =
         begun_there job ends is r u.task other.0 other.1 in
-        let at : o.begun u.task ≡ u.at = own.own.parent u e in
-        let enough : u.at ≤ other.0.begun = other.2 in
         let stays : (task_at job.graph u.task).joins_now ≡ false =
         (parent_of job t u is there e).stays in (
           offset_of_parent u other.0 other.1 stays ∙ sym (own.own.above u e),
-          omega arith,
+          omega (arith, own.own.parent u e, other.2),
           λ was. registered_there job ends is r u.task other.0 other.1,
         )
 
@@ -174,7 +172,7 @@ module _ (job : Job) (ends : Ends) (is : IsGraph job.graph) (r : IsRunEnd job en
       child : (u : Option Parent) → (task_at job.graph t).parent ≡ u
           → IsChild (task_at job.graph t).parent
       child None f = let root = r.roots t there f in absurd (never root.0 root.1)
-      child (Some u) f = let C : Option Parent → Type 0 = λ x. IsChild x in subst C (sym f) tt
+      child (Some u) f = rw f tt
 
   ran_by : (t : ℕ) → t < length job.graph.tasks → (s : Status job ends t) → status job ends is r t ≡ s
       → TaskRan job (own_by s) t
@@ -228,8 +226,7 @@ module _ (job : Job) (ends : Ends) (is : IsGraph job.graph) (r : IsRunEnd job en
   met_none : HasMetNone job m
   met_none p t n pp there at =
       let g = is_numbered job ends is r t p n at in
-      let A : List Outcome → Type 0 = λ l. All (λ outcome. is_too_big outcome ≡ false) l in
-      subst A (sym ((part t p n g).received (value_at job p))) (g.own.own.met_none p n g.numbered)
+      rw ((part t p n g).received (value_at job p)) (g.own.own.met_none p n g.numbered)
 
   -- ---- its lines
 
@@ -312,8 +309,5 @@ answer_at_end job ends ready r =
           (sink_is (task_at job.graph t).kind e)))));
       began = begins_at job ends ready.graph r ready;
       in_time = λ t start there e.
-          (let L : List ℕ → Type 0 =
-          λ lengths. start ≤ get_or lengths (get_or (task_at job.graph t).inputs 0 0) 0 in
-          subst L (lengths_stay job (starts_at_end job ends ready.graph r) ready.graph)
-          (start_in_time (started job m) m t start ready_now ran_now over_now there e));
+          (rw (lengths_stay job (starts_at_end job ends ready.graph r) ready.graph) at (start_in_time (started job m) m t start ready_now ran_now over_now there e));
     }

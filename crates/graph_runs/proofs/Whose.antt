@@ -46,7 +46,7 @@ pub record IsMadeBy (job : Job) (m : Moment) (t : ℕ) (event : TaskEvent) : Typ
 made_is : (job : Job) (m : Moment) (t : ℕ) (made event : TaskEvent) → made ≡ event
     → IsMadeBy job m t made → IsMadeBy job m t event
 made_is job m t made event same is =
-    let P : TaskEvent → Type 0 = λ e. IsMadeBy job m t e in subst P same is
+    rw same at is
 
 pub made_next : (job : Job) (m : Moment) (t : ℕ) (event : TaskEvent) (next : Next)
     → answer_to job m t next ≡ makes event → IsMadeBy job m t event

@@ -58,8 +58,7 @@ pub some_at-split : (test : Word → Bool) (xs : List (Bor Word)) (n : ℕ)
     → some_at test (plain xs) ≡ Some (plain (take n xs), plain (drop n xs))
 unfolding some_at
 some_at-split test xs n counted some =
-    let P : ℕ → Type 0 = λ m. (m == 0) ≡ false in
-    let there : (prefix_len test (plain xs) == 0) ≡ false = subst P counted (ne_eqb n 0 some) in
+    let there : (prefix_len test (plain xs) == 0) ≡ false = rw counted at (ne_eqb n 0 some) in
     let fronts : plain (take n xs) ≡ take (prefix_len test (plain xs)) (plain xs) =
     sym (take-map (λ x. x.now) n xs) ∙ ap (λ m. take m (plain xs)) counted in
     let behind : plain (drop n xs) ≡ drop (prefix_len test (plain xs)) (plain xs) =

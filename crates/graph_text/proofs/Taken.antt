@@ -119,8 +119,7 @@ by_word word sign ws x one other takes others e = at (bytes_eq word sign) refl e
     at : (is : Bool) → bytes_eq word sign ≡ is → (if is then one else other) ≡ Some x
         → TakesFunction (word ∷ ws) (Some x)
     at true is found =
-        let P : Word → Type 0 = λ w. TakesFunction (w ∷ ws) (Some x) in
-        subst P (sym (same word sign is)) (takes found)
+        rw (same word sign is) (takes found)
     at false is found = others found
 
 function_takes : (ws : List Word) (x : Found FunctionWords) → function_at ws ≡ Some x
@@ -406,8 +405,7 @@ by_kind kind sign ws x one other takes others e = at (bytes_eq kind sign) refl e
     at : (is : Bool) → bytes_eq kind sign ≡ is → (if is then one else other) ≡ Some x
         → TakesBody kind ws (Some x)
     at true is found =
-        let P : Word → Type 0 = λ k. TakesBody k ws (Some x) in
-        subst P (sym (same kind sign is)) (takes found)
+        rw (same kind sign is) (takes found)
     at false is found = others found
 
 body_takes : (kind : Word) (ws : List Word) (x : Found BodyWords) → body_at kind ws ≡ Some x
@@ -472,6 +470,5 @@ line_takes version (kind ∷ ws) d e = at (bytes_eq kind (codes "phaser")) refl 
         → (if is then phaser_at ws else task_at version kind ws) ≡ Some d
         → Spells version (kind ∷ ws) d
     at true is found =
-        let P : Word → Type 0 = λ k. Spells version (k ∷ ws) d in
-        subst P (sym (same kind (codes "phaser") is)) (phaser_takes version ws d found)
+        rw (same kind (codes "phaser") is) (phaser_takes version ws d found)
     at false is found = task_takes version kind ws d found

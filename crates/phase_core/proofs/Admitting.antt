@@ -52,8 +52,7 @@ module _ {A : Type 0} {op : Operation A} {reg : Roster} {b : Board A} {task : �
       within =
           let some = passed.some in
           let far = block_far b.limits slowest b.ring held single e some row in
-          let most = phases_most m.core.stands in
-          omega arith
+          omega (arith, phases_most m.core.stands)
 
       pub admitted : (h : History) (sends : List (List ℤ)) → StandsFor op (core_of reg b) h → StandForLists op held sends
           → signal_refusal b.limits h task sends single ≡ None

@@ -8,11 +8,13 @@ use Rattle.phase_registry.specs.phase_base.declared.limits.TheConstants.{MEMBERS
 use Rattle.phase_registry.specs.phase_base.Members.{Members, entry_of, signal_phases, wait_phases, least}
 use Rattle.phase_history.specs.phase_accum.Operations.{Operation}
 use Rattle.phase_history.specs.Refusals.{is_ahead}
+use Rattle.phase_registry.specs.Rosters.{Roster}
+use Rattle.phase_ring.specs.declared.board.Board.{Board}
 use Rattle.phase_ring.specs.Rings.{Ring, standing}
 use Rattle.phase_ring.specs.declared.role.Role.TheVariants.{Signaller, Waiter}
 use Rattle.phase_ring.proofs.Slots.{standing-out}
 use Rattle.phase_ring.specs.Standings.{count_of}
-use Rattle.phase_core.specs.Cores.{IsBoarded}
+use Rattle.phase_core.specs.Cores.{IsBoarded, IsCore}
 use Rattle.phase_core.proofs.LeastCounts.{least_by_counts, done_by_counts, two_counts, signal_phases-few, wait_phases-few, signaller-counted, waiter-counted}
 
 -- ---- whether a waiter is registered
@@ -40,6 +42,20 @@ waits-some ms task e found waits none =
     nobody : (xs : List ℕ) (p : ℕ) → length xs ≡ 0 → 0 < count_of p xs → ⊥
     nobody [] p none some = omega arith
     nobody (x ∷ xs) p none some = omega arith
+
+-- the board of a core agrees with the members while the number of those that wait is not 0
+pub boarded_while : {A : Type 0} {op : Operation A} {reg : Roster} {b : Board A} {n : ℕ}
+    → IsCore op reg b → n ≡ length (wait_phases reg.members) → (n ≡ 0 → ⊥)
+    → IsBoarded op reg.members b.ring b.limits.bound b.done b.top
+boarded_while {reg = reg} core count some =
+    boarded_of (wait_phases reg.members) core.boarded (λ none. some (count ∙ none))
+
+-- and where a member waits
+pub boarded_beside : {A : Type 0} {op : Operation A} {reg : Roster} {b : Board A} (task : ℕ)
+    {e : Entry} → IsCore op reg b → entry_of reg.members task ≡ Some e → mode_waits e.mode ≡ true
+    → IsBoarded op reg.members b.ring b.limits.bound b.done b.top
+boarded_beside {reg = reg} task {e = e} core found waits =
+    boarded_of (wait_phases reg.members) core.boarded (waits-some reg.members task e found waits)
 
 -- ---- the slowest waiter, and done
 

@@ -37,8 +37,7 @@ pub none_from_top : (limits : Limits) (h : History) (p : ℕ) → IsLegal limits
     → (sends_of_phase h p ≡ []) × (named_in_phase h p ≡ None)
 none_from_top limits [] p legal past = absurd legal
 none_from_top limits (Made task ∷ before) p legal past =
-    let P : History → Type 0 = λ b. (sends_of_phase (Made task ∷ b) p ≡ []) × (named_in_phase (Made task ∷ b) p ≡ None) in
-    subst P (sym legal.1) (refl, refl)
+    rw legal.1 (refl, refl)
 none_from_top limits (Registered parent child mode ∷ before) p legal past = none_from_top limits before p legal.0 past
 none_from_top limits (RegisteredNow parent child ∷ before) p legal past = none_from_top limits before p legal.0 past
 none_from_top limits (Signalled task lists single ∷ before) p legal past =

@@ -200,8 +200,7 @@ registers_alone {A} op reg new_reg b h parent child mode e stands alone a reg_is
     let stands_now : StandsFor op (core_of want b) (event ∷ h) =
     joined_stands op reg b.limits b.ring b.ring b.top h parent child mode e stands a
     (λ slowest p slot waiter behind is. absurd (none_some slowest (sym (ap least left) ∙ waiter))) in
-    let J : Roster → Type 0 = λ r. Joined op r b (event ∷ h) in
-    subst J (sym reg_is) (record {
+    rw reg_is (record {
       stands = stands_now;
       holds = record { history = event ∷ h; stands = stands_now; boarded = inl left; used = refl };
     })
@@ -218,26 +217,20 @@ pub stands_beside : {A : Type 0} (op : Operation A) (ms : Members) (r : Ring A) 
     → 0 < standing r role (phase_for role (entry_at mode e.signal_phase e.wait_phase))
 stands_beside op ms r bound done top parent mode e b found held Signaller takes =
     let some = signaller-counted ms parent e found (holds_signals e.mode mode held takes) in
-    let t = b.signallers_are e.signal_phase in
-    omega arith
+    omega (arith, b.signallers_are e.signal_phase)
 stands_beside op ms r bound done top parent mode e b found held Waiter takes =
     let some = waiter-counted ms parent e found (holds_waits e.mode mode held takes) in
-    let t = b.waiters_are e.wait_phase in
-    omega arith
+    omega (arith, b.waiters_are e.wait_phase)
 
 -- there is room for one more at each phase
 pub room_for_one : {A : Type 0} (op : Operation A) (reg : Roster) (r : Ring A) (bound done top child : ℕ)
     → IsBoarded op reg.members r bound done top → add_refusal reg child ≡ None
     → (role : Role) (p : ℕ) → standing r role p < MEMBERS_MAX
 room_for_one op reg r bound done top child b none Signaller p =
-    let room = (addable_from reg.members reg.greatest child none).room in
     let few = count_of-few p (signal_phases reg.members) in
-    let all = signal_phases-few reg.members in
-    let t = b.signallers_are p in
-    omega arith
-room_for_one op reg r bound done top child b none Waiter p =
     let room = (addable_from reg.members reg.greatest child none).room in
+    omega (arith, signal_phases-few reg.members, b.signallers_are p)
+room_for_one op reg r bound done top child b none Waiter p =
     let few = count_of-few p (wait_phases reg.members) in
-    let all = wait_phases-few reg.members in
-    let t = b.waiters_are p in
-    omega arith
+    let room = (addable_from reg.members reg.greatest child none).room in
+    omega (arith, wait_phases-few reg.members, b.waiters_are p)

@@ -81,11 +81,10 @@ signallers-signalled (m ∷ ms) task p by e found signals =
           let same : m.entry ≡ e = same_Some _ _ f in
           let mode : mode_signals m.entry.mode ≡ true = ap (λ (x : Entry). mode_signals x.mode) same ∙ signals in
           let s : m.entry.signal_phase ≡ e.signal_phase = ap (λ (x : Entry). x.signal_phase) same in
-          let S : ℕ → Type 0 = λ k. (one_if_same (k + by) p + count_of p (signal_phases ms)) + one_if_same e.signal_phase p ≡ (one_if_same k p + count_of p (signal_phases ms)) + one_if_same (e.signal_phase + by) p in
           let B : Bool → Type 0 = λ b.
           count_of p (map (λ (x : Member). x.entry.signal_phase) (cond b (member m.task (signalled by m.entry) ∷ filter (λ (x : Member). mode_signals x.entry.mode) ms) (filter (λ (x : Member). mode_signals x.entry.mode) ms))) + one_if_same e.signal_phase p
           ≡ count_of p (map (λ (x : Member). x.entry.signal_phase) (cond b (m ∷ filter (λ (x : Member). mode_signals x.entry.mode) ms) (filter (λ (x : Member). mode_signals x.entry.mode) ms))) + one_if_same (e.signal_phase + by) p in
-          subst B (sym mode) (subst S (sym s) (omega arith))
+          subst B (sym mode) (rw s (omega arith))
       | false ↦ λ f.
           let rest = signallers-signalled ms task p by e f signals in
           elim (mode_signals m.entry.mode) as (λ b.
@@ -109,11 +108,10 @@ waiters-waited (m ∷ ms) task p by e found waits =
           let same : m.entry ≡ e = same_Some _ _ f in
           let mode : mode_waits m.entry.mode ≡ true = ap (λ (x : Entry). mode_waits x.mode) same ∙ waits in
           let s : m.entry.wait_phase ≡ e.wait_phase = ap (λ (x : Entry). x.wait_phase) same in
-          let S : ℕ → Type 0 = λ k. (one_if_same (k + by) p + count_of p (wait_phases ms)) + one_if_same e.wait_phase p ≡ (one_if_same k p + count_of p (wait_phases ms)) + one_if_same (e.wait_phase + by) p in
           let B : Bool → Type 0 = λ b.
           count_of p (map (λ (x : Member). x.entry.wait_phase) (cond b (member m.task (waited by m.entry) ∷ filter (λ (x : Member). mode_waits x.entry.mode) ms) (filter (λ (x : Member). mode_waits x.entry.mode) ms))) + one_if_same e.wait_phase p
           ≡ count_of p (map (λ (x : Member). x.entry.wait_phase) (cond b (m ∷ filter (λ (x : Member). mode_waits x.entry.mode) ms) (filter (λ (x : Member). mode_waits x.entry.mode) ms))) + one_if_same (e.wait_phase + by) p in
-          subst B (sym mode) (subst S (sym s) (omega arith))
+          subst B (sym mode) (rw s (omega arith))
       | false ↦ λ f.
           let rest = waiters-waited ms task p by e f waits in
           elim (mode_waits m.entry.mode) as (λ b.

@@ -83,10 +83,8 @@ drops_core {A} op reg new_reg b new h task e stands boarded used rising found re
     kept_slots reg want b.limits b.ring new.ring b.top b.top p slot slots (omega arith) is) in
     let core_is : core_of want new ≡ core_with want b.limits new.ring b.top =
     ap (λ l. core_with want l new.ring new.top) limits_is ∙ ap (λ t. core_with want b.limits new.ring t) top_is in
-    let S : CoreState A → Type 0 = λ k. StandsFor op k (event ∷ h) in
-    let stands_now : StandsFor op (core_of want new) (event ∷ h) = subst S (sym core_is) there in
-    let J : Roster → Type 0 = λ r. Joined op r new (event ∷ h) in
-    subst J (sym reg_is) (record {
+    let stands_now : StandsFor op (core_of want new) (event ∷ h) = rw core_is there in
+    rw reg_is (record {
       stands = stands_now;
       holds = record { history = event ∷ h; stands = stands_now; boarded = inr now; used = used };
     })
@@ -106,10 +104,8 @@ drops_alone {A} op reg new_reg b new h task e stands used found reg_is alone lim
     (λ slowest p slot waiter behind is. absurd (none_some slowest (sym (ap least left) ∙ waiter))) in
     let core_is : core_of want new ≡ core_with want b.limits new.ring b.top =
     ap (λ l. core_with want l new.ring new.top) limits_is ∙ ap (λ t. core_with want b.limits new.ring t) top_is in
-    let S : CoreState A → Type 0 = λ k. StandsFor op k (event ∷ h) in
-    let stands_now : StandsFor op (core_of want new) (event ∷ h) = subst S (sym core_is) there in
-    let J : Roster → Type 0 = λ r. Joined op r new (event ∷ h) in
-    subst J (sym reg_is) (record {
+    let stands_now : StandsFor op (core_of want new) (event ∷ h) = rw core_is there in
+    rw reg_is (record {
       stands = stands_now;
       holds = record { history = event ∷ h; stands = stands_now; boarded = inl left; used = used };
     })
@@ -121,8 +117,7 @@ drops_alone {A} op reg new_reg b new h task e stands used found reg_is alone lim
 pub none_left : (ms : Members) (task : ℕ) (e : Entry) → AreRising ms → entry_of ms task ≡ Some e
     → length (wait_phases ms) ≡ 0 → length (wait_phases (without task ms)) ≡ 0
 none_left ms task e rising found none =
-    let less = waiters-without ms task e rising found in
-    omega arith
+    omega (arith, waiters-without ms task e rising found)
 
 -- ---- what the board asks
 
@@ -131,13 +126,9 @@ pub stands_there : {A : Type 0} (op : Operation A) (ms : Members) (r : Ring A) (
     → IsBoarded op ms r bound done top → entry_of ms task ≡ Some e
     → (role : Role) → takes_part role e ≡ true → 0 < standing r role (phase_for role e)
 stands_there op ms r bound done top task e b found Signaller takes =
-    let some = signaller-counted ms task e found takes in
-    let t = b.signallers_are e.signal_phase in
-    omega arith
+    omega (arith, signaller-counted ms task e found takes, b.signallers_are e.signal_phase)
 stands_there op ms r bound done top task e b found Waiter takes =
-    let some = waiter-counted ms task e found takes in
-    let t = b.waiters_are e.wait_phase in
-    omega arith
+    omega (arith, waiter-counted ms task e found takes, b.waiters_are e.wait_phase)
 
 -- where a waiter is left, one stands beside the member that leaves
 pub waiter_left : {A : Type 0} (op : Operation A) (ms : Members) (r : Ring A) (bound done top task : ℕ) (e : Entry)

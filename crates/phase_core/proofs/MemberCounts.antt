@@ -53,9 +53,7 @@ pub counts-without : (role : Role) (p : ℕ) (ms : Members) (task : ℕ) (e : En
     ≡ count_of p (phases_of role ms)
 counts-without role p ms task e rising found =
     let less = weigh-without (λ x. counted role x p) ms task e (AreApart-from_rising ms rising) found in
-    let before = counts-weigh role p ms in
-    let after = counts-weigh role p (without task ms) in
-    omega arith
+    omega (arith, counts-weigh role p ms, counts-weigh role p (without task ms))
 
 -- the number of waiters, after one member leaves
 pub waiters-without : (ms : Members) (task : ℕ) (e : Entry) → AreRising ms
@@ -73,9 +71,7 @@ waiters-without ms task e rising found =
 pub count_of-few : (p : ℕ) (xs : List ℕ) → count_of p xs ≤ length xs
 count_of-few p [] = omega arith
 count_of-few p (x ∷ xs) =
-    let rest = count_of-few p xs in
-    let one = at_most x p in
-    omega arith
+    omega (arith, count_of-few p xs, at_most x p)
   where
     at_most : (m n : ℕ) → one_if_same m n ≤ 1
     at_most m n = elim (eqb m n) as (λ b. cond b 1 0 ≤ 1) [ true ↦ omega arith | false ↦ omega arith ]

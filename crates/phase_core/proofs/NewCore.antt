@@ -44,8 +44,7 @@ made_core {A} op reg b first reg_is are kept done top base standing_is =
       signallers_are = λ p. (let s = standing_is Signaller p in omega arith);
       waiters_are = λ p. (let s = standing_is Waiter p in omega arith);
     } in
-    let S : Roster → Type 0 = λ r. IsNew op r b first in
-    subst S (sym reg_is) (record {
+    rw reg_is (record {
       stands = there;
       holds = record { history = Made first ∷ []; stands = there; boarded = inr boarded; used = refl };
     })

@@ -71,8 +71,7 @@ kept_slots {A} reg reg' limits r new top top' p slot keeps low is =
     let old : slot_at (sents r) p ≡ Some (sent at.at) = slice_get-map sent r.slots (p - r.base) ∙ ap (option_map sent) at.found in
     let there : slot_at (sents new) p ≡ Some (sent at.at) = keeps p (sent at.at) low old in
     let m = option_map-some sent (slot_at new p) (sent at.at) (sym (slice_get-map sent new.slots (p - new.base)) ∙ there) in
-    let I : KeptSlot A → Type 0 = λ y. IsSlotOf (core_with reg' limits new top') p y in
-    subst I (ap sent_of m.2 ∙ at.is_sent) (slot_of reg' limits new top' p m.0 low m.1)
+    rw (ap sent_of m.2 ∙ at.is_sent) at (slot_of reg' limits new top' p m.0 low m.1)
 
 -- ---- sends that join
 
@@ -98,10 +97,9 @@ slot_keeps {A} op reg limits r done top p h slot stands b low found =
     let u : IsUnused op slot = b.kept.unused p slot low found above in
     let t : top ≡ top_of h = stands.top_is in
     let nothing = none_from_top limits h p stands.legal (omega arith) in
-    let S : List ℤ → Type 0 = λ l. IsPartOf op slot.part l in
     let none : IsPartOf op slot.part [] = record { is = u.part_is; are_sends = tt; few = omega arith } in
     record {
-      part_is = subst S (sym nothing.0) none;
+      part_is = rw nothing.0 none;
       count_is = u.count_is ∙ ap length (sym nothing.0);
       named_is = u.named_is ∙ sym nothing.1;
     })

@@ -105,8 +105,7 @@ signal_stands {A} op laws reg new_reg b new h task e held lists single stands bo
     let core_is : core_of new_reg new ≡ core_with want b.limits new.ring top =
     ap (λ r. core_with r new.limits new.ring new.top) reg_is ∙ ap (λ l. core_with want l new.ring new.top) limits_is
     ∙ ap (λ t. core_with want b.limits new.ring t) top_is in
-    let S : CoreState A → Type 0 = λ k. StandsFor op k (event ∷ h) in
-    subst S (sym core_is) there
+    subst (λ (k : CoreState A). StandsFor op k (event ∷ h)) (sym core_is) there
 
 pub block_boarded : {A : Type 0} (op : Operation A) (reg new_reg : Roster) (b new : Board A) (task n : ℕ) (e : Entry)
     → IsBoarded op reg.members b.ring b.limits.bound b.done b.top
@@ -158,9 +157,7 @@ block_alone {A} op reg new_reg limits r top new_top h task e held lists single s
       top_is = ap (λ t. max t (s + n)) stands.top_is ∙ ap (λ k. max (top_of h) (s + k)) (sym len) ∙ ap (λ p. max (top_of h) (p + length lists)) (sym at_phase);
       phases_are = λ slowest p waiter behind below. absurd (none_least slowest (sym (ap least none_waits) ∙ waiter));
     } in
-    let S : Roster → Type 0 = λ x. StandsFor op (core_with x limits r (max top (s + n))) (Signalled task lists single ∷ h) in
-    let T : ℕ → Type 0 = λ t. StandsFor op (core_with new_reg limits r t) (Signalled task lists single ∷ h) in
-    subst T (sym top_is) (subst S (sym reg_is) there)
+    rw top_is (rw reg_is there)
   where
     none_least : (n : ℕ) → least [] ≡ Some n → ⊥
     none_least n e = absurd (cc)
@@ -176,8 +173,7 @@ pub block_alone_on : {A : Type 0} (op : Operation A) (reg new_reg : Roster) (b n
 block_alone_on {A} op reg new_reg b new h task e held lists single stands alone found none holds can reg_is limits_is ring_is top_is =
     let core_is : core_of new_reg new ≡ core_with new_reg b.limits b.ring new.top =
     ap (λ l. core_with new_reg l new.ring new.top) limits_is ∙ ap (λ r. core_with new_reg b.limits r new.top) ring_is in
-    let S : CoreState A → Type 0 = λ k. StandsFor op k (Signalled task lists single ∷ h) in
-    subst S (sym core_is) (block_alone op reg new_reg b.limits b.ring b.top new.top h task e held lists single
+    rw core_is (block_alone op reg new_reg b.limits b.ring b.top new.top h task e held lists single
     stands alone found none holds can reg_is top_is)
 
 pub waits_none_block : (reg new_reg : Roster) (task n : ℕ) → wait_phases reg.members ≡ []
@@ -217,5 +213,4 @@ block_ready op ms r bound done top task n e b found few signals some =
 
 pub used_after : (reg new_reg : Roster) (ms : Members) → IsSome reg.greatest → new_reg ≡ roster ms reg.greatest → IsSome new_reg.greatest
 used_after reg new_reg ms used reg_is =
-    let U : Roster → Type 0 = λ r. IsSome r.greatest in
-    subst U (sym reg_is) used
+    rw reg_is used

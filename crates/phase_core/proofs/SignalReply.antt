@@ -122,12 +122,9 @@ block_far_off op core h task n e stands found few =
     let found_h : entry_of (members_of h) task ≡ Some e = (rw (← stands.members_are) found) in
     let sound : IsSound h = sound_of core.limits h stands.legal in
     let good : StandsWell (done_of h) (top_of h) (greatest_used h) (member task e) = Each-entry _ (members_of h) task e found_h sound in
-    let low = good.below in
     let limits = limits_of core.limits h stands.legal in
-    let bound = limits.bound_most in
-    let most = limits.phases_most in
     let top = top_within core.limits h stands.legal in
-    omega arith
+    omega (arith, good.below, limits.bound_most, limits.phases_most)
 
 -- what is known of a block that meets no refusal, while a waiter is registered
 pub record BlockTaken {A : Type 0} (op : Operation A) (reg : Roster) (b : Board A) (e : Entry) (held : List (Parcel A)) (single : Option Single) : Type 0 where
@@ -146,8 +143,7 @@ block_taken {A} op reg b task e held single waiters slowest either count others 
     let boarded = boarded_of (wait_phases reg.members) either (λ z. others (count ∙ z)) in
     let ready = block_ready op reg.members b.ring b.limits.bound b.done b.top task (length held) e boarded found few signals some in
     let at = slowest_is op reg.members b.ring b.limits.bound b.done b.top boarded in
-    let B : Option ℕ → Type 0 = λ o. first_row (block_rows b.limits o b.ring held single e) ≡ None in
-    let row_b : first_row (block_rows b.limits (Some b.ring.base) b.ring held single e) ≡ None = subst B (slow ∙ at) row in
+    let row_b : first_row (block_rows b.limits (Some b.ring.base) b.ring held single e) ≡ None = rw (slow ∙ at) at row in
     record {
       boarded = boarded;
       ready = ready;

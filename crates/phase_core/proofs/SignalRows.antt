@@ -369,9 +369,8 @@ pub held_next : {A : Type 0} (op : Operation A) (lists : List (Parcel A)) (held 
     → ((rest : List (List ℤ)) → StandForLists op (drop i lists) rest → W) → i < length lists → held ≡ slice_index_or lists i held → StandsForSends op held sends
     → (rest : List (List ℤ)) → StandForLists op (drop (i + 1) lists) rest → W
 held_next {A} op lists held sends i W whole inside is holds rest more =
-    let L : List (Parcel A) → Type 0 = λ xs. StandForLists op xs (sends ∷ rest) in
     let all : StandForLists op (held ∷ drop (i + 1) lists) (sends ∷ rest) = (holds, more) in
-    whole (sends ∷ rest) (subst L (ap (λ x. x ∷ drop (i + 1) lists) is ∙ sym (drop_more lists i held inside)) all)
+    whole (sends ∷ rest) (rw (← (ap (λ x. x ∷ drop (i + 1) lists) is ∙ sym (drop_more lists i held inside))) all)
 
 pub drop-past : {X : Type 0} (xs : List X) (i : ℕ) → length xs ≤ i → drop i xs ≡ []
 drop-past [] zero past = refl

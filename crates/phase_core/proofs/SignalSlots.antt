@@ -32,8 +32,7 @@ keeps-same : {A : Type 0} (op : Operation A) (r : Ring A) (sends sends' : ℕ �
     → RingKeeps op r sends named → ((p : ℕ) → sends p ≡ sends' p) → ((p : ℕ) → named p ≡ named' p) → RingKeeps op r sends' named'
 keeps-same {A} op r sends sends' named named' k same same_name p slot low found =
     let x = k p slot low found in
-    let S : List ℤ → Type 0 = λ l. IsPartOf op slot.part l in
-    record { part_is = subst S (same p) x.part_is; count_is = x.count_is ∙ ap length (same p); named_is = x.named_is ∙ same_name p }
+    record { part_is = rw (same p) at x.part_is; count_is = x.count_is ∙ ap length (same p); named_is = x.named_is ∙ same_name p }
 
 here-list : (sends : List ℤ) (q : ℕ) → list_in_phase (sends ∷ []) q q ≡ sends
 here-list sends q = ap (λ b. cond b sends []) (eq-eqb q q refl)
@@ -62,17 +61,13 @@ keeps-joined {A} op laws r q held list single sends named slot k w found holds f
     changes (λ p s. HasSends op s (sends p) (named p)) (λ p s. HasSends op s (sends p ++ list_in_phase (list ∷ []) q p) (first_named (named p) (is_among q 1 p) single))
     r q slot (joined op held single slot) w found k
     (λ p s apart x.
-    let S : List ℤ → Type 0 = λ l. HasSends op s (sends p ++ l) (first_named (named p) (is_among q 1 p) single) in
-    let T : List ℤ → Type 0 = λ l. HasSends op s l (first_named (named p) (is_among q 1 p) single) in
-    let N : Option (Option Single) → Type 0 = λ n. HasSends op s (sends p) n in
-    subst S (sym (away-list list q p apart)) (subst T (sym (append-nil (sends p))) (subst N (sym (away-named (named p) _ single (away-among q p apart))) x)))
+    rw (away-list list q p apart) (rw (append-nil (sends p)) (rw (away-named (named p) _ single (away-among q p apart)) x)))
     (λ x.
-    let S : List ℤ → Type 0 = λ l. HasSends op (joined op held single slot) (sends q ++ l) (first_named (named q) (is_among q 1 q) single) in
     let few = few_joined slot held.count single fits in
     let a : slot.count ≡ length (sends q) = x.count_is in
     let b : held.count ≡ length list = holds.count_is in
     let c : length (sends q ++ list) ≡ length (sends q) + length list = length-append _ _ in
-    subst S (sym (here-list list q)) (record {
+    rw (here-list list q) (record {
       part_is = IsPartOf-join op slot.part held.part (sends q) list laws x.part_is holds.part_is (omega arith);
       count_is = (let d : slot.count + held.count ≡ length (sends q ++ list) = omega arith in d);
       named_is = first_same slot.named single ∙ ap (λ n. first_named n true single) x.named_is ∙ sym (ap (λ j. first_named (named q) j single) (here-among q));
@@ -103,8 +98,7 @@ keeps-block {A} op laws r q (x ∷ held) (l ∷ lists) single sends named k low 
     let long = length-set-slots r q y in
     let all = keeps-block op laws r1 (q + 1) held lists single (λ p. sends p ++ list_in_phase (l ∷ []) q p) (λ p. first_named (named p) (is_among q 1 p) single)
     one (omega arith) (omega arith) holds.1 (fits-later r q (q + 1) y held single low (omega arith) fits.1) in
-    let R : Ring A → Type 0 = λ t. RingKeeps op t (λ p. sends p ++ list_in_phase (l ∷ lists) q p) (λ p. first_named (named p) (is_among q (suc (length lists)) p) single) in
-    subst R (sym (ap (λ o. block_joined op (q + 1) held single (joined_in op q x single r o)) slot.1))
+    rw (ap (λ o. block_joined op (q + 1) held single (joined_in op q x single r o)) slot.1)
     (keeps-same op (block_joined op (q + 1) held single r1) _ (λ p. sends p ++ list_in_phase (l ∷ lists) q p) _ (λ p. first_named (named p) (is_among q (suc (length lists)) p) single) all
     (λ p. append_assoc (sends p) (list_in_phase (l ∷ []) q p) (list_in_phase lists (q + 1) p) ∙ ap (λ z. sends p ++ z) (sym (list_in_phase-first l lists q p)))
     (λ p. sym (ap (λ b. first_named (named p) b single) (is_among-first q (length lists) p)

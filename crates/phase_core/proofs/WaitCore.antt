@@ -23,16 +23,18 @@ use Rattle.phase_ring.specs.declared.role.Role.TheVariants.{Signaller, Waiter}
 use Rattle.phase_ring.specs.Slots.{Slot, slot_value}
 use Rattle.phase_ring.specs.Rings.{slot_at, standing, sents, KeepsSlots}
 use Rattle.phase_ring.specs.Standings.{one_if_same, count_of}
-use Rattle.phase_ring.specs.Boards.{IsRingAt}
+use Rattle.phase_ring.specs.Boards.{IsRingAt, IsBoard}
+use Rattle.phase_ring.specs.Calls.{HasWaited}
 use Rattle.phase_ring.proofs.Slots.{slot_at-some}
 use Rattle.phase_ring.proofs.Kept.{standing-within}
-use Rattle.phase_core.specs.Cores.{CoreState, StandsFor, IsBoarded, sent_of, core_of, core_with}
+use Rattle.phase_core.specs.Cores.{CoreState, StandsFor, IsBoarded, IsCore, sent_of, core_of, core_with}
 use Rattle.phase_core.proofs.CoreSteps.{waits_stands, kept_value}
 use Rattle.phase_core.proofs.LeastCounts.{waiters-waited, two_counts, wait_phases-few, waiter-counted}
 use Rattle.phase_core.proofs.Boarded.{boarded_of, waits-some, slowest_is, ReadyToWait, ready_to_wait}
 use Rattle.phase_core.proofs.NewCore.{done_of_boarded}
 use Rattle.phase_core.proofs.Replies.{wait_reply_is, got_value, got_ended}
 use Rattle.phase_core.proofs.RingSlots.{kept_slots, slot_keeps}
+use Rattle.phase_core.proofs.SignalCore.{used_after}
 use Rattle.std.proofs.lemmas.Bool.{lt-ltb, le-ltb}
 use Rattle.phase_history.proofs.Steps.{member_entry_is}
 use Rattle.phase_ring.specs.Blocks.{value_at, value_in, block_values}
@@ -150,8 +152,7 @@ stands_waited {A} op reg new_reg b new h task n e w stands found boarded none co
           same_Some _ _ (sym waiter ∙ slowest_is op new_reg.members new.ring new.limits.bound new.done new.top boarded) in
           kept_slots reg new_reg b.limits b.ring new.ring b.top new.top p slot keeps (omega arith) is;
     }) in
-    let S : CoreState A → Type 0 = λ k. StandsFor op k (Waited task n ∷ h) in
-    subst S (sym (ap (λ l. core_with new_reg l new.ring new.top) limits_is)) there
+    rw (ap (λ l. core_with new_reg l new.ring new.top) limits_is) there
 
 -- ---- the reply
 
@@ -218,8 +219,7 @@ few_by op reg b task n e boarded found few waits some =
     let here = boarded.waiters_are e.wait_phase in
     let next = boarded.waiters_are (e.wait_phase + n) in
     let two = two_counts (wait_phases reg.members) e.wait_phase (e.wait_phase + n) (λ q. omega arith) in
-    let most = wait_phases-few reg.members in
-    omega arith
+    omega (arith, wait_phases-few reg.members)
 
 -- what was got is in range, and has its places
 pub block_in_range : {A : Type 0} (op : Operation A) (laws : AccumulateLaws op) (limits : Limits) (h : History) (task phase count : ℕ)
@@ -237,5 +237,66 @@ block_in_range op laws limits h task phase count result old new legal reply out 
     let many = t.count_is in
     let got_long : count ≤ length got = omega (arith, length-take (phase + count - phase) (drop phase xs), length-drop phase xs) in
     let front : take count new ≡ take count got = ap (take count) new_is ∙ take-append-le count got (drop count old) got_long in
-    let P : List Outcome → Type 0 = λ l. All IsInRange l in
-    (omega arith, subst P (sym front) (All-take IsInRange count got (All-take IsInRange (phase + count - phase) (drop phase xs) (All-drop IsInRange phase xs (stream_of-in_range op laws limits h legal)))))
+    (omega arith, rw front (All-take IsInRange count got (All-take IsInRange (phase + count - phase) (drop phase xs) (All-drop IsInRange phase xs (stream_of-in_range op laws limits h legal)))))
+
+-- ---- a member that waits
+
+-- a core's member that waits, and whether a signaller is alive
+pub record Awaits {A : Type 0} (op : Operation A) (reg : Roster) (b : Board A) (task : ℕ) (e : Entry)
+    (has_signaller : Bool) : Type 0 where
+  pub core : IsCore op reg b
+  pub found : entry_of reg.members task ≡ Some e
+  pub few : length reg.members ≤ MEMBERS_MAX
+  pub waits : mode_waits e.mode ≡ true
+  pub has : has_signaller ≡ is_some (least (signal_phases reg.members))
+
+module _ {A : Type 0} {op : Operation A} {reg : Roster} {b : Board A} {task : ℕ} {e : Entry}
+    {has_signaller : Bool} (m : Awaits op reg b task e has_signaller)
+  where
+    pub here : Waiting op reg b e
+    here = waiting op reg b task e m.core.boarded m.found m.few m.waits
+
+    pub room_behind : (n : ℕ) → 0 < n → standing b.ring Waiter (e.wait_phase + n) < MEMBERS_MAX
+    room_behind n some = few_by op reg b task n e here.boarded m.found m.few m.waits some
+
+    pub one_replied : (h : History) (r : Option WaitRefusal) → StandsFor op (core_of reg b) h
+        → r ≡ first_row (plain_wait_rows b.limits b.done has_signaller e)
+        → (wait_refusal b.limits h task 1 ≡ r)
+        × (wait_reply op.value b.limits h task ≡ refused_or r (got_at op.value h e.wait_phase))
+    one_replied h r stands row =
+        waits_reply op reg b h task e has_signaller r here stands m.found m.has row
+
+    pub block_replied : (h : History) (n : ℕ) (r : Option WaitRefusal) → StandsFor op (core_of reg b) h
+        → r ≡ first_row (wait_rows_at b.limits b.done has_signaller n e)
+        → (wait_refusal b.limits h task n ≡ r)
+        × (wait_block_reply b.limits h task n ≡ refused_or r (got_block_at h e.wait_phase n))
+    block_replied h n r stands row =
+        wait_block_is op reg b h task n e has_signaller r here stands m.found m.has row
+
+    -- what a wait over so many complete phases leaves
+    module _ (new_reg : Roster) (new : Board A) (n : ℕ) (complete : e.wait_phase + n ≤ b.done)
+        (reg_is : new_reg ≡ roster (changed_at task (waited n) reg.members) reg.greatest)
+        (left : HasWaited e.wait_phase (e.wait_phase + n) b new)
+        (slots : KeepsSlots (sents b.ring) (sents new.ring)) (kept : IsBoard op new)
+        (stops : 0 < standing new.ring Waiter new.ring.base)
+      where
+        boarded_after : IsBoarded op new_reg.members new.ring new.limits.bound new.done new.top
+        boarded_after =
+            boarded_waited op reg new_reg b new task n e here.boarded m.found m.waits reg_is
+            left.keeps.done left.keeps.top left.moves.moved left.moves.others kept stops
+
+        pub stands_after_wait : (h : History) → StandsFor op (core_of reg b) h
+            → wait_refusal b.limits h task n ≡ None
+            → StandsFor op (core_of new_reg new) (Waited task n ∷ h)
+        stands_after_wait h stands none =
+            stands_waited op reg new_reg b new h task n e here stands m.found boarded_after none complete
+            reg_is left.keeps.limits left.keeps.top slots
+
+        pub core_after_wait : wait_refusal b.limits m.core.history task n ≡ None
+            → IsCore op new_reg new
+        core_after_wait none = record {
+          history = Waited task n ∷ m.core.history;
+          stands = stands_after_wait m.core.history m.core.stands none;
+          boarded = inr boarded_after;
+          used = used_after reg new_reg (changed_at task (waited n) reg.members) m.core.used reg_is;
+        }

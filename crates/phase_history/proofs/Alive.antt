@@ -29,9 +29,8 @@ joined before child task x some limits legal new_number known =
       | true ↦ λ t.
           let same : child ≡ task = eqb-true _ _ t in
           let above : greatest_used before < task = omega arith in
-          let P : ℕ → Type 0 = λ n. entry_of (members_of before ++ member n x ∷ []) task ≡ Some x in
           let found : entry_of (members_of before ++ member child x ∷ []) task ≡ Some x =
-          subst P (sym same) (entry_of-push_new (members_of before) task x (fresh before task (sound_of limits before legal) above)) in
+          rw same (entry_of-push_new (members_of before) task x (fresh before task (sound_of limits before legal) above)) in
           ap is_some found ∙ sym (ap not (unused (λ sends. Empty) limits before task legal (start_of-above before task above)).stays)
       | false ↦ λ t. ap is_some (entry_of-push_other (members_of before) child task x t) ∙ known
     ] refl
@@ -40,9 +39,7 @@ alive_is : (limits : Limits) (h : History) (task : ℕ) → IsLegal limits h
     → is_some (entry_of (members_of h) task) ≡ (is_some (start_of h task) && not (has_dropped h task))
 alive_is limits [] task legal = absurd legal
 alive_is limits (Made founding ∷ before) task legal =
-    let P : History → Type 0 = λ b. is_some (entry_of (members_of (Made founding ∷ b)) task)
-    ≡ (is_some (start_of (Made founding ∷ b) task) && not (has_dropped (Made founding ∷ b) task)) in
-    subst P (sym legal.1)
+    rw legal.1
     (elim (eqb founding task) as (λ b. is_some (cond b (Some founder) None) ≡ (is_some (cond b (Some founder) None) && true)) [
       | true ↦ refl
       | false ↦ refl

@@ -33,8 +33,7 @@ wait_refusal-fewer limits h task n k none some fewer =
 pub asked_some : (limits : Limits) (h : History) (task n : ℕ) → wait_refusal limits h task n ≡ None → 1 ≤ n
 asked_some limits h task n none =
     let p : Passes (entry_of (members_of h) task) (wait_rows limits (positions_of h) n) = passes_from _ _ _ none in
-    let no_zero : n ≡ 0 → ⊥ = eqb-false n 0 (or_false (eqb n 0) (ltb limits.bound n) p.passes.1.0).0 in
-    omega arith
+    omega (arith, eqb-false n 0 (or_false (eqb n 0) (ltb limits.bound n) p.passes.1.0).0)
 
 -- what the reply to a wait for a block tells
 pub record BlockTells (limits : Limits) (h : History) (task n phase count : ℕ) : Type 0 where

@@ -40,8 +40,7 @@ not_ahead : (limits : Limits) (h : History) (lists : List (List ℤ)) (single : 
     → e.signal_phase ≤ slowest + limits.bound → e.signal_phase + length lists ≤ slowest + limits.bound
 not_ahead limits h [] single e slowest waiter each low = omega arith
 not_ahead limits h (sends ∷ lists) single e slowest waiter each low =
-    let A : Option ℕ → Type 0 = λ o. is_ahead o limits.bound e.signal_phase ≡ false in
-    let ahead : leb (slowest + limits.bound) e.signal_phase ≡ false = subst A waiter each.1.1.0 in
+    let ahead : leb (slowest + limits.bound) e.signal_phase ≡ false = rw waiter at each.1.1.0 in
     let here : e.signal_phase < slowest + limits.bound = leb-false _ _ ahead in
     let rest : (e.signal_phase + 1) + length lists ≤ slowest + limits.bound =
     not_ahead limits h lists single (signalled 1 e) slowest waiter each.1.1.1.1.1 (omega arith) in
@@ -89,7 +88,7 @@ slowest_ahead bound p ms slowest each some =
 bounded_step : (limits : Limits) (before : History) (event : Event) → IsLegal limits before → IsAccepted limits before event
     → IsBounded limits before → IsBounded limits (event ∷ before)
 bounded_step limits before (Made task) legal accepted bounded =
-    let P : History → Type 0 = λ l. IsLegal limits l in absurd (subst P accepted.1 legal)
+    absurd (rw accepted.1 at legal)
 bounded_step limits before (Registered parent child mode) legal accepted bounded =
     let r = registers_from before parent child mode accepted in
     let is : member_entry (members_of before) parent ≡ r.entry = member_entry_is (members_of before) parent r.entry r.is_member in
@@ -104,8 +103,7 @@ bounded_step limits before (RegisteredNow parent child) legal accepted bounded =
     Each-entry _ (members_of before) parent r.entry r.is_member (sound_of limits before legal) in
     Each-push _ (members_of before) _ bounded
     (λ w. (let t : mode_waits r.entry.mode ≡ true = holds_waits r.entry.mode Wait r.allowed refl in
-    let a : top_of before ≤ r.entry.wait_phase + limits.bound = own t in
-    let b : r.entry.wait_phase ≤ done_of before = good.waits t in omega arith))
+    omega (arith, own t, good.waits t)))
 bounded_step limits before (Signalled task lists single) legal accepted bounded =
     let ms = members_of before in
     let p : Passes (entry_of ms task) (signal_rows limits before lists single) = passes_from _ _ _ accepted.0 in
@@ -121,8 +119,7 @@ bounded_step limits before (Signalled task lists single) legal accepted bounded 
     not_ahead limits before lists single p.entry slowest some p.passes.1.1.1 (omega arith))) in
     let both : Each (WithinBound limits.bound (top_of (Signalled task lists single ∷ before))) ms =
     Each-both (WithinBound limits.bound (top_of before)) (WithinBound limits.bound (p.entry.signal_phase + length lists)) (WithinBound limits.bound (top_of (Signalled task lists single ∷ before)))
-    (λ m a b w. (let x : top_of before ≤ m.entry.wait_phase + limits.bound = a w in
-    let y : p.entry.signal_phase + length lists ≤ m.entry.wait_phase + limits.bound = b w in omega arith)) ms bounded ahead in
+    (λ m a b w. (omega (arith, a w, b w))) ms bounded ahead in
     Each-changed _ _ task (signalled (length lists)) p.entry ms p.is_member (λ m h. h) (λ h. h) both
 bounded_step limits before (Waited task n) legal accepted bounded =
     let r = waits_from limits before task n accepted.0 in
@@ -176,7 +173,7 @@ one_phase limits h (sends ∷ lists) single e waits each low high =
 turns_step : (limits : Limits) (before : History) (event : Event) → IsLegal limits before → IsAccepted limits before event
     → Each TakesTurns (members_of before) → Each TakesTurns (members_of (event ∷ before))
 turns_step limits before (Made task) legal accepted turns =
-    let P : History → Type 0 = λ l. IsLegal limits l in absurd (subst P accepted.1 legal)
+    absurd (rw accepted.1 at legal)
 turns_step limits before (Registered parent child mode) legal accepted turns =
     let r = registers_from before parent child mode accepted in
     let is : member_entry (members_of before) parent ≡ r.entry = member_entry_is (members_of before) parent r.entry r.is_member in

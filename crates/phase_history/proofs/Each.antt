@@ -87,6 +87,4 @@ pub least_or_top : (xs : List ℕ) (t : ℕ) → Each (λ x. x ≤ t) xs → unw
 least_or_top [] t each = omega arith
 least_or_top (x ∷ xs) t each =
     let low : Each (λ y. lesser x (least xs) ≤ y) (x ∷ xs) = least_or_low (x ∷ xs) t in
-    let a : lesser x (least xs) ≤ x = low.0 in
-    let b : x ≤ t = each.0 in
-    omega arith
+    omega (arith, low.0, each.0)

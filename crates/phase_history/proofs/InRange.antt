@@ -38,7 +38,7 @@ AreSends-list_in_phase (l ∷ lists) s p are =
 pub AreSends-sends_of_phase : (limits : Limits) (h : History) (p : ℕ) → IsLegal limits h → AreSends (sends_of_phase h p)
 AreSends-sends_of_phase limits [] p legal = tt
 AreSends-sends_of_phase limits (Made task ∷ before) p legal =
-    let P : History → Type 0 = λ b. AreSends (sends_of_phase b p) in subst P (sym legal.1) tt
+    rw legal.1 tt
 AreSends-sends_of_phase limits (Registered parent child mode ∷ before) p legal = AreSends-sends_of_phase limits before p legal.0
 AreSends-sends_of_phase limits (RegisteredNow parent child ∷ before) p legal = AreSends-sends_of_phase limits before p legal.0
 AreSends-sends_of_phase limits (Signalled task lists single ∷ before) p legal =
@@ -63,7 +63,7 @@ first_named-can None false single first can = tt
 named_in_phase-can : (limits : Limits) (h : History) (p : ℕ) → IsLegal limits h → FirstCanBeNamed (named_in_phase h p)
 named_in_phase-can limits [] p legal = tt
 named_in_phase-can limits (Made task ∷ before) p legal =
-    let P : History → Type 0 = λ b. FirstCanBeNamed (named_in_phase b p) in subst P (sym legal.1) tt
+    rw legal.1 tt
 named_in_phase-can limits (Registered parent child mode ∷ before) p legal = named_in_phase-can limits before p legal.0
 named_in_phase-can limits (RegisteredNow parent child ∷ before) p legal = named_in_phase-can limits before p legal.0
 named_in_phase-can limits (Signalled task lists single ∷ before) p legal =

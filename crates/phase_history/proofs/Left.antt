@@ -37,8 +37,7 @@ of_member value limits h task e start legal found waits start_is =
     let same : c.start ≡ start = same_Some _ _ (sym c.start_is ∙ start_is) in
     let at : c.start.wait_phase + phases_waited h task ≡ e.wait_phase = c.waits in
     let low : e.wait_phase ≤ done_of h = good.waits waits in
-    let G : Entry → Type 0 = λ x. HasGot value h task x in
-    subst G same (record { complete = omega arith; received = c.received waits })
+    rw (← same) (record { complete = omega arith; received = c.received waits })
 
 -- an event that is none of the task's waits leaves it
 onward : (value : List ℤ → Outcome) (before : History) (event : Event) (task : ℕ) (start : Entry) → Steps before event
@@ -68,17 +67,14 @@ onward value before event task start step g waited_same received_same =
 began : (before : History) (child task : ℕ) (x : Entry) → IsSound before → greatest_used before < child → child ≡ task
     → entry_of (members_of before ++ member child x ∷ []) task ≡ Some x
 began before child task x sound above same =
-    let P : ℕ → Type 0 = λ n. entry_of (members_of before ++ member child x ∷ []) n ≡ Some x in
-    subst P same (entry_of-push_new (members_of before) child x (fresh before child sound above))
+    rw (← same) (entry_of-push_new (members_of before) child x (fresh before child sound above))
 
 has_got : (value : List ℤ → Outcome) (limits : Limits) (h : History) (task : ℕ) (start : Entry) → IsLegal limits h
     → start_of h task ≡ Some start → mode_waits start.mode ≡ true → HasGot value h task start
 has_got value limits [] task start legal start_is waits = absurd legal
 has_got value limits (Made founding ∷ before) task start legal start_is waits =
-    let P : History → Type 0 = λ b. HasGot value (Made founding ∷ b) task start in
     let legal_alone : IsLegal limits (Made founding ∷ []) = (legal.0, refl) in
-    subst P (sym legal.1)
-    (elim (eqb founding task) as (λ b. (eqb founding task ≡ b) → (cond b (Some founder) None ≡ Some start) → HasGot value (Made founding ∷ []) task start) [
+    rw (← legal.1) at (elim (eqb founding task) as (λ b. (eqb founding task ≡ b) → (cond b (Some founder) None ≡ Some start) → HasGot value (Made founding ∷ []) task start) [
       | true ↦ λ t s.
           let found : entry_of (member founding founder ∷ []) task ≡ Some founder = ap (λ b. cond b (Some founder) None) t in
           let is : start_of (Made founding ∷ []) task ≡ Some start = ap (λ b. cond b (Some founder) None) t ∙ s in
@@ -95,8 +91,7 @@ has_got value limits (Registered parent child mode ∷ before) task start legal 
           let is : x ≡ start = same_Some _ _ s in
           let found = began before child task x sound r.new_number (eqb-true _ _ t) in
           let at_start : start_of (event ∷ before) task ≡ Some start = ap (λ b. cond b (Some x) (start_of before task)) t ∙ s in
-          let W : Entry → Type 0 = λ y. mode_waits y.mode ≡ true in
-          of_member value limits (event ∷ before) task x start legal found (subst W (sym is) waits) at_start
+          of_member value limits (event ∷ before) task x start legal found (rw (← is) at waits) at_start
       | false ↦ λ t s.
           onward value before event task start (steps limits before event legal.0 sound legal.1)
           (has_got value limits before task start legal.0 s waits) refl refl
@@ -124,9 +119,8 @@ has_got value limits (Waited waiter n ∷ before) task start legal start_is wait
     let r : WaitsNow before waiter = waits_from limits before waiter n legal.1.0 in
     elim (eqb waiter task) as (λ b. (eqb waiter task ≡ b) → HasGot value (event ∷ before) task start) [
       | true ↦ λ t.
-          let P : ℕ → Type 0 = λ m. entry_of (members_of (event ∷ before)) m ≡ Some (waited n r.entry) in
           let found : entry_of (members_of (event ∷ before)) task ≡ Some (waited n r.entry) =
-          subst P (eqb-true _ _ t) (entry_of-changed_same waiter (waited n) r.entry (members_of before) r.is_member) in
+          rw (← (eqb-true _ _ t)) (entry_of-changed_same waiter (waited n) r.entry (members_of before) r.is_member) in
           of_member value limits (event ∷ before) task (waited n r.entry) start legal found r.waits start_is
       | false ↦ λ t.
           onward value before event task start (steps limits before event legal.0 (sound_of limits before legal.0) legal.1)
@@ -155,8 +149,7 @@ pub length-received : (value : List ℤ → Outcome) (limits : Limits) (h : Hist
     → IsLegal limits h → length (received_by value h task) ≡ phases_waited h task
 length-received value limits [] task legal = absurd legal
 length-received value limits (Made founding ∷ before) task legal =
-    let P : History → Type 0 = λ b. length (received_by value b task) ≡ phases_waited b task in
-    subst P (sym legal.1) refl
+    rw legal.1 refl
 length-received value limits (Registered parent child mode ∷ before) task legal =
     length-received value limits before task legal.0
 length-received value limits (RegisteredNow parent child ∷ before) task legal =
@@ -183,8 +176,6 @@ length-received value limits (Waited waiter n ∷ before) task legal =
           let rest : length (drop w xs) ≡ length xs - w = length-drop w xs in
           let whole : length (take n (drop w xs)) ≡ n =
           length-take-le n (drop w xs) (omega arith) in
-          let both : length (got ++ take n (drop w xs)) ≡ length got + length (take n (drop w xs)) =
-          length-append got (take n (drop w xs)) in
-          omega arith
+          omega (arith, length-append got (take n (drop w xs)))
       | false ↦ λ t. earlier
     ] refl

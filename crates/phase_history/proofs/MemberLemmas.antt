@@ -21,9 +21,7 @@ Each-entry P (m ∷ ms) task e found each =
       | true ↦ λ t f.
           let number : m.task ≡ task = eqb-true _ _ t in
           let entry : m.entry ≡ e = same_Some _ _ f in
-          let Q : ℕ → Type 0 = λ n. P (member n e) in
-          let R : Entry → Type 0 = λ x. P (member m.task x) in
-          subst Q number (subst R entry each.0)
+          rw number at (rw entry at each.0)
       | false ↦ λ t f. Each-entry P ms task e f each.1
     ]
     refl found
@@ -41,9 +39,7 @@ Each-changed P Q task f e (m ∷ ms) found others one each =
           let entry : m.entry ≡ e = same_Some _ _ g in
           let R : ℕ → Entry → Type 0 = λ n x. P (member n x) → Q (member n (f x)) in
           let here : R m.task m.entry =
-          (let A : ℕ → Type 0 = λ n. R n m.entry in
-          let B : Entry → Type 0 = λ x. R task x in
-          subst A (sym number) (subst B (sym entry) one)) in
+          (rw number (rw entry one)) in
           (here each.0, each_others P Q others ms each.1)
       | false ↦ λ t g. (others m each.0, Each-changed P Q task f e ms g others one each.1)
     ]

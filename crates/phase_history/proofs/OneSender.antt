@@ -63,7 +63,7 @@ sender h (t ∷ ts) p distinct one =
       where
         at : (u : ℕ) → (eqb t u ≡ true) ⊎ (is_in u ts ≡ true) → sent_in h u p ≡ []
         at u (inl same) =
-            let P : ℕ → Type 0 = λ x. sent_in h x p ≡ [] in subst P (eqb-true t u same) none
+            rw (eqb-true t u same) at none
         at u (inr rest) = others u rest
     by (inl none) apart (inr s) = inr (record {
       task = s.task;

@@ -103,7 +103,7 @@ others_came : OthersCame (0 ∷ []) first_events events
 others_came = record { later = later_events; is = refl; others = λ task has. none task (eqb 0 task) refl has }
   where
     none : (task : ℕ) (b : Bool) → eqb 0 task ≡ b → (b || false) ≡ true → events_of task later_events ≡ []
-    none task true here has = (let P : ℕ → Type 0 = λ n. events_of n later_events ≡ [] in subst P (eqb-true 0 task here) refl)
+    none task true here has = (rw (← (eqb-true 0 task here)) refl)
     none task false here has = absurd (cc)
 
 -- to the child they are not

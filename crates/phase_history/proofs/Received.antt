@@ -67,8 +67,7 @@ entry_of-none (Waited waiter n ∷ before) task never =
 entry_of-none (Dropped gone ∷ before) task never =
     elim (eqb gone task) as (λ b. (eqb gone task ≡ b) → entry_of (members_of (Dropped gone ∷ before)) task ≡ None) [
       | true ↦ λ t.
-          let P : ℕ → Type 0 = λ n. entry_of (members_of (Dropped gone ∷ before)) n ≡ None in
-          subst P (eqb-true _ _ t) (entry_of-without_same (members_of before) gone)
+          rw (← (eqb-true _ _ t)) (entry_of-without_same (members_of before) gone)
       | false ↦ λ t. entry_of-without_other (members_of before) gone task t ∙ entry_of-none before task never
     ] refl
 
@@ -77,8 +76,7 @@ member_is_other : (h : History) (other task : ℕ) (e : Entry) → start_of h ta
     → entry_of (members_of h) other ≡ Some e → eqb other task ≡ false
 member_is_other h other task e never found =
     ne_eqb other task (λ same.
-    (let P : ℕ → Type 0 = λ n. entry_of (members_of h) n ≡ Some e in
-    let here : entry_of (members_of h) task ≡ Some e = subst P same found in
+    (let here : entry_of (members_of h) task ≡ Some e = rw same at found in
     let none : entry_of (members_of h) task ≡ None = entry_of-none h task never in cc))
 
 -- a number above all that were used did not begin
@@ -102,8 +100,7 @@ pub unused : (value : List ℤ → Outcome) (limits : Limits) (h : History) (tas
     → start_of h task ≡ None → Unused value h task
 unused value limits [] task legal never = absurd legal
 unused value limits (Made founding ∷ before) task legal never =
-    let P : History → Type 0 = λ b. Unused value (Made founding ∷ b) task in
-    subst P (sym legal.1) (record { signals = refl; waits = refl; received = refl; stays = refl })
+    rw legal.1 (record { signals = refl; waits = refl; received = refl; stays = refl })
 unused value limits (Registered parent child mode ∷ before) task legal never =
     let n = some_or (eqb child task) _ (start_of before task) never in
     let u : Unused value before task = unused value limits before task legal.0 n.1 in
@@ -188,9 +185,7 @@ pub counted : (value : List ℤ → Outcome) (limits : Limits) (h : History) (ta
     → entry_of (members_of h) task ≡ Some e → Counted value h task e
 counted value limits [] task e legal found = absurd legal
 counted value limits (Made founding ∷ before) task e legal found =
-    let P : History → Type 0 = λ b. Counted value (Made founding ∷ b) task e in
-    subst P (sym legal.1)
-    (elim (eqb founding task) as (λ b. (eqb founding task ≡ b) → (cond b (Some founder) None ≡ Some e) → Counted value (Made founding ∷ []) task e) [
+    rw (← legal.1) at (elim (eqb founding task) as (λ b. (eqb founding task ≡ b) → (cond b (Some founder) None ≡ Some e) → Counted value (Made founding ∷ []) task e) [
       | true ↦ λ t f. began value (Made founding ∷ []) task e (rw t f) (record { signals = refl; waits = refl; received = refl; stays = refl })
       | false ↦ λ t f. absurd (cc)
     ] refl found)
@@ -247,12 +242,10 @@ counted value limits (Signalled signaller lists single ∷ before) task e legal 
       | true ↦ λ t.
           let r : SignalsNow before signaller = signals_from limits before signaller lists single legal.1.0 in
           let same : signaller ≡ task = eqb-true _ _ t in
-          let P : ℕ → Type 0 = λ k. entry_of (members_of before) k ≡ Some r.entry in
-          let old : entry_of (members_of before) task ≡ Some r.entry = subst P same r.is_member in
+          let old : entry_of (members_of before) task ≡ Some r.entry = rw (← same) r.is_member in
           let new_entry : entry_of (members_of (event ∷ before)) signaller ≡ Some (signalled n r.entry) =
           entry_of-changed_same signaller (signalled n) r.entry (members_of before) r.is_member in
-          let Q : ℕ → Type 0 = λ k. entry_of (members_of (event ∷ before)) k ≡ Some (signalled n r.entry) in
-          let is : signalled n r.entry ≡ e = same_Some _ _ (sym (subst Q same new_entry) ∙ found) in
+          let is : signalled n r.entry ≡ e = same_Some _ _ (sym (rw (← same) new_entry) ∙ found) in
           let c : Counted value before task r.entry = counted value limits before task r.entry legal.0 old in
           let good : StandsWell (done_of before) (top_of before) (greatest_used before) (member task r.entry) =
           Each-entry _ (members_of before) task r.entry old sound in
@@ -260,8 +253,7 @@ counted value limits (Signalled signaller lists single ∷ before) task e legal 
           let s_is : c.start.signal_phase + phases_signalled before task ≡ r.entry.signal_phase = c.signals in
           let w_is : c.start.wait_phase + phases_waited before task ≡ r.entry.wait_phase = c.waits in
           let more : phases_signalled (event ∷ before) task ≡ phases_signalled before task + n = rw t refl in
-          let C : Entry → Type 0 = λ x. Counted value (event ∷ before) task x in
-          subst C is (record {
+          rw (← is) (record {
             start = c.start;
             start_is = c.start_is;
             signals = omega arith;
@@ -287,12 +279,10 @@ counted value limits (Waited waiter n ∷ before) task e legal found =
       | true ↦ λ t.
           let r : WaitsNow before waiter = waits_from limits before waiter n legal.1.0 in
           let same : waiter ≡ task = eqb-true _ _ t in
-          let P : ℕ → Type 0 = λ k. entry_of (members_of before) k ≡ Some r.entry in
-          let old : entry_of (members_of before) task ≡ Some r.entry = subst P same r.is_member in
+          let old : entry_of (members_of before) task ≡ Some r.entry = rw (← same) r.is_member in
           let new_entry : entry_of (members_of (event ∷ before)) waiter ≡ Some (waited n r.entry) =
           entry_of-changed_same waiter (waited n) r.entry (members_of before) r.is_member in
-          let Q : ℕ → Type 0 = λ k. entry_of (members_of (event ∷ before)) k ≡ Some (waited n r.entry) in
-          let is : waited n r.entry ≡ e = same_Some _ _ (sym (subst Q same new_entry) ∙ found) in
+          let is : waited n r.entry ≡ e = same_Some _ _ (sym (rw (← same) new_entry) ∙ found) in
           let c : Counted value before task r.entry = counted value limits before task r.entry legal.0 old in
           let long : length (stream_of value before) ≡ done_of before = length-stream value before in
           let w_is : c.start.wait_phase + phases_waited before task ≡ r.entry.wait_phase = c.waits in
@@ -307,8 +297,7 @@ counted value limits (Waited waiter n ∷ before) task e legal found =
           let more : phases_waited (event ∷ before) task ≡ k + n = rw t refl in
           let got : received_by value (event ∷ before) task
           ≡ received_by value before task ++ take n (drop (wait_phase before task) xs) = rw t refl in
-          let C : Entry → Type 0 = λ x. Counted value (event ∷ before) task x in
-          subst C is (record {
+          rw (← is) (record {
             start = c.start;
             start_is = c.start_is;
             signals = c.signals;
@@ -334,9 +323,8 @@ counted value limits (Dropped gone ∷ before) task e legal found =
     elim (eqb gone task) as (λ b. (eqb gone task ≡ b) → Counted value (Dropped gone ∷ before) task e) [
       | true ↦ λ t.
           let same : gone ≡ task = eqb-true _ _ t in
-          let P : ℕ → Type 0 = λ k. entry_of (members_of (Dropped gone ∷ before)) k ≡ None in
           let none : entry_of (members_of (Dropped gone ∷ before)) task ≡ None =
-          subst P same (entry_of-without_same (members_of before) gone) in
+          rw (← same) (entry_of-without_same (members_of before) gone) in
           absurd (cc)
       | false ↦ λ t.
           let old : entry_of (members_of before) task ≡ Some e =

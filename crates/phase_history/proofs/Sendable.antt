@@ -14,7 +14,7 @@ pub sent_are_lists : (limits : Limits) (h : History) (task : ℕ) → IsLegal li
     → AreLists (sent_by h task)
 sent_are_lists limits [] task legal = absurd legal
 sent_are_lists limits (Made t ∷ before) task legal =
-    let P : History → Type 0 = λ b. AreLists (sent_by b task) in subst P (sym legal.1) tt
+    rw legal.1 tt
 sent_are_lists limits (Registered parent child mode ∷ before) task legal =
     sent_are_lists limits before task legal.0
 sent_are_lists limits (RegisteredNow parent child ∷ before) task legal =

@@ -131,8 +131,7 @@ SentInTurn-same before now task start same_by same_in u = record {
 pub SentInTurn-of : (limits : Limits) (h : History) (task : ℕ) (start : Entry) → IsLegal limits h → start_of h task ≡ Some start → SentInTurn h task start
 SentInTurn-of limits [] task start legal is = absurd legal
 SentInTurn-of limits (Made founding ∷ before) task start legal is =
-    let P : History → Type 0 = λ b. SentInTurn (Made founding ∷ b) task start in
-    subst P (sym legal.1) (SentInTurn-silent (Made founding ∷ []) task start refl)
+    rw legal.1 (SentInTurn-silent (Made founding ∷ []) task start refl)
 SentInTurn-of limits (Registered parent child mode ∷ before) task start legal is =
     let r : Registers before parent child mode = registers_from before parent child mode legal.1 in
     SentInTurn-same before (Registered parent child mode ∷ before) task start refl (λ p. refl) (elim (eqb child task) as (λ b. (eqb child task ≡ b)
@@ -174,8 +173,7 @@ SentInTurn-of limits (Signalled t lists single ∷ before) task start legal is =
     let began : c.start ≡ start = same_Some _ _ (sym c.start_is ∙ (ap (λ n. start_of before n) same ∙ is)) in
     let began_at : c.start.signal_phase ≡ start.signal_phase = ap (λ (x : Entry). x.signal_phase) began in
     let count_is : phases_signalled before t ≡ phases_signalled before task = ap (λ n. phases_signalled before n) same in
-    let at : c.start.signal_phase + phases_signalled before t ≡ r.entry.signal_phase = c.signals in
-    omega arith) in
+    omega (arith, c.signals)) in
     record {
       placed = λ k p e. elim (eqb t task) as (λ b. (eqb t task ≡ b)
           → cond b (sent_in before task p ++ list_in_phase lists s p) (sent_in before task p) ≡ get_or (cond b (sent_by before task ++ lists) (sent_by before task)) k []) [

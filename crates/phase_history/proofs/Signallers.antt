@@ -37,8 +37,7 @@ joined before child task x e o sound above found known =
     elim (eqb child task) as (λ b. (eqb child task ≡ b) → (start : Entry) × (cond b (Some x) o ≡ Some start) × (start.mode ≡ e.mode)) [
       | true ↦ λ t.
           let same : child ≡ task = eqb-true _ _ t in
-          let P : ℕ → Type 0 = λ n. entry_of (members_of before ++ member n x ∷ []) task ≡ Some e in
-          let at_task : entry_of (members_of before ++ member task x ∷ []) task ≡ Some e = subst P same found in
+          let at_task : entry_of (members_of before ++ member task x ∷ []) task ≡ Some e = rw same at found in
           let is : x ≡ e = same_Some _ _ (sym (entry_of-push_new (members_of before) task x (fresh before task sound (omega arith))) ∙ at_task) in
           (x, refl, ap (λ (y : Entry). y.mode) is)
       | false ↦ λ t. known (sym (entry_of-push_other (members_of before) child task x t) ∙ found)
@@ -53,8 +52,7 @@ changed before t task f r e keeps is_member found =
       | true ↦ λ q.
           let same : t ≡ task = eqb-true _ _ q in
           let here : entry_of (members_of before) task ≡ Some r = ap (λ n. entry_of (members_of before) n) (sym same) ∙ is_member in
-          let P : ℕ → Type 0 = λ n. entry_of (changed_at n f (members_of before)) task ≡ Some e in
-          let is : f r ≡ e = same_Some _ _ (sym (entry_of-changed_same task f r (members_of before) here) ∙ subst P same found) in
+          let is : f r ≡ e = same_Some _ _ (sym (entry_of-changed_same task f r (members_of before) here) ∙ rw same at found) in
           (r, here, sym (keeps r) ∙ ap (λ (y : Entry). y.mode) is)
       | false ↦ λ q. (e, sym (entry_of-changed_other t task f (members_of before) q) ∙ found, refl)
     ] refl
@@ -82,8 +80,7 @@ began limits (Waited t n ∷ before) task e legal found =
 began limits (Dropped gone ∷ before) task e legal found =
     elim (eqb gone task) as (λ b. (eqb gone task ≡ b) → (start : Entry) × (start_of before task ≡ Some start) × (start.mode ≡ e.mode)) [
       | true ↦ λ t.
-          let P : ℕ → Type 0 = λ n. entry_of (without gone (members_of before)) n ≡ None in
-          let none : entry_of (without gone (members_of before)) task ≡ None = subst P (eqb-true _ _ t) (entry_of-without_same (members_of before) gone) in
+          let none : entry_of (without gone (members_of before)) task ≡ None = rw (← (eqb-true _ _ t)) (entry_of-without_same (members_of before) gone) in
           absurd (let e : None ≡ Some e = sym none ∙ found in cc)
       | false ↦ λ t. began limits before task e legal.0 (sym (entry_of-without_other (members_of before) gone task t) ∙ found)
     ] refl
@@ -119,9 +116,7 @@ pub holds_open : (limits : Limits) (h : History) (task : ℕ) (start : Entry) �
 holds_open limits h task start legal is signals stays =
     let s : Signals h task start = signals_still limits h task start legal is signals stays in
     let low : mode_signals s.entry.mode ≡ true → done_of h ≤ s.entry.signal_phase = Each-entry _ (members_of h) task s.entry s.is_member (done_low (positions_of h)) in
-    let here : done_of h ≤ s.entry.signal_phase = low s.signals in
-    let at : start.signal_phase + phases_signalled h task ≡ s.entry.signal_phase = s.at in
-    omega arith
+    omega (arith, low s.signals, s.at)
 
 -- where no task signals, each that began as a signaller has dropped
 pub all_dropped : (limits : Limits) (h : History) (task : ℕ) (start : Entry) → IsLegal limits h → HasNoSignaller h → start_of h task ≡ Some start
@@ -131,9 +126,8 @@ all_dropped limits h task start legal quiet is signals =
       | true ↦ λ e. refl
       | false ↦ λ stays.
           let s : Signals h task start = signals_still limits h task start legal is signals stays in
-          let P : List ℕ → Type 0 = λ xs. Each (λ x. ⊥) xs in
           let none : mode_signals s.entry.mode ≡ true → ⊥ = Each-entry _ (members_of h) task s.entry s.is_member
-          (Each-of_picked (λ x. ⊥) (λ (m : Member). m.entry.signal_phase) (λ (m : Member). mode_signals m.entry.mode) (members_of h) (subst P (sym quiet) tt)) in
+          (Each-of_picked (λ x. ⊥) (λ (m : Member). m.entry.signal_phase) (λ (m : Member). mode_signals m.entry.mode) (members_of h) (rw quiet tt)) in
           absurd (none s.signals)
     ] refl
 
@@ -209,8 +203,7 @@ below_top limits (Made t ∷ before) task start legal is =
       | true ↦ λ f.
           let same : founder ≡ start = same_Some _ _ f in
           let zero_start : 0 ≡ start.signal_phase = ap (λ (x : Entry). x.signal_phase) same in
-          let P : History → Type 0 = λ b. phases_signalled (Made t ∷ b) task ≡ 0 in
-          let none : phases_signalled (Made t ∷ before) task ≡ 0 = subst P (sym legal.1) refl in omega arith
+          let none : phases_signalled (Made t ∷ before) task ≡ 0 = rw legal.1 refl in omega arith
       | false ↦ λ f. absurd (cc)
     ] is
 below_top limits (Registered parent child mode ∷ before) task start legal is =
@@ -289,6 +282,5 @@ quiet_from limits h legal gone = ap signal_phases (none (members_of h) refl)
     none (m ∷ ms) e =
         let here : eqb m.task m.task ≡ true = eq-eqb m.task m.task refl in
         let found : entry_of (m ∷ ms) m.task ≡ Some m.entry = rw here refl in
-        let A : Members → Type 0 = λ l. IsSome (entry_of l m.task) in
-        let alive = (alive_law limits h m.task legal).0 (subst A (sym e) (ap is_some found)) in
+        let alive = (alive_law limits h m.task legal).0 (rw e (ap is_some found)) in
         absurd (let f : true ≡ false = sym (gone m.task alive.0) ∙ alive.1 in cc)

@@ -346,7 +346,7 @@ no_waiter_later : (limits : Limits) (before : History) (event : Event) → IsLeg
     → Each (λ (m : Member). mode_waits m.entry.mode ≡ true → ⊥) (members_of before)
     → Each (λ (m : Member). mode_waits m.entry.mode ≡ true → ⊥) (members_of (event ∷ before))
 no_waiter_later limits before (Made task) legal accepted none =
-    let P : History → Type 0 = λ l. IsLegal limits l in absurd (subst P accepted.1 legal)
+    absurd (rw accepted.1 at legal)
 no_waiter_later limits before (Registered parent child mode) legal accepted none =
     let r = registers_from before parent child mode accepted in
     let own : mode_waits r.entry.mode ≡ true → ⊥ = Each-entry _ (members_of before) parent r.entry r.is_member none in
@@ -391,15 +391,14 @@ few_lists limits h (sends ∷ lists) single e p has each few =
           let full : ltb SENDS_MAX (length (sends_of_phase h e.signal_phase) + length sends) ≡ false =
           sym (ap (λ b. b && ltb SENDS_MAX (length (sends_of_phase h e.signal_phase) + length sends)) has) ∙ each.1.1.1.1.0 in
           let low : length (sends_of_phase h e.signal_phase) + length sends ≤ SENDS_MAX = ltb-false _ _ full in
-          let P : ℕ → Type 0 = λ q. length (sends_of_phase h q) + length sends ≤ SENDS_MAX in
-          subst P (eqb-true _ _ t) low
+          rw (eqb-true _ _ t) at low
       | false ↦ λ t. few_lists limits h lists single (signalled 1 e) p has each.1.1.1.1.1 few
     ] refl
 
 few_of : (limits : Limits) (h : History) (p : ℕ) → IsLegal limits h → HasWaiter h → length (sends_of_phase h p) ≤ SENDS_MAX
 few_of limits [] p legal has = absurd legal
 few_of limits (Made task ∷ before) p legal has =
-    let P : History → Type 0 = λ b. length (sends_of_phase (Made task ∷ b) p) ≤ SENDS_MAX in subst P (sym legal.1) (omega arith)
+    rw legal.1 (omega arith)
 few_of limits (Registered parent child mode ∷ before) p legal has =
     few_of limits before p legal.0 (waiter_before limits before (Registered parent child mode) legal.0 legal.1 has)
 few_of limits (RegisteredNow parent child ∷ before) p legal has =
@@ -408,9 +407,8 @@ few_of limits (Signalled task lists single ∷ before) p legal has =
     let had = waiter_before limits before (Signalled task lists single) legal.0 legal.1 has in
     let r : Passes (entry_of (members_of before) task) (signal_rows limits before lists single) = passes_from _ _ _ legal.1.0 in
     let is : signal_phase before task ≡ r.entry.signal_phase = ap (λ (e : Entry). e.signal_phase) (member_entry_is (members_of before) task r.entry r.is_member) in
-    let P : ℕ → Type 0 = λ s. length (sends_of_phase before p) + length (list_in_phase lists s p) ≤ SENDS_MAX in
     let few : length (sends_of_phase before p) + length (list_in_phase lists (signal_phase before task) p) ≤ SENDS_MAX =
-    subst P (sym is) (few_lists limits before lists single r.entry p had r.passes.1.1.1 (few_of limits before p legal.0 had)) in
+    rw is (few_lists limits before lists single r.entry p had r.passes.1.1.1 (few_of limits before p legal.0 had)) in
     let both : length (sends_of_phase before p ++ list_in_phase lists (signal_phase before task) p)
     ≡ length (sends_of_phase before p) + length (list_in_phase lists (signal_phase before task) p) = length-append _ _ in
     omega arith

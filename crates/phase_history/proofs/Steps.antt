@@ -90,11 +90,9 @@ joins h e child mode w sound parent found signals waits greatest grows new now m
     let all_low : P now.members = subst P (sym members_are)
     (Each-push _ (members_of h) (member child (entry_at mode e.signal_phase w)) lows (λ s. parent_low (signals s))) in
     let top_low : done_of h ≤ now.top = (let a : done_of h ≤ top_of h = done_below_top h sound in omega arith) in
-    let done_grows : done_of h ≤ done_at now = done_high now (done_of h) all_low top_low in
-    let Q : Members → Type 0 = λ ms. Each (StandsWell (done_at now) now.top greatest) ms in (
+    let done_grows : done_of h ≤ done_at now = done_high now (done_of h) all_low top_low in (
       done_grows,
-      subst Q (sym members_are)
-          (Each-push _ (members_of h) (member child (entry_at mode e.signal_phase w))
+      rw (← members_are) at (Each-push _ (members_of h) (member child (entry_at mode e.signal_phase w))
           (Each-from (StandsWell (done_of h) (top_of h) (greatest_used h)) (StandsWell (done_at now) now.top greatest)
           (stands_later _ _ _ _ _ _ done_grows (omega arith) grows) (members_of h) sound)
           (record {
@@ -240,8 +238,7 @@ made_sound task = (record { below = omega arith; waits = λ t. omega arith; used
 pub steps : (limits : Limits) (before : History) (event : Event) → IsLegal limits before → IsSound before
     → IsAccepted limits before event → Steps before event
 steps limits before (Made task) legal sound accepted =
-    let P : History → Type 0 = λ h. IsLegal limits h in
-    absurd (subst P accepted.1 legal)
+    absurd (rw accepted.1 at legal)
 steps limits before (Registered parent child mode) legal sound accepted =
     steps_registered before parent child mode sound (registers_from before parent child mode accepted)
 steps limits before (RegisteredNow parent child) legal sound accepted =

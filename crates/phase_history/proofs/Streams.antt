@@ -49,7 +49,7 @@ stream_grows value before event s =
 
 -- a legal history has an event
 pub legal_some : (limits : Limits) (h more : History) → IsLegal limits h → more ++ h ≡ [] → ⊥
-legal_some limits h [] legal none = let P : History → Type 0 = λ l. IsLegal limits l in subst P none legal
+legal_some limits h [] legal none = rw none at legal
 legal_some limits h (event ∷ more) legal none = (cc)
 
 -- what stands before the newest event of a longer legal history is legal, and accepted that event
@@ -74,9 +74,7 @@ prefix_from value limits h (event ∷ more) legal longer =
 pub stream_prefix : (value : List ℤ → Outcome) (limits : Limits) (h longer : History)
     → IsLegal limits h → IsLegal limits longer → IsBeginning h longer → IsPrefix (stream_of value h) (stream_of value longer)
 stream_prefix value limits h longer legal legal_longer b =
-    let L : History → Type 0 = λ l. IsLegal limits l in
-    let P : History → Type 0 = λ l. IsPrefix (stream_of value h) (stream_of value l) in
-    subst P (sym b.is) (prefix_from value limits h b.later legal (subst L b.is legal_longer))
+    rw b.is (prefix_from value limits h b.later legal (rw b.is at legal_longer))
 
 -- ---- where no task signals
 
@@ -87,7 +85,7 @@ Quiet ms = Each (λ (m : Member). mode_signals m.entry.mode ≡ true → ⊥) ms
 quiet_from : (h : History) → HasNoSignaller h → Quiet (members_of h)
 quiet_from h none =
     Each-of_picked (λ x. ⊥) (λ (m : Member). m.entry.signal_phase) (λ (m : Member). mode_signals m.entry.mode) (members_of h)
-    (let P : List ℕ → Type 0 = λ xs. Each (λ x. ⊥) xs in subst P (sym none) tt)
+    (rw none tt)
 
 signal_phases_quiet : (ms : Members) → Quiet ms → signal_phases ms ≡ []
 signal_phases_quiet [] quiet = refl
@@ -102,7 +100,7 @@ signal_phases_quiet (m ∷ ms) quiet =
 quiet_step : (limits : Limits) (before : History) (event : Event) → IsLegal limits before → IsAccepted limits before event
     → Quiet (members_of before) → Quiet (members_of (event ∷ before)) × (top_of (event ∷ before) ≡ top_of before)
 quiet_step limits before (Made task) legal accepted quiet =
-    let P : History → Type 0 = λ l. IsLegal limits l in absurd (subst P accepted.1 legal)
+    absurd (rw accepted.1 at legal)
 quiet_step limits before (Registered parent child mode) legal accepted quiet =
     let r = registers_from before parent child mode accepted in
     let none : mode_signals r.entry.mode ≡ true → ⊥ = Each-entry _ (members_of before) parent r.entry r.is_member quiet in
@@ -149,9 +147,7 @@ closed_from value limits h (event ∷ more) quiet legal longer =
 closed_of : (value : List ℤ → Outcome) (limits : Limits) (h longer : History) → HasNoSignaller h
     → IsLegal limits h → IsLegal limits longer → IsBeginning h longer → Closed value h longer
 closed_of value limits h longer none legal legal_longer b =
-    let L : History → Type 0 = λ l. IsLegal limits l in
-    let C : History → Type 0 = λ l. Closed value h l in
-    subst C (sym b.is) (closed_from value limits h b.later (quiet_from h none) legal (subst L b.is legal_longer))
+    rw b.is (closed_from value limits h b.later (quiet_from h none) legal (rw b.is at legal_longer))
 
 -- where no task signals, no longer history has a longer stream
 pub stream_closed : (value : List ℤ → Outcome) (limits : Limits) (h longer : History) → HasNoSignaller h

@@ -32,7 +32,7 @@ legal_end limits h (event ∷ more) some legal =
 
 -- a longer history is one of more events in front
 of_longer : (limits : Limits) (h longer : History) (b : IsBeginning h longer) → IsLegal limits longer → IsLegal limits (b.later ++ h)
-of_longer limits h longer b legal = (let L : History → Type 0 = λ l. IsLegal limits l in subst L b.is legal)
+of_longer limits h longer b legal = (rw b.is at legal)
 
 pub IsLegal-beginning : (limits : Limits) (h longer : History) → (h ≡ [] → ⊥) → IsLegal limits longer → IsBeginning h longer
     → IsLegal limits h
@@ -53,8 +53,7 @@ start_used h task start is =
 start_of-event : (limits : Limits) (event : Event) (before : History) (task : ℕ) (start : Entry) → IsAccepted limits before event
     → start_of before task ≡ Some start → start_of (event ∷ before) task ≡ Some start
 start_of-event limits (Made founding) before task start accepted is =
-    let P : History → Type 0 = λ b. start_of b task ≡ Some start in
-    absurd (let none : None ≡ Some start = subst P accepted.1 is in cc)
+    absurd (let none : None ≡ Some start = rw accepted.1 at is in cc)
 start_of-event limits (Registered parent child mode) before task start accepted is =
     let above : greatest_used before < child = (registers_from before parent child mode accepted).new_number in
     let low : task ≤ greatest_used before = start_used before task start is in
@@ -112,20 +111,15 @@ pub IsAlive-by : (limits : Limits) (before : History) (event : Event) (task : �
     → is_by task event ≡ true → IsAlive before task
 IsAlive-by limits before (Made founding) task accepted by = absurd (let no : false ≡ true = by in cc)
 IsAlive-by limits before (Registered parent child mode) task accepted by =
-    let P : ℕ → Type 0 = λ n. IsAlive before n in
-    subst P (eqb-true _ _ by) (ap is_some (registers_from before parent child mode accepted).is_member)
+    rw (eqb-true _ _ by) at (ap is_some (registers_from before parent child mode accepted).is_member)
 IsAlive-by limits before (RegisteredNow parent child) task accepted by =
-    let P : ℕ → Type 0 = λ n. IsAlive before n in
-    subst P (eqb-true _ _ by) (ap is_some (registers_from before parent child Wait accepted).is_member)
+    rw (eqb-true _ _ by) at (ap is_some (registers_from before parent child Wait accepted).is_member)
 IsAlive-by limits before (Signalled signaller lists single) task accepted by =
-    let P : ℕ → Type 0 = λ n. IsAlive before n in
-    subst P (eqb-true _ _ by) (ap is_some (signals_from limits before signaller lists single accepted.0).is_member)
+    rw (eqb-true _ _ by) at (ap is_some (signals_from limits before signaller lists single accepted.0).is_member)
 IsAlive-by limits before (Waited waiter n) task accepted by =
-    let P : ℕ → Type 0 = λ n. IsAlive before n in
-    subst P (eqb-true _ _ by) (ap is_some (waits_from limits before waiter n accepted.0).is_member)
+    rw (eqb-true _ _ by) at (ap is_some (waits_from limits before waiter n accepted.0).is_member)
 IsAlive-by limits before (Dropped gone) task accepted by =
-    let P : ℕ → Type 0 = λ n. IsAlive before n in
-    subst P (eqb-true _ _ by) (ap is_some (passes_from (entry_of (members_of before) gone) (record {}) (λ entry. []) accepted).is_member)
+    rw (eqb-true _ _ by) at (ap is_some (passes_from (entry_of (members_of before) gone) (record {}) (λ entry. []) accepted).is_member)
 
 -- the event in front of a legal history was accepted, where it is a task's
 accepted_by : (limits : Limits) (event : Event) (before : History) (task : ℕ) → IsLegal limits (event ∷ before)
@@ -195,8 +189,7 @@ entry_of-other : (limits : Limits) (event : Event) (before : History) (task : �
     → is_by task event ≡ false → entry_of (members_of before) task ≡ Some entry
     → entry_of (members_of (event ∷ before)) task ≡ Some entry
 entry_of-other limits (Made founding) before task entry accepted other found =
-    let P : History → Type 0 = λ b. entry_of (members_of b) task ≡ Some entry in
-    absurd (let none : None ≡ Some entry = subst P accepted.1 found in cc)
+    absurd (let none : None ≡ Some entry = rw accepted.1 at found in cc)
 entry_of-other limits (Registered parent child mode) before task entry accepted other found =
     entry_of-push_old (members_of before) child task (entry_at mode (signal_phase before parent) (wait_phase before parent)) entry found
 entry_of-other limits (RegisteredNow parent child) before task entry accepted other found =
@@ -235,8 +228,7 @@ parent_known limits before event parent tasks accepted by other only =
 OnlyUsed-other : (limits : Limits) (event : Event) (before : History) (tasks : List ℕ) → IsLegal limits before → IsAccepted limits before event
     → ((task : ℕ) → is_in task tasks ≡ true → is_by task event ≡ false) → OnlyUsed tasks before → OnlyUsed tasks (event ∷ before)
 OnlyUsed-other limits (Made founding) before tasks legal accepted other only task used =
-    let P : History → Type 0 = λ b. IsLegal limits b in
-    absurd (subst P accepted.1 legal)
+    absurd (rw accepted.1 at legal)
 OnlyUsed-other limits (Registered parent child mode) before tasks legal accepted other only task used =
     absurd (parent_known limits before (Registered parent child mode) parent tasks accepted (eq-eqb parent parent refl) other only)
 OnlyUsed-other limits (RegisteredNow parent child) before tasks legal accepted other only task used =

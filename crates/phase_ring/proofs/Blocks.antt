@@ -1,5 +1,5 @@
 -- Sends that join phases in a row.
-use Rattle.std.proofs.Common.{◌≡◌, ◌≢◌, ℕ, ℤ, ◌+◌, ◌-◌, ◌<◌, ◌≤◌, true, false, cond, ltb, Bool, zero, suc, drop, slice_index_or, map, ◌++◌, append_assoc, List, [], ◌∷◌, Option, Some, None, max, length, refl, sym, ◌∙◌, ap, ap₂, subst, arith, ⊎_elim}
+use Rattle.std.proofs.Common.{◌≡◌, ◌≢◌, ℕ, ℤ, ◌+◌, ◌-◌, ◌<◌, ◌≤◌, true, false, cond, ltb, Bool, zero, suc, drop, slice_index_or, map, ◌++◌, append_assoc, List, [], ◌∷◌, Option, Some, None, max, length, refl, sym, ◌∙◌, ap, ap₂, arith, ⊎_elim}
 use Rattle.std.specs.Prelude.{slice_set}
 use Rattle.std.specs.List.{range_with_len}
 use Rattle.std.proofs.Math.Seq.{set-append_seam}
@@ -53,8 +53,7 @@ pub joined_held : {A : Type 0} (op : Operation A) (slot : Slot A) (held : Parcel
     → x ≡ op.join slot.part held.part → n ≡ slot.count + held.count → (sends : List ℤ) × StandsForSends op (parcel x n) sends
 joined_held {A} op slot held ys x n laws own more few part count =
     let own_parcel : Parcel A = parcel slot.part slot.count in
-    let P : Parcel A → Type 0 = λ k. StandsForSends op k (own.0 ++ ys) in
-    (own.0 ++ ys, subst P (ap₂ parcel (sym part) (sym count)) (StandsForSends-append op own_parcel held own.0 ys laws own.1 more few))
+    (own.0 ++ ys, rw (ap₂ parcel (sym part) (sym count)) at (StandsForSends-append op own_parcel held own.0 ys laws own.1 more few))
 
 -- what was named first stays
 pub first_stays : (choice : Choice) (ends : ℤ × ℤ) (single : Option Single) → choice ≢ Unsignalled → named_of choice ends ≡ first_of (named_of choice ends) single
@@ -99,9 +98,8 @@ pub joins_first : {A : Type 0} (op : Operation A) (r : Ring A) (bound done top q
     → Joining op r r bound done top q lists single (block_joined op q lists single r)
 joins_first {A} op r bound done top q lists single k some fits =
     let low : q ≤ top = ⊎_elim (λ above. absurd (let z = k.signals_high q above in omega arith)) (λ x. x) (cases_lt top q) in
-    let T : ℕ → Type 0 = λ t. IsRingAt op r bound done t in
     record {
-      kept = subst T (let e : top ≡ max top q = omega arith in e) k;
+      kept = rw (let e : top ≡ max top q = omega arith in e) at k;
       base_same = refl;
       stands = λ role p. refl;
       fits = fits;
@@ -133,11 +131,8 @@ joins_next {A} op r0 r new bound done top q held rest single want j low ahead ne
     let slot = slot_at-some r q w.0 in
     let x = joined op held single slot.0 in
     let e : new ≡ with_slot q x r = goes slot.0 slot.1 in
-    let J : Ring A → Type 0 = λ y. Joining op r0 y bound done top (q + 1) rest single want in
-    let K : ℕ → Type 0 = λ t. IsRingAt op (with_slot q x r) bound done t in
-    subst J (sym e) (record {
-      kept = subst K (let m : max (max top q) (q + 1) ≡ max top (q + 1) = omega arith in m)
-          (merges op r bound done (max top q) q slot.0 x j.kept w.0 slot.1 (omega arith) near refl refl refl);
+    rw e (record {
+      kept = rw (let m : max (max top q) (q + 1) ≡ max top (q + 1) = omega arith in m) at (merges op r bound done (max top q) q slot.0 x j.kept w.0 slot.1 (omega arith) near refl refl refl);
       base_same = b;
       stands = λ role p. standing-with_same r q slot.0 x role w.0 slot.1 (same_role role slot.0) p ∙ j.stands role p;
       fits = fits-later r q (q + 1) x rest single w.0.low (omega arith) j.fits.1;
@@ -231,16 +226,13 @@ pub joins_here : {A : Type 0} (op : Operation A) (r0 r : Ring A) (bound done top
     → Joining op r0 r bound done top q (drop i lists) single want → i < length lists → held ≡ slice_index_or lists i held
     → Joining op r0 r bound done top q (held ∷ drop (i + 1) lists) single want
 joins_here {A} op r0 r bound done top q i lists held single want j inside is =
-    let J : List (Parcel A) → Type 0 = λ l. Joining op r0 r bound done top q l single want in
-    subst J (drop_more lists i held inside ∙ ap (λ x. x ∷ drop (i + 1) lists) (sym is)) j
+    rw (drop_more lists i held inside ∙ ap (λ x. x ∷ drop (i + 1) lists) (sym is)) at j
 
 pub joins_last : {A : Type 0} (op : Operation A) (r0 r : Ring A) (bound done top q q' i : ℕ) (lists : List (Parcel A)) (single : Option Single) (want : Ring A)
     → Joining op r0 r bound done top q (drop i lists) single want → length lists ≤ i → q ≡ q'
     → Joining op r0 r bound done top q' [] single want
 joins_last {A} op r0 r bound done top q q' i lists single want j past same =
-    let J : List (Parcel A) → Type 0 = λ l. Joining op r0 r bound done top q l single want in
-    let Q : ℕ → Type 0 = λ n. Joining op r0 r bound done top n [] single want in
-    subst Q same (subst J (drop-all lists i past) j)
+    rw same at (rw (drop-all lists i past) at j)
 
 -- what the loop over a block's parcels keeps
 pub record BlockLoop {A : Type 0} (op : Operation A) (r0 r : Ring A) (bound done top phase next i : ℕ) (lists : List (Parcel A)) (single : Option Single) : Type 0 where

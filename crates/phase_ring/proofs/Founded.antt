@@ -1,5 +1,5 @@
 -- A ring of empty slots, and one with a task at phase 0.
-use Rattle.std.proofs.Common.{◌≡◌, ℕ, ◌+◌, ◌-◌, Some, replicate, zero, suc, refl, sym, ◌∙◌, ap, subst, arith, ⊎_elim, ◌⊎◌, inl, inr}
+use Rattle.std.proofs.Common.{◌≡◌, ℕ, ◌+◌, ◌-◌, Some, replicate, zero, suc, refl, sym, ◌∙◌, ap, arith, ⊎_elim, ◌⊎◌, inl, inr}
 use Rattle.std.specs.Prelude.{slice_get}
 use Rattle.std.proofs.lemmas.List.{length-replicate}
 use Rattle.std.proofs.lemmas.Option.{same_Some}
@@ -7,7 +7,7 @@ use Rattle.std.proofs.lemmas.Bool.{le-ltb, cases_eq}
 use Rattle.phase_accum.specs.Operations.{Operation}
 use Rattle.phase_ring.specs.declared.role.Role.{Role}
 use Rattle.phase_ring.specs.declared.role.Role.TheVariants.{Signaller, Waiter}
-use Rattle.phase_ring.specs.Slots.{Slot, IsUnused, empty_slot, standing_of, with_standing}
+use Rattle.phase_ring.specs.Slots.{Slot, empty_slot, standing_of, with_standing}
 use Rattle.phase_ring.specs.Rings.{Ring, IsWithin, fresh_ring, slot_at, with_slot, standing, standing_in}
 use Rattle.phase_ring.specs.Standings.{one_if_same}
 use Rattle.phase_ring.specs.Boards.{IsRingAt}
@@ -42,17 +42,15 @@ kept_fresh {A} op bound = record {
   sealed_below = λ p slot low found.
       ap (λ (s : Slot A). s.sealed) (sym (slice_get-replicate (bound + 1) (p - 0) (empty_slot op) slot found)) ∙ sym (le-ltb p 0 (omega arith));
   unused = λ p slot low found above.
-      let U : Slot A → Type 0 = λ s. IsUnused op s in
-      subst U (slice_get-replicate (bound + 1) (p - 0) (empty_slot op) slot found) (record { part_is = refl; count_is = refl; named_is = refl });
+      rw (← (slice_get-replicate (bound + 1) (p - 0) (empty_slot op) slot found)) (record { part_is = refl; count_is = refl; named_is = refl });
 }
 
 -- ---- one task at phase 0
 
 pub fresh_within : {A : Type 0} (op : Operation A) (bound : ℕ) (r : Ring A) → r ≡ fresh_ring op (bound + 1) → IsWithin r 0
 fresh_within {A} op bound r same =
-    let W : Ring A → Type 0 = λ x. IsWithin x 0 in
     let long = length-replicate (bound + 1) (empty_slot op) in
-    subst W (sym same) (record { low = omega arith; high = omega arith })
+    rw same (record { low = omega arith; high = omega arith })
 
 pub fresh_few : {A : Type 0} (op : Operation A) (bound : ℕ) (r : Ring A) (role : Role) (p : ℕ) → r ≡ fresh_ring op (bound + 1) → standing r role p ≡ 0
 fresh_few {A = A} op bound r role p same = ap (λ (x : Ring A). standing x role p) same ∙ standing-fresh op (bound + 1) role p
@@ -62,8 +60,7 @@ pub first_entered : {A : Type 0} (op : Operation A) (bound : ℕ) (r r1 : Ring A
     → ((slot : Slot A) → slot_at r 0 ≡ Some slot → r1 ≡ with_slot 0 (with_standing Signaller (standing_of Signaller slot + 1) slot) r)
     → Moves op r r1 bound 0 0 Signaller 0 (standing r Signaller 0 + 1)
 first_entered {A} op bound r r1 same entered =
-    let K : Ring A → Type 0 = λ x. IsRingAt op x bound 0 0 in
-    enters op r r1 bound 0 0 0 Signaller (subst K (sym same) (kept_fresh op bound)) (fresh_within op bound r same) (omega arith, omega arith) entered
+    enters op r r1 bound 0 0 0 Signaller (rw same (kept_fresh op bound)) (fresh_within op bound r same) (omega arith, omega arith) entered
 
 pub next_within : {A : Type 0} (op : Operation A) (bound : ℕ) (r r1 : Ring A) → r ≡ fresh_ring op (bound + 1)
     → Moves op r r1 bound 0 0 Signaller 0 (standing r Signaller 0 + 1) → IsWithin r1 0

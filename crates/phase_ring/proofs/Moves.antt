@@ -1,5 +1,5 @@
 -- Somebody leaves a phase of a ring, or enters it.
-use Rattle.std.proofs.Common.{◌≡◌, ℕ, ◌+◌, ◌-◌, cond, Some, refl, sym, ap, subst}
+use Rattle.std.proofs.Common.{◌≡◌, ℕ, ◌+◌, ◌-◌, cond, Some, refl, sym, ap}
 use Rattle.std.proofs.lemmas.Bool.{eq-eqb, ne_eqb}
 use Rattle.phase_accum.specs.Operations.{Operation}
 use Rattle.phase_ring.specs.declared.role.Role.{Role}
@@ -53,9 +53,7 @@ pub leaves : {A : Type 0} (op : Operation A) (r new : Ring A) (bound done top q 
 leaves {A} op r new bound done top q role k w place left =
     let slot = slot_at-some r q w in
     let n : standing r role q ≡ standing_of role slot.0 = standing-at r role q slot.0 w.low slot.1 in
-    let M : Ring A → Type 0 = λ x. Moves op r x bound done top role q (standing r role q - 1) in
-    let N : ℕ → Type 0 = λ m. Moves op r (with_slot q (with_standing role (standing_of role slot.0 - 1) slot.0) r) bound done top role q (m - 1) in
-    subst M (sym (left slot.0 slot.1)) (subst N (sym n) (moves_on op r bound done top q (standing_of role slot.0 - 1) slot.0 role k w place slot.1))
+    rw (left slot.0 slot.1) (rw n (moves_on op r bound done top q (standing_of role slot.0 - 1) slot.0 role k w place slot.1))
 
 -- one enters
 pub enters : {A : Type 0} (op : Operation A) (r new : Ring A) (bound done top q : ℕ) (role : Role)
@@ -65,6 +63,4 @@ pub enters : {A : Type 0} (op : Operation A) (r new : Ring A) (bound done top q 
 enters {A} op r new bound done top q role k w place entered =
     let slot = slot_at-some r q w in
     let n : standing r role q ≡ standing_of role slot.0 = standing-at r role q slot.0 w.low slot.1 in
-    let M : Ring A → Type 0 = λ x. Moves op r x bound done top role q (standing r role q + 1) in
-    let N : ℕ → Type 0 = λ m. Moves op r (with_slot q (with_standing role (standing_of role slot.0 + 1) slot.0) r) bound done top role q (m + 1) in
-    subst M (sym (entered slot.0 slot.1)) (subst N (sym n) (moves_on op r bound done top q (standing_of role slot.0 + 1) slot.0 role k w place slot.1))
+    rw (entered slot.0 slot.1) (rw n (moves_on op r bound done top q (standing_of role slot.0 + 1) slot.0 role k w place slot.1))

@@ -42,11 +42,9 @@ pub changes : {A : Type 0} (P Q : ℕ → Slot A → Type 0) (r : Ring A) (q : �
 changes {A} P Q r q old new w found each others own p slot low at =
     ⊎_elim
     (λ here.
-    let N : ℕ → Type 0 = λ n. slot_at (with_slot q new r) n ≡ Some slot in
-    let is : new ≡ slot = same_Some _ _ (sym (slot_at-with_same r q new w) ∙ subst N here at) in
-    let R : Slot A → Type 0 = λ s. Q q s in
+    let is : new ≡ slot = same_Some _ _ (sym (slot_at-with_same r q new w) ∙ rw here at at) in
     let R' : ℕ → Type 0 = λ n. Q n slot in
-    subst R' (sym here) (subst R is (own (each q old w.low found))))
+    subst R' (sym here) (rw is at (own (each q old w.low found))))
     (λ apart. others p slot apart (each p slot low (sym (slot_at-with_other r p q new low w.low apart) ∙ at)))
     (cases_eq p q)
 

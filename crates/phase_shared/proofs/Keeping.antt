@@ -142,8 +142,7 @@ in_append (x ∷ xs) ys t has = elim (eqb x t) as (λ c. (c || is_in t (xs ++ ys
 
 -- where a number was used, something has happened
 used_some : (h : History) (task : ℕ) → IsUsed h task → h ≡ [] → ⊥
-used_some h task used none = let P : History → Type 0 = λ g. IsUsed g task in
-    let never : IsUsed [] task = subst P none used in cc
+used_some h task used none = let never : IsUsed [] task = rw none at used in cc
 
 module _ {T : Type 0} (limits : Limits) (allows : Allows) (Stands : T → History → Type 0) where
   pub takes : (number : ℕ) (f : Knowledge) → (task : ℕ) × (is_in task f.speaks ≡ true)

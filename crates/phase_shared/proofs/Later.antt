@@ -50,9 +50,8 @@ module _ {A K : Type 0} (op : Operation A) (terms : Terms K) (single : Option Si
       → Signals op terms.limits old.number old.held single old.seen new answer
   signals_later new answer signals =
       let P : ℕ → Parcel A → Type 0 = λ n p. Signals op terms.limits n p single now.seen new answer in
-      let Q : Parcel A → Type 0 = λ p. P old.number p in
       let s : Signals op terms.limits old.number old.held single now.seen new answer =
-      subst Q held (subst (λ n. P n now.held) number signals) in
+      rw held at (subst (λ n. P n now.held) number signals) in
       record {
         before = s.before;
         sends = s.sends;

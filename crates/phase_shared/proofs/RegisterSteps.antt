@@ -214,9 +214,8 @@ module _ {A K : Type 0} (op : Operation A) (allows : K → Allows) (terms : Term
   refused_step {X} now child greatest mode refusal same call old u w told is good member others greatest_is next refused memory answered =
       let rests : u ≡ resting now (me ∷ []) = told ∙ ap (λ (v : View). resting (known_of v).seen (speaks_of v)) is in
       let next' : child ≡ number_after (greatest_used now) = next ∙ ap number_after greatest_is in
-      let R : History → Type 0 = λ h. RefusesRegister me mode (known_of old).seen h refusal in
       record {
-        call = answered (subst R (sym (ap (λ (v : View). (known_of v).seen) rests))
+        call = answered (rw (ap (λ (v : View). (known_of v).seen) rests)
             (refuses refusal me mode (known_of old).seen now others
             (λ other. ap (λ n. register_refusal now me n mode) (sym next') ∙ refused other)
             (λ none. ap (λ n. register_refusal now me n mode) (sym next') ∙ memory none)));

@@ -39,11 +39,8 @@ now_line job m machine c state at there found now =
     let within = slice_get_within (sinks_of job) state.sink c
     (now_place job m machine c state at there found now) in
     let f : ℕ → ℕ × List ℤ = λ t. (t, kept_by job m t) in
-    let many : length (map sink_values machine.lines.items) ≡ length (map f (sinks_of job)) =
-    ap length at.lines in
     let lines = length-map machine.lines.items sink_values in
-    let sinks = length-map (sinks_of job) f in
-    omega arith
+    omega (arith, ap length at.lines, length-map (sinks_of job) f)
 
 -- at this phase
 pub lines_begin : (job : Job) (m : Moment) (machine : Machine) (c phase : ℕ) (state : TaskState)

@@ -39,16 +39,12 @@ taken_few job m t k p n is ran there on =
     let legal = (ran.phasers p there).legal in
     let value = value_at job p in
     let limits = limits_at job p in
-    let count : length (received_by value h n) ≡ phases_waited h n =
-    length-received value limits h n legal in
-    let long : length (m.taken t k) ≡ length (received_by value h n) =
-    ap length on.taken ∙ length-map (received_by value h n) number in
     let got : HasReceivedFrom value h n on.start =
     received_law value limits h n on.start legal on.start_is on.waits in
-    let complete : on.start.wait_phase + phases_waited h n ≤ done_of h = got.complete in
+    let long : length (m.taken t k) ≡ length (received_by value h n) =
+    ap length on.taken ∙ length-map (received_by value h n) number in
     let below : done_of h ≤ top_of h = done_below_top h (sound_of limits h legal) in
-    let most : top_of h ≤ PHASES_MAX = top_within limits h legal in
-    omega arith
+    omega (arith, length-received value limits h n legal, got.complete, top_within limits h legal)
 
 -- and so is what it has put on one
 put_few : (job : Job) (m : Moment) (t j p n : ℕ) → IsGraph job.graph → HasRun job m
@@ -57,13 +53,11 @@ put_few job m t j p n is ran there on =
     let h = m.history p in
     let legal = (ran.phasers p there).legal in
     let limits = limits_at job p in
-    let count : length (sent_by h n) ≡ phases_signalled h n = length-sent_by h n in
     let long : length (sent_by h n) ≡ length (m.put t j) =
     ap length on.sent ∙ length-map (m.put t j) one in
     let below : on.start.signal_phase + phases_signalled h n ≤ top_of h =
     below_top limits h n on.start legal on.start_is in
-    let most : top_of h ≤ PHASES_MAX = top_within limits h legal in
-    omega arith
+    omega (arith, length-sent_by h n, top_within limits h legal)
 
 -- ---- a live task
 
@@ -112,14 +106,11 @@ begun_few job m t k is ran next =
     took plain =
         let all : length (m.taken t 0) ≡ takes_from (task_at job.graph t) (m.begun t) 0 =
         all_taken job m t is (ran.tasks t live.there) live.there b.step.none 0 some in
-        let few : length (m.taken t 0) ≤ PHASES_MAX = inputs_few job m t 0 is ran live some in
-        omega arith
+        omega (arith, inputs_few job m t 0 is ran live some)
 
     joined : (task_at job.graph t).kind ≡ Join → m.begun t ≤ PHASES_MAX
     joined e =
-        let H : Kind → Type 0 = λ kind. HasEnds kind (length (task_at job.graph t).inputs)
-        (length (task_at job.graph t).outputs) in
-        let ends = subst H e (is.tasks t live.there).ends in
+        let ends = rw e at (is.tasks t live.there).ends in
         let one : length (task_at job.graph t).outputs ≡ 1 = ends.2 in
         let out : signalled_by (task_at job.graph t) ≡ (task_at job.graph t).outputs = rw e refl in
         let many : length (signalled_by (task_at job.graph t))
@@ -129,8 +120,7 @@ begun_few job m t k is ran next =
         let put : length (m.put t 0) ≡ m.begun t =
         ap length (all_put job m t (ran.tasks t live.there) live.there b.step.none 0 lt)
         ∙ made_many job m t 0 is (ran.tasks t live.there) live.there lt ∙ plain in
-        let few : length (m.put t 0) ≤ PHASES_MAX = outputs_few job m t 0 is ran live lt in
-        omega arith
+        omega (arith, outputs_few job m t 0 is ran live lt)
 
     by : (kind : Kind) → (task_at job.graph t).kind ≡ kind → m.begun t ≤ PHASES_MAX
     by Source e = absurd (b.kind e)

@@ -10,7 +10,7 @@ use Rattle.graph_lang.proofs.graph_base_lemmas.Registered.{registrations-phasers
 use Rattle.graph_runs.specs.Reached.{IsReachable}
 use Rattle.std.proofs.lemmas.List.{length-set, length-map, length-append, get_or-map, get_or_append_left}
 use Rattle.std.proofs.lemmas.Bool.{cases_lt, eqb-true, eq-eqb}
-use Rattle.std.proofs.lemmas.Option.{slice_get-get_or, slice_get_past}
+use Rattle.std.proofs.lemmas.Option.{slice_get-get_or, slice_get_past, slice_get_read}
 use Rattle.phase_any.specs.phase_base.declared.mode.Mode.{Mode}
 use Rattle.phase_any.specs.phase_history.declared.refusal.RegisterRefusal.{RegisterRefusal}
 use Rattle.phase_any.specs.phase_history.Histories.{greatest_used, done_of}
@@ -91,10 +91,17 @@ pub child_below : (job : Job) (machine : Machine) (t c : ℕ)
     → IsNextIn job machine t (registers c) → c < length machine.tasks.items
 child_below job machine t c next =
     let at = next.some.1 in
-    let many = at.tasks_many in
     let lt = (found_below (is_due job next.some.0 t) (length job.graph.tasks) c
     (child_due job next.some.0 t c (next.is next.some.0 at))).1 in
-    omega arith
+    omega (arith, at.tasks_many)
+
+-- its state, as it is read
+pub child_read : {job : Job} {machine : Machine} {t c : ℕ} {state : TaskState}
+    → IsNextIn job machine t (registers c) → state ≡ get_or machine.tasks.items c state
+    → slice_get machine.tasks.items c ≡ Some state
+child_read {job} {machine} {t} {c} {state} next read =
+    slice_get_read machine.tasks.items (length machine.tasks.items) c state refl
+    (child_below job machine t c next) read
 
 pub child_at : (job : Job) (machine : Machine) (m : Moment) (t c : ℕ) (state : TaskState)
     → IsNextIn job machine t (registers c) → IsMachineAt job m machine
@@ -324,8 +331,7 @@ now_input job c i is there now lt =
     let task = task_at job.graph c in
     let line = is.tasks c there in
     let sink = (line.now now).0 in
-    let E : Kind → Type 0 = λ k. HasEnds k (length task.inputs) (length task.outputs) in
-    let ends : (length task.inputs ≡ 1) × (length task.outputs ≡ 0) = subst E sink line.ends in
+    let ends : (length task.inputs ≡ 1) × (length task.outputs ≡ 0) = rw sink at line.ends in
     let rs = registrations_at job c in
     let phasers = registrations-phasers job.graph c task line in
     let long : length rs ≡ length (task.inputs ++ task.outputs) =
@@ -573,6 +579,5 @@ pub room_for_child : (job : Job) (machine : Machine) (m : Moment) (t c : ℕ) (s
     → slice_get machine.tasks.items c ≡ Some state → length (registrations_at job c) ≤ 9
     → length state.numbers.items + 1 ≤ state.numbers.capacity
 room_for_child job machine m t c state next at found few =
-    let room = (at.tasks c state found).room in
     let less = (child_at job machine m t c state next at found).few in
-    omega arith
+    omega (arith, (at.tasks c state found).room)

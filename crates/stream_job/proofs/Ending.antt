@@ -27,9 +27,7 @@ use Rattle.stream_job.proofs.Reading.{complete}
 pub all_numbered : (job : Job) (m : Moment) (t : ℕ) (at : TaskPlace) → StandsAt job m t at
     → is_live job m t ≡ true → length at.numbers ≡ length (registrations_at job t)
 all_numbered job m t at stands live =
-    let few = stands.few in
-    let le = complete job m t at stands (ap is_some (live-is job m t live).all) in
-    omega arith
+    omega (arith, stands.few, complete job m t at stands (ap is_some (live-is job m t live).all))
 
 -- the number that stands at place i is the task's there
 pub number-at : (job : Job) (m : Moment) (t i : ℕ) (at : TaskPlace) → StandsAt job m t at
@@ -90,8 +88,7 @@ waits_on job m t k at is ran stands live none few there =
     of_input job t k is living.there few in
     let staying : has_left m t (registration_at job t k) ≡ false =
     stands.leaves k (omega arith) ∙ le-ltb k at.left (omega arith) in
-    let P : ℕ → Type 0 = λ q. has_dropped (m.history q) (number_on m t q) ≡ false in
-    waiter job m t k is ran living few there (subst P here staying)
+    waiter job m t k is ran living few there (rw here at staying)
 
 -- the number of a live task on its input k
 pub number_of_input : (job : Job) (m : Moment) (t k : ℕ) (at : TaskPlace) → IsGraph job.graph

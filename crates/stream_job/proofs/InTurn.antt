@@ -55,8 +55,7 @@ after_one_more job turns i old new lt same kept none at after =
     ∙ ap (λ j. after_answer j (answer_of_turn j m t) m) same
     ∙ sym (one_turn_more job (opening job) (take i turns) t)
     ∙ ap (after_turns job (opening job)) (sym listed) in
-    let P : Moment → Type 0 = λ x. IsWorldAt new x in
-    subst P there (after m at)
+    rw there at (after m at)
 
 -- what a world that met nothing is told
 pub told_here : (job : Job) (world : WorldState) (m : Moment) (t : ℕ) (told : Turned)

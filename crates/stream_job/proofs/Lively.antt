@@ -2,7 +2,7 @@
 use Rattle.std.proofs.Common.{◌≡◌, ◌≢◌, ℕ, List, ◌+◌, ◌*◌, ◌<◌, Bool, true, false, cond, Some, length, get_or, slice_get, refl, sym, ap, ◌∙◌, arith}
 use Rattle.std.specs.Prelude.{unwrap_or}
 use Rattle.std.proofs.lemmas.Bool.{ltb-true}
-use Rattle.std.proofs.lemmas.Option.{slice_get-get_or}
+use Rattle.std.proofs.lemmas.Option.{slice_get-get_or, slice_get_read}
 use Rattle.phase_any.specs.phase_history.Refusals.{drop_refusal}
 use Rattle.graph_lang.specs.graph_base.Registrations.{no_registration}
 use Rattle.graph_lang.specs.graph_base.TaskLines.{IsGraph}
@@ -78,14 +78,20 @@ leaves_at job m t at is stands next =
     }
 
 -- a task that does something next has a state
-pub has_state : (job : Job) (machine : Machine) (t : ℕ) (next : Next) → IsNextIn job machine t next
-    → next ≢ is_not_live → t < length machine.tasks.items
-has_state job machine t next is never =
+pub state_there : {job : Job} {machine : Machine} {t : ℕ} {next : Next}
+    → IsNextIn job machine t next → next ≢ is_not_live → t < length machine.tasks.items
+state_there {job = job} {t = t} {next = next} is never =
     let at = is.some.1 in
-    let many = at.tasks_many in
     let living = live-is job is.some.0 t (live_next job is.some.0 t next (is.is is.some.0 at) never) in
-    let there = living.there in
-    omega arith
+    omega (arith, at.tasks_many, living.there)
+
+-- which was read
+pub state_read : {job : Job} {machine : Machine} {t : ℕ} {next : Next} {state : TaskState}
+    → IsNextIn job machine t next → next ≢ is_not_live → state ≡ get_or machine.tasks.items t state
+    → slice_get machine.tasks.items t ≡ Some state
+state_read {machine = machine} {t = t} {state = state} is never read =
+    slice_get_read machine.tasks.items (length machine.tasks.items) t state refl
+    (state_there is never) read
 
 -- where a task leaves next, by the state that was read
 pub leaves_now : (job : Job) (machine : Machine) (m : Moment) (t : ℕ) (state : TaskState)

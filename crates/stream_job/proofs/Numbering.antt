@@ -89,11 +89,7 @@ few_moved job before after t p event moved same few q lt = by (eqb q p) refl
     from : greatest_used (after.history q) ≡ greatest_used (before.history q)
         → greatest_used (after.history q) ≤ numbered (after.number q) (length job.graph.tasks)
     from now =
-        let low : greatest_used (before.history q)
-        ≤ numbered (before.number q) (length job.graph.tasks) = was in
-        let kept : numbered (after.number q) (length job.graph.tasks)
-        ≡ numbered (before.number q) (length job.graph.tasks) = many in
-        omega arith
+        omega (arith, was, many)
 
     by : (b : Bool) → eqb q p ≡ b
         → greatest_used (after.history q) ≤ numbered (after.number q) (length job.graph.tasks)
@@ -209,16 +205,12 @@ roots_use job p (suc n) = by (root_mode job n p) (roots_use job p n)
         let none : numbered (root_number job p) n ≡ numbered (root_number job p) n + 0 = omega arith in
         e ∙ none
     by (Some mode) e =
-        let now : greatest_used (with_root (roots_joined job p n) (Some mode))
-        ≡ max (greatest_used (roots_joined job p n) + 1) (greatest_used (roots_joined job p n)) = refl in
-        omega arith
+        omega (arith, refl)
 
 pub opening_uses_few : (job : Job) → UsesFew job (opening job)
 opening_uses_few job p lt =
     let n = length job.graph.tasks in
-    let same : greatest_used (roots_joined job p n) ≡ numbered (root_number job p) n =
-    roots_use job p n in
-    omega arith
+    omega (arith, roots_use job p n)
 
 -- ---- a number is left
 

@@ -74,9 +74,7 @@ steps_left job m t k p n outcomes ready live few reached numbered =
     live.there in
     let steps : after.begun t ≡ further (m.begun t) outcomes =
     ap (λ b. cond b (further (m.begun t) outcomes) (m.begun t)) (eq-eqb t t refl) in
-    let many : further (m.begun t) outcomes ≡ m.begun t + length outcomes =
-    further-length (m.begun t) outcomes in
-    omega arith
+    omega (arith, further-length (m.begun t) outcomes)
 
 pub sink_room : (job : Job) (old : Machine) (m : Moment) (t k p n : ℕ) (outcomes : List Outcome)
     (state : TaskState) (sink : Option ℕ) → IsNextIn job old t (waits k) → IsMachineAt job m old
@@ -128,8 +126,7 @@ sink_room job old m t k p n outcomes state sink next at found is answer =
         let enough : (span_in (least job) line.task).steps ≤ vec_capacity line.values = own.room in
         let same : (span_in (least job) line.task).steps ≡ (span_in (least job) t).steps =
         ap (λ u. (span_in (least job) u).steps) owner in
-        let items : vec_len line.values ≡ length line.values.items = line.values.ok.0 in
-        omega arith
+        omega (arith, line.values.ok.0)
 
     by : (b : Bool) → is_sink_at job t ≡ b
         → IfSome (cond b (Some state.sink) None) (HasRoomIn old.lines.items (length outcomes))

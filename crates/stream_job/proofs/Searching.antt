@@ -10,8 +10,7 @@ use Rattle.graph_runs.proofs.Standing.{find-at}
 
 at-is : (n i : ℕ) → i < n → get_or (range_with_len 0 n) i 0 ≡ i
 at-is n i lt =
-    let is : get_or (range_with_len 0 n) i 0 ≡ 0 + i = get_or-range_with_len 0 n i 0 lt in
-    omega arith
+    omega (arith, get_or-range_with_len 0 n i 0 lt)
 
 -- the first number that passes the test
 pub find_in_range : (test : ℕ → Bool) (n c : ℕ) → c < n → ((d : ℕ) → d < c → test d ≡ false)

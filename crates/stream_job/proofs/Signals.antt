@@ -828,8 +828,7 @@ pub sample_few : (job : Job) (machine : Machine) (m : Moment) (t : ℕ)
 sample_few job machine m t next at =
     let is = next.is m at in
     let there = (live-is job m t (live_next job m t turns.samples is (λ e. absurd (cc)))).there in
-    let one = source_ends job t at.graph there (samples_begins job m t is).kind in
-    omega arith
+    omega (arith, source_ends job t at.graph there (samples_begins job m t is).kind)
 
 -- so many samples of a task that has begun so many steps: the block that is next
 pub record BlockOfSamples (job : Job) (t begun many : ℕ) (vs : List ℤ) : Type 0 where
@@ -971,11 +970,9 @@ filter_owes task vs kind = rw kind refl
 pub made_few : (job : Job) (machine : Machine) (m : Moment) (t j : ℕ) (state : TaskState)
     → HasMade job m t j state → length state.made.items ≤ (task_at job.graph t).block
 made_few job machine m t j state made =
-    let few = values_few job m t j in
     let long : length (map ranged (next_values job m t j)) ≡ length (next_values job m t j) =
     length-map (next_values job m t j) ranged in
-    let same = ap length made.here.next in
-    omega arith
+    omega (arith, values_few job m t j, ap length made.here.next)
 
 -- and were begun
 pub made_begun : (job : Job) (machine : Machine) (m : Moment) (t j : ℕ) (state : TaskState)
@@ -996,5 +993,4 @@ made_begun job machine m t j state next at found made =
     let many = made_many job m t j at.graph (at.reached.ran.tasks t there) there few in
     let all : puts_on (task_at job.graph t) (m.begun t) j ≡ m.begun t =
     made_puts (task_at job.graph t) (m.begun t) j (ap (λ k. are_made k j) made.filters) in
-    let begun = it.begun in
-    omega arith
+    omega (arith, it.begun)

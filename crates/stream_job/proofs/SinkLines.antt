@@ -74,13 +74,9 @@ filter_ascends test from (suc n) =
 above : (from i t : ℕ) (xs : List ℕ) → Ascends from xs → slice_get xs i ≡ Some t → from ≤ t
 above from i t [] up found = absurd (cc)
 above from zero t (x ∷ xs) up found =
-    let same : x ≡ t = same_Some x t found in
-    let le = up.0 in
-    omega arith
+    omega (arith, same_Some x t found, up.0)
 above from (suc i) t (x ∷ xs) up found =
-    let le = up.0 in
-    let more = above (suc x) i t xs up.1 found in
-    omega arith
+    omega (arith, up.0, above (suc x) i t xs up.1 found)
 
 others_same : {Y : Type 0} (f g : ℕ → Y) (t from : ℕ) (xs : List ℕ) → t < from → Ascends from xs
     → ((u : ℕ) → u ≢ t → f u ≡ g u) → map f xs ≡ map g xs

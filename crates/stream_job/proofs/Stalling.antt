@@ -355,8 +355,7 @@ pub values_some : (job : Job) (m : Moment) (t j : ℕ) → IsGraph job.graph
 values_some job m t j is there next =
     let more = (owed job m t j (signals_owes job m t j next)).1 in
     let begins = next_begins (task_at job.graph t).block job m t j (is.tasks t there).block.some more in
-    let long = ap length begins in
-    omega arith
+    omega (arith, ap length begins)
 
 -- so many, where they are in range
 pub values_many : (job : Job) (m : Moment) (t j : ℕ) (owed : Owed) → Owes job m t owed

@@ -29,7 +29,7 @@ IsSo job m t exchanges = (task_at job.graph t).kind ≡ Peer
 
 so : (job : Job) (m : Moment) (t : ℕ) (made next : Next) → made ≡ next → IsSo job m t made
     → IsSo job m t next
-so job m t made next same is = let P : Next → Type 0 = λ n. IsSo job m t n in subst P same is
+so job m t made next same is = rw same at is
 
 stepping : (job : Job) (m : Moment) (t : ℕ) (next : Next) → (kind : Kind)
     → (task_at job.graph t).kind ≡ kind
@@ -94,9 +94,7 @@ pub sample_output : (job : Job) (m : Moment) (t : ℕ) → IsGraph job.graph
     → t < length job.graph.tasks → next_of job m t ≡ samples
     → 0 < length (signalled_by (task_at job.graph t))
 sample_output job m t is there next =
-    let one : length (signalled_by (task_at job.graph t)) ≡ 1 =
-    source_ends job t is there (next_is job m t samples next) in
-    omega arith
+    omega (arith, source_ends job t is there (next_is job m t samples next))
 
 pub signal_output : (job : Job) (m : Moment) (t j : ℕ) → next_of job m t ≡ signals j
     → j < length (signalled_by (task_at job.graph t))
@@ -107,14 +105,10 @@ pub wait_input : (job : Job) (m : Moment) (t k : ℕ) → IsGraph job.graph
     → k < length (task_at job.graph t).inputs
 wait_input job m t k is there next =
     let here = next_is job m t (waits k) next in
-    let P : ℕ → Type 0 = λ i. i < length (task_at job.graph t).inputs in
-    subst P here.1
-    (first_looks (task_at job.graph t) (m.begun t) (is.tasks t there).ends here.0).0
+    rw here.1 at (first_looks (task_at job.graph t) (m.begun t) (is.tasks t there).ends here.0).0
 
 pub exchange_input : (job : Job) (m : Moment) (t : ℕ) → IsGraph job.graph
     → t < length job.graph.tasks → next_of job m t ≡ exchanges
     → 1 < length (task_at job.graph t).inputs
 exchange_input job m t is there next =
-    let two : length (task_at job.graph t).inputs ≡ 2 =
-    (peer_ends job t is there (next_is job m t exchanges next)).0 in
-    omega arith
+    omega (arith, (peer_ends job t is there (next_is job m t exchanges next)).0)

@@ -50,9 +50,7 @@ pub room_for_one : (list : SmallVec ℕ) (stands : List Bool) (t : ℕ) → IsTa
 room_for_one list stands t is lt none =
     let both = one_more_task list.items t is.distinct is.below lt none in
     let many = few (list.items ++ t ∷ []) both.0 both.1 in
-    let long = length-append list.items (t ∷ []) in
-    let room = is.room in
-    omega arith
+    omega (arith, length-append list.items (t ∷ []), is.room)
 
 -- an empty list
 pub empty_list : (list : SmallVec ℕ) (stands : List Bool) → list.items ≡ [] → 64 ≤ list.capacity

@@ -12,6 +12,7 @@ use Rattle.phase_any.specs.phase_base.Limits.{Limits}
 use Rattle.phase_any.specs.phase_history.declared.event.Event.TheVariants.{Waited}
 use Rattle.phase_any.specs.phase_history.declared.got.Got.{Got}
 use Rattle.phase_any.specs.phase_history.declared.got.Got.TheVariants as got
+use Rattle.phase_any.specs.phase_history.declared.got.GotBlock.{GotBlock}
 use Rattle.phase_any.specs.phase_history.declared.got.GotBlock.TheVariants as block
 use Rattle.phase_any.specs.phase_history.declared.refusal.WaitRefusal.{WaitRefusal}
 use Rattle.phase_any.specs.phase_history.declared.refusal.WaitRefusal.TheVariants as refusals
@@ -58,6 +59,7 @@ use Rattle.graph_runs.proofs.FirstWaits.{first_wait_follows}
 use Rattle.graph_runs.specs.Steps.{owed_of, HasFilter}
 use Rattle.graph_runs.specs.declared.owed.Owed.{Owed}
 use Rattle.graph_runs.specs.declared.owed.Owed.TheVariants as code
+use Rattle.stream_job.specs.Buffers.{HasPlaces}
 use Rattle.stream_job.specs.Inside.{with_line, IsNextIn}
 use Rattle.stream_job.specs.Places.{place_of, owed_in, HasTaken}
 use Rattle.stream_job.specs.Machines.{IsMachineAt, HasCores, IsLineOf}
@@ -147,7 +149,7 @@ pub record GotAll (job : Job) (m : Moment) (p n steps phase count : ℕ) (outcom
   pub complete : phase + count ≤ done_of (m.history p)
 
 -- it stands in the places of the wait
-pub got_all : (job : Job) (m : Moment) (p n steps phase count : ℕ) (old now : List Outcome)
+got_all : (job : Job) (m : Moment) (p n steps phase count : ℕ) (old now : List Outcome)
     → wait_block_reply (limits_at job p) (m.history p) n steps ≡ Ok (block.Values phase count)
     → now ≡ written (Ok (block.Values phase count)) (stream_of (value_at job p) (m.history p)) old
     → GotAll job m p n steps phase count (take count now)
@@ -184,14 +186,25 @@ got_all job m p n steps phase count old now reply is =
 -- ---- the last phase
 
 -- no phase past the last is complete
+-- and so do the outcomes that were answered
+pub got_answered : (job : Job) (m : Moment) (p n steps phase count : ℕ) (given : GotBlock)
+    (old now : List Outcome) → length old ≡ steps → given ≡ block.Values phase count
+    → wait_block_reply (limits_at job p) (m.history p) n (length old) ≡ Ok given
+    → now ≡ written (Ok given) (stream_of (value_at job p) (m.history p)) old
+    → GotAll job m p n steps phase count (take count now)
+got_answered job m p n steps phase count given old now long is reply out =
+    got_all job m p n steps phase count old now
+    (subst (λ i. wait_block_reply (limits_at job p) (m.history p) n i ≡ Ok (block.Values phase count))
+    long (reply ∙ ap (λ g. Ok g) is))
+    (out ∙ ap (λ g. written (Ok g) (stream_of (value_at job p) (m.history p)) old) is)
+
 pub done_few : (job : Job) (m : Moment) (p : ℕ) → HasRun job m → p < length job.graph.phasers
     → done_of (m.history p) ≤ PHASES_MAX
 done_few job m p ran there =
     let h = m.history p in
     let legal = (ran.phasers p there).legal in
     let below : done_of h ≤ top_of h = done_below_top h (sound_of (limits_at job p) h legal) in
-    let most : top_of h ≤ PHASES_MAX = top_within (limits_at job p) h legal in
-    omega arith
+    omega (arith, top_within (limits_at job p) h legal)
 
 -- nor does a wait get one
 pub phase_few : (job : Job) (m : Moment) (p n phase : ℕ) (outcome : Outcome) → HasRun job m
@@ -200,10 +213,7 @@ pub phase_few : (job : Job) (m : Moment) (p n phase : ℕ) (outcome : Outcome) �
     → phase < PHASES_MAX
 phase_few job m p n phase outcome ran there reply =
     let tells = reply_tells (value_at job p) (limits_at job p) (m.history p) n phase outcome reply in
-    let below : wait_phase (m.history p) n < done_of (m.history p) = tells.0 in
-    let is : phase ≡ wait_phase (m.history p) n = tells.1 in
-    let few = done_few job m p ran there in
-    omega arith
+    omega (arith, tells.0, tells.1, done_few job m p ran there)
 
 -- ---- what is asked of the phaser
 
@@ -265,8 +275,7 @@ pub exchange_few : (job : Job) (machine : Machine) (m : Moment) (t : ℕ)
 exchange_few job machine m t next at =
     let is = next.is m at in
     let there = (live-is job m t (live_next job m t turns.exchanges is (λ e. absurd (cc)))).there in
-    let ends = (peer_ends job t at.graph there (is_peer job m t is)).0 in
-    omega arith
+    omega (arith, (peer_ends job t at.graph there (is_peer job m t is)).0)
 
 pub exchange_waits_at : (job : Job) (machine : Machine) (m : Moment) (t : ℕ) (state : TaskState)
     → IsNextIn job machine t turns.exchanges → IsMachineAt job m machine
@@ -293,18 +302,37 @@ exchange_so job machine m t n p state next at found phaser numbered =
     ∙ ap (λ r. wait_answer (exchange_wait t r n) (wait_reply (value_at job r) (limits_at job r)
     (m.history r) n)) (sym phaser)
 
-first_so : (job : Job) (machine : Machine) (m : Moment) (t k n p steps : ℕ) (state : TaskState)
-    → IsNextIn job machine t (turns.waits k) → IsMachineAt job m machine
-    → slice_get machine.tasks.items t ≡ Some state → p ≡ input_at (task_at job.graph t) k
-    → n ≡ get_or state.numbers.items k 0 → block_of job m t ≡ steps
+-- a task that waits first, and what it asks of its phaser
+pub record AsksFirst (job : Job) (old : Machine) (t k n p steps : ℕ) (state : TaskState) : Type 0
+  where
+    pub next : IsNextIn job old t (turns.waits k)
+    pub found : slice_get old.tasks.items t ≡ Some state
+    pub phaser : p ≡ input_at (task_at job.graph t) k
+    pub numbered : n ≡ get_or state.numbers.items k 0
+    pub many : (m : Moment) → IsMachineAt job m old → block_of job m t ≡ steps
+
+-- its block fits the places that are kept for outcomes
+pub asks_places : {job : Job} {old : Machine} {t k n p steps : ℕ} {state : TaskState}
+    → AsksFirst job old t k n p steps state → (places : ℕ) (outcomes : List Outcome)
+    → HasPlaces job places → places ≤ length outcomes → length (take steps outcomes) ≡ steps
+asks_places {job} {old} {t} {k} {steps = steps} {state = state} asks places outcomes has room =
+    let m = asks.next.some.0 in
+    let at = asks.next.some.1 in
+    let few = block_few job m t in
+    let is = asks.many m at in
+    let fits = has t (first_waits_at job old m t k state asks.next at asks.found).there in
+    length-take-le steps outcomes (omega arith)
+
+first_so : (job : Job) (old : Machine) (m : Moment) (t k n p steps : ℕ) (state : TaskState)
+    → AsksFirst job old t k n p steps state → IsMachineAt job m old
     → answer_of_turn job m t ≡ block_turn job m t k p n steps
-first_so job machine m t k n p steps state next at found phaser numbered many =
-    let w = first_waits_at job machine m t k state next at found in
+first_so job old m t k n p steps state asks at =
+    let w = first_waits_at job old m t k state asks.next at asks.found in
     let q = input_at (task_at job.graph t) k in
-    ap (answer_to job m t) (next.is m at)
-    ∙ ap (λ i. block_turn job m t k q i (block_of job m t)) (w.number ∙ sym numbered)
-    ∙ ap (λ r. block_turn job m t k r n (block_of job m t)) (sym phaser)
-    ∙ ap (block_turn job m t k p n) many
+    ap (answer_to job m t) (asks.next.is m at)
+    ∙ ap (λ i. block_turn job m t k q i (block_of job m t)) (w.number ∙ sym asks.numbered)
+    ∙ ap (λ r. block_turn job m t k r n (block_of job m t)) (sym asks.phaser)
+    ∙ ap (block_turn job m t k p n) (asks.many m at)
 
 -- ---- a peer's exchange
 
@@ -569,13 +597,11 @@ first_stands job m t k p n outcomes at is reached now answer stands =
 
 -- what the turn answers where the wait got values
 pub first_answer : (job : Job) (old : Machine) (m : Moment) (t k n p steps phase count : ℕ)
-    (outcomes : List Outcome) (state : TaskState) → IsNextIn job old t (turns.waits k)
-    → IsMachineAt job m old → slice_get old.tasks.items t ≡ Some state
-    → p ≡ input_at (task_at job.graph t) k → n ≡ get_or state.numbers.items k 0
-    → block_of job m t ≡ steps → GotAll job m p n steps phase count outcomes
+    (outcomes : List Outcome) (state : TaskState) → AsksFirst job old t k n p steps state
+    → IsMachineAt job m old → GotAll job m p n steps phase count outcomes
     → answer_of_turn job m t ≡ makes (first_wait t k p n outcomes)
-first_answer job old m t k n p steps phase count outcomes state next at found phaser numbered many all =
-    first_so job old m t k n p steps state next at found phaser numbered many
+first_answer job old m t k n p steps phase count outcomes state asks at all =
+    first_so job old m t k n p steps state asks at
     ∙ ap (block_answer (λ phase count. first_wait t k p n
     (slice_range (stream_of (value_at job p) (m.history p)) phase (phase + count)))) all.reply
     ∙ ap (λ l. makes (first_wait t k p n l)) all.are
@@ -596,17 +622,14 @@ pub record MayTake (job : Job) (t : ℕ) (outcomes : List Outcome) (state : Task
   pub begun : state.begun + length outcomes ≤ 18446744073709551615
 
 pub may_take : (job : Job) (old : Machine) (m : Moment) (t k n p steps phase count : ℕ)
-    (outcomes : List Outcome) (state : TaskState) → IsNextIn job old t (turns.waits k)
-    → IsMachineAt job m old → slice_get old.tasks.items t ≡ Some state
-    → p ≡ input_at (task_at job.graph t) k → n ≡ get_or state.numbers.items k 0
-    → block_of job m t ≡ steps → GotAll job m p n steps phase count outcomes
+    (outcomes : List Outcome) (state : TaskState) → AsksFirst job old t k n p steps state
+    → IsMachineAt job m old → GotAll job m p n steps phase count outcomes
     → p < length job.graph.phasers → MayTake job t outcomes state
-may_take job old m t k n p steps phase count outcomes state next at found phaser numbered many all there =
-    let it = at.tasks t state found in
-    let answer = first_answer job old m t k n p steps phase count outcomes state next at found phaser
-    numbered many all in
+may_take job old m t k n p steps phase count outcomes state asks at all there =
+    let it = at.tasks t state asks.found in
+    let answer = first_answer job old m t k n p steps phase count outcomes state asks at all in
     let made = makes_event job m t (first_wait t k p n outcomes) at.graph at.reached answer in
-    let is = next.is m at in
+    let is = asks.next.is m at in
     let b = waits_begins job m t k is in
     let few : m.begun t ≤ PHASES_MAX = begun_few job m t k at.graph at.reached.ran is in
     let begun : m.begun t ≡ state.begun = it.stands.begun in
@@ -614,23 +637,21 @@ may_take job old m t k n p steps phase count outcomes state next at found phaser
     let done : done_of (m.history p) ≤ PHASES_MAX = done_few job m p at.reached.ran there in
     let long : length outcomes ≡ count = all.many in
     let asked : count ≤ steps = all.few in
+    let many : block_of job m t ≡ steps = asks.many m at in
     let block : block_of job m t ≤ (task_at job.graph t).block = block_few job m t in
     record {
       block = made.next.1.block;
       nothing = nothing_owed state.owed state.made.items (owes_nothing job m t
           (owed_in state.owed state.made.items) it.stands.owes b.step.none);
-      room = λ fir. (let room : (task_at job.graph t).block ≤ state.made.cap = it.made_room fir in
-          omega arith);
+      room = λ fir. (omega (arith, it.made_room fir));
       begun = omega arith;
     }
 
 pub first_turn : (job : Job) (old new : Machine) (t k n p steps phase count : ℕ)
     (outcomes : List Outcome) (state took : TaskState) (sink : Option ℕ) (told : Turned)
-    → IsNextIn job old t (turns.waits k) → slice_get old.tasks.items t ≡ Some state
-    → p ≡ input_at (task_at job.graph t) k → n ≡ get_or state.numbers.items k 0
+    → AsksFirst job old t k n p steps state
     → HasTaken (task_at job.graph t) (map number outcomes) state took
     → sink ≡ cond (is_sink_at job t) (Some state.sink) None
-    → ((m : Moment) → IsMachineAt job m old → block_of job m t ≡ steps)
     → ((m : Moment) → IsMachineAt job m old → GotAll job m p n steps phase count outcomes)
     → ((m : Moment) → IsMachineAt job m old
     → HasCores job (with_at p (Waited n count ∷ m.history p) m.history) new.cores.items)
@@ -641,7 +662,7 @@ pub first_turn : (job : Job) (old new : Machine) (t k n p steps phase count : �
     → (All (IsLineOf job) old.lines.items → All (IsLineOf job) new.lines.items)
     → told_of told ≡ told_got p phase outcomes
     → HadTurn job old new t (Event p told)
-first_turn job old new t k n p steps phase count outcomes state took sink told next found phaser numbered has sinks many all cores tasks lines starts own tells =
+first_turn job old new t k n p steps phase count outcomes state took sink told asks has sinks all cores tasks lines starts own tells =
     record { shows = shows; after = after }
   where
     event : TaskEvent
@@ -649,8 +670,7 @@ first_turn job old new t k n p steps phase count outcomes state took sink told n
 
     answer : (m : Moment) → IsMachineAt job m old → answer_of_turn job m t ≡ makes event
     answer m at =
-        first_answer job old m t k n p steps phase count outcomes state next at found phaser numbered
-        (many m at) (all m at)
+        first_answer job old m t k n p steps phase count outcomes state asks at (all m at)
 
     shows : (m : Moment) → IsMachineAt job m old
         → Shows job m t (answer_of_turn job m t) (Event p told)
@@ -660,7 +680,7 @@ first_turn job old new t k n p steps phase count outcomes state took sink told n
 
     first : (m : Moment) → IsMachineAt job m old
         → k ≡ first_input (task_at job.graph t) (m.begun t)
-    first m at = (waits_begins job m t k (next.is m at)).first
+    first m at = (waits_begins job m t k (asks.next.is m at)).first
 
     kept : (m : Moment) (at : IsMachineAt job m old)
         → HasFilter (task_at job.graph t) took.filter ((after_turn job event m).taken t 0)
@@ -668,7 +688,7 @@ first_turn job old new t k n p steps phase count outcomes state took sink told n
         subst (HasFilter (task_at job.graph t) took.filter)
         (sym (first_is job m t k n p outcomes (zero_first (task_at job.graph t) (m.begun t) k Fir fir
         (λ e. absurd (cc)) (first m at))))
-        (has.filter (m.taken t 0) (at.tasks t state found).filter) fir
+        (has.filter (m.taken t 0) (at.tasks t state asks.found).filter) fir
 
     sink_lines : (m : Moment) (at : IsMachineAt job m old) → HasAnsweredNone job m → (b : Bool)
         → is_sink_at job t ≡ b
@@ -679,7 +699,7 @@ first_turn job old new t k n p steps phase count outcomes state took sink told n
         let kind = sink_kind (task_at job.graph t).kind e in
         lines_keep job m old t k p n state.sink outcomes at none (answer m at)
         (zero_first (task_at job.graph t) (m.begun t) k Sink kind (λ e. absurd (cc)) (first m at))
-        ((at.tasks t state found).sink kind)
+        ((at.tasks t state asks.found).sink kind)
     sink_lines m at none false e = lines_stay job m old t event at (answer m at) e
 
     cores_now : (m : Moment) → IsMachineAt job m old
@@ -691,14 +711,15 @@ first_turn job old new t k n p steps phase count outcomes state took sink told n
     after : (m : Moment) → IsMachineAt job m old → HasAnsweredNone job m
         → IsMachineAt job (after_answer job (answer_of_turn job m t) m) new
     after m at none =
-        let it = at.tasks t state found in
+        let it = at.tasks t state asks.found in
         let ran = (subst (λ a. IsReachable job (after_answer job a m)) (answer m at)
-        (next.stays m at)).ran in
+        (asks.next.stays m at)).ran in
         let stands = taken_place job (after_turn job event m) t outcomes (m.taken t 0) state took has
         it.filter (first_stands job m t k p n outcomes (place_of state) at.graph at.reached ran
         (answer m at) it.stands) in
         after_own job m old new t event took at (answer m at) refl
-        (first_waits_at job old m t k state next at found).there (next.stays m at) (next.few m at)
+        (first_waits_at job old m t k state asks.next at asks.found).there (asks.next.stays m at)
+        (asks.next.few m at)
         (cores_now m at) tasks
         (record {
           stands = stands;
@@ -727,17 +748,14 @@ had_as job old new same t it told news its had =
 
 -- a wait that the phaser would not take now
 pub blocked_first : (job : Job) (old new : Machine) (t k n p steps : ℕ) (state : TaskState)
-    (r : WaitRefusal) → IsNextIn job old t (turns.waits k)
-    → slice_get old.tasks.items t ≡ Some state → p ≡ input_at (task_at job.graph t) k
-    → n ≡ get_or state.numbers.items k 0
-    → ((m : Moment) → IsMachineAt job m old → block_of job m t ≡ steps)
+    (r : WaitRefusal) → AsksFirst job old t k n p steps state
     → ((m : Moment) → IsMachineAt job m old
     → wait_block_reply (limits_at job p) (m.history p) n steps ≡ Err r)
     → ((m : Moment) → IsMachineAt job m old
     → HasCores job (with_at p (m.history p) m.history) new.cores.items)
     → new.tasks ≡ old.tasks → new.lines ≡ old.lines → HadTurn job old new t (Blocked p)
-blocked_first job old new t k n p steps state r next found phaser numbered many reply cores tasks lines =
-    blocked_turn job old new t p (turns.waits k) next (sym phaser) answer
+blocked_first job old new t k n p steps state r asks reply cores tasks lines =
+    blocked_turn job old new t p (turns.waits k) asks.next (sym asks.phaser) answer
     (λ m at. unchanged job m old new p at (cores m at) tasks lines)
   where
     event : Moment → ℕ → ℕ → TaskEvent
@@ -748,23 +766,21 @@ blocked_first job old new t k n p steps state r next found phaser numbered many 
     refused : (m : Moment) → IsMachineAt job m old
         → answer_of_turn job m t ≡ block_answer (event m) (Err r)
     refused m at =
-        first_so job old m t k n p steps state next at found phaser numbered (many m at)
+        first_so job old m t k n p steps state asks at
         ∙ ap (block_answer (event m)) (reply m at)
 
     answer : (m : Moment) → IsMachineAt job m old → answer_of_turn job m t ≡ is_blocked
     answer m at =
-        refused m at ∙ blocks_all (event m) r (λ e. next.answered m at (refused m at ∙ e))
+        refused m at ∙ blocks_all (event m) r (λ e. asks.next.answered m at (refused m at ∙ e))
 
 pub first_never_ended : (job : Job) (old : Machine) (t k n p steps : ℕ) (state : TaskState)
-    → IsNextIn job old t (turns.waits k) → slice_get old.tasks.items t ≡ Some state
-    → p ≡ input_at (task_at job.graph t) k → n ≡ get_or state.numbers.items k 0
-    → ((m : Moment) → IsMachineAt job m old → block_of job m t ≡ steps)
+    → AsksFirst job old t k n p steps state
     → ((m : Moment) → IsMachineAt job m old
     → wait_block_reply (limits_at job p) (m.history p) n steps ≡ Ok block.Ended) → ⊥
-first_never_ended job old t k n p steps state next found phaser numbered many reply =
-    let m = next.some.0 in
-    let at = next.some.1 in
-    next.answered m at (first_so job old m t k n p steps state next at found phaser numbered (many m at)
+first_never_ended job old t k n p steps state asks reply =
+    let m = asks.next.some.0 in
+    let at = asks.next.some.1 in
+    asks.next.answered m at (first_so job old m t k n p steps state asks at
     ∙ ap (block_answer (λ phase count. first_wait t k p n
     (slice_range (stream_of (value_at job p) (m.history p)) phase (phase + count)))) (reply m at))
 
@@ -783,9 +799,6 @@ sink_there job old m t state sink at found is =
         let lt = slice_get_within (sinks_of job) state.sink t
         ((at.tasks t state found).sink (sink_kind (task_at job.graph t).kind e)) in
         let f : ℕ → ℕ × List ℤ = λ u. (u, kept_by job m u) in
-        let many : length (map sink_values old.lines.items) ≡ length (map f (sinks_of job)) =
-        ap length at.lines in
         let one = length-map old.lines.items sink_values in
-        let two = length-map (sinks_of job) f in
-        omega arith
+        omega (arith, ap length at.lines, length-map (sinks_of job) f)
     by false e = tt

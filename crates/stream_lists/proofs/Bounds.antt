@@ -56,14 +56,12 @@ bound-more n zero =
     let here : bound (n + 0) ≡ bound n = ap bound same in omega arith
 bound-more n (suc d) =
     let same : n + suc d ≡ suc (n + d) = omega arith in
-    let here : bound (n + suc d) ≡ bound (n + d) + bound (n + d) = ap bound same in
-    let rest = bound-more n d in omega arith
+    omega (arith, ap bound same, bound-more n d)
 
 pub bound-mono : (a b : ℕ) → a ≤ b → bound a ≤ bound b
 bound-mono a b le =
     let same : a + (b - a) ≡ b = omega arith in
-    let here : bound (a + (b - a)) ≡ bound b = ap bound same in
-    let more = bound-more a (b - a) in omega arith
+    omega (arith, ap bound same, bound-more a (b - a))
 
 bound-times : (n m : ℕ) → suc m * bound n ≤ bound (n + m)
 bound-times n zero =
@@ -78,8 +76,7 @@ bound-times n (suc m) =
     (let split : suc (suc m) ≡ suc m + 1 = omega arith in
     ap (λ k. k * bound n) split ∙ (add-mul (suc m) 1 (bound n)
     ∙ ap (λ k. suc m * bound n + k) one)) in
-    let rest = bound-times n m in
-    let far = bound-more n m in omega arith
+    omega (arith, bound-times n m, bound-more n m)
 
 -- so many lists that stand so far above the last of n
 top-times : (n x m : ℕ) → 0 < m → x + m ≤ n → m * bound x ≤ top n
@@ -133,9 +130,8 @@ fold-min_at f a from (suc many) k low high =
     by (inl more) rec = rec more
     by (inr here) rec =
         let same : from ≡ k = omega arith in
-        let at : f from ≡ f k = ap f same in
         let start = fold-min_start (min a (f from)) (map f (range_with_len (from + 1) many)) in
-        omega arith
+        omega (arith, ap f same)
 
 -- a joiner stops in time
 join_steps : (inputs lengths : List ℕ) (n : ℕ) → AreBounded lengths n → 2 ≤ length inputs
@@ -213,8 +209,7 @@ enough_reach task samples offset n t lengths are ends distinct few root at = by 
         ≡ get_or (values_from task lengths offset) 0 0
         → offset + enough_for task samples (values_from task lengths offset) ≤ reach n (suc t)
     first is =
-        let small = first_top task.inputs lengths offset n are in
-        omega arith
+        omega (arith, first_top task.inputs lengths offset n are)
 
     by : (kind : Kind) → task.kind ≡ kind
         → offset + enough_for task samples (values_from task lengths offset) ≤ reach n (suc t)
@@ -226,17 +221,15 @@ enough_reach task samples offset n t lengths are ends distinct few root at = by 
     by Peer e = first (rw e refl)
     by Sink e = first (rw e refl)
     by Join e =
-        let H : Kind → Type 0 = λ kind. HasEnds kind (length task.inputs) (length task.outputs) in
         let both : (2 ≤ length task.inputs) × (length task.inputs ≤ 8) × (length task.outputs ≡ 1) =
-        subst H e ends in
+        rw e at ends in
         let is : enough_for task samples (values_from task lengths offset)
         ≡ first_run_out (values_from task lengths offset) = rw e refl in
         let begins = root e in
         let same : first_run_out (values_from task lengths offset)
         ≡ first_run_out (values_from task lengths 0) =
         ap (λ o. first_run_out (values_from task lengths o)) begins in
-        let stops = join_steps task.inputs lengths n are both.0 both.1 distinct in
-        omega arith
+        omega (arith, join_steps task.inputs lengths n are both.0 both.1 distinct)
 
 -- ---- spans
 
@@ -374,9 +367,8 @@ puts-most task steps j ends = by task.kind refl
     by Peer e = same (rw e refl)
     by Sink e = same (rw e refl)
     by Split e =
-        let H : Kind → Type 0 = λ kind. HasEnds kind (length task.inputs) (length task.outputs) in
         let both : (length task.inputs ≡ 1) × (2 ≤ length task.outputs)
-        × (length task.outputs ≤ 8) = subst H e ends in
+        × (length task.outputs ≤ 8) = rw e at ends in
         let is : puts_on task steps j ≡ turns_below (length task.outputs) j steps = rw e refl in
         let two : 2 ≤ length task.outputs = both.1 in
         let few = turns-most (length task.outputs) j steps (omega arith) in omega arith

@@ -47,8 +47,7 @@ is_below-mono x a b le = by (cases_lt x a)
 below-mono : (a b : ℕ) (xs : List ℕ) → a ≤ b → below a xs ≤ below b xs
 below-mono a b [] le = omega arith
 below-mono a b (x ∷ xs) le =
-    let here = is_below-mono x a b le in
-    let rest = below-mono a b xs le in omega arith
+    omega (arith, is_below-mono x a b le, below-mono a b xs le)
 
 -- a number that is not among them adds none
 below-none : (b : ℕ) (xs : List ℕ) → list_any (λ q. eqb q b) xs ≡ false
@@ -56,8 +55,7 @@ below-none : (b : ℕ) (xs : List ℕ) → list_any (λ q. eqb q b) xs ≡ false
 below-none b [] e = refl
 below-none b (x ∷ xs) e =
     let parts = or_parts (eqb x b) (list_any (λ q. eqb q b) xs) e in
-    let here = is_below-next x b (eqb-false x b parts.0) in
-    let rest = below-none b xs parts.1 in omega arith
+    omega (arith, is_below-next x b (eqb-false x b parts.0), below-none b xs parts.1)
 
 -- one that is among them adds one
 below-next : (b : ℕ) (xs : List ℕ) → is_distinct xs ≡ true → below (suc b) xs ≤ below b xs + 1
@@ -83,8 +81,7 @@ below-climb zero low xs e =
 below-climb (suc d) low xs e =
     let same : low + suc d ≡ suc (low + d) = omega arith in
     let here : below (low + suc d) xs ≡ below (suc (low + d)) xs = ap (λ b. below b xs) same in
-    let next = below-next (low + d) xs e in
-    let rest = below-climb d low xs e in omega arith
+    omega (arith, below-next (low + d) xs e, below-climb d low xs e)
 
 -- one of them has none below it
 least : (xs : List ℕ) → 0 < length xs

@@ -91,8 +91,7 @@ entry_ends : (job : Job) (p n t : ℕ) → IsGraph job.graph → HasEntry job p 
     → n < end_of job.graph (spans_of job) p t
 entry_ends job p n t is entry =
     let end = ends_there job p t entry.output is entry.there entry.live entry.signals in
-    let reaches = entry.reaches in
-    omega arith
+    omega (arith, entry.reaches)
 
 -- ---- each phase has an entry
 
@@ -143,11 +142,8 @@ signaller_stays graph t p j is there place = by (task_at graph t).joins_now refl
     by false e = e
     by true e =
         let sink : (task_at graph t).kind ≡ Sink = ((is.tasks t there).now e).0 in
-        let H : Kind → Type 0 =
-        λ kind. HasEnds kind (length (task_at graph t).inputs)
-        (length (task_at graph t).outputs) in
         let both : (length (task_at graph t).inputs ≡ 1)
-        × (length (task_at graph t).outputs ≡ 0) = subst H sink (is.tasks t there).ends in
+        × (length (task_at graph t).outputs ≡ 0) = rw sink at (is.tasks t there).ends in
         let outs : signalled_by (task_at graph t) ≡ (task_at graph t).outputs = rw sink refl in
         let none : length (signalled_by (task_at graph t)) ≡ 0 = ap length outs ∙ both.1 in
         let below : j < length (signalled_by (task_at graph t)) = few in absurd (omega arith)

@@ -48,11 +48,9 @@ same_enough task samples offset xs ys ends same = by task.kind refl
     by Join e = whole (λ k. rw e tt)
     by Sink e = whole (λ k. rw e tt)
     by Peer e =
-        let H : Kind → Type 0 = λ kind. HasEnds kind (length task.inputs) (length task.outputs) in
-        let both : (length task.inputs ≡ 2) × (length task.outputs ≡ 1) = subst H e ends in
+        let both : (length task.inputs ≡ 2) × (length task.outputs ≡ 1) = rw e at ends in
         let some : 0 < length task.inputs = omega (arith, both.0) in
-        let L : Kind → Type 0 = λ kind. LooksAt kind 0 0 in
-        let looks : LooksAt task.kind 0 0 = subst L (sym e) refl in
+        let looks : LooksAt task.kind 0 0 = rw e refl in
         peer_enough task samples (values_from task xs offset) e
         ∙ (first_value task xs offset some
         ∙ (ap (λ n. n - offset) (same 0 some looks)

@@ -30,10 +30,8 @@ pub steps_within : (job : Job) (t : ℕ) → IsGraph job.graph → t < length jo
 steps_within job t is there =
     let task = task_at job.graph t in
     let samples = length (samples_at job t) in
-    let Within : Span → Type 0 = λ span. span.steps
-    ≤ enough_for task samples (values_from task (lengths_of job) span.offset) in
     let above = offset_of (spans_of job) (start_at job t) task.parent in
-    subst Within (sym (spans_all job t is there)) (by task samples above)
+    rw (spans_all job t is there) (by task samples above)
   where
     by : (task : Task) (samples : ℕ) (o : Option ℕ)
         → (span_at task samples (lengths_of job) o).steps ≤ enough_for task samples
@@ -149,10 +147,8 @@ length-output samples taken task steps j ends lt enough one = by task.kind refl
     by Join e = rw e (length-map-range_with_len (turn_at taken) 0 steps)
     by Peer e = rw e (peer (nat_lt 0 j) (one (ap takes_one e)))
     by Sink e =
-        let H : Kind → Type 0 = λ kind. HasEnds kind (length task.inputs) (length task.outputs) in
-        let S : Kind → Type 0 = λ kind. j < length (signalled_by (record task { kind = kind })) in
-        let both : (length task.inputs ≡ 1) × (length task.outputs ≡ 0) = subst H e ends in
-        let few : j < length task.outputs = subst S e lt in
+        let both : (length task.inputs ≡ 1) × (length task.outputs ≡ 0) = rw e at ends in
+        let few : j < length task.outputs = rw e at lt in
         absurd (omega (arith, both.1))
 
 -- the first output looks at the first input

@@ -53,12 +53,9 @@ output_by_taken samples task span xs ys j ends same = by task.kind j refl refl
         → output_list samples (taken_by xs task span) task span.steps j
         ≡ output_list samples (taken_by ys task span) task span.steps j
     first e none =
-        let H : Kind → Type 0 = λ kind. HasEnds kind (length task.inputs) (length task.outputs) in
-        let both : (length task.inputs ≡ 2) × (length task.outputs ≡ 1) = subst H e ends in
+        let both : (length task.inputs ≡ 2) × (length task.outputs ≡ 1) = rw e at ends in
         let some : 0 < length task.inputs = omega (arith, both.0) in
-        let L : Kind → Type 0 = λ kind. LooksAt kind 0 0 in
-        let J : ℕ → Type 0 = λ j. LooksAt task.kind j 0 in
-        let looks : LooksAt task.kind j 0 = subst J (sym none) (subst L (sym e) refl) in
+        let looks : LooksAt task.kind j 0 = rw none (rw e refl) in
         ap (λ j. output_list samples (taken_by xs task span) task span.steps j) none
         ∙ (peer_first samples (taken_by xs task span) task span.steps e
         ∙ (first_taken xs task span some

@@ -131,8 +131,7 @@ input_above : (graph : Graph) (t : ℕ) (task : Task) (j k p : ℕ) → IsTaskLi
     → index_in task.outputs p ≡ Some j → k < length task.inputs → get_or task.inputs k 0 < p
 input_above graph t task j k p line place lt =
     let at = place-at task.outputs p j place in
-    let Above : ℕ → Type 0 = λ y. get_or task.inputs k 0 < y in
-    subst Above at.1 (line.in_order k 0 lt j 0 at.0)
+    rw at.1 at (line.in_order k 0 lt j 0 at.0)
 
 -- E and Y of a peer
 abbrev of_peer : Task → List ℕ
@@ -169,15 +168,13 @@ looked_above graph t task j k p line place lt looks = by task.kind refl
     by Join e = plain (rw e refl)
     by Sink e = plain (rw e refl)
     by Peer e =
-        let Looks : Kind → Type 0 = λ kind. LooksAt kind j k in
         let Ends : Kind → Type 0 = λ kind.
         HasEnds kind (length task.inputs) (length task.outputs) in
-        let Below : Kind → Type 0 = λ kind. IsExchangeBelow kind task.inputs in
         let ends : (length task.inputs ≡ 2) × (length task.outputs ≡ 1) =
         subst Ends e line.ends in
         let signals : signalled_by task ≡ of_peer task = rw e refl in
         let at = place-at (of_peer task) p j (ap (λ qs. index_in qs p) (sym signals) ∙ place) in
-        peer j at.0 at.1 (subst Looks e looks) (subst Below e line.exchange) ends.1
+        peer j at.0 at.1 (rw e at looks) (rw e at line.exchange) ends.1
 
 pub outputs_look_above : (graph : Graph) (t j k p : ℕ) → IsGraph graph → t < length graph.tasks
     → index_in (signalled_by (task_at graph t)) p ≡ Some j → k < length (task_at graph t).inputs
@@ -207,8 +204,7 @@ within (suc k) (q ∷ qs) p lt e = within k qs p (omega arith) e
 -- what is among these phasers has a place there
 among_place : (qs : List ℕ) (p : ℕ) → Contains qs p → (i : ℕ) × (index_in qs p ≡ Some i)
 among_place qs p among =
-    let Place : ℕ → Type 0 = λ y. (i : ℕ) × (index_in qs y ≡ Some i) in
-    subst Place (within among.0 qs p among.1 among.2) (has-place 0 qs among.0 among.1)
+    rw (within among.0 qs p among.1 among.2) at (has-place 0 qs among.0 among.1)
 
 -- a parent signals what its child signals
 pub parent_signals : (graph : Graph) (t : ℕ) (task : Task) (u : Parent) (p j : ℕ)
@@ -216,14 +212,11 @@ pub parent_signals : (graph : Graph) (t : ℕ) (task : Task) (u : Parent) (p j :
     → (i : ℕ) × (index_in (signalled_by (task_at graph u.task)) p ≡ Some i)
 parent_signals graph t task u p j is place =
     let above = task_at graph u.task in
-    let Here : List ℕ → Type 0 = λ qs. index_in qs p ≡ Some j in
-    let There : List ℕ → Type 0 = λ qs. (i : ℕ) × (index_in qs p ≡ Some i) in
     let here : index_in task.outputs p ≡ Some j =
-    subst Here (plain_ends task is.child_kind) place in
+    rw (plain_ends task is.child_kind) at place in
     let at = place-at task.outputs p j here in
-    let In : ℕ → Type 0 = λ y. Contains above.outputs y in
-    let among : Contains above.outputs p = subst In at.1 (is.signals j 0 at.0) in
-    subst There (sym (plain_ends above is.kind)) (among_place above.outputs p among)
+    let among : Contains above.outputs p = rw at.1 at (is.signals j 0 at.0) in
+    rw (plain_ends above is.kind) (among_place above.outputs p among)
 
 pub parents_signal : (graph : Graph) (t p j : ℕ) (u : Parent) → IsGraph graph
     → t < length graph.tasks → (task_at graph t).parent ≡ Some u

@@ -12,8 +12,7 @@ use Rattle.stream_lists.proofs.Growing.{grown-at, grown-whole}
 pub parent-is : (graph : Graph) (t : ℕ) (task : Task) (u : Parent) → IsTaskLine graph t task
     → task.parent ≡ Some u → IsParent graph t task u
 parent-is graph t task u line e =
-    let P : Option Parent → Type 0 = λ o. IfSome o (λ parent. IsParent graph t task parent) in
-    subst P e line.parent
+    subst (λ (o : Option Parent). IfSome o (λ parent. IsParent graph t task parent)) e line.parent
 
 pub same_offset : (xs ys : List Span) (start : ℕ) (parent : Option Parent)
     → ((u : Parent) → parent ≡ Some u → get_or xs u.task nowhere ≡ get_or ys u.task nowhere)

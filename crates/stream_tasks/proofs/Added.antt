@@ -68,9 +68,7 @@ tells_more parts ends part end long tells last t a b one two =
         → (slice_get ends t ≡ Some b) ⊎ ((t ≡ length ends) × (end ≡ b)) → Tells a b
     by (inl f) (inl g) = tells t a b f g
     by (inr f) (inr g) =
-        let T : Option TaskKnowledge → Type 0 = λ x. Tells x b in
-        let U : Option TaskEnd → Type 0 = λ x. Tells part x in
-        subst T f.1 (subst U g.1 last)
+        rw f.1 at (rw g.1 at last)
     by (inl f) (inr g) =
         let low : t < length parts = below_length parts t a f in
         let at : t ≡ length ends = g.0 in
@@ -172,12 +170,11 @@ module _ (job : Job) (spots : ℕ → Spot) (t : ℕ) (part : TaskKnowledge) (le
         (refl, refl, refl, refl, λ c. refl);
     phasers = λ p founder is.
         (let g = so.phasers p founder is in
-        let now = grown p g.0 g.1 in
-        let A : ℕ → Type 0 = λ u. IsAllTaken job (end_of t part lefts) u old new in (
+        let now = grown p g.0 g.1 in (
           now.0,
           now.1,
           gathered_more job ends (end_of t part lefts) p old new founder g.0 now.0 g.1 now.1 g.2
-              now.2 (subst A (sym here) (all_taken old new taken)),
+              now.2 (rw here (all_taken old new taken)),
         ));
   }
     where
@@ -188,11 +185,10 @@ module _ (job : Job) (spots : ℕ → Spot) (t : ℕ) (part : TaskKnowledge) (le
       known u end (inl has) = so.tasks u end has
       known u end (inr new) =
           let same : end_of t part lefts ≡ end = same_Some (end_of t part lefts) end new.1 in
-          let at : u ≡ t = new.0 ∙ here in
-          let E : TaskEnd → Type 0 = λ e. HasLeftAt job m e in (
+          let at : u ≡ t = new.0 ∙ here in (
             ap (λ (e : TaskEnd). e.task) (sym same) ∙ sym at,
             omega arith,
-            (m, subst E same left_at),
+            (m, rw same at left_at),
           )
 
 -- ---- as the code finds it
@@ -210,8 +206,7 @@ pub record IsLeftAs (job : Job) (spots : ℕ → Spot) (t : ℕ) (part : TaskKno
 pub left_as : (job : Job) (spots : ℕ → Spot) (t : ℕ) (left : TaskLeft) → IsTaskLeft job spots left
     → left.task ≡ t → IsLeftAs job spots t left.part left.lefts.items
 left_as job spots t left is same =
-    let P : ℕ → Type 0 = λ x. IsLeftAs job spots x left.part left.lefts.items in
-    subst P same (record {
+    rw (← same) (record {
       there = is.there;
       moment = is.moment;
       has_left = is.has_left;

@@ -36,8 +36,7 @@ agreed_child job parts c u own above has is_own is_above enough same = record {
       subst P one (above, is_above, enough));
   given = λ v part e at.
       (let one : u ≡ v = same_Some u v (sym has ∙ e) in
-      let I : Parent → Type 0 = λ x. IsAt parts x.task part in
-      let at_u : IsAt parts u.task part = subst I (sym one) at in
+      let at_u : IsAt parts u.task part = rw one at in
       let it : above ≡ part = same_at parts u.task above part is_above at_u in
       inr (own, is_own, sym same ∙ ap (λ (x : TaskKnowledge). given_to x.given.items c) it));
 }

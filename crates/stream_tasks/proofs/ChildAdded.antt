@@ -166,9 +166,7 @@ module _ (job : Job) (spots : ℕ → Spot) (m after : Moment) (s : TaskState) (
           let task : kid.task ≡ c = ap (λ (x : Child). x.task) (sym is_kid) ∙ given.task in
           let items : kid.numbers.items ≡ numbers ++ a ∷ [] =
           ap (λ (x : Child). x.numbers.items) (sym is_kid) ∙ given.numbers_are in
-          let T : ℕ → Type 0 = λ x. HasNumbers job after x kid.numbers.items in
-          let N : List ℕ → Type 0 = λ l. HasNumbers job after c l in
-          subst T (sym task) (subst N (sym items) numbers_after)
+          rw task (rw items numbers_after)
       by (inr other) =
           let was : slice_get s.children.items i ≡ Some kid =
           sym (unwritten s.children.items given.place i given.kid other) ∙ looked in
@@ -180,8 +178,7 @@ module _ (job : Job) (spots : ℕ → Spot) (m after : Moment) (s : TaskState) (
       (record s { holds = with_item s.holds k (On new); children = kids })
       × HasFirstHolds job spots after c (numbers ++ a ∷ []) (child_holds ++ On child ∷ [])
   first_holds_add =
-      let none : length s.lefts.items ≡ 0 = whole.staying going in
-      let F : List ℤ → Type 0 = λ taken. HasFilter (task_at job.graph t) s.filter taken in (
+      let none : length s.lefts.items ≡ 0 = whole.staying going in (
         record {
           part = has.part;
           own = has.own.0;
@@ -191,7 +188,7 @@ module _ (job : Job) (spots : ℕ → Spot) (m after : Moment) (s : TaskState) (
           holds = holds_go job spots m after t k p s.holds.items s.lefts.items (On new) whole.graph
               whole.there few here whole.holds (omega arith)
               (λ q. has.other_numbers q t (inr apart)) has.elsewhere at.holds on_parent;
-          filter = subst F (sym (has.same.taken 0)) at.filter;
+          filter = rw (has.same.taken 0) at.filter;
           lines = λ sink. at.lines sink ∙ sym (has.same.taken 0);
           given = given_after;
           at_end = λ over. absurd (let no : false ≡ true = sym going ∙ over in cc);
@@ -216,8 +213,7 @@ module _ (job : Job) (spots : ℕ → Spot) (m after : Moment) (s : TaskState) (
           λ same. (let wrong : i ≡ length numbers =
           one_registration job c i (length numbers) whole.graph of_task.there (omega arith) room
           (same ∙ sym next) in omega arith) in
-          let H : Hold → Type 0 = λ h. IsHeldOn job spots after c q h in
-          subst H (sym (get_or_append_left child_holds (On child ∷ []) Gone i (omega arith)))
+          rw (get_or_append_left child_holds (On child ∷ []) Gone i (omega arith))
           (held_same job spots m after c q (get_or child_holds i Gone)
           (has.other_numbers q c (inl other)) (has.elsewhere q other) (first_holds.on i low))
       held_of i lt (inr le) =
@@ -227,12 +223,9 @@ module _ (job : Job) (spots : ℕ → Spot) (m after : Moment) (s : TaskState) (
           let same : i ≡ length numbers = omega arith in
           let low : length child_holds ≤ i = omega arith in
           let off : i - length child_holds ≡ 0 = omega arith in
-          let H : Hold → Type 0 =
-          λ h. IsHeldOn job spots after c (registration_at job c i).phaser h in
-          let Q : ℕ → Type 0 = λ q. IsHeldOn job spots after c q (On child) in
-          subst H (sym (get_or-append_right child_holds (On child ∷ []) (length child_holds) i Gone refl low
-          ∙ ap (λ x. get_or (On child ∷ []) x Gone) off))
-          (subst Q (sym (ap (λ x. (registration_at job c x).phaser) same ∙ next)) on_child)
+          rw (get_or-append_right child_holds (On child ∷ []) (length child_holds) i Gone refl low
+          ∙ ap (λ x. get_or (On child ∷ []) x Gone) off)
+          (rw (ap (λ x. (registration_at job c x).phaser) same ∙ next) on_child)
 
 -- a parent does not join now
 pub parent_stays : (job : Job) (c t : ℕ) → IsGraph job.graph → IsChildOf job c t

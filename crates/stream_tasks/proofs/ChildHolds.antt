@@ -100,17 +100,11 @@ holds_go job spots m after t k p holds lefts new is there few here long kept num
         → IsHeldOn job spots after t (registration_at job t i).phaser
         (get_or (set holds k new) i Gone)
     on_one i lt le (inl same) =
-        let H : Hold → Type 0 =
-        λ h. IsHeldOn job spots after t (registration_at job t k).phaser h in
-        let Q : ℕ → Type 0 = λ q. IsHeldOn job spots after t q new in
-        let X : ℕ → Type 0 = λ x. IsHeldOn job spots after t (registration_at job t x).phaser
-        (get_or (set holds k new) x Gone) in
-        subst X (sym same)
-        (subst H (sym (get_or-set_same holds k new Gone (omega arith))) (subst Q (sym here) on))
+        rw same
+        (rw (get_or-set_same holds k new Gone (omega arith)) (rw here on))
     on_one i lt le (inr apart) =
         let q = (registration_at job t i).phaser in
-        let H : Hold → Type 0 = λ h. IsHeldOn job spots after t q h in
-        subst H (sym (get_or-set_other holds k i new Gone apart))
+        rw (get_or-set_other holds k i new Gone apart)
         (held_same job spots m after t q (get_or holds i Gone) (numbers q)
         (elsewhere q (other i lt apart)) (has.on i lt le))
 
@@ -129,8 +123,7 @@ first_holds_begin job spots m s c whole at child boundary going nowhere =
     child_is_new job m t c child.parent whole.graph whole.there child.there at.part child.has
     child.by nowhere in
     let calls = calls_begin job m after t c whole.graph whole.there child new
-    (at.place.begun ∙ boundary) (at.knows.offset c) nowhere at.own in
-    let F : List ℤ → Type 0 = λ taken. HasFilter (task_at job.graph t) s.filter taken in (
+    (at.place.begun ∙ boundary) (at.knows.offset c) nowhere at.own in (
       new,
       record {
         part = new.part;
@@ -146,7 +139,7 @@ first_holds_begin job spots m s c whole at child boundary going nowhere =
               left_same job spots m after t (registration_at job t i).phaser left refl refl
               (at.holds.off i left found);
         };
-        filter = subst F (sym (new.same.taken 0)) at.filter;
+        filter = rw (new.same.taken 0) at.filter;
         lines = λ sink. at.lines sink ∙ sym (new.same.taken 0);
         given = λ i kid found.
             numbers_same job m after kid.task kid.numbers.items (λ q. refl) (at.given i kid found);
@@ -184,8 +177,7 @@ first_holds_wait job spots m s c k p numbers child_holds old new whole at first_
     child.there at.part first_holds.joining child.has child.by nowhere sees in
     let moved = both.seen.moved in
     let calls = calls_wait job m after t c whole.graph whole.there child p (member_in old).number
-    numbers now sees nowhere both at.own first_holds.own in
-    let F : List ℤ → Type 0 = λ taken. HasFilter (task_at job.graph t) s.filter taken in (
+    numbers now sees nowhere both at.own first_holds.own in (
       both,
       record {
         part = moved.part;
@@ -197,7 +189,7 @@ first_holds_wait job spots m s c k p numbers child_holds old new whole at first_
             whole.there few here whole.holds (omega arith) (λ q. moved.numbers q t)
             moved.elsewhere at.holds
             (on_after job spots m after t p now old new on goes.same moved refl);
-        filter = subst F (sym (both.seen.same.taken 0)) at.filter;
+        filter = rw (both.seen.same.taken 0) at.filter;
         lines = λ sink. at.lines sink ∙ sym (both.seen.same.taken 0);
         given = λ i kid found.
             numbers_same job m after kid.task kid.numbers.items (λ q. moved.numbers q kid.task)
@@ -277,11 +269,9 @@ pub child_goes_alone : (job : Job) (spots : ℕ → Spot) (m : Moment) (parent :
     → IsTaskAt job spots m child
 child_goes_alone job spots m parent child numbers child_holds is of_task knows first_holds all same_numbers same_holds no_lefts begun owes going no_lines start filter kids =
     let d = child.number in
-    let P : turns.TaskPlace → Type 0 = λ x. StandsUpTo child.most job m d x in
     let place_is = start_made numbers child.numbers.items (length child.lefts.items) child.begun
     (owed_by child.owed child.made.items) same_numbers (ap length no_lefts) begun
     (owed_none child owes) in
-    let F : List ℤ → Type 0 = λ taken. HasFilter (task_at job.graph d) child.filter taken in
     let H : List Hold → ℕ → Type 0 =
     λ l i. IsHeldOn job spots m d (registration_at job d i).phaser (get_or l i Gone) in
     let L : AnyLeft → ℕ → List AnyLeft → Type 0 = λ left i l. slice_get l i ≡ Some left in
@@ -290,18 +280,17 @@ child_goes_alone job spots m parent child numbers child_holds is of_task knows f
       own = first_holds.own;
       knows = known_child job m parent child.number of_task.parent is of_task.there of_task.has
           of_task.by knows;
-      place = subst P place_is (first_holds.joining.place child.most);
+      place = rw place_is at (first_holds.joining.place child.most);
       start = start;
       holds = record {
         on = λ i lt le.
             subst (λ l. H l i) (sym same_holds) (first_holds.on i (omega arith));
         off = λ i left found. absurd (no_left i left (subst (λ l. L left i l) no_lefts found));
       };
-      filter = subst F (sym (first_holds.joining.nothing_taken 0)) filter;
+      filter = rw (first_holds.joining.nothing_taken 0) filter;
       lines = λ sink. no_lines ∙ sym (first_holds.joining.nothing_taken 0);
       given = λ i kid found.
           (let own = kids i kid found in
-          let N : List ℕ → Type 0 = λ l. HasNumbers job m kid.task l in
-          subst N (sym own.0) (unnumbered job m parent child.number kid.task is of_task own.1 knows));
+          rw own.0 (unnumbered job m parent child.number kid.task is of_task own.1 knows));
       at_end = λ over. absurd (let no : false ≡ true = sym going ∙ over in cc);
     }

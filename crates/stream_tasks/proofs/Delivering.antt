@@ -90,10 +90,7 @@ module _ (job : Job) (spots : ℕ → Spot) (i : ℕ) (seed old new child : Task
 
   count : length kid.numbers.items ≡ length (registrations_at job seed.number)
   count =
-      let few : length kid.numbers.items ≤ length (registrations_at job seed.number) =
-      (first_holds.joining.place 1).few in
-      let made = all_made in
-      omega arith
+      omega (arith, (first_holds.joining.place 1).few, all_made)
 
   numbers_are : child.numbers.items ≡ kid.numbers.items
   numbers_are =
@@ -108,12 +105,10 @@ module _ (job : Job) (spots : ℕ → Spot) (i : ℕ) (seed old new child : Task
   starts : (task_at job.graph seed.number).joins_now ≡ true
       → registering.moment.offset seed.number ≡ has.kid.start
   starts joins =
-      let S : ℕ → Type 0 = λ c. (task_at job.graph c).joins_now ≡ true
-      → 0 < length kid.numbers.items → registering.moment.offset c ≡ kid.start in
       let some : 0 < length (registrations_at job seed.number) =
       has_registration job seed.number whole.graph ready.seed.there joins in
       let many = count in
-      (subst S task_is registering.start) joins (omega arith)
+      (rw task_is at registering.start) joins (omega arith)
       ∙ ap (λ (x : Child). x.start) (same_Some kid has.kid (sym registering.found ∙ has.found))
 
   at : IsTaskAt job spots registering.moment made

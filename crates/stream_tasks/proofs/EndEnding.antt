@@ -96,16 +96,13 @@ module _ (job : Job) (spots : ℕ → Spot) (founders joined : List (Option AnyL
       let founder : FounderEnd =
       record { number = 0; gave = gave p; seen = (left_in f.0).seen } in
       let limits : limits_on (left_in f.0).at ≡ limits_at job p =
-      ap limits_on f.2.is_left.at ∙ f.2.is_left.limits in
-      let L : Limits → Type 0 = λ l. IsLegal l (left_in f.0).seen in
-      let K : Limits → Type 0 = λ l. IsLegal l (left_in s.0).seen in
-      let O : List ℕ → Type 0 = λ ns. OthersCame ns (left_in f.0).seen (left_in s.0).seen in (
+      ap limits_on f.2.is_left.at ∙ f.2.is_left.limits in (
         founder,
         (left_in s.0).seen,
         record {
-          legal = subst K limits (s.2.grown.legal (subst L (sym limits) f.2.legal));
+          legal = rw limits at (s.2.grown.legal (rw limits f.2.legal));
           founds = f.2.founds;
-          founder_came = subst O f.2.is_left.numbers_are s.2.grown.came;
+          founder_came = rw f.2.is_left.numbers_are at s.2.grown.came;
           tasks_came = λ t i n seen on. (s.2.tasks_came t i n seen on).0;
           not_founder = λ t i n seen on same.
               apart n f.0 f.2.is_left.numbers_are same (s.2.not_founder t i n seen on);

@@ -185,9 +185,8 @@ runs_out job spots s k p old new lines entered outcomes met going owes never fir
     let reply : wait_reply (value_at job p) (limits_at job p) now n ≡ Ok Ended =
     subst (λ l. wait_reply (value_at job p) l now n ≡ Ok Ended) (ap limits_on on.at ∙ on.limits)
     (subst (λ o. wait_reply (value_by o) (limits_on (member_in x).at) now n ≡ Ok Ended) on.op out.ended) in
-    let E : ℕ → Type 0 = λ q. HasSeen job m (with_history q now m) t q now
-    × RanOut (with_history q now m) (task_at job.graph t) t k in
-    let ended = subst E input
+    let ended = subst (λ (q : ℕ). HasSeen job m (with_history q now m) t q now × RanOut
+    (with_history q now m) (task_at job.graph t) t k) input
     (sees_end job m t k n now whole.graph whole.there at.part
     (subst (λ q. SeesOthers job m t q n now) (sym input) sees)
     (staying_at job m t (place_of s) whole.graph whole.there at.part.ran at.place none)
@@ -258,8 +257,7 @@ holds_leave job spots m after t p now holds lefts left is there few here moved h
   where
     longer : (i : ℕ) → length (lefts ++ left ∷ []) ≤ i → length lefts < i
     longer i le =
-        let sum : length (lefts ++ left ∷ []) ≡ length lefts + 1 = length-append lefts (left ∷ []) in
-        omega arith
+        omega (arith, length-append lefts (left ∷ []))
 
     other : (i : ℕ) → i < length (registrations_at job t) → i ≢ length lefts
         → (registration_at job t i).phaser ≢ p

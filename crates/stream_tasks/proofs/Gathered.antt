@@ -116,12 +116,8 @@ module _ (job : Job) (ends : Ends) (end : TaskEnd) (p : ℕ) (old new : List (Op
           let was : in_p.one ≡ all = same_at old p in_p.one all in_p.was is_old in
           let is : in_p.all ≡ now = same_at new p in_p.all now in_p.is is_new in
           let inside : is_in n (left_in left).numbers ≡ true = ap (is_in n) f.1 ∙ in_one n in
-          let O : List ℕ → Type 0 = λ ns. OthersCame ns (left_in left).seen (left_in now).seen in
-          let S : History → Type 0 = λ h. OthersCame (n ∷ []) h (left_in now).seen in
-          let A : AnyLeft → Type 0 =
-          λ x. OthersCame (left_in left).numbers (left_in left).seen (left_in x).seen in
           record {
-            came = subst S f.2 (subst O f.1 (subst A is in_p.came));
+            came = rw f.2 at (rw f.1 at (rw is at in_p.came));
             inside = ap (λ x. is_in n (left_in x).numbers) (sym is) ∙ in_p.numbers n inside;
             apart = ap (λ x. is_in n (left_in x).numbers) (sym was) ∙ in_p.apart n inside;
           }

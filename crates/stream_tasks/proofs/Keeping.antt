@@ -45,13 +45,10 @@ places_stay job s after number most own same_made same_places many places =
   where
     sends : SignalsBlocks job after.number → after.most ≤ sends_room job after.number after.places
     sends =
-        let S : ℕ → Type 0 = λ t. SignalsBlocks job t → after.most ≤ sends_room job t after.places in
-        subst S (sym number)
+        rw number
         (λ signals. subst (λ p. after.most ≤ sends_room job s.number p) (sym same_places)
         (subst (λ n. n ≤ sends_room job s.number s.places) (sym most) (places.sends signals)))
 
     able : IsMost job after.number after.most
     able =
-        let M : ℕ → Type 0 = λ n. IsMost job after.number n in
-        let N : ℕ → Type 0 = λ t. IsMost job t s.most in
-        subst M (sym most) (subst N (sym number) places.most)
+        rw most (rw number places.most)

@@ -271,8 +271,7 @@ apart job t c u is few has by e =
     (is.tasks c few).parent in
     let parent : IsParent job.graph c (task_at job.graph c) u =
     subst (λ o. IfSome o (λ v. IsParent job.graph c (task_at job.graph c) v)) has line in
-    let above = parent.above in
-    omega arith
+    omega (arith, parent.above)
 
 -- a root does not join now
 not_now : (job : Job) (t : ℕ) → IsGraph job.graph → t < length job.graph.tasks

@@ -59,8 +59,6 @@ registering_begins job spots s i met due none empty task =
     (λ k few. has.numbered k few ∙ ap (λ l. slice_get l k) none
     ∙ slice_get_past [] k (omega arith)) at.knows in
     let then = first_holds_begin job spots m s c whole at child boundary due.going nowhere in
-    let N : List ℕ → Type 0 = λ l. HasFirstHolds job spots (with_child c m) c l [] in
-    let H : List Hold → Type 0 = λ l. HasFirstHolds job spots (with_child c m) c kid.numbers.items l in
     record {
       kid = kid;
       found = due.missing.found;
@@ -70,9 +68,8 @@ registering_begins job spots s i met due none empty task =
       owes = due.owes;
       moment = with_child c m;
       at = then.1;
-      first_holds = subst H (sym empty) (subst N (sym none) then.2);
-      start = λ joins some. absurd (let more : 0 < length kid.numbers.items = some in
-          let zero : length kid.numbers.items ≡ 0 = ap length none in omega arith);
+      first_holds = rw empty (rw none then.2);
+      start = λ joins some. absurd (omega (arith, some, ap length none));
     }
 
 -- ---- registrations
@@ -101,9 +98,7 @@ one_now job c is there joins =
     let long : length rs ≡ length (inputs ++ outputs) =
     sym (length-map rs (λ r. r.phaser))
     ∙ ap length (registrations-phasers job.graph c (task_at job.graph c) line) in
-    let both : length (inputs ++ outputs) ≡ length inputs + length outputs =
-    length-append inputs outputs in
-    omega arith
+    omega (arith, length-append inputs outputs)
 
 -- where its next registration is to be made, that is its first, which none was before
 pub next_now : (job : Job) (spots : ℕ → Spot) (s : TaskState) (i k : ℕ) (r : Registration)
@@ -151,8 +146,6 @@ registering_waits job spots s i k old new whole n room few here looked g =
     (next_absent job spots n.moment n.kid.task n.kid.numbers.items s.child_holds.items n.first_holds room)
     both.1.4 both.1.3 in
     let after = with_history p (member_in y).seen n.moment in
-    let T : Hold → Type 0 = λ h. IsTaskAt job spots after
-    (record s { holds = with_item s.holds k h }) in
     record {
       kid = n.kid;
       found = n.found;
@@ -161,7 +154,7 @@ registering_waits job spots s i k old new whole n room few here looked g =
       going = n.going;
       owes = n.owes;
       moment = after;
-      at = subst T (sym both.1.2) then.1;
+      at = rw (← both.1.2) at then.1;
       first_holds = then.2;
       start = n.start;
     }
@@ -215,11 +208,7 @@ module _ (job : Job) (spots : ℕ → Spot) (s : TaskState) (i : ℕ) (a : ℕ) 
       → IsRegistering job spots
       (record s { holds = with_item s.holds k new; children = kids; child_holds = child_holds }) i
   registering_more k new child_holds after task_now first_holds start =
-      let C : ℕ → Type 0 =
-      λ d. HasFirstHolds job spots after d kid.numbers.items child_holds.items in
       let D : ℕ → Type 0 = λ d. (w : IsChildOf job d s.number) × (s.begun ≡ w.parent.at) in
-      let S : ℕ → Type 0 =
-      λ d. (task_at job.graph d).joins_now ≡ true → after.offset d ≡ kid.start in
       let kid_child = subst D (sym same_task) (n.child, n.boundary) in
       record {
         kid = kid;
@@ -241,8 +230,10 @@ module _ (job : Job) (spots : ℕ → Spot) (s : TaskState) (i : ℕ) (a : ℕ) 
           given = task_now.given;
           at_end = λ over. absurd (let no : false ≡ true = sym n.going ∙ over in cc);
         };
-        first_holds = subst C (sym same_task) first_holds;
-        start = λ joins some. (subst S (sym same_task) start) joins;
+        first_holds = subst (λ (d : ℕ). HasFirstHolds job spots after d kid.numbers.items
+            child_holds.items) (sym same_task) first_holds;
+        start = λ joins some. (subst (λ (d : ℕ). (task_at job.graph d).joins_now ≡ true →
+            after.offset d ≡ kid.start) (sym same_task) start) joins;
       }
 
 -- a call that registered the child once more
@@ -280,13 +271,9 @@ registering_adds job spots s i k old new child kid kids child_holds whole n stay
     (given_one job spots s i a kid kids n whole is_kids same_task same_numbers) in
     let after = after_register p (member_in x).number c a mode
     (with_history p added.before n.moment) in
-    let T : Hold → Type 0 = λ h. IsTaskAt job spots after
-    (record s { holds = with_item s.holds k h; children = kids }) in
-    let N : List Hold → Type 0 = λ l. HasFirstHolds job spots after c (numbers ++ a ∷ []) l in
-    let M : List ℕ → Type 0 = λ l. HasFirstHolds job spots after c l child_holds.items in
     registering_more job spots s i a kid kids n whole is_kids same_task same_numbers k new
-    child_holds after (subst T (sym both.1.2) then.0)
-    (subst M (sym same_numbers) (subst N (sym are_child_holds) then.1))
+    child_holds after (rw (← both.1.2) at then.0)
+    (rw (← same_numbers) at (rw (← are_child_holds) at then.1))
     (λ joins. absurd (let no : false ≡ true = sym stays ∙ joins in cc))
 
 -- a call that registered a child that joins now
@@ -312,23 +299,16 @@ registering_adds_now job spots s i k p old new child start kid kids child_holds 
     let x = both.0 in
     let y = both.1.0 in
     let added : HasAddedNow x y child start = both.1.3 in
-    let F : List ℕ → Type 0 = λ l. HasFirstHolds job spots n.moment c l s.child_holds.items in
-    let G : List ℕ → Type 0 = λ l. HasGivenOne s.children.items kids.items c a l in
     let then = first_holds_register_now job spots n.moment s c k s.child_holds.items x y child start
-    kids whole n.at (subst F next.none n.first_holds) n.child n.boundary n.going n.owes next.now
+    kids whole n.at (rw (← next.none) n.first_holds) n.child n.boundary n.going n.owes next.now
     next.on.few here both.1.4 added
-    (subst G next.none
+    (rw (← next.none)
     (given_one job spots s i a kid kids n whole is_kids same_task same_numbers)) in
     let after = after_register_now q (member_in x).number c a
     (with_history q added.before n.moment) in
-    let T : Hold → Type 0 = λ h. IsTaskAt job spots after
-    (record s { holds = with_item s.holds k h; children = kids }) in
-    let N : List Hold → Type 0 = λ l. HasFirstHolds job spots after c (a ∷ []) l in
-    let M : List ℕ → Type 0 = λ l. HasFirstHolds job spots after c l child_holds.items in
     registering_more job spots s i a kid kids n whole is_kids same_task same_numbers k new
-    child_holds after (subst T (sym both.1.2) then.0)
-    (subst M (sym (same_numbers ∙ ap (λ l. l ++ a ∷ []) next.none))
-    (subst N (sym are_child_holds) then.1))
+    child_holds after (rw (← both.1.2) at then.0)
+    (rw (← (same_numbers ∙ ap (λ l. l ++ a ∷ []) next.none)) at (rw (← are_child_holds) at then.1))
     (λ joins. then.2 ∙ sym starts)
 
 -- ---- what holds always
@@ -422,9 +402,8 @@ whole_keeps job s i k new kids child_holds before kid whole found is_kids task a
     one j other e c d =
         let old = was j other e c d in
         let child = whole.children.each j old.0 old.1.0 in
-        let T : ℕ → Type 0 =
-        λ x. (w : IsChildOf job x s.number) × (old.0.at ≡ w.parent.at) in
-        let now = subst T old.1.1 (child.of_task, child.at) in
+        let now = subst (λ (x : ℕ). (w : IsChildOf job x s.number) × (old.0.at ≡ w.parent.at))
+        old.1.1 (child.of_task, child.at) in
         record { of_task = now.0; at = sym old.1.2 ∙ now.1 }
 
 -- ---- tasks

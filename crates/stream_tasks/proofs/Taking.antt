@@ -68,8 +68,7 @@ made_more task xs x v old between new made after so more answer next = record {
       ∙ sym (map-append (λ y. Ok y) made (v ∷ []))
       ∙ ap (λ l. map (λ y. Ok y) l) (sym more);
   many = ap length more ∙ length-append made (v ∷ [])
-      ∙ (let same : length made ≡ length xs = so.many in
-      let sum = length-append xs (x ∷ []) in omega arith);
+      ∙ (omega (arith, so.many, length-append xs (x ∷ [])));
 }
 
 -- what a filter has made of what it took is what it owes

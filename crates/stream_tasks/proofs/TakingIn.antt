@@ -70,9 +70,7 @@ grown_to_trans a b c first second = record {
   at = second.at ∙ first.at;
   op = second.op ∙ first.op;
   legal = λ l.
-      (let L : _ → Type 0 = λ at. IsLegal (limits_on at) (left_in b).seen in
-      let K : _ → Type 0 = λ at. IsLegal (limits_on at) (left_in c).seen in
-      subst K first.at (second.legal (subst L (sym first.at) (first.legal l))));
+      (rw first.at at (second.legal (rw first.at (first.legal l))));
   came = OthersCame-trans (left_in a).numbers (left_in a).seen (left_in b).seen (left_in c).seen
       first.came
       (OthersCame-fewer (left_in b).numbers (left_in a).numbers (left_in b).seen (left_in c).seen
@@ -100,11 +98,10 @@ grown_by old new p left s q one is = by (eq_case q p)
     by (inr other) = (one, s.elsewhere q other ∙ is, grown_to_refl one)
     by (inl e) =
         let was : IsAt old p one = subst (λ x. IsAt old x one) e is in
-        let same : s.one ≡ one = same_at old p s.one one s.was was in
-        let G : AnyLeft → Type 0 = λ x. HasGrownTo x s.all in (
+        let same : s.one ≡ one = same_at old p s.one one s.was was in (
           s.all,
           subst (λ x. IsAt new x s.all) (sym e) s.is,
-          subst G same (record {
+          rw (← same) (record {
             at = s.join.at;
             op = s.op;
             legal = λ l. s.join.legal;

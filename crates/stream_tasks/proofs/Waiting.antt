@@ -132,8 +132,7 @@ state_takes job spots m s k p os old new x whole few here going owes first more 
     let got : HasGot job m after t k p os (m.begun t + length os) now =
     gets_first job m t p n w.before whole.graph whole.there at.part os sees answer k next in
     let took : k ≡ 0 → after.taken t 0 ≡ m.taken t 0 ++ map number os =
-    λ zero_is. (let T : ℕ → Type 0 = λ i. after.taken t i ≡ m.taken t i ++ map number os in
-    subst T zero_is got.taken) in
+    λ zero_is. (rw (← zero_is) got.taken) in
     let owed_then = then (m.taken t 0) at.filter in (
       after,
       state_moves job spots m after s k p now new x whole few (omega arith) here going at got.moved
@@ -347,9 +346,8 @@ task_takes job spots s k p allowed os old new x few here input step never first 
           let at = (task.stands step.met).1 in
           let both = goes (HasWaited os) job spots m s.number p old new g
           (held job spots m s k p old task.whole at few here (omega arith) looked) in
-          let B : ℕ → Type 0 = λ i. BeginsSteps job m s.number i (input_at (task_at job.graph s.number) i) (length os) in
           let next_is = subst (λ q. BeginsSteps job m s.number k q (length os)) input
-          (subst B (sym first)
+          (rw first
           (next_waits_at job m s.number s.most allowed (length os) (place_of s) task.whole.graph task.whole.there at.part
           task.whole.places.most at.place none (owes_none s step.owed) never may (step.children spots m at) some less room)) in
           let next = state_takes job spots m s k p os both.0 both.1.0 x task.whole

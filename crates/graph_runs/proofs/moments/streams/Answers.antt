@@ -13,8 +13,7 @@ use Rattle.graph_runs.proofs.moments.streams.Goals as goal
 pub returns-clause-begin : goal.returns-clause-begin
 returns-clause-begin c = λ job m p ready ran below.
     (let now = started job m in
-    let L : List Outcome → Type 0 = λ l. IsPrefix (stream_of (value_at job p) (m.history p)) l in
-    subst L (sym (lists_above now p ready.graph below))
+    rw (lists_above now p ready.graph below)
     (streams_begin now m p (ready_as job m ready) (run_started job m ran) below))
 
 pub returns-clause-whole : goal.returns-clause-whole

@@ -1,6 +1,5 @@
 -- Phaser by phaser of its line.
-use Rattle.graph_runs.proofs.OwnSignals.{own_signals}
-use Rattle.graph_runs.proofs.OwnWaits.{own_waits}
+use Rattle.graph_runs.proofs.OwnEvents.{own_signals, own_waits}
 use Rattle.graph_runs.proofs.JoinsNow.{own_join, child_joins}
 use Rattle.graph_runs.proofs.moves.own_blocks_keep.Goals as goal
 

@@ -1,6 +1,5 @@
 -- Phaser by phaser of its line.
-use Rattle.graph_runs.proofs.OwnSignals.{own_signal}
-use Rattle.graph_runs.proofs.OwnWaits.{own_wait}
+use Rattle.graph_runs.proofs.OwnEvents.{own_signal, own_wait}
 use Rattle.graph_runs.proofs.OwnLeaves.{own_leave}
 use Rattle.graph_runs.proofs.ChildBegins.{child_begins}
 use Rattle.graph_runs.proofs.Registering.{own_register}

@@ -19,9 +19,7 @@ loop-t-preserved c = λ u lt.
         → u < c.loop-t.t + 1 → (u < c.loop-t.t) ⊎ (c.loop-t.t ≤ u)
         → (task_at c.args.job.now.graph u).block ≤ c.max-most.result
     by u more few here lt (inl before) =
-        let was : (task_at c.args.job.now.graph u).block ≤ c.loop-t.most =
-        c.loop-t.invariant u before in
-        omega arith
+        omega (arith, c.loop-t.invariant u before)
     by u more few here lt (inr at) =
         let same : u ≡ c.loop-t.t = omega arith in
         let it : (task_at c.args.job.now.graph u).block

@@ -11,7 +11,5 @@ loop-c-preserved c =
     one_more (λ d. (it : Parent) → (task_at job.graph d).parent ≡ Some it → it.task ≡ c.args.t
     → c.args.steps ≤ it.at → c.earlier-next.result ≤ it.at) c.loop-c.c
     (λ d lt it is of late.
-    let before = c.loop-c.invariant d lt it is of late in
-    let less = c.earlier-next.ensures.less in
-    omega arith)
+    omega (arith, c.loop-c.invariant d lt it is of late, c.earlier-next.ensures.less))
     (λ it is of late. c.earlier-next.ensures.child it (c.parent_of.ensures ∙ is) of late)

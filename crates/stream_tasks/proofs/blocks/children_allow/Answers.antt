@@ -43,9 +43,7 @@ loop-child-preserved c = (
         → (i < c.loop-child.child-index) ⊎ (c.loop-child.child-index ≤ i)
         → c.args.begun + c.if-child-begun.allowed ≤ child.at
     by i child less at later (inl low) =
-        let was = c.loop-child.invariant.2 i child low at later in
-        let few = fewer in
-        omega arith
+        omega (arith, c.loop-child.invariant.2 i child low at later, fewer)
     by i child less at later (inr high) =
         let same : i ≡ c.loop-child.child-index = omega arith in
         let items = c.args.children.now in

@@ -29,10 +29,7 @@ push_reserved-requires c =
     let many = c.loop-outcome.invariant.0.many in
     let long : length (map number first) ≡ i =
     length-map first number ∙ length-take-le i c.args.outcomes.now (omega arith) in
-    let room = c.requires.room in
-    let same = c.loop-outcome.invariant.1 in
-    let items = c.loop-outcome.made.ok.0 in
-    omega arith
+    omega (arith, c.requires.room, c.loop-outcome.invariant.1, c.loop-outcome.made.ok.0)
 
 pub loop-outcome-preserved : goal.loop-outcome-preserved
 loop-outcome-preserved c =

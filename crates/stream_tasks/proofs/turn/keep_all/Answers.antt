@@ -18,11 +18,8 @@ push_reserved-requires c =
     length-map first number ∙ length-take-le i c.args.outcomes.now (omega arith) in
     let sum = length-append c.args.lines.now.items (map number first) in
     let many = ap length c.loop-outcome.invariant.0 in
-    let room = c.requires in
     let same = c.loop-outcome.invariant.1 in
-    let items = c.loop-outcome.lines.ok.0 in
-    let before = c.args.lines.now.ok.0 in
-    omega arith
+    omega (arith, c.requires, c.loop-outcome.lines.ok.0, c.args.lines.now.ok.0)
 
 pub loop-outcome-preserved : goal.loop-outcome-preserved
 loop-outcome-preserved c =

@@ -8,5 +8,4 @@ use Rattle.phase_core.proofs.phaser_core.PhaserCore.has_signaller.Goals as goal
 
 pub returns : goal.returns
 returns g c =
-    let P : CoreState g.row.A.Denot → Type 0 = λ k. nat_lt 0 c.signallers.result ≡ is_some (least (signal_phases k.members)) in
-    subst P c.self.view_is (ap (nat_lt 0) c.signallers.ensures ∙ sym (is_some-least (signal_phases c.self.inside.registry.members)))
+    rw (← c.self.view_is) (ap (nat_lt 0) c.signallers.ensures ∙ sym (is_some-least (signal_phases c.self.inside.registry.members)))

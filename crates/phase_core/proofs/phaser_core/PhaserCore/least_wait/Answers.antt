@@ -11,5 +11,4 @@ returns g c =
     let b = c.self.inside.board in
     let boarded = boarded_of (wait_phases reg.members) c.self.invariant.boarded
     (λ z. (let w : c.waiters.result ≡ length (wait_phases reg.members) = c.waiters.ensures in let n = c.if-waiters-eq0.false in n (w ∙ z))) in
-    let P : CoreState g.row.A.Denot → Type 0 = λ k. Some c.base.result ≡ least (wait_phases k.members) in
-    subst P c.self.view_is (ap Some c.base.ensures ∙ sym (slowest_is g.A.Accumulate.operation reg.members b.ring b.limits.bound b.done b.top boarded))
+    rw (← c.self.view_is) (ap Some c.base.ensures ∙ sym (slowest_is g.A.Accumulate.operation reg.members b.ring b.limits.bound b.done b.top boarded))

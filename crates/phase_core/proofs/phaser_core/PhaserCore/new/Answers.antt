@@ -9,7 +9,6 @@ use Rattle.phase_core.proofs.phaser_core.PhaserCore.new.Goals as goal
 pub invariant_of-result : goal.invariant_of-result
 invariant_of-result g c =
     let b = c.in_ok-board.ensures in
-    let L : Limits → Type 0 = λ l. AreLimits l in
     (made_core g.A.Accumulate.operation c.add.new.self c.in_ok-board.board c.args.first
     (c.in-Ok.ensures.added ∙ ap (added c.args.first founder) c.new-registry.ensures)
-    (subst L (sym b.limits) c.bound-bound.ensures.limits) b.invariant b.done b.top b.base b.standing).holds
+    (rw b.limits c.bound-bound.ensures.limits) b.invariant b.done b.top b.base b.standing).holds

@@ -1,95 +1,79 @@
 -- The child joins beside its parent, on the board too where a waiter is registered.
-use Rattle.std.proofs.Common.{◌≡◌, true, Some, sym, ◌∙◌, rules}
+use Rattle.std.proofs.Common.{◌≡◌, ◌∷◌, true, sym, ◌∙◌, rules}
 use Rattle.phase_registry.specs.phase_base.Modes.{holds}
-use Rattle.phase_registry.specs.phase_base.Members.{entry_of, wait_phases}
+use Rattle.phase_history.specs.declared.event.Event.TheVariants.{Registered}
+use Rattle.phase_history.specs.Histories.{History}
 use Rattle.phase_core.specs.Cores.{StandsFor, core_of}
-use Rattle.phase_core.proofs.Boarded.{boarded_of}
-use Rattle.phase_core.proofs.Joining.{accepted, registers_alone, registers_core, stands_beside, room_for_one}
+use Rattle.phase_core.proofs.Boarded.{boarded_while}
+use Rattle.phase_core.proofs.Joining.{Joined, accepted, registers_alone, registers_core, stands_beside, room_for_one}
+use Rattle.phase_core.proofs.phaser_core.PhaserCore.register.Given.{Over}
+use Rattle.phase_core.proofs.phaser_core.PhaserCore.register.Goals.{Then-waiters-eq0, After-register}
 use Rattle.phase_core.proofs.phaser_core.PhaserCore.register.Goals as goal
+
+-- where there is no waiter
+alone : (g : Over) (c : Then-waiters-eq0 g) (h : History)
+    → StandsFor g.A.Accumulate.operation (core_of c.self.inside.registry c.self.inside.board) h
+    → Joined g.A.Accumulate.operation c.add-added.new.self c.self.inside.board
+    (Registered c.args.parent c.args.child c.args.mode ∷ h)
+alone g c h stands =
+    let op = g.A.Accumulate.operation in
+    let b = c.self.inside.board in
+    let held : holds c.in-Some.entry.mode c.args.mode ≡ true = search rules in
+    registers_alone op c.self.inside.registry c.add-added.new.self b h c.args.parent c.args.child
+    c.args.mode c.in-Some.entry stands (sym c.waiters-waiters.ensures ∙ c.if-waiters-eq0.true)
+    (accepted op c.self.inside.registry b.limits b.ring b.top h c.args.parent c.args.child c.args.mode
+    c.in-Some.entry stands c.self.invariant.used (sym c.in-Some.ensures.entry) held
+    c.in_default-added.ensures.ok) c.in_default-added.ensures.added
+
+-- where there is one, the child stands on the board
+beside : (g : Over) (c : After-register g) (h : History)
+    → StandsFor g.A.Accumulate.operation (core_of c.self.inside.registry c.self.inside.board) h
+    → Joined g.A.Accumulate.operation c.add-added.new.self c.register.new.self
+    (Registered c.args.parent c.args.child c.args.mode ∷ h)
+beside g c h stands =
+    let op = g.A.Accumulate.operation in
+    let b = c.self.inside.board in
+    let o = c.register.ensures in
+    let held : holds c.in-Some.entry.mode c.args.mode ≡ true = search rules in
+    registers_core op c.self.inside.registry c.add-added.new.self b c.register.new.self h
+    c.args.parent c.args.child c.args.mode c.in-Some.entry stands
+    (boarded_while c.self.invariant c.waiters-waiters.ensures c.if-waiters-eq0.false)
+    (accepted op c.self.inside.registry b.limits b.ring b.top h c.args.parent c.args.child c.args.mode
+    c.in-Some.entry stands c.self.invariant.used (sym c.in-Some.ensures.entry) held
+    c.in_default-added.ensures.ok) c.in_default-added.ensures.added o.keeps.limits o.keeps.done
+    o.keeps.top o.same o.standing o.invariant
 
 pub invariant_of-self-then-waiters-eq0 : goal.invariant_of-self-then-waiters-eq0
 invariant_of-self-then-waiters-eq0 g c =
-    let op = g.A.Accumulate.operation in
-    let reg = c.self.inside.registry in
-    let b = c.self.inside.board in
-    let e = c.in-Some.entry in
-    let found : entry_of reg.members c.args.parent ≡ Some e = sym c.in-Some.ensures.entry in
-    let h = c.self.invariant.history in
-    let stands = c.self.invariant.stands in
-    let held : holds e.mode c.args.mode ≡ true = search rules in
-    let a = accepted op reg b.limits b.ring b.top h c.args.parent c.args.child c.args.mode e stands c.self.invariant.used found held c.in_default-added.ensures.ok in
-    let all =
-    registers_alone op reg c.add-added.new.self b h c.args.parent c.args.child c.args.mode e stands
-    (sym c.waiters-waiters.ensures ∙ c.if-waiters-eq0.true) a c.in_default-added.ensures.added in
-    all.holds
+    let i = c.self.invariant in
+    (alone g (goal.at.invariant_of-self-then-waiters-eq0 g c).Then-waiters-eq0 i.history i.stands).holds
 
 pub returns-then-waiters-eq0-clause-after : goal.returns-then-waiters-eq0-clause-after
 returns-then-waiters-eq0-clause-after g c h given =
-    let op = g.A.Accumulate.operation in
-    let reg = c.self.inside.registry in
-    let b = c.self.inside.board in
-    let e = c.in-Some.entry in
-    let found : entry_of reg.members c.args.parent ≡ Some e = sym c.in-Some.ensures.entry in
-    let stands : StandsFor op (core_of reg b) h = rw c.self.view_is given in
-    let held : holds e.mode c.args.mode ≡ true = search rules in
-    let a = accepted op reg b.limits b.ring b.top h c.args.parent c.args.child c.args.mode e stands c.self.invariant.used found held c.in_default-added.ensures.ok in
-    let all =
-    registers_alone op reg c.add-added.new.self b h c.args.parent c.args.child c.args.mode e stands
-    (sym c.waiters-waiters.ensures ∙ c.if-waiters-eq0.true) a c.in_default-added.ensures.added in
-    all.stands
+    (alone g (goal.at.returns-then-waiters-eq0-clause-after g c).Then-waiters-eq0 h
+    (rw c.self.view_is given)).stands
 
 pub register-requires-clause-stands : goal.register-requires-clause-stands
 register-requires-clause-stands g c =
-    let op = g.A.Accumulate.operation in
-    let reg = c.self.inside.registry in
     let b = c.self.inside.board in
-    let e = c.in-Some.entry in
-    let found : entry_of reg.members c.args.parent ≡ Some e = sym c.in-Some.ensures.entry in
-    let held : holds e.mode c.args.mode ≡ true = search rules in
-    let boarded = boarded_of (wait_phases reg.members) c.self.invariant.boarded
-    (λ none. c.if-waiters-eq0.false (c.waiters-waiters.ensures ∙ none)) in
-    stands_beside op reg.members b.ring b.limits.bound b.done b.top c.args.parent c.args.mode e boarded found held
+    let held : holds c.in-Some.entry.mode c.args.mode ≡ true = search rules in
+    stands_beside g.A.Accumulate.operation c.self.inside.registry.members b.ring b.limits.bound b.done
+    b.top c.args.parent c.args.mode c.in-Some.entry
+    (boarded_while c.self.invariant c.waiters-waiters.ensures c.if-waiters-eq0.false)
+    (sym c.in-Some.ensures.entry) held
 
 pub register-requires-clause-few : goal.register-requires-clause-few
 register-requires-clause-few g c =
-    let op = g.A.Accumulate.operation in
-    let reg = c.self.inside.registry in
     let b = c.self.inside.board in
-    let boarded = boarded_of (wait_phases reg.members) c.self.invariant.boarded
-    (λ none. c.if-waiters-eq0.false (c.waiters-waiters.ensures ∙ none)) in
-    room_for_one op reg b.ring b.limits.bound b.done b.top c.args.child boarded c.in_default-added.ensures.ok
+    room_for_one g.A.Accumulate.operation c.self.inside.registry b.ring b.limits.bound b.done b.top
+    c.args.child (boarded_while c.self.invariant c.waiters-waiters.ensures c.if-waiters-eq0.false)
+    c.in_default-added.ensures.ok
 
 pub invariant_of-self-2 : goal.invariant_of-self-2
 invariant_of-self-2 g c =
-    let op = g.A.Accumulate.operation in
-    let reg = c.self.inside.registry in
-    let b = c.self.inside.board in
-    let e = c.in-Some.entry in
-    let found : entry_of reg.members c.args.parent ≡ Some e = sym c.in-Some.ensures.entry in
-    let h = c.self.invariant.history in
-    let stands = c.self.invariant.stands in
-    let held : holds e.mode c.args.mode ≡ true = search rules in
-    let boarded = boarded_of (wait_phases reg.members) c.self.invariant.boarded
-    (λ none. c.if-waiters-eq0.false (c.waiters-waiters.ensures ∙ none)) in
-    let a = accepted op reg b.limits b.ring b.top h c.args.parent c.args.child c.args.mode e stands c.self.invariant.used found held c.in_default-added.ensures.ok in
-    let o = c.register.ensures in
-    let all = registers_core op reg c.add-added.new.self b c.register.new.self h c.args.parent c.args.child c.args.mode e stands boarded a
-    c.in_default-added.ensures.added o.keeps.limits o.keeps.done o.keeps.top o.same o.standing o.invariant in
-    all.holds
+    let i = c.self.invariant in
+    (beside g (goal.at.invariant_of-self-2 g c).After-register i.history i.stands).holds
 
 pub returns-clause-after : goal.returns-clause-after
 returns-clause-after g c h given =
-    let op = g.A.Accumulate.operation in
-    let reg = c.self.inside.registry in
-    let b = c.self.inside.board in
-    let e = c.in-Some.entry in
-    let found : entry_of reg.members c.args.parent ≡ Some e = sym c.in-Some.ensures.entry in
-    let stands : StandsFor op (core_of reg b) h = rw c.self.view_is given in
-    let held : holds e.mode c.args.mode ≡ true = search rules in
-    let boarded = boarded_of (wait_phases reg.members) c.self.invariant.boarded
-    (λ none. c.if-waiters-eq0.false (c.waiters-waiters.ensures ∙ none)) in
-    let a = accepted op reg b.limits b.ring b.top h c.args.parent c.args.child c.args.mode e stands c.self.invariant.used found held c.in_default-added.ensures.ok in
-    let o = c.register.ensures in
-    let all = registers_core op reg c.add-added.new.self b c.register.new.self h c.args.parent c.args.child c.args.mode e stands boarded a
-    c.in_default-added.ensures.added o.keeps.limits o.keeps.done o.keeps.top o.same o.standing o.invariant in
-    all.stands
+    (beside g (goal.at.returns-clause-after g c).After-register h (rw c.self.view_is given)).stands

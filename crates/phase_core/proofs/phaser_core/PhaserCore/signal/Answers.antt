@@ -17,12 +17,11 @@ use Rattle.phase_core.proofs.phaser_core.PhaserCore.signal.Goals as goal
 met : (g : Over) (c : After-least_wait-slowest g)
     → Met g.A.Accumulate.operation c.self.inside.registry c.self.inside.board c.args.task c.in-Some.entry (c.args.pending ∷ []) c.args.single c.least_wait-slowest.result
 met g c =
-    let W : CoreState g.row.A.Denot → Type 0 = λ k. c.least_wait-slowest.result ≡ least (wait_phases k.members) in
     record {
       core = c.self.invariant;
       found = sym c.in-Some.ensures.entry;
       few = c.in-Some.ensures.few;
-      slow = subst W (sym c.self.view_is) c.least_wait-slowest.ensures;
+      slow = rw (← c.self.view_is) at c.least_wait-slowest.ensures;
       first = c.in_default-block_refusal.ensures;
     }
 
@@ -38,8 +37,7 @@ returns-in-Some-block_refusal-clause-refused g c h sends given holds =
     let stands : StandsFor g.A.Accumulate.operation core h = rw c.self.view_is given in
     let refused = block_refused_first g.A.Accumulate.operation core h c.args.task c.in-Some.entry (c.args.pending ∷ []) sent c.args.single 1
     c.in-Some-block_refusal.refusal stands (sym c.in-Some.ensures.entry) (holds, tt) refl c.in-Some-block_refusal.ensures in
-    let L : CoreState g.row.A.Denot → Type 0 = λ k. signal_reply k.limits h c.args.task sent c.args.single ≡ Err c.in-Some-block_refusal.refusal in
-    subst L c.self.view_is (reply_refused core.limits h c.args.task sent c.args.single c.in-Some-block_refusal.refusal refused)
+    rw (← c.self.view_is) (reply_refused core.limits h c.args.task sent c.args.single c.in-Some-block_refusal.refusal refused)
 
 pub list_refusal-requires : goal.list_refusal-requires
 list_refusal-requires g c some =
@@ -54,8 +52,7 @@ returns-in-Some-list_refusal-clause-refused g c h sends given holds =
     let sent = sends ∷ [] in
     let stands : StandsFor g.A.Accumulate.operation (core_of c.self.inside.registry b) h = rw c.self.view_is given in
     let refused = refusal m h sent stands (holds, tt) ∙ sym c.list_refusal.ensures ∙ c.in-Some-list_refusal.is in
-    let L : CoreState g.row.A.Denot → Type 0 = λ k. signal_reply k.limits h c.args.task sent c.args.single ≡ Err c.in-Some-list_refusal.refusal in
-    subst L c.self.view_is (reply_refused b.limits h c.args.task sent c.args.single c.in-Some-list_refusal.refusal refused)
+    rw (← c.self.view_is) (reply_refused b.limits h c.args.task sent c.args.single c.in-Some-list_refusal.refusal refused)
 
 pub overflow_add-phase : goal.overflow_add-phase
 overflow_add-phase g c =
@@ -85,8 +82,7 @@ pub returns-then-waiters-eq0-clause-ok : goal.returns-then-waiters-eq0-clause-ok
 returns-then-waiters-eq0-clause-ok g c h sends given holds =
     let a = (goal.at.returns-then-waiters-eq0-clause-ok g c) in
     let stands : StandsFor g.A.Accumulate.operation (core_of c.self.inside.registry c.self.inside.board) h = rw c.self.view_is given in
-    let L : CoreState g.row.A.Denot → Type 0 = λ k. signal_reply k.limits h c.args.task (sends ∷ []) c.args.single ≡ Ok c.in-Some.entry.signal_phase in
-    subst L c.self.view_is (replied (met g a.After-least_wait-slowest) (row g a.After-check_single) h (sends ∷ []) stands (holds, tt))
+    rw (← c.self.view_is) (replied (met g a.After-least_wait-slowest) (row g a.After-check_single) h (sends ∷ []) stands (holds, tt))
 
 pub returns-then-waiters-eq0-clause-after : goal.returns-then-waiters-eq0-clause-after
 returns-then-waiters-eq0-clause-after g c h sends given holds =
@@ -122,8 +118,7 @@ pub returns-clause-ok : goal.returns-clause-ok
 returns-clause-ok g c h sends given holds =
     let a = (goal.at.returns-clause-ok g c) in
     let stands : StandsFor g.A.Accumulate.operation (core_of c.self.inside.registry c.self.inside.board) h = rw c.self.view_is given in
-    let L : CoreState g.row.A.Denot → Type 0 = λ k. signal_reply k.limits h c.args.task (sends ∷ []) c.args.single ≡ Ok c.in-Some.entry.signal_phase in
-    subst L c.self.view_is (replied (met g a.After-least_wait-slowest) (row g a.After-check_single) h (sends ∷ []) stands (holds, tt))
+    rw (← c.self.view_is) (replied (met g a.After-least_wait-slowest) (row g a.After-check_single) h (sends ∷ []) stands (holds, tt))
 
 pub returns-clause-after : goal.returns-clause-after
 returns-clause-after g c h sends given holds =

@@ -6,5 +6,4 @@ use Rattle.phase_core.proofs.phaser_core.PhaserCore.signal_block.Goals as goal
 
 pub returns-in-Ok-clause-after : goal.returns-in-Ok-clause-after
 returns-in-Ok-clause-after g c h sends given holds =
-    let L : List (Parcel g.row.A.Denot) → Type 0 = λ xs. StandForLists g.A.Accumulate.operation xs sends in
-    c.in-Ok.ensures.after h sends given (subst L (sym c.deref.ensures.value) holds)
+    c.in-Ok.ensures.after h sends given (rw c.deref.ensures.value holds)

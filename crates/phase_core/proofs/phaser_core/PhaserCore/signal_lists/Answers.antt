@@ -17,12 +17,11 @@ use Rattle.phase_core.proofs.phaser_core.PhaserCore.signal_lists.Goals as goal
 met : (g : Over) (c : After-least_wait-slowest g)
     → Met g.A.Accumulate.operation c.self.inside.registry c.self.inside.board c.args.task c.in-Some.entry c.args.lists.now c.args.single c.least_wait-slowest.result
 met g c =
-    let W : CoreState g.row.A.Denot → Type 0 = λ k. c.least_wait-slowest.result ≡ least (wait_phases k.members) in
     record {
       core = c.self.invariant;
       found = sym c.in-Some.ensures.entry;
       few = c.in-Some.ensures.few;
-      slow = subst W (sym c.self.view_is) c.least_wait-slowest.ensures;
+      slow = rw (← c.self.view_is) at c.least_wait-slowest.ensures;
       first = c.in_default-block_refusal.ensures;
     }
 
@@ -37,8 +36,7 @@ returns-in-Some-block_refusal-clause-refused g c h sends given holds =
     let stands : StandsFor g.A.Accumulate.operation core h = rw c.self.view_is given in
     let refused = block_refused_first g.A.Accumulate.operation core h c.args.task c.in-Some.entry c.args.lists.now sends c.args.single (length c.args.lists.now)
     c.in-Some-block_refusal.refusal stands (sym c.in-Some.ensures.entry) holds refl c.in-Some-block_refusal.ensures in
-    let L : CoreState g.row.A.Denot → Type 0 = λ k. signal_reply k.limits h c.args.task sends c.args.single ≡ Err c.in-Some-block_refusal.refusal in
-    subst L c.self.view_is (reply_refused core.limits h c.args.task sends c.args.single c.in-Some-block_refusal.refusal refused)
+    rw (← c.self.view_is) (reply_refused core.limits h c.args.task sends c.args.single c.in-Some-block_refusal.refusal refused)
 
 pub lists_refusal-refusal-requires-clause-opened : goal.lists_refusal-refusal-requires-clause-opened
 lists_refusal-refusal-requires-clause-opened g c =
@@ -58,8 +56,7 @@ returns-in-Some-refusal-clause-refused g c h sends given holds =
     let b = c.self.inside.board in
     let stands : StandsFor g.A.Accumulate.operation (core_of c.self.inside.registry b) h = rw c.self.view_is given in
     let refused = refusal m h sends stands holds ∙ sym c.lists_refusal-refusal.ensures.rows ∙ c.in-Some-refusal.is in
-    let L : CoreState g.row.A.Denot → Type 0 = λ k. signal_reply k.limits h c.args.task sends c.args.single ≡ Err c.in-Some-refusal.refusal in
-    subst L c.self.view_is (reply_refused b.limits h c.args.task sends c.args.single c.in-Some-refusal.refusal refused)
+    rw (← c.self.view_is) (reply_refused b.limits h c.args.task sends c.args.single c.in-Some-refusal.refusal refused)
 
 pub overflow_add-phase : goal.overflow_add-phase
 overflow_add-phase g c =
@@ -89,8 +86,7 @@ pub returns-then-waiters-eq0-clause-ok : goal.returns-then-waiters-eq0-clause-ok
 returns-then-waiters-eq0-clause-ok g c h sends given holds =
     let a = (goal.at.returns-then-waiters-eq0-clause-ok g c) in
     let stands : StandsFor g.A.Accumulate.operation (core_of c.self.inside.registry c.self.inside.board) h = rw c.self.view_is given in
-    let L : CoreState g.row.A.Denot → Type 0 = λ k. signal_reply k.limits h c.args.task sends c.args.single ≡ Ok c.in-Some.entry.signal_phase in
-    subst L c.self.view_is (replied (met g a.After-least_wait-slowest) (row g a.After-check_single) h sends stands holds)
+    rw (← c.self.view_is) (replied (met g a.After-least_wait-slowest) (row g a.After-check_single) h sends stands holds)
 
 pub returns-then-waiters-eq0-clause-after : goal.returns-then-waiters-eq0-clause-after
 returns-then-waiters-eq0-clause-after g c h sends given holds =
@@ -126,8 +122,7 @@ pub returns-clause-ok : goal.returns-clause-ok
 returns-clause-ok g c h sends given holds =
     let a = (goal.at.returns-clause-ok g c) in
     let stands : StandsFor g.A.Accumulate.operation (core_of c.self.inside.registry c.self.inside.board) h = rw c.self.view_is given in
-    let L : CoreState g.row.A.Denot → Type 0 = λ k. signal_reply k.limits h c.args.task sends c.args.single ≡ Ok c.in-Some.entry.signal_phase in
-    subst L c.self.view_is (replied (met g a.After-least_wait-slowest) (row g a.After-check_single) h sends stands holds)
+    rw (← c.self.view_is) (replied (met g a.After-least_wait-slowest) (row g a.After-check_single) h sends stands holds)
 
 pub returns-clause-after : goal.returns-clause-after
 returns-clause-after g c h sends given holds =

@@ -1,198 +1,172 @@
 -- As many as are complete, of as many as were asked for.
-use Rattle.std.proofs.Common.{◌≡◌, ◌-◌, ◌<◌, min, drop, ◌∷◌, ◌++◌, Some, None, Ok, Err, true, length, sym, subst, ◌∙◌, ap, arith, inr}
+use Rattle.std.proofs.Common.{◌≡◌, ℕ, ◌-◌, ◌<◌, ◌≤◌, ◌+◌, min, drop, ◌++◌, Some, None, Ok, length, sym, subst, ◌∙◌, ap, arith}
 use Rattle.std.specs.Prelude.{is_some}
-use Rattle.phase_registry.specs.phase_base.Modes.{mode_waits}
-use Rattle.phase_registry.specs.phase_base.Members.{entry_of, changed_at, signal_phases, least, waited}
-use Rattle.phase_history.specs.declared.event.Event.TheVariants.{Waited}
+use Rattle.phase_registry.specs.phase_base.Members.{signal_phases, least}
 use Rattle.phase_history.specs.declared.got.GotBlock.TheVariants as got
-use Rattle.phase_history.specs.Replies.{wait_block_reply}
+use Rattle.phase_history.specs.Histories.{History}
+use Rattle.phase_history.specs.Refusals.{wait_refusal}
+use Rattle.phase_history.specs.Replies.{wait_block_reply, got_block_at}
 use Rattle.phase_history.proofs.BlockAnswers.{wait_refusal-fewer, asked_some}
 use Rattle.phase_ring.specs.declared.role.Role.TheVariants.{Waiter}
 use Rattle.phase_ring.proofs.Kept.{standing-within}
 use Rattle.phase_core.specs.Cores.{CoreState, StandsFor, core_of}
-use Rattle.phase_core.proofs.SignalCore.{used_after}
 use Rattle.phase_core.proofs.NewCore.{done_of_boarded}
-use Rattle.phase_core.proofs.WaitCore.{waiting, boarded_waited, stands_waited, wait_block_is, got_block_values, got_block_ended, values_are, few_by, block_in_range}
+use Rattle.phase_core.proofs.WaitCore.{Awaits, here, block_replied, room_behind, stands_after_wait, core_after_wait, got_block_values, got_block_ended, values_are, block_in_range}
+use Rattle.phase_core.proofs.phaser_core.PhaserCore.wait_block.Given.{Over}
+use Rattle.phase_core.proofs.phaser_core.PhaserCore.wait_block.Goals.{After-wait_refusal-refusal, After-min-count}
 use Rattle.phase_core.proofs.phaser_core.PhaserCore.wait_block.Goals as goal
+
+-- the member that waits
+awaits : (g : Over) (c : After-wait_refusal-refusal g)
+    → Awaits g.A.Accumulate.operation c.self.inside.registry c.self.inside.board c.args.task
+    c.in-Some.entry c.has_signaller-has_signaller.result
+awaits g c = record {
+  core = c.self.invariant;
+  found = sym c.in-Some.ensures.entry;
+  few = c.in-Some.ensures.few;
+  waits = sym c.waits.ensures ∙ c.if-not-waits.false;
+  has = subst (λ (k : CoreState g.row.A.Denot). c.has_signaller-has_signaller.result
+      ≡ is_some (least (signal_phases k.members))) (sym c.self.view_is)
+      c.has_signaller-has_signaller.ensures;
+}
+
+-- so many are complete of those that it asked for, and some
+record Counted (asked done phase count : ℕ) : Type 0 where
+  least_of : count ≡ min asked (done - phase)
+  before : phase < done
+  some : 0 < count
+
+counted : (g : Over) (c : After-min-count g) → Awaits g.A.Accumulate.operation c.self.inside.registry
+    c.self.inside.board c.args.task c.in-Some.entry c.has_signaller-has_signaller.result
+    → Counted (length c.args.out.now) c.self.inside.board.done c.in-Some.entry.wait_phase
+    c.min-count.result
+counted g c m =
+    let h = m.core.history in
+    let asked = asked_some c.self.inside.board.limits h c.args.task (length c.args.out.now)
+    (block_replied m h (length c.args.out.now) None m.core.stands c.in_default-refusal.ensures).0 in
+    let count : c.min-count.result
+    ≡ min (length c.args.out.now) (c.self.inside.board.done - c.in-Some.entry.wait_phase) =
+    c.min-count.ensures in
+    let before : c.in-Some.entry.wait_phase < c.self.inside.board.done = c.if-done-phase.false in
+    record { least_of = count; before = before; some = omega arith }
+
+-- a wait of so many phases is not refused
+allowed : (g : Over) (c : After-min-count g) → Awaits g.A.Accumulate.operation
+    c.self.inside.registry c.self.inside.board c.args.task c.in-Some.entry
+    c.has_signaller-has_signaller.result → (h : History)
+    → StandsFor g.A.Accumulate.operation (core_of c.self.inside.registry c.self.inside.board) h
+    → wait_refusal c.self.inside.board.limits h c.args.task c.min-count.result ≡ None
+allowed g c m h stands =
+    let n = counted g c m in
+    let few = n.least_of in
+    let some = n.some in
+    wait_refusal-fewer c.self.inside.board.limits h c.args.task (length c.args.out.now)
+    c.min-count.result
+    (block_replied m h (length c.args.out.now) None stands c.in_default-refusal.ensures).0
+    (omega arith) (omega arith)
 
 pub returns-in-Some-refusal-clause-reply : goal.returns-in-Some-refusal-clause-reply
 returns-in-Some-refusal-clause-reply g c h given =
-    let op = g.A.Accumulate.operation in
-    let reg = c.self.inside.registry in
-    let b = c.self.inside.board in
-    let e = c.in-Some.entry in
-    let n = length c.args.out.now in
-    let found : entry_of reg.members c.args.task ≡ Some e = sym c.in-Some.ensures.entry in
-    let waits : mode_waits e.mode ≡ true = sym c.waits.ensures ∙ c.if-not-waits.false in
-    let w = waiting op reg b c.args.task e c.self.invariant.boarded found c.in-Some.ensures.few waits in
-    let H : CoreState g.row.A.Denot → Type 0 = λ k. c.has_signaller-has_signaller.result ≡ is_some (least (signal_phases k.members)) in
-    let has : c.has_signaller-has_signaller.result ≡ is_some (least (signal_phases reg.members)) =
-    subst H (sym c.self.view_is) c.has_signaller-has_signaller.ensures in
-    let stands : StandsFor op (core_of reg b) h = rw c.self.view_is given in
-    let r = wait_block_is op reg b h c.args.task n e c.has_signaller-has_signaller.result (Some c.in-Some-refusal.refusal) w stands found has c.in-Some-refusal.ensures in
-    let L : CoreState g.row.A.Denot → Type 0 = λ k. wait_block_reply k.limits h c.args.task n ≡ Err c.in-Some-refusal.refusal in
-    subst L c.self.view_is r.1
+    let m = awaits g (goal.at.returns-in-Some-refusal-clause-reply g c).After-wait_refusal-refusal in
+    rw (← c.self.view_is) (block_replied m h (length c.args.out.now)
+    (Some c.in-Some-refusal.refusal) (rw c.self.view_is given) c.in-Some-refusal.ensures).1
 
 pub returns-then-done-phase-clause-reply : goal.returns-then-done-phase-clause-reply
 returns-then-done-phase-clause-reply g c h given =
     let op = g.A.Accumulate.operation in
-    let reg = c.self.inside.registry in
     let b = c.self.inside.board in
-    let e = c.in-Some.entry in
+    let m = awaits g (goal.at.returns-then-done-phase-clause-reply g c).After-wait_refusal-refusal in
+    let stands : StandsFor op (core_of c.self.inside.registry b) h = rw c.self.view_is given in
     let n = length c.args.out.now in
-    let found : entry_of reg.members c.args.task ≡ Some e = sym c.in-Some.ensures.entry in
-    let waits : mode_waits e.mode ≡ true = sym c.waits.ensures ∙ c.if-not-waits.false in
-    let w = waiting op reg b c.args.task e c.self.invariant.boarded found c.in-Some.ensures.few waits in
-    let H : CoreState g.row.A.Denot → Type 0 = λ k. c.has_signaller-has_signaller.result ≡ is_some (least (signal_phases k.members)) in
-    let has : c.has_signaller-has_signaller.result ≡ is_some (least (signal_phases reg.members)) =
-    subst H (sym c.self.view_is) c.has_signaller-has_signaller.ensures in
-    let stands : StandsFor op (core_of reg b) h = rw c.self.view_is given in
-    let r = wait_block_is op reg b h c.args.task n e c.has_signaller-has_signaller.result None w stands found has c.in_default-refusal.ensures in
-    let L : CoreState g.row.A.Denot → Type 0 = λ k. wait_block_reply k.limits h c.args.task n ≡ Ok got.Ended in
-    subst L c.self.view_is (r.1 ∙ ap (λ x. Ok x) (got_block_ended h e.wait_phase n b.done (done_of_boarded op reg b h stands w.boarded) c.if-done-phase.true))
+    rw (← c.self.view_is) ((block_replied m h n None stands c.in_default-refusal.ensures).1
+    ∙ ap (λ x. Ok x) (got_block_ended h c.in-Some.entry.wait_phase n b.done
+    (done_of_boarded op c.self.inside.registry b h stands (here m).boarded) c.if-done-phase.true))
 
 pub wait_block-requires : goal.wait_block-requires
 wait_block-requires g c =
-    let op = g.A.Accumulate.operation in
-    let reg = c.self.inside.registry in
-    let b = c.self.inside.board in
-    let e = c.in-Some.entry in
-    let n = length c.args.out.now in
-    let found : entry_of reg.members c.args.task ≡ Some e = sym c.in-Some.ensures.entry in
-    let waits : mode_waits e.mode ≡ true = sym c.waits.ensures ∙ c.if-not-waits.false in
-    let w = waiting op reg b c.args.task e c.self.invariant.boarded found c.in-Some.ensures.few waits in
-    let H : CoreState g.row.A.Denot → Type 0 = λ k. c.has_signaller-has_signaller.result ≡ is_some (least (signal_phases k.members)) in
-    let has : c.has_signaller-has_signaller.result ≡ is_some (least (signal_phases reg.members)) =
-    subst H (sym c.self.view_is) c.has_signaller-has_signaller.ensures in
-    let h = c.self.invariant.history in
-    let stands = c.self.invariant.stands in
-    let r = wait_block_is op reg b h c.args.task n e c.has_signaller-has_signaller.result None w stands found has c.in_default-refusal.ensures in
-    let asked = asked_some b.limits h c.args.task n r.0 in
-    let count = c.min-count.result in
-    let count_is : count ≡ min n (b.done - e.wait_phase) = c.min-count.ensures in
-    let before : e.wait_phase < b.done = c.if-done-phase.false in
+    let a = (goal.at.wait_block-requires g c) in
+    let m = awaits g a.After-wait_refusal-refusal in
+    let n = counted g a.After-min-count m in
+    let few = n.least_of in
+    let some = n.some in
+    let before = n.before in
+    let w = here m in
     record {
       invariant = w.boarded.kept;
       may = record {
         later = omega arith;
         complete = omega arith;
         stands = w.ready.stands;
-        few = few_by op reg b c.args.task count e w.boarded found c.in-Some.ensures.few waits (omega arith);
+        few = room_behind m c.min-count.result some;
       };
       room = omega arith;
     }
 
 pub invariant_of-self : goal.invariant_of-self
 invariant_of-self g c =
-    let op = g.A.Accumulate.operation in
-    let reg = c.self.inside.registry in
-    let b = c.self.inside.board in
-    let e = c.in-Some.entry in
-    let n = length c.args.out.now in
-    let found : entry_of reg.members c.args.task ≡ Some e = sym c.in-Some.ensures.entry in
-    let waits : mode_waits e.mode ≡ true = sym c.waits.ensures ∙ c.if-not-waits.false in
-    let w = waiting op reg b c.args.task e c.self.invariant.boarded found c.in-Some.ensures.few waits in
-    let H : CoreState g.row.A.Denot → Type 0 = λ k. c.has_signaller-has_signaller.result ≡ is_some (least (signal_phases k.members)) in
-    let has : c.has_signaller-has_signaller.result ≡ is_some (least (signal_phases reg.members)) =
-    subst H (sym c.self.view_is) c.has_signaller-has_signaller.ensures in
-    let h = c.self.invariant.history in
-    let stands = c.self.invariant.stands in
-    let r = wait_block_is op reg b h c.args.task n e c.has_signaller-has_signaller.result None w stands found has c.in_default-refusal.ensures in
-    let asked = asked_some b.limits h c.args.task n r.0 in
-    let count = c.min-count.result in
-    let count_is : count ≡ min n (b.done - e.wait_phase) = c.min-count.ensures in
-    let before : e.wait_phase < b.done = c.if-done-phase.false in
+    let a = (goal.at.invariant_of-self g c) in
+    let m = awaits g a.After-wait_refusal-refusal in
+    let n = counted g a.After-min-count m in
+    let few = n.least_of in
+    let before = n.before in
     let o = c.wait_block.ensures in
-    let boarded = boarded_waited op reg c.waited.new.self b c.wait_block.new.self c.args.task count e w.boarded found waits c.waited.ensures
-    o.waited.keeps.done o.waited.keeps.top o.waited.moves.moved o.waited.moves.others o.invariant o.stops in
-    let fewer = wait_refusal-fewer b.limits h c.args.task n count r.0 (omega arith) (omega arith) in
-    record {
-      history = Waited c.args.task count ∷ h;
-      stands = stands_waited op reg c.waited.new.self b c.wait_block.new.self h c.args.task count e w stands found boarded fewer (omega arith)
-          c.waited.ensures o.waited.keeps.limits o.waited.keeps.top o.slots;
-      boarded = inr boarded;
-      used = used_after reg c.waited.new.self (changed_at c.args.task (waited count) reg.members) c.self.invariant.used c.waited.ensures;
-    }
+    core_after_wait m c.waited.new.self c.wait_block.new.self c.min-count.result (omega arith)
+    c.waited.ensures o.waited o.slots o.invariant o.stops
+    (allowed g a.After-min-count m m.core.history m.core.stands)
 
 pub returns-clause-reply : goal.returns-clause-reply
 returns-clause-reply g c h given =
+    let a = (goal.at.returns-clause-reply g c) in
+    let m = awaits g a.After-wait_refusal-refusal in
     let op = g.A.Accumulate.operation in
-    let reg = c.self.inside.registry in
     let b = c.self.inside.board in
-    let e = c.in-Some.entry in
+    let phase = c.in-Some.entry.wait_phase in
     let n = length c.args.out.now in
-    let found : entry_of reg.members c.args.task ≡ Some e = sym c.in-Some.ensures.entry in
-    let waits : mode_waits e.mode ≡ true = sym c.waits.ensures ∙ c.if-not-waits.false in
-    let w = waiting op reg b c.args.task e c.self.invariant.boarded found c.in-Some.ensures.few waits in
-    let H : CoreState g.row.A.Denot → Type 0 = λ k. c.has_signaller-has_signaller.result ≡ is_some (least (signal_phases k.members)) in
-    let has : c.has_signaller-has_signaller.result ≡ is_some (least (signal_phases reg.members)) =
-    subst H (sym c.self.view_is) c.has_signaller-has_signaller.ensures in
-    let stands : StandsFor op (core_of reg b) h = rw c.self.view_is given in
-    let r = wait_block_is op reg b h c.args.task n e c.has_signaller-has_signaller.result None w stands found has c.in_default-refusal.ensures in
-    let asked = asked_some b.limits h c.args.task n r.0 in
-    let count = c.min-count.result in
-    let count_is : count ≡ min n (b.done - e.wait_phase) = c.min-count.ensures in
-    let before : e.wait_phase < b.done = c.if-done-phase.false in
-    let L : CoreState g.row.A.Denot → Type 0 = λ k. wait_block_reply k.limits h c.args.task n ≡ Ok (got.Values e.wait_phase count) in
-    subst L c.self.view_is (r.1 ∙ ap (λ x. Ok x) (got_block_values h e.wait_phase n b.done (done_of_boarded op reg b h stands w.boarded) before)
-    ∙ ap (λ k. Ok (got.Values e.wait_phase k)) (sym count_is))
+    let k = counted g a.After-min-count m in
+    let stands : StandsFor op (core_of c.self.inside.registry b) h = rw c.self.view_is given in
+    rw (← c.self.view_is) ((block_replied m h n None stands c.in_default-refusal.ensures).1
+    ∙ ap (λ x. Ok x) (got_block_values h phase n b.done
+    (done_of_boarded op c.self.inside.registry b h stands (here m).boarded) k.before)
+    ∙ ap (λ k. Ok (got.Values phase k)) (sym k.least_of))
 
 pub returns-clause-after : goal.returns-clause-after
 returns-clause-after g c h given =
-    let op = g.A.Accumulate.operation in
-    let reg = c.self.inside.registry in
-    let b = c.self.inside.board in
-    let e = c.in-Some.entry in
-    let n = length c.args.out.now in
-    let found : entry_of reg.members c.args.task ≡ Some e = sym c.in-Some.ensures.entry in
-    let waits : mode_waits e.mode ≡ true = sym c.waits.ensures ∙ c.if-not-waits.false in
-    let w = waiting op reg b c.args.task e c.self.invariant.boarded found c.in-Some.ensures.few waits in
-    let H : CoreState g.row.A.Denot → Type 0 = λ k. c.has_signaller-has_signaller.result ≡ is_some (least (signal_phases k.members)) in
-    let has : c.has_signaller-has_signaller.result ≡ is_some (least (signal_phases reg.members)) =
-    subst H (sym c.self.view_is) c.has_signaller-has_signaller.ensures in
-    let stands : StandsFor op (core_of reg b) h = rw c.self.view_is given in
-    let r = wait_block_is op reg b h c.args.task n e c.has_signaller-has_signaller.result None w stands found has c.in_default-refusal.ensures in
-    let asked = asked_some b.limits h c.args.task n r.0 in
-    let count = c.min-count.result in
-    let count_is : count ≡ min n (b.done - e.wait_phase) = c.min-count.ensures in
-    let before : e.wait_phase < b.done = c.if-done-phase.false in
+    let a = (goal.at.returns-clause-after g c) in
+    let m = awaits g a.After-wait_refusal-refusal in
+    let n = counted g a.After-min-count m in
+    let few = n.least_of in
+    let before = n.before in
     let o = c.wait_block.ensures in
-    let boarded = boarded_waited op reg c.waited.new.self b c.wait_block.new.self c.args.task count e w.boarded found waits c.waited.ensures
-    o.waited.keeps.done o.waited.keeps.top o.waited.moves.moved o.waited.moves.others o.invariant o.stops in
-    let fewer = wait_refusal-fewer b.limits h c.args.task n count r.0 (omega arith) (omega arith) in
-    stands_waited op reg c.waited.new.self b c.wait_block.new.self h c.args.task count e w stands found boarded fewer (omega arith)
-    c.waited.ensures o.waited.keeps.limits o.waited.keeps.top o.slots
+    let stands : StandsFor g.A.Accumulate.operation (core_of c.self.inside.registry c.self.inside.board)
+    h = rw c.self.view_is given in
+    stands_after_wait m c.waited.new.self c.wait_block.new.self c.min-count.result (omega arith)
+    c.waited.ensures o.waited o.slots o.invariant o.stops h stands
+    (allowed g a.After-min-count m h stands)
 
 pub returns-clause-out : goal.returns-clause-out
 returns-clause-out g c h given =
+    let a = (goal.at.returns-clause-out g c) in
+    let m = awaits g a.After-wait_refusal-refusal in
     let op = g.A.Accumulate.operation in
     let reg = c.self.inside.registry in
     let b = c.self.inside.board in
-    let e = c.in-Some.entry in
-    let n = length c.args.out.now in
-    let found : entry_of reg.members c.args.task ≡ Some e = sym c.in-Some.ensures.entry in
-    let waits : mode_waits e.mode ≡ true = sym c.waits.ensures ∙ c.if-not-waits.false in
-    let w = waiting op reg b c.args.task e c.self.invariant.boarded found c.in-Some.ensures.few waits in
-    let H : CoreState g.row.A.Denot → Type 0 = λ k. c.has_signaller-has_signaller.result ≡ is_some (least (signal_phases k.members)) in
-    let has : c.has_signaller-has_signaller.result ≡ is_some (least (signal_phases reg.members)) =
-    subst H (sym c.self.view_is) c.has_signaller-has_signaller.ensures in
-    let stands : StandsFor op (core_of reg b) h = rw c.self.view_is given in
-    let r = wait_block_is op reg b h c.args.task n e c.has_signaller-has_signaller.result None w stands found has c.in_default-refusal.ensures in
-    let asked = asked_some b.limits h c.args.task n r.0 in
+    let phase = c.in-Some.entry.wait_phase in
     let count = c.min-count.result in
-    let count_is : count ≡ min n (b.done - e.wait_phase) = c.min-count.ensures in
-    let before : e.wait_phase < b.done = c.if-done-phase.false in
-    let within = standing-within b.ring Waiter e.wait_phase w.ready.stands in
-    let low = within.low in
+    let n = counted g a.After-min-count m in
+    let few = n.least_of in
+    let before = n.before in
+    let stands : StandsFor op (core_of reg b) h = rw c.self.view_is given in
+    let low = (standing-within b.ring Waiter phase (here m).ready.stands).low in
     c.wait_block.ensures.out
-    ∙ ap (λ xs. xs ++ drop count c.args.out.now) (values_are op g.met.A.Accumulate.laws reg b h e.wait_phase count w.boarded stands low (omega arith))
+    ∙ ap (λ xs. xs ++ drop count c.args.out.now) (values_are op g.met.A.Accumulate.laws reg b h phase
+    count (here m).boarded stands low (omega arith))
 
 -- what it answers are values of some legal history
 pub returns-clause-range : goal.returns-clause-range
 returns-clause-range g c phase count is =
     let op = g.A.Accumulate.operation in
     let h = c.self.invariant.history in
-    let P : CoreState g.row.A.Denot → Type 0 = λ k. StandsFor op k h in
-    let stands : StandsFor op c.args.self.now h = subst P c.self.view_is c.self.invariant.stands in
-    block_in_range op g.met.A.Accumulate.laws c.args.self.now.limits h c.args.task phase count _ c.args.out.now _ stands.legal
-    (returns-clause-reply g c h stands) (returns-clause-out g c h stands) is
+    let stands : StandsFor op c.args.self.now h = rw (← c.self.view_is) c.self.invariant.stands in
+    block_in_range op g.met.A.Accumulate.laws c.args.self.now.limits h c.args.task phase count _
+    c.args.out.now _ stands.legal (returns-clause-reply g c h stands)
+    (returns-clause-out g c h stands) is

@@ -9,8 +9,6 @@ use Rattle.phase_history.proofs.laws.others.all_descend.Goals as goal
 
 pub returns : goal.returns
 returns c = λ limits h founder tasks legal begins has each.
-    let L : History → Type 0 = λ g. IsLegal limits g in
-    let O : History → Type 0 = λ g. OnlyUsed tasks g in
-    subst O (sym begins.is) (OnlyUsed-descent limits founder tasks begins.later (subst L begins.is legal) has
+    rw begins.is (OnlyUsed-descent limits founder tasks begins.later (rw begins.is at legal) has
     (λ task child inside is. each task child inside
     (subst (λ (g : History). is_in child (children_in (events_of task g)) ≡ true) (sym begins.is) is)))

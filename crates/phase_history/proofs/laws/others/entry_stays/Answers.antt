@@ -8,6 +8,4 @@ use Rattle.phase_history.proofs.laws.others.entry_stays.Goals as goal
 
 pub returns : goal.returns
 returns c = λ limits tasks old new task entry came has legal found.
-    let L : History → Type 0 = λ h. IsLegal limits h in
-    let E : History → Type 0 = λ h. entry_of (members_of h) task ≡ Some entry in
-    subst E (sym came.is) (entry_of-others limits came.later old task entry (subst L came.is legal) (came.others task has) found)
+    rw came.is (entry_of-others limits came.later old task entry (rw came.is at legal) (came.others task has) found)

@@ -8,6 +8,4 @@ use Rattle.phase_history.proofs.laws.others.only_used_stays.Goals as goal
 
 pub returns : goal.returns
 returns c = λ limits tasks old new some came legal only.
-    let L : History → Type 0 = λ h. IsLegal limits h in
-    let O : History → Type 0 = λ h. OnlyUsed tasks h in
-    subst O (sym came.is) (OnlyUsed-others limits came.later old tasks some (subst L came.is legal) came.others only)
+    rw came.is (OnlyUsed-others limits came.later old tasks some (rw came.is at legal) came.others only)

@@ -29,5 +29,4 @@ invariant_of-self-2 c =
     let pushed : c.push.new.self.items ≡ l ++ member c.args.number e ∷ [] = search rules in
     let s_is : c.self.inside.signallers + c.one_if.result ≡ c.self.inside.signallers + cond (mode_signals c.args.mode) 1 0 = search rules in
     let w_is : c.self.inside.waiters + c.one_if-2.result ≡ c.self.inside.waiters + cond (mode_waits c.args.mode) 1 0 = search rules in
-    let R : Members → Type 0 = λ ms. IsRoster ms (Some c.args.number) (c.self.inside.signallers + c.one_if.result) (c.self.inside.waiters + c.one_if-2.result) in
-    subst R (sym pushed) (IsRoster-added l c.self.inside.greatest _ _ _ _ c.args.number e c.self.invariant none s_is w_is)
+    rw pushed (IsRoster-added l c.self.inside.greatest _ _ _ _ c.args.number e c.self.invariant none s_is w_is)

@@ -13,8 +13,7 @@ use Rattle.phase_registry.proofs.registry.Registry.waited.Goals as goal
 below_from : (n : ℕ) (o : Option Entry) (e : Entry) → o ≡ Some e
     → IfSome o (λ entry. entry.wait_phase + n < 2 ^ 64) → e.wait_phase + n < 2 ^ 64
 below_from n o e found below =
-    let P : Option Entry → Type 0 = λ x. IfSome x (λ entry. entry.wait_phase + n < 2 ^ 64) in
-    subst P found below
+    rw found at below
 
 pub overflow_add-index_mut : goal.overflow_add-index_mut
 overflow_add-index_mut c =

@@ -1,8 +1,8 @@
 -- Each step gives up the base, for which nobody waits. Some waiter stands above it.
-use Rattle.std.proofs.Common.{◌≡◌, ◌<◌, length, sym, subst, ◌∙◌, ap, arith}
+use Rattle.std.proofs.Common.{◌≡◌, ◌<◌, length, sym, ◌∙◌, ap, arith}
 use Rattle.phase_ring.specs.declared.role.Role.{Role}
 use Rattle.phase_ring.specs.declared.role.Role.TheVariants.{Signaller, Waiter}
-use Rattle.phase_ring.specs.Rings.{Ring, KeepsSlots, standing, released}
+use Rattle.phase_ring.specs.Rings.{Ring, standing, released}
 use Rattle.phase_ring.specs.Boards.{IsRingAt}
 use Rattle.phase_ring.proofs.Slots.{waiter-above, releases, standing-released, KeepsSlots-released}
 use Rattle.phase_ring.proofs.board.Board.give_up.Goals as goal
@@ -22,13 +22,11 @@ loop-self-preserved g c =
     let new : c.release.new.self ≡ released op now.ring = c.release.ensures in
     let none_signals : standing now.ring Signaller now.ring.base ≡ 0 = kept.signals_low now.ring.base below in
     let none_of : (role : Role) → standing now.ring role now.ring.base ≡ 0 = λ role. elim role as (λ r. standing now.ring r now.ring.base ≡ 0) [ Signaller ↦ none_signals | Waiter ↦ none ] in (
-      (let R : Ring g.row.A.Denot → Type 0 = λ r. IsRingAt op r bound now.done now.top in
-          subst R (sym new) (releases op now.ring bound now.done now.top kept below none)),
+      (rw new (releases op now.ring bound now.done now.top kept below none)),
       c.loop-self.invariant.1,
       c.loop-self.invariant.2,
       λ role p. (ap (λ (r : Ring g.row.A.Denot). standing r role p) new ∙ standing-released op now.ring role long (none_of role) p ∙ c.loop-self.invariant.3 role p),
-      (let K : Ring g.row.A.Denot → Type 0 = λ r. KeepsSlots c.args.self.now.ring r in
-          subst K (sym new) (λ p slot low found. KeepsSlots-released op now.ring p slot low (c.loop-self.invariant.4 p slot (omega arith) found))),
+      (rw new (λ p slot low found. KeepsSlots-released op now.ring p slot low (c.loop-self.invariant.4 p slot (omega arith) found))),
       c.loop-self.invariant.5,
     )
 

@@ -18,9 +18,7 @@ enter-requires-2-clause-few g c =
     let bound = c.args.limits.bound in
     let fresh : c.in_ok-ring.ring ≡ fresh_ring op (bound + 1) = c.in_ok-ring.ensures ∙ ap (λ n. fresh_ring op (n + 1)) c.bound.ensures.value in
     let m = first_entered op bound c.in_ok-ring.ring c.enter.new.self fresh c.enter.ensures in
-    let a = m.others 0 in
-    let b = fresh_few op bound c.in_ok-ring.ring Waiter 0 fresh in
-    omega arith
+    omega (arith, m.others 0, fresh_few op bound c.in_ok-ring.ring Waiter 0 fresh)
 
 pub returns-clause-invariant : goal.returns-clause-invariant
 returns-clause-invariant g c =

@@ -1,5 +1,5 @@
 -- Each step seals the first phase that was not complete, at which no signaller stands.
-use Rattle.std.proofs.Common.{◌≡◌, ◌+◌, ◌<◌, ◌≤◌, refl, sym, subst, ◌∙◌, ap, arith, inl}
+use Rattle.std.proofs.Common.{◌≡◌, ◌<◌, ◌≤◌, refl, sym, ◌∙◌, ap, arith, inl}
 use Rattle.phase_ring.specs.declared.role.Role.{Role}
 use Rattle.phase_ring.specs.declared.role.Role.TheVariants.{Signaller, Waiter}
 use Rattle.phase_ring.specs.Rings.{Ring, IsWithin, standing, with_slot, sents}
@@ -36,10 +36,9 @@ loop-self-preserved g c =
     let slot = slot_at-some now.ring now.done within in
     let new : c.seal.new.self ≡ with_slot now.done (sealed slot.0) now.ring = c.seal.ensures slot.0 slot.1 in
     let none : standing now.ring Signaller now.done ≡ 0 = sym c.standing.ensures ∙ c.if-standing-eq0.true in
-    let R : Ring g.row.A.Denot → Type 0 = λ r. IsRingAt op r now.limits.bound (now.done + 1) now.top in
     let same : (role : Role) → standing_of role (sealed slot.0) ≡ standing_of role slot.0 =
     λ role. elim role as (λ r. standing_of r (sealed slot.0) ≡ standing_of r slot.0) [ Signaller ↦ refl | Waiter ↦ refl ] in (
-      subst R (sym new) (seals op now.ring now.limits.bound now.done now.top slot.0 c.loop-self.invariant.0 c.loop-self-test.true slot.1 none),
+      rw new (seals op now.ring now.limits.bound now.done now.top slot.0 c.loop-self.invariant.0 c.loop-self-test.true slot.1 none),
       c.loop-self.invariant.1,
       ap sents new ∙ sents-with now.ring now.done slot.0 (sealed slot.0) slot.1 refl ∙ c.loop-self.invariant.2,
       λ role p. (ap (λ (r : Ring g.row.A.Denot). standing r role p) new

@@ -1,9 +1,7 @@
 -- The sends join their phase, and the task goes on to the next one.
-use Rattle.std.proofs.Common.{ℕ, ◌+◌, ◌<◌, [], ◌∷◌, max, sym, ap, subst, ◌∙◌, arith}
-use Rattle.phase_accum.specs.phase_base.Limits.{Limits}
+use Rattle.std.proofs.Common.{◌+◌, ◌<◌, [], ◌∷◌, max, ap, ◌∙◌, arith}
 use Rattle.phase_ring.specs.declared.role.Role.TheVariants.{Signaller, Waiter}
 use Rattle.phase_ring.specs.Rings.{Ring, sents}
-use Rattle.phase_ring.specs.Boards.{IsRingAt}
 use Rattle.phase_ring.specs.Blocks.{block_joined}
 use Rattle.phase_ring.proofs.Slots.{sealed-high}
 use Rattle.phase_ring.proofs.Blocks.{joins_first, joins_within, joins_unused, joins_next}
@@ -28,13 +26,11 @@ join-requires g c =
 
 pub overflow_add-phase : goal.overflow_add-phase
 overflow_add-phase g c =
-    let far = c.requires.may.far in
-    omega arith
+    omega (arith, c.requires.may.far)
 
 pub overflow_add-phase-2 : goal.overflow_add-phase-2
 overflow_add-phase-2 g c =
-    let far = c.requires.may.far in
-    omega arith
+    omega (arith, c.requires.may.far)
 
 pub go_on-requires : goal.go_on-requires
 go_on-requires g c =
@@ -50,11 +46,8 @@ go_on-requires g c =
     let same = c.join.ensures.keeps in
     let later = may.later in
     let top = c.max-self.ensures in
-    let L : Limits → Type 0 = λ l. IsRingAt op now.ring l.bound now.done c.max-self.result in
-    let D : ℕ → Type 0 = λ d. IsRingAt op now.ring old.limits.bound d c.max-self.result in
-    let T : ℕ → Type 0 = λ t. IsRingAt op now.ring old.limits.bound old.done t in
     record {
-      invariant = subst L (sym same.limits) (subst D (sym same.done) (subst T (sym (top ∙ ap (λ t. max t (c.args.phase + 1)) same.top)) j.kept));
+      invariant = rw same.limits (rw same.done (rw (top ∙ ap (λ t. max t (c.args.phase + 1)) same.top) j.kept));
       may = record {
         low = (let low = may.low in let d = same.done in omega arith);
         later = may.later;

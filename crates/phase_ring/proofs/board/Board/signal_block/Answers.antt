@@ -1,10 +1,7 @@
 -- Each parcel joins its phase, the task goes on to the phase behind them, and then done moves up.
-use Rattle.std.proofs.Common.{◌≡◌, ℕ, ◌+◌, ◌<◌, ◌≤◌, length, max, drop, refl, sym, ap, subst, ◌∙◌, arith}
-use Rattle.phase_accum.specs.phase_base.Limits.{Limits}
-use Rattle.phase_accum.specs.phase_base.declared.limits.TheConstants.{MEMBERS_MAX}
+use Rattle.std.proofs.Common.{◌≡◌, ◌+◌, ◌<◌, ◌≤◌, length, max, drop, refl, ap, ◌∙◌, arith}
 use Rattle.phase_ring.specs.declared.role.Role.TheVariants.{Signaller, Waiter}
-use Rattle.phase_ring.specs.Rings.{Ring, standing, sents}
-use Rattle.phase_ring.specs.Boards.{IsRingAt}
+use Rattle.phase_ring.specs.Rings.{Ring, sents}
 use Rattle.phase_ring.specs.Standings.{one_if_same}
 use Rattle.phase_ring.specs.Blocks.{block_joined}
 use Rattle.phase_ring.proofs.Slots.{sealed-high}
@@ -49,10 +46,7 @@ join-requires g c =
 pub overflow_add-next : goal.overflow_add-next
 overflow_add-next g c =
     let inv = c.loop-pending.invariant.0 in
-    let next_is = inv.next_is in
-    let inside : c.loop-pending.pending-index < length c.args.lists.now = c.loop-pending-test.true in
-    let far = c.requires.may.far in
-    omega arith
+    omega (arith, inv.next_is, c.loop-pending-test.true, c.requires.may.far)
 
 pub loop-pending-preserved : goal.loop-pending-preserved
 loop-pending-preserved g c =
@@ -95,19 +89,15 @@ go_on-requires g c =
     let same = c.loop-pending.invariant in
     let later = may.later in
     let top = c.max-self.ensures in
-    let L : Limits → Type 0 = λ l. IsRingAt op now.ring l.bound now.done c.max-self.result in
-    let D : ℕ → Type 0 = λ d. IsRingAt op now.ring old.limits.bound d c.max-self.result in
-    let T : ℕ → Type 0 = λ t. IsRingAt op now.ring old.limits.bound old.done t in
     record {
-      invariant = subst L (sym same.1) (subst D (sym same.2) (subst T (sym (c.max-self.ensures ∙ ap (λ t. max t c.loop-pending.next) same.3)) inv.joining.kept));
+      invariant = rw same.1 (rw same.2 (rw (c.max-self.ensures ∙ ap (λ t. max t c.loop-pending.next) same.3) inv.joining.kept));
       may = record {
         low = (let low = may.low in let d = same.2 in omega arith);
         later = omega arith;
         high = omega arith;
         stands = (let s = j.stands Signaller c.args.phase in let h = may.stands in omega arith);
         few = (let s = j.stands Signaller to in let few = may.few in
-            let F : ℕ → Type 0 = λ n. standing c.loop-pending.self.ring Signaller n < MEMBERS_MAX in
-            subst F (sym to_is) (omega arith));
+            rw to_is (omega arith));
       };
     }
 

@@ -23,10 +23,7 @@ leave-requires g c =
 pub overflow_add-phase : goal.overflow_add-phase
 overflow_add-phase g c =
     let kept = c.requires.invariant in
-    let done = kept.done_top in
-    let far = kept.top_far in
-    let complete = c.requires.may.complete in
-    omega arith
+    omega (arith, kept.done_top, kept.top_far, c.requires.may.complete)
 
 pub enter-requires : goal.enter-requires
 enter-requires g c =

@@ -1,6 +1,6 @@
 -- They are all that the slot has.
 use Rattle.std.proofs.Common.{sym, subst, ap, ap₂, ◌∙◌}
-use Rattle.phase_accum.specs.Parcels.{Parcel, parcel, StandsForSends}
+use Rattle.phase_accum.specs.Parcels.{parcel}
 use Rattle.phase_ring.specs.Choices.{named_of}
 use Rattle.phase_ring.specs.Slots.{Slot, joined, IsUnused}
 use Rattle.phase_ring.proofs.Blocks.{joined_first}
@@ -21,5 +21,4 @@ returns-clause-value g c =
 pub returns-clause-held : goal.returns-clause-held
 returns-clause-held g c =
     let held = c.part-self-inside.ensures.held in
-    let P : Parcel g.row.A.Denot → Type 0 = λ k. StandsForSends g.A.Accumulate.operation k held.0 in
-    (held.0, subst P (ap₂ parcel (sym c.part-self-inside.ensures.value) (sym c.count-self-inside.ensures.value)) held.1)
+    (held.0, rw (ap₂ parcel (sym c.part-self-inside.ensures.value) (sym c.count-self-inside.ensures.value)) at held.1)

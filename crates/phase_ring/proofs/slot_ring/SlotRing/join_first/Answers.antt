@@ -1,14 +1,12 @@
 -- The slot then stands for their sends.
-use Rattle.std.proofs.Common.{◌≡◌, Some, sym, subst}
-use Rattle.phase_ring.specs.Rings.{Ring, slot_at}
+use Rattle.std.proofs.Common.{sym}
 use Rattle.phase_ring.proofs.Held.{IsRing-set}
 use Rattle.phase_ring.proofs.slot_ring.SlotRing.join_first.Goals as goal
 
 pub join_first-requires : goal.join_first-requires
 join_first-requires g c =
     let slot = c.in-Some.slot.now in
-    let R : Ring g.row.A.Denot → Type 0 = λ r. slot_at r c.args.phase ≡ Some slot in
-    c.requires.unused slot (subst R c.self.view_is (sym c.in-Some.ensures.value))
+    c.requires.unused slot (rw (← c.self.view_is) (sym c.in-Some.ensures.value))
 
 pub invariant_of-self : goal.invariant_of-self
 invariant_of-self g c =

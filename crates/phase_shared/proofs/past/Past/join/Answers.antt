@@ -40,16 +40,14 @@ returns-clause-first g c =
     let rule = c.join.ensures.rule in
     let seen : (known_of (seat_view c.join.result)).seen ≡ rule.now = ap (λ (v : View). (known_of v).seen) rule.is in
     let came : OthersCame (known_of (seat_view c.self.inside.seat)).speaks (known_of (seat_view c.self.inside.seat)).seen rule.now = rule.first in
-    let P : History → Type 0 = λ h. OthersCame c.args.self.numbers c.args.self.seen h in
-    subst P (sym seen) (subst (λ r. OthersCame r.numbers r.seen rule.now) c.self.view_is came)
+    rw seen (subst (λ r. OthersCame r.numbers r.seen rule.now) c.self.view_is came)
 
 pub returns-clause-second : goal.returns-clause-second
 returns-clause-second g c =
     let rule = c.join.ensures.rule in
     let seen : (known_of (seat_view c.join.result)).seen ≡ rule.now = ap (λ (v : View). (known_of v).seen) rule.is in
     let came : OthersCame (known_of (seat_view c.other.inside.seat)).speaks (known_of (seat_view c.other.inside.seat)).seen rule.now = rule.second in
-    let P : History → Type 0 = λ h. OthersCame c.args.other.numbers c.args.other.seen h in
-    subst P (sym seen) (subst (λ r. OthersCame r.numbers r.seen rule.now) c.other.view_is came)
+    rw seen (subst (λ r. OthersCame r.numbers r.seen rule.now) c.other.view_is came)
 
 pub returns-clause-good : goal.returns-clause-good
 returns-clause-good g c =

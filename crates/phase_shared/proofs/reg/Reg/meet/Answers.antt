@@ -89,9 +89,7 @@ returns-clause-begins g c =
     let m = both g at.After-meet-seat (mine g at.In-Some-take) (yours g at.In-Some-take) in
     let seen = ap (λ o. (known_of (view_in o)).seen) (sym c.in-Some.is ∙ c.take.ensures.value) ∙ ap (λ r. r.seen) c.first.view_is in
     let seen' = ap (λ o. (known_of (view_in o)).seen) (sym c.in-Some-take.is ∙ c.take-2.ensures.value) ∙ ap (λ r. r.seen) c.second.view_is in
-    let new = (known_of (seat_view c.meet-seat.result.0)).seen in
-    let P : History → Type 0 = λ h. OthersCame (c.first.inside.number ∷ []) h new in
-    let Q : History → Type 0 = λ h. OthersCame (c.second.inside.number ∷ []) h new in (
-      subst (λ n. OthersCame (n ∷ []) c.args.self.seen new) (ap (λ r. r.number) c.first.view_is) (subst P seen m.first),
-      subst (λ n. OthersCame (n ∷ []) c.args.other.seen new) (ap (λ r. r.number) c.second.view_is) (subst Q seen' m.second),
+    let new = (known_of (seat_view c.meet-seat.result.0)).seen in (
+      subst (λ n. OthersCame (n ∷ []) c.args.self.seen new) (ap (λ r. r.number) c.first.view_is) (rw seen at m.first),
+      subst (λ n. OthersCame (n ∷ []) c.args.other.seen new) (ap (λ r. r.number) c.second.view_is) (rw seen' at m.second),
     )

@@ -10,9 +10,8 @@ returns-in-Ok-clause-call g c =
     let t = c.try_register.ensures.call in
     let now = c.loop.self in
     let new = c.try_register.new.self in
-    let P : RegState g.row.A.Denot g.row.K.Denot → Type 0 = λ old. IsChild op c.args.mode old new c.in-Ok.child in
     record {
-      call = subst P i (subst (λ r. Tries (new ≡ now) (Registers op c.args.mode now new) r) c.in-Ok.is t.call);
+      call = rw i at (subst (λ r. Tries (new ≡ now) (Registers op c.args.mode now new) r) c.in-Ok.is t.call);
       entry = t.entry ∙ ap (λ r. r.entry) i;
       mode = t.mode ∙ ap (λ r. r.entry.mode) i;
       at = (t.at.0 ∙ ap (λ r. r.at) i, t.at.1 ∙ ap (λ r. r.number) i);

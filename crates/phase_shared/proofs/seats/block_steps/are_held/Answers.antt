@@ -15,5 +15,4 @@ loop-pending-preserved g c =
 pub returns-clause-held : goal.returns-clause-held
 returns-clause-held g c =
     let past : length c.args.lists.now ≤ c.loop-pending.pending-index = c.loop-pending-test.false in
-    let S : List (Parcel g.row.A.Denot) → Type 0 = λ xs. StandForLists g.A.Accumulate.operation xs [] in
-    c.loop-pending.invariant [] (subst S (sym (drop-past c.args.lists.now c.loop-pending.pending-index past)) tt)
+    c.loop-pending.invariant [] (rw (drop-past c.args.lists.now c.loop-pending.pending-index past) tt)

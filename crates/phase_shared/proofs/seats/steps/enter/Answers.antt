@@ -18,8 +18,7 @@ try_take-requires-clause-rule g c =
     let op = g.A.Accumulate.operation in
     let allows = g.K.SignalRule.allows in
     let seen = (known_of (seat_view c.args.seat)).seen in
-    let P : View → Type 0 = λ v. Takes (HasOneHistory op allows) terms (seat_number c.args.seat) v (TookAt op allows terms) in
-    subst P (sym c.requires.at.rests)
+    rw c.requires.at.rests
     (takes terms.limits (allows terms.rule) (StandsWithin op terms.limits) (seat_number c.args.seat) (knowledge seen (c.args.me ∷ []))
     (c.args.me, is_in_self c.args.me []))
 
@@ -31,8 +30,7 @@ returns-in-Ok-clause-took g c =
 -- the seat came back as it was
 pub returns-in-Err-clause-still : goal.returns-in-Err-clause-still
 returns-in-Err-clause-still g c =
-    let P : View → Type 0 = λ v. IsSeatOfTask g.K.SignalRule.allows (locked_terms c.args.phaser.now) c.args.me c.args.entry v in
-    subst P (sym c.in-Err.ensures.err.2) c.requires.at
+    rw c.in-Err.ensures.err.2 c.requires.at
 
 -- no other seat can have the turn
 pub returns-in-Err-clause-alone : goal.returns-in-Err-clause-alone
@@ -41,9 +39,8 @@ returns-in-Err-clause-alone g c only =
     let op = g.A.Accumulate.operation in
     let allows = g.K.SignalRule.allows in
     let seen = (known_of (seat_view c.args.seat)).seen in
-    let P : View → Type 0 = λ v. Busy (HasOneHistory op allows) terms v in
     absurd (never_busy terms.limits (allows terms.rule) (StandsWithin op terms.limits) (HasOneHistory op allows) terms (λ views k. k)
     (knowledge seen (c.args.me ∷ []))
     (c.args.me, is_in_self c.args.me [], IsUsed-member seen c.args.me (ap is_some c.requires.at.member))
     only
-    (subst P c.requires.at.rests c.in-Err.ensures.busy))
+    (rw c.requires.at.rests at c.in-Err.ensures.busy))

@@ -19,8 +19,7 @@ join-requires-clause-merges g c =
     let number = seat_number c.args.seat in
     let other = seat_number c.args.other in
     let P : View → View → Type 0 = λ v w. Merges (HasOneHistory op allows) terms number v other w (Joining f h) Spent in
-    let Q : View → Type 0 = λ v. P v (seat_view c.args.other) in
-    subst Q (sym c.requires.rests.0) (subst (P (Resting f)) (sym c.requires.rests.1)
+    rw c.requires.rests.0 (subst (P (Resting f)) (sym c.requires.rests.1)
     (merges terms.limits (allows terms.rule) (StandsWithin op terms.limits) number other f h))
 
 pub join-requires-clause-looks : goal.join-requires-clause-looks

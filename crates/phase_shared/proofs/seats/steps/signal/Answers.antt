@@ -110,7 +110,6 @@ returns-clause-step g c =
     let last : History = (known_of (seat_view c.put_back-seat.result)).seen in
     let seen : last ≡ after_wait waited c.args.me middle = ap (λ (v : View). (known_of v).seen) view in
     let limits = c.in-Ok-answer.ensures.limits ∙ before.limits_are in
-    let P : Option Got → Type 0 = λ got. MayWait c.args.waits op.value terms.limits c.args.me middle last got in
     record {
       call = record {
         middle = middle;
@@ -123,7 +122,7 @@ returns-clause-step g c =
           reply = λ sends held. ap (λ l. signal_reply l e.now c.args.me (sends ∷ []) c.args.single) (sym before.limits_are)
               ∙ c.in-Ok-answer.ensures.ok e.now sends before.stands held;
         };
-        waits = subst P (sym c.ok.ensures.value) (may_wait c.args.waits op.value terms.limits c.args.me middle last waited seen
+        waits = rw c.ok.ensures.value (may_wait c.args.waits op.value terms.limits c.args.me middle last waited seen
             (λ asked. ap (λ l. wait_reply op.value l middle c.args.me) (sym limits)
             ∙ c.wait_where-waited.ensures.reply middle (c.in-Ok-answer.ensures.after e.now told.0 before.stands told.1) asked)
             c.wait_where-waited.ensures.none);

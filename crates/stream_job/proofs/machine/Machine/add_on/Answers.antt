@@ -37,8 +37,7 @@ index_mut-requires c =
     ≡ length c.register_now_on.new.self.lines.items = c.register_now_on.new.self.lines.ok.0 in
     let same : length c.register_now_on.new.self.lines.items
     ≡ length c.args.self.now.lines.items = ap (λ l. length l.items) c.register_now_on.ensures.lines in
-    let below = now_line job m c.args.self.now c.args.c c.index.result.now at there found now in
-    omega arith
+    omega (arith, now_line job m c.args.self.now c.args.c c.index.result.now at there found now)
 
 pub returns-clause-lines : goal.returns-clause-lines
 returns-clause-lines c = λ m at.

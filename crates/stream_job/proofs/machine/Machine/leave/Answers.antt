@@ -1,32 +1,35 @@
 -- The task leaves the phaser that stands behind those that it has left.
 use Rattle.std.proofs.Common.{◌≡◌, ◌<◌, ◌≤◌, ◌+◌, cond, length, get_or, ap, sym, subst, ◌∙◌, refl, arith}
 use Rattle.std.proofs.lemmas.Bool.{lt-ltb, le-ltb}
-use Rattle.std.proofs.lemmas.Option.{slice_get_read}
 use Rattle.graph_lang.specs.graph_base.Graphs.{task_at}
 use Rattle.graph_lang.specs.graph_base.Registrations.{registrations_of, no_registration}
 use Rattle.graph_runs.specs.Nexts.{registrations_at, leaves}
+use Rattle.graph_runs.specs.TaskPlaces.{registration_at}
 use Rattle.graph_runs.specs.Answers as answers
 use Rattle.stream_job.specs.declared.turned.Turned.TheVariants.{Moved, Ended}
-use Rattle.stream_job.proofs.Lively.{has_state, leaves_now, few_left}
+use Rattle.stream_job.proofs.Lively.{leaves_now, few_left, state_read, state_there}
 use Rattle.stream_job.proofs.Leaving.{left_turn, refused_drop, left_tasks}
+use Rattle.stream_job.proofs.machine.Machine.leave.Goals.{After-registration-phaser}
 use Rattle.stream_job.proofs.machine.Machine.leave.Goals as goal
+
+-- the phaser of the registration that it leaves
+here : (c : After-registration-phaser) → c.registration-phaser.result.phaser
+    ≡ (registration_at c.args.job.now c.args.t c.index-state.result.now.left).phaser
+here c =
+    ap (λ r. r.phaser) (c.registration-phaser.ensures
+    ∙ ap (λ g. get_or (registrations_of g (task_at g c.args.t)) c.index-state.result.now.left
+    no_registration) c.graph.ensures.graph)
 
 pub bounds-deref-left : goal.bounds-deref-left
 bounds-deref-left c =
-    let lt = has_state c.args.job.now c.args.self.now c.args.t leaves c.requires (λ e. (cc)) in
-    let found = slice_get_read c.args.self.now.tasks.items (length c.args.self.now.tasks.items)
-    c.args.t c.index-state.result.now refl lt c.index-state.ensures in
+    let found = state_read c.requires (λ e. (cc)) c.index-state.ensures in
     let low = (leaves_now c.args.job.now c.args.self.now c.requires.some.0 c.args.t
     c.index-state.result.now c.requires c.requires.some.1 found).stays in
-    let same : length c.deref.result.now ≡ length c.index-state.result.now.numbers.items =
-    ap length c.deref.ensures in
-    omega arith
+    omega (arith, ap length c.deref.ensures)
 
 pub registration-phaser-requires-clause-number : goal.registration-phaser-requires-clause-number
 registration-phaser-requires-clause-number c =
-    let lt = has_state c.args.job.now c.args.self.now c.args.t leaves c.requires (λ e. (cc)) in
-    let found = slice_get_read c.args.self.now.tasks.items (length c.args.self.now.tasks.items)
-    c.args.t c.index-state.result.now refl lt c.index-state.ensures in
+    let found = state_read c.requires (λ e. (cc)) c.index-state.ensures in
     let l = leaves_now c.args.job.now c.args.self.now c.requires.some.0 c.args.t
     c.index-state.result.now c.requires c.requires.some.1 found in
     let low = l.stays in
@@ -38,24 +41,16 @@ registration-phaser-requires-clause-number c =
 
 pub drop_on-requires-clause-phaser : goal.drop_on-requires-clause-phaser
 drop_on-requires-clause-phaser c =
-    let lt = has_state c.args.job.now c.args.self.now c.args.t leaves c.requires (λ e. (cc)) in
-    let found = slice_get_read c.args.self.now.tasks.items (length c.args.self.now.tasks.items)
-    c.args.t c.index-state.result.now refl lt c.index-state.ensures in
+    let found = state_read c.requires (λ e. (cc)) c.index-state.ensures in
     let l = leaves_now c.args.job.now c.args.self.now c.requires.some.0 c.args.t
     c.index-state.result.now c.requires c.requires.some.1 found in
-    let here = ap (λ r. r.phaser) (c.registration-phaser.ensures
-    ∙ ap (λ g. get_or (registrations_of g (task_at g c.args.t)) c.index-state.result.now.left
-    no_registration) c.graph.ensures.graph) in
+    let here = here (goal.at.drop_on-requires-clause-phaser c).After-registration-phaser in
     subst (λ p. p < length c.args.job.now.graph.phasers) (sym here) l.phaser
 
 pub unreachable-requires : goal.unreachable-requires
 unreachable-requires c =
-    let lt = has_state c.args.job.now c.args.self.now c.args.t leaves c.requires (λ e. (cc)) in
-    let found = slice_get_read c.args.self.now.tasks.items (length c.args.self.now.tasks.items)
-    c.args.t c.index-state.result.now refl lt c.index-state.ensures in
-    let here = ap (λ r. r.phaser) (c.registration-phaser.ensures
-    ∙ ap (λ g. get_or (registrations_of g (task_at g c.args.t)) c.index-state.result.now.left
-    no_registration) c.graph.ensures.graph) in
+    let found = state_read c.requires (λ e. (cc)) c.index-state.ensures in
+    let here = here (goal.at.unreachable-requires c).After-registration-phaser in
     refused_drop c.args.job.now c.args.self.now c.args.t c.registration-phaser.result.phaser
     (get_or c.deref.result.now c.index-state.result.now.left 0) c.index-state.result.now
     c.in_default.field-0 c.requires found (sym here)
@@ -64,12 +59,9 @@ unreachable-requires c =
 
 pub returns-then-last : goal.returns-then-last
 returns-then-last c =
-    let lt = has_state c.args.job.now c.args.self.now c.args.t leaves c.requires (λ e. (cc)) in
-    let found = slice_get_read c.args.self.now.tasks.items (length c.args.self.now.tasks.items)
-    c.args.t c.index-state.result.now refl lt c.index-state.ensures in
-    let here = ap (λ r. r.phaser) (c.registration-phaser.ensures
-    ∙ ap (λ g. get_or (registrations_of g (task_at g c.args.t)) c.index-state.result.now.left
-    no_registration) c.graph.ensures.graph) in
+    let lt = state_there c.requires (λ e. (cc)) in
+    let found = state_read c.requires (λ e. (cc)) c.index-state.ensures in
+    let here = here (goal.at.returns-then-last c).After-registration-phaser in
     let many = c.len.ensures.value in
     let past : length c.index-state.result.now.numbers.items ≤ c.index-state.result.now.left + 1 =
     (let last = c.if-last.true in omega arith) in
@@ -87,12 +79,9 @@ returns-then-last c =
 
 pub returns-else-last : goal.returns-else-last
 returns-else-last c =
-    let lt = has_state c.args.job.now c.args.self.now c.args.t leaves c.requires (λ e. (cc)) in
-    let found = slice_get_read c.args.self.now.tasks.items (length c.args.self.now.tasks.items)
-    c.args.t c.index-state.result.now refl lt c.index-state.ensures in
-    let here = ap (λ r. r.phaser) (c.registration-phaser.ensures
-    ∙ ap (λ g. get_or (registrations_of g (task_at g c.args.t)) c.index-state.result.now.left
-    no_registration) c.graph.ensures.graph) in
+    let lt = state_there c.requires (λ e. (cc)) in
+    let found = state_read c.requires (λ e. (cc)) c.index-state.ensures in
+    let here = here (goal.at.returns-else-last c).After-registration-phaser in
     let many = c.len.ensures.value in
     let more : c.index-state.result.now.left + 1 < length c.index-state.result.now.numbers.items =
     (let last = c.if-last.false in omega arith) in
@@ -110,9 +99,7 @@ returns-else-last c =
 
 pub offset_bounds-deref-left : goal.offset_bounds-deref-left
 offset_bounds-deref-left c =
-    let lt = has_state c.args.job.now c.args.self.now c.args.t leaves c.requires (λ e. (cc)) in
-    let found = slice_get_read c.args.self.now.tasks.items (length c.args.self.now.tasks.items)
-    c.args.t c.index-state.result.now refl lt c.index-state.ensures in
+    let found = state_read c.requires (λ e. (cc)) c.index-state.ensures in
     record {
       fits = (few_left c.args.job.now c.args.self.now c.args.t c.index-state.result.now c.deref.result.now
           c.requires found c.deref.ensures c.deref.type_inv.1).1;
@@ -120,9 +107,7 @@ offset_bounds-deref-left c =
 
 pub overflow_add-last : goal.overflow_add-last
 overflow_add-last c =
-    let lt = has_state c.args.job.now c.args.self.now c.args.t leaves c.requires (λ e. (cc)) in
-    let found = slice_get_read c.args.self.now.tasks.items (length c.args.self.now.tasks.items)
-    c.args.t c.index-state.result.now refl lt c.index-state.ensures in
+    let found = state_read c.requires (λ e. (cc)) c.index-state.ensures in
     record {
       fits = (few_left c.args.job.now c.args.self.now c.args.t c.index-state.result.now c.deref.result.now
           c.requires found c.deref.ensures c.deref.type_inv.1).2;
@@ -130,9 +115,7 @@ overflow_add-last c =
 
 pub overflow_add-left : goal.overflow_add-left
 overflow_add-left c =
-    let lt = has_state c.args.job.now c.args.self.now c.args.t leaves c.requires (λ e. (cc)) in
-    let found = slice_get_read c.args.self.now.tasks.items (length c.args.self.now.tasks.items)
-    c.args.t c.index-state.result.now refl lt c.index-state.ensures in
+    let found = state_read c.requires (λ e. (cc)) c.index-state.ensures in
     record {
       fits = (few_left c.args.job.now c.args.self.now c.args.t c.index-state.result.now c.deref.result.now
           c.requires found c.deref.ensures c.deref.type_inv.1).2;

@@ -1,6 +1,5 @@
 -- The child takes the next number on the phaser of its first registration that is missing.
 use Rattle.std.proofs.Common.{◌≡◌, ◌<◌, ◌≤◌, ◌+◌, [], ◌∷◌, ◌++◌, length, get_or, refl, sym, ap, subst, ◌∙◌, arith}
-use Rattle.std.proofs.lemmas.Option.{slice_get_read}
 use Rattle.graph_lang.specs.graph_base.Graphs.{task_at, phaser_at}
 use Rattle.graph_lang.specs.graph_base.Registrations.{registrations_of, no_registration}
 use Rattle.graph_lang.specs.graph_base.declared.registration.Registration.{Registration}
@@ -11,17 +10,33 @@ use Rattle.phase_any.specs.phase_history.Histories.{greatest_used}
 use Rattle.stream_job.specs.declared.task_state.TaskState.{TaskState}
 use Rattle.stream_job.proofs.Lively.{live_next}
 use Rattle.stream_job.proofs.Setting.{read_same, set_read}
-use Rattle.stream_job.proofs.Children.{child_below, child_at, child_turn, refused_child, next_is, room_for_child, with_numbers}
+use Rattle.stream_job.proofs.Children.{child_below, child_read, child_at, child_turn, refused_child, next_is, room_for_child, with_numbers}
 use Rattle.stream_job.proofs.Numbering.{number_left}
+use Rattle.stream_job.proofs.machine.Machine.register_child.Goals.{After-registration-registration}
 use Rattle.stream_job.proofs.machine.Machine.register_child.Goals as goal
+
+-- the child's first registration that is missing
+reg : (c : After-registration-registration) → c.registration-registration.result
+    ≡ registration_at c.args.job.now c.args.c (length c.index.result.now.numbers.items)
+reg c =
+    c.registration-registration.ensures
+    ∙ ap (λ g. get_or (registrations_of g (task_at g c.args.c)) c.len-made.result no_registration)
+    c.graph-2.ensures.graph ∙ ap (registration_at c.args.job.now c.args.c) c.len-made.ensures.value
+
+-- is on a phaser of the graph
+there : (c : After-registration-registration)
+    → c.registration-registration.result.phaser < length c.args.job.now.graph.phasers
+there c =
+    subst (λ p. p < length c.args.job.now.graph.phasers)
+    (sym (ap (λ (r : Registration). r.phaser) (reg c)))
+    (child_at c.args.job.now c.args.self.now c.requires.some.0 c.args.t c.args.c c.index.result.now
+    c.requires c.requires.some.1 (child_read c.requires c.index.ensures)).phaser
 
 pub registration-registration-requires-clause-number :
     goal.registration-registration-requires-clause-number
 registration-registration-requires-clause-number c =
     let job = c.args.job.now in
-    let lt = child_below job c.args.self.now c.args.t c.args.c c.requires in
-    let found = slice_get_read c.args.self.now.tasks.items (length c.args.self.now.tasks.items)
-    c.args.c c.index.result.now refl lt c.index.ensures in
+    let found = child_read c.requires c.index.ensures in
     let less = (child_at job c.args.self.now c.requires.some.0 c.args.t c.args.c c.index.result.now
     c.requires c.requires.some.1 found).few in
     let many = c.len-made.ensures.value in
@@ -31,40 +46,17 @@ registration-registration-requires-clause-number c =
 
 pub core-requires-clause-phaser : goal.core-requires-clause-phaser
 core-requires-clause-phaser c =
-    let job = c.args.job.now in
-    let lt = child_below job c.args.self.now c.args.t c.args.c c.requires in
-    let found = slice_get_read c.args.self.now.tasks.items (length c.args.self.now.tasks.items)
-    c.args.c c.index.result.now refl lt c.index.ensures in
-    let reg : c.registration-registration.result
-    ≡ registration_at job c.args.c (length c.index.result.now.numbers.items) =
-    c.registration-registration.ensures
-    ∙ ap (λ g. get_or (registrations_of g (task_at g c.args.c)) c.len-made.result no_registration)
-    c.graph-2.ensures.graph ∙ ap (registration_at job c.args.c) c.len-made.ensures.value in
-    subst (λ p. p < length job.graph.phasers) (sym (ap (λ (r : Registration). r.phaser) reg))
-    (child_at job c.args.self.now c.requires.some.0 c.args.t c.args.c c.index.result.now c.requires
-    c.requires.some.1 found).phaser
+    there (goal.at.core-requires-clause-phaser c).After-registration-registration
 
 pub add_on-requires-clause-phaser : goal.add_on-requires-clause-phaser
 add_on-requires-clause-phaser c =
-    let job = c.args.job.now in
-    let lt = child_below job c.args.self.now c.args.t c.args.c c.requires in
-    let found = slice_get_read c.args.self.now.tasks.items (length c.args.self.now.tasks.items)
-    c.args.c c.index.result.now refl lt c.index.ensures in
-    let reg : c.registration-registration.result
-    ≡ registration_at job c.args.c (length c.index.result.now.numbers.items) =
-    c.registration-registration.ensures
-    ∙ ap (λ g. get_or (registrations_of g (task_at g c.args.c)) c.len-made.result no_registration)
-    c.graph-2.ensures.graph ∙ ap (registration_at job c.args.c) c.len-made.ensures.value in
-    subst (λ p. p < length job.graph.phasers) (sym (ap (λ (r : Registration). r.phaser) reg))
-    (child_at job c.args.self.now c.requires.some.0 c.args.t c.args.c c.index.result.now c.requires
-    c.requires.some.1 found).phaser
+    there (goal.at.add_on-requires-clause-phaser c).After-registration-registration
 
 pub push_reserved-requires : goal.push_reserved-requires
 push_reserved-requires c =
     let job = c.args.job.now in
     let lt = child_below job c.args.self.now c.args.t c.args.c c.requires in
-    let found = slice_get_read c.args.self.now.tasks.items (length c.args.self.now.tasks.items)
-    c.args.c c.index.result.now refl lt c.index.ensures in
+    let found = child_read c.requires c.index.ensures in
     let it = read_same c.args.self.now.tasks.items c.args.c c.index.result.now
     c.index_mut.result.now lt c.index.ensures
     (c.index_mut.ensures.value ∙ ap (λ xs. get_or xs c.args.c c.index_mut.result.now)
@@ -86,32 +78,16 @@ unreachable-requires c =
     let m = c.requires.some.0 in
     let at = c.requires.some.1 in
     let p = c.registration-registration.result.phaser in
-    let lt = child_below job c.args.self.now c.args.t c.args.c c.requires in
-    let found = slice_get_read c.args.self.now.tasks.items (length c.args.self.now.tasks.items)
-    c.args.c c.index.result.now refl lt c.index.ensures in
-    let reg : c.registration-registration.result
-    ≡ registration_at job c.args.c (length c.index.result.now.numbers.items) =
-    c.registration-registration.ensures
-    ∙ ap (λ g. get_or (registrations_of g (task_at g c.args.c)) c.len-made.result no_registration)
-    c.graph-2.ensures.graph ∙ ap (registration_at job c.args.c) c.len-made.ensures.value in
-    let there : p < length job.graph.phasers =
-    subst (λ q. q < length job.graph.phasers) (sym (ap (λ (r : Registration). r.phaser) reg))
-    (child_at job c.args.self.now m c.args.t c.args.c c.index.result.now c.requires at found).phaser in
-    number_left job m c.args.self.now p c.next_number.result at there
+    number_left job m c.args.self.now p c.next_number.result at
+    (there (goal.at.unreachable-requires c).After-registration-registration)
     (c.next_number.ensures (phaser_at job.graph p).op (limits_at job p) (m.history p)
     (c.core.ensures m at)) c.in_default.is
 
 pub unreachable-requires-in_default-refusal : goal.unreachable-requires-in_default-refusal
 unreachable-requires-in_default-refusal c =
     let job = c.args.job.now in
-    let lt = child_below job c.args.self.now c.args.t c.args.c c.requires in
-    let found = slice_get_read c.args.self.now.tasks.items (length c.args.self.now.tasks.items)
-    c.args.c c.index.result.now refl lt c.index.ensures in
-    let reg : c.registration-registration.result
-    ≡ registration_at job c.args.c (length c.index.result.now.numbers.items) =
-    c.registration-registration.ensures
-    ∙ ap (λ g. get_or (registrations_of g (task_at g c.args.c)) c.len-made.result no_registration)
-    c.graph-2.ensures.graph ∙ ap (registration_at job c.args.c) c.len-made.ensures.value in
+    let found = child_read c.requires c.index.ensures in
+    let reg = reg (goal.at.unreachable-requires-in_default-refusal c).After-registration-registration in
     refused_child job c.args.self.now c.args.t c.args.c
     c.registration-registration.result.phaser c.number_on-parent.result c.in-Some.number
     c.registration-registration.result.mode c.index.result.now c.in-Err.refusal c.requires found
@@ -129,13 +105,8 @@ pub returns-in-Ok-clause-made : goal.returns-in-Ok-clause-made
 returns-in-Ok-clause-made c =
     let job = c.args.job.now in
     let lt = child_below job c.args.self.now c.args.t c.args.c c.requires in
-    let found = slice_get_read c.args.self.now.tasks.items (length c.args.self.now.tasks.items)
-    c.args.c c.index.result.now refl lt c.index.ensures in
-    let reg : c.registration-registration.result
-    ≡ registration_at job c.args.c (length c.index.result.now.numbers.items) =
-    c.registration-registration.ensures
-    ∙ ap (λ g. get_or (registrations_of g (task_at g c.args.c)) c.len-made.result no_registration)
-    c.graph-2.ensures.graph ∙ ap (registration_at job c.args.c) c.len-made.ensures.value in
+    let found = child_read c.requires c.index.ensures in
+    let reg = reg (goal.at.returns-in-Ok-clause-made c).After-registration-registration in
     let tasks = ap (λ v. v.items) c.add_on.ensures.tasks in
     let it = read_same c.args.self.now.tasks.items c.args.c c.index_mut.result.now
     c.index.result.now lt

@@ -40,7 +40,5 @@ returns-clause-err c =
     on_err c.register.result (λ same.
     ap (with_item c.args.self.now.cores c.args.p) same
     ∙ same_item c.args.self.now.cores c.args.p c.index_mut.result.now
-    (let many : length c.args.self.now.cores.items ≡ length c.args.job.now.graph.phasers =
-    c.requires.machine.1.cores.many in
-    let there = c.requires.phaser in omega arith) c.index_mut.ensures.value)
+    (omega (arith, c.requires.machine.1.cores.many, c.requires.phaser)) c.index_mut.ensures.value)
     c.register.ensures.err

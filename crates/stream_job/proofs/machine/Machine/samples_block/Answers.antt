@@ -11,10 +11,9 @@ pub signal_blocks-requires-clause-some : goal.signal_blocks-requires-clause-some
 signal_blocks-requires-clause-some c =
     let m = c.requires.next.some.0 in
     let at = c.requires.next.some.1 in
-    let many = c.sample_block-many.ensures m (c.state.ensures m at).stands.begun in
     let some = samples_some c.args.job.now m c.args.t at.graph c.requires.next.sends at.reached
     (c.requires.next.is m at) in
-    omega arith
+    omega (arith, c.sample_block-many.ensures m (c.state.ensures m at).stands.begun)
 
 pub returns : goal.returns
 returns c = λ m at.

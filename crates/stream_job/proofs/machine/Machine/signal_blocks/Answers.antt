@@ -16,12 +16,7 @@ bounds-deref-k c =
     let in_numbers = (number_of_output c.args.job.now c.requires.live.0 c.args.t c.args.j
     (place_of c.state.result.now) at.graph (c.state.ensures c.requires.live.0 at).stands
     c.requires.live.2 c.requires.output).0 in
-    let is : c.output_of-k.result.0
-    ≡ registration_of_output (task_at c.args.job.now.graph c.args.t) c.args.j =
-    c.output_of-k.ensures.registration in
-    let same : length c.deref.result.now ≡ length c.state.result.now.numbers.items =
-    ap length c.deref.ensures in
-    omega arith
+    omega (arith, c.output_of-k.ensures.registration, ap length c.deref.ensures)
 
 pub returns : goal.returns
 returns c = λ m at live.

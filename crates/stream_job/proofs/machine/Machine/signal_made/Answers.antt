@@ -1,9 +1,8 @@
 -- All that is made is signalled, where all of it is in range.
-use Rattle.std.proofs.Common.{◌≡◌, ◌<◌, ◌+◌, ◌-◌, [], map, length, get_or, refl, sym, ap, ◌∙◌, arith}
+use Rattle.std.proofs.Common.{◌≡◌, ◌<◌, ◌≤◌, ◌+◌, ◌-◌, [], map, length, get_or, refl, sym, ap, ◌∙◌, arith}
 use Rattle.std.specs.Prelude.{Ok, Result, ℤ}
 use Rattle.std.specs.List.{position_from}
 use Rattle.std.proofs.lemmas.List.{length-map}
-use Rattle.std.proofs.lemmas.Option.{slice_get_read}
 use Rattle.graph_lang.specs.stream_filters.declared.fault.TooBigValue.{TooBigValue}
 use Rattle.graph_lang.specs.graph_base.Graphs.{task_at}
 use Rattle.graph_runs.specs.Moments.{Moment}
@@ -12,40 +11,62 @@ use Rattle.graph_runs.specs.TaskEvents.{signal}
 use Rattle.stream_job.specs.Inside.{is_over}
 use Rattle.stream_job.specs.Machines.{IsMachineAt}
 use Rattle.stream_job.specs.Places.{owed_in}
-use Rattle.stream_job.proofs.Lively.{has_state}
+use Rattle.stream_job.proofs.Lively.{state_read, state_there}
 use Rattle.stream_job.proofs.Setting.{read_same, set_read}
 use Rattle.stream_job.proofs.Signals.{HasMade, MadeOver, NextAre, filter_owes, has_made, made_begun, made_few, made_over, over_turn, refused_turn, signalled_turn, signals_at, signals_so, values_sent, with_owing}
+use Rattle.stream_job.proofs.machine.Machine.signal_made.Goals.{After-index-state, After-len, In-Some, After-deref-3}
 use Rattle.stream_job.proofs.machine.Machine.signal_made.Goals as goal
 
-pub overflow_sub-first : goal.overflow_sub-first
-overflow_sub-first c =
-    let lt = has_state c.args.job.now c.args.self.now c.args.t (signals 0) c.requires.next
-    (λ e. (cc)) in
-    let found = slice_get_read c.args.self.now.tasks.items (length c.args.self.now.tasks.items)
-    c.args.t c.index-state.result.now refl lt c.index-state.ensures in
-    let has : (m : Moment) → IsMachineAt c.args.job.now m c.args.self.now
-    → HasMade c.args.job.now m c.args.t 0 c.index-state.result.now =
-    λ m at. has_made c.args.job.now c.args.self.now m c.args.t 0 c.index-state.result.now
-    c.requires.next at found (c.requires.made c.index-state.result.now found) in
+-- what the filter has made
+has_all : (c : After-index-state) (m : Moment) → IsMachineAt c.args.job.now m c.args.self.now
+    → HasMade c.args.job.now m c.args.t 0 c.index-state.result.now
+has_all c m at =
+    let found = state_read c.requires.next (λ e. (cc)) c.index-state.ensures in
+    has_made c.args.job.now c.args.self.now m c.args.t 0 c.index-state.result.now c.requires.next at
+    found (c.requires.made c.index-state.result.now found)
+
+-- it began no later than with the first of them
+begun : (c : After-len) → ((m : Moment) → IsMachineAt c.args.job.now m c.args.self.now
+    → HasMade c.args.job.now m c.args.t 0 c.index-state.result.now)
+    → c.len.result ≤ c.index-state.result.now.begun
+begun c has =
     let m = c.requires.next.some.0 in
     let at = c.requires.next.some.1 in
     let begun = made_begun c.args.job.now c.args.self.now m c.args.t 0 c.index-state.result.now
-    c.requires.next at found (has m at) in
-    let many : c.index-state.result.now.made.len ≡ length c.index-state.result.now.made.items =
-    c.index-state.result.now.made.ok.0 in
-    let len = c.len.ensures in
-    omega arith
+    c.requires.next at (state_read c.requires.next (λ e. (cc)) c.index-state.ensures) (has m at) in
+    omega (arith, c.index-state.result.now.made.ok.0, c.len.ensures)
+
+-- the first that is too big
+over : (c : In-Some) → ((m : Moment) → IsMachineAt c.args.job.now m c.args.self.now
+    → HasMade c.args.job.now m c.args.t 0 c.index-state.result.now) → (m : Moment)
+    → IsMachineAt c.args.job.now m c.args.self.now
+    → MadeOver c.args.job.now m c.args.t 0 c.in-Some.place c.index-state.result.now
+    c.index-state.result.now.made.items
+over c has m at =
+    made_over c.args.job.now c.args.self.now m c.args.t 0 c.in-Some.place c.index-state.result.now
+    c.index-state.result.now.made.items c.requires.next at
+    (state_read c.requires.next (λ e. (cc)) c.index-state.ensures) (has m at).here
+    (ap (position_from is_over 0) (sym c.deref.ensures.value) ∙ sym c.in-Some.ensures.some)
+
+-- or else these are all in range
+are : (c : After-deref-3) → ((m : Moment) → IsMachineAt c.args.job.now m c.args.self.now
+    → HasMade c.args.job.now m c.args.t 0 c.index-state.result.now)
+    → NextAre c.args.job.now c.args.self.now c.args.t 0 c.deref-3.result.now
+are c has m at =
+    (has m at).here.next ∙ sym c.deref.ensures.value ∙ sym (c.in_default.ensures.none refl)
+    ∙ ap (map (λ x. Ok x)) (sym c.deref-3.ensures.value)
+
+pub overflow_sub-first : goal.overflow_sub-first
+overflow_sub-first c =
+    let a = goal.at.overflow_sub-first c in
+    let has = has_all a.After-index-state in
+    omega (arith, c.requires.next.some.0, c.requires.next.some.1, begun a.After-len has)
 
 pub put_values-requires : goal.put_values-requires
 put_values-requires c =
-    let lt = has_state c.args.job.now c.args.self.now c.args.t (signals 0) c.requires.next
-    (λ e. (cc)) in
-    let found = slice_get_read c.args.self.now.tasks.items (length c.args.self.now.tasks.items)
-    c.args.t c.index-state.result.now refl lt c.index-state.ensures in
-    let has : (m : Moment) → IsMachineAt c.args.job.now m c.args.self.now
-    → HasMade c.args.job.now m c.args.t 0 c.index-state.result.now =
-    λ m at. has_made c.args.job.now c.args.self.now m c.args.t 0 c.index-state.result.now
-    c.requires.next at found (c.requires.made c.index-state.result.now found) in
+    let found = state_read c.requires.next (λ e. (cc)) c.index-state.ensures in
+    let a = goal.at.put_values-requires c in
+    let has = has_all a.After-index-state in
     let m = c.requires.next.some.0 in
     let at = c.requires.next.some.1 in
     let few = made_few c.args.job.now c.args.self.now m c.args.t 0 c.index-state.result.now
@@ -60,28 +81,12 @@ put_values-requires c =
 
 pub overflow_add-result : goal.overflow_add-result
 overflow_add-result c =
-    let lt = has_state c.args.job.now c.args.self.now c.args.t (signals 0) c.requires.next
-    (λ e. (cc)) in
-    let found = slice_get_read c.args.self.now.tasks.items (length c.args.self.now.tasks.items)
-    c.args.t c.index-state.result.now refl lt c.index-state.ensures in
-    let has : (m : Moment) → IsMachineAt c.args.job.now m c.args.self.now
-    → HasMade c.args.job.now m c.args.t 0 c.index-state.result.now =
-    λ m at. has_made c.args.job.now c.args.self.now m c.args.t 0 c.index-state.result.now
-    c.requires.next at found (c.requires.made c.index-state.result.now found) in
+    let a = goal.at.overflow_add-result c in
+    let has = has_all a.After-index-state in
     let m = c.requires.next.some.0 in
     let at = c.requires.next.some.1 in
-    let begun = made_begun c.args.job.now c.args.self.now m c.args.t 0 c.index-state.result.now
-    c.requires.next at found (has m at) in
-    let many : c.index-state.result.now.made.len ≡ length c.index-state.result.now.made.items =
-    c.index-state.result.now.made.ok.0 in
-    let len = c.len.ensures in
-    let over : (m : Moment) → IsMachineAt c.args.job.now m c.args.self.now
-    → MadeOver c.args.job.now m c.args.t 0 c.in-Some.place c.index-state.result.now
-    c.index-state.result.now.made.items =
-    λ m at. made_over c.args.job.now c.args.self.now m c.args.t 0 c.in-Some.place
-    c.index-state.result.now c.index-state.result.now.made.items c.requires.next at found
-    (has m at).here
-    (ap (position_from is_over 0) (sym c.deref.ensures.value) ∙ sym c.in-Some.ensures.some) in
+    let begun = begun a.After-len has in
+    let over = over a.In-Some has in
     let less = (over m at).few in
     let low : c.index-state.result.now.begun - c.len.result + c.in-Some.place
     < c.index-state.result.now.begun = omega arith in
@@ -89,72 +94,35 @@ overflow_add-result c =
 
 pub returns-in-Some-clause-made : goal.returns-in-Some-clause-made
 returns-in-Some-clause-made c =
-    let lt = has_state c.args.job.now c.args.self.now c.args.t (signals 0) c.requires.next
-    (λ e. (cc)) in
-    let found = slice_get_read c.args.self.now.tasks.items (length c.args.self.now.tasks.items)
-    c.args.t c.index-state.result.now refl lt c.index-state.ensures in
-    let has : (m : Moment) → IsMachineAt c.args.job.now m c.args.self.now
-    → HasMade c.args.job.now m c.args.t 0 c.index-state.result.now =
-    λ m at. has_made c.args.job.now c.args.self.now m c.args.t 0 c.index-state.result.now
-    c.requires.next at found (c.requires.made c.index-state.result.now found) in
+    let a = goal.at.returns-in-Some-clause-made c in
+    let has = has_all a.After-index-state in
     let m = c.requires.next.some.0 in
     let at = c.requires.next.some.1 in
-    let begun = made_begun c.args.job.now c.args.self.now m c.args.t 0 c.index-state.result.now
-    c.requires.next at found (has m at) in
-    let many : c.index-state.result.now.made.len ≡ length c.index-state.result.now.made.items =
-    c.index-state.result.now.made.ok.0 in
-    let len = c.len.ensures in
-    let over : (m : Moment) → IsMachineAt c.args.job.now m c.args.self.now
-    → MadeOver c.args.job.now m c.args.t 0 c.in-Some.place c.index-state.result.now
-    c.index-state.result.now.made.items =
-    λ m at. made_over c.args.job.now c.args.self.now m c.args.t 0 c.in-Some.place
-    c.index-state.result.now c.index-state.result.now.made.items c.requires.next at found
-    (has m at).here
-    (ap (position_from is_over 0) (sym c.deref.ensures.value) ∙ sym c.in-Some.ensures.some) in
+    let begun = begun a.After-len has in
+    let over = over a.In-Some has in
     over_turn c.args.job.now c.args.self.now c.args.t 0 c.in-Some.place
     (c.index-state.result.now.begun - c.len.result + c.in-Some.place) c.index-state.result.now
     c.index-state.result.now.made.items c.requires.next over (omega arith)
 
 pub bounds-deref-k : goal.bounds-deref-k
 bounds-deref-k c =
-    let lt = has_state c.args.job.now c.args.self.now c.args.t (signals 0) c.requires.next
-    (λ e. (cc)) in
-    let found = slice_get_read c.args.self.now.tasks.items (length c.args.self.now.tasks.items)
-    c.args.t c.index-state.result.now refl lt c.index-state.ensures in
-    let again = slice_get_read c.args.self.now.tasks.items (length c.args.self.now.tasks.items)
-    c.args.t c.index.result.now refl lt c.index.ensures in
+    let again = state_read c.requires.next (λ e. (cc)) c.index.ensures in
     let place = (signals_at c.args.job.now c.args.self.now c.requires.next.some.0 c.args.t 0
     c.index.result.now c.requires.next c.requires.next.some.1 again).place in
-    let same = c.output_of-k.ensures.registration in
-    let long : length c.deref-2.result.now ≡ length c.index.result.now.numbers.items =
-    ap length c.deref-2.ensures in
-    omega arith
+    omega (arith, c.output_of-k.ensures.registration, ap length c.deref-2.ensures)
 
 pub signal_values_on-requires-clause-sends : goal.signal_values_on-requires-clause-sends
 signal_values_on-requires-clause-sends c =
-    let lt = has_state c.args.job.now c.args.self.now c.args.t (signals 0) c.requires.next
-    (λ e. (cc)) in
-    let found = slice_get_read c.args.self.now.tasks.items (length c.args.self.now.tasks.items)
-    c.args.t c.index-state.result.now refl lt c.index-state.ensures in
-    let has : (m : Moment) → IsMachineAt c.args.job.now m c.args.self.now
-    → HasMade c.args.job.now m c.args.t 0 c.index-state.result.now =
-    λ m at. has_made c.args.job.now c.args.self.now m c.args.t 0 c.index-state.result.now
-    c.requires.next at found (c.requires.made c.index-state.result.now found) in
-    let are : NextAre c.args.job.now c.args.self.now c.args.t 0 c.deref-3.result.now =
-    λ m at. (has m at).here.next ∙ sym c.deref.ensures.value ∙ sym (c.in_default.ensures.none refl)
-    ∙ ap (map (λ x. Ok x)) (sym c.deref-3.ensures.value) in
+    let a = goal.at.signal_values_on-requires-clause-sends c in
+    let has = has_all a.After-index-state in
+    let are = are a.After-deref-3 has in
     values_sent c.args.job.now c.args.self.now c.args.t 0 c.deref-3.result.now c.requires.next are
 
 pub signal_values_on-requires-clause-room : goal.signal_values_on-requires-clause-room
 signal_values_on-requires-clause-room c =
-    let lt = has_state c.args.job.now c.args.self.now c.args.t (signals 0) c.requires.next
-    (λ e. (cc)) in
-    let found = slice_get_read c.args.self.now.tasks.items (length c.args.self.now.tasks.items)
-    c.args.t c.index-state.result.now refl lt c.index-state.ensures in
-    let has : (m : Moment) → IsMachineAt c.args.job.now m c.args.self.now
-    → HasMade c.args.job.now m c.args.t 0 c.index-state.result.now =
-    λ m at. has_made c.args.job.now c.args.self.now m c.args.t 0 c.index-state.result.now
-    c.requires.next at found (c.requires.made c.index-state.result.now found) in
+    let found = state_read c.requires.next (λ e. (cc)) c.index-state.ensures in
+    let a = goal.at.signal_values_on-requires-clause-room c in
+    let has = has_all a.After-index-state in
     let m = c.requires.next.some.0 in
     let at = c.requires.next.some.1 in
     let few = made_few c.args.job.now c.args.self.now m c.args.t 0 c.index-state.result.now
@@ -163,9 +131,7 @@ signal_values_on-requires-clause-room c =
     c.requires.next at found).there in
     let room = c.requires.places c.args.t there in
     let same : c.buffers.inside.parcels ≡ c.args.buffers.now = c.buffers.view_is in
-    let are : NextAre c.args.job.now c.args.self.now c.args.t 0 c.deref-3.result.now =
-    λ m at. (has m at).here.next ∙ sym c.deref.ensures.value ∙ sym (c.in_default.ensures.none refl)
-    ∙ ap (map (λ x. Ok x)) (sym c.deref-3.ensures.value) in
+    let are = are a.After-deref-3 has in
     let next = ap length (are m at) in
     let here = ap length (has m at).here.next in
     let mapped : length (map {B = Result ℤ TooBigValue} (λ x. Ok x) c.deref-3.result.now)
@@ -177,19 +143,10 @@ signal_values_on-requires-clause-room c =
 
 pub returns-in_default-signal_values_on-clause-made : goal.returns-in_default-signal_values_on-clause-made
 returns-in_default-signal_values_on-clause-made c =
-    let lt = has_state c.args.job.now c.args.self.now c.args.t (signals 0) c.requires.next
-    (λ e. (cc)) in
-    let found = slice_get_read c.args.self.now.tasks.items (length c.args.self.now.tasks.items)
-    c.args.t c.index-state.result.now refl lt c.index-state.ensures in
-    let has : (m : Moment) → IsMachineAt c.args.job.now m c.args.self.now
-    → HasMade c.args.job.now m c.args.t 0 c.index-state.result.now =
-    λ m at. has_made c.args.job.now c.args.self.now m c.args.t 0 c.index-state.result.now
-    c.requires.next at found (c.requires.made c.index-state.result.now found) in
-    let again = slice_get_read c.args.self.now.tasks.items (length c.args.self.now.tasks.items)
-    c.args.t c.index.result.now refl lt c.index.ensures in
-    let are : NextAre c.args.job.now c.args.self.now c.args.t 0 c.deref-3.result.now =
-    λ m at. (has m at).here.next ∙ sym c.deref.ensures.value ∙ sym (c.in_default.ensures.none refl)
-    ∙ ap (map (λ x. Ok x)) (sym c.deref-3.ensures.value) in
+    let a = goal.at.returns-in_default-signal_values_on-clause-made c in
+    let has = has_all a.After-index-state in
+    let again = state_read c.requires.next (λ e. (cc)) c.index.ensures in
+    let are = are a.After-deref-3 has in
     let vs = c.deref-3.result.now in
     let number = get_or c.deref-2.result.now c.output_of-k.result.0 0 in
     refused_turn c.args.job.now c.args.self.now c.signal_values_on.new.self c.args.t number
@@ -205,19 +162,11 @@ returns-in_default-signal_values_on-clause-made c =
 
 pub returns-clause-made : goal.returns-clause-made
 returns-clause-made c =
-    let lt = has_state c.args.job.now c.args.self.now c.args.t (signals 0) c.requires.next
-    (λ e. (cc)) in
-    let found = slice_get_read c.args.self.now.tasks.items (length c.args.self.now.tasks.items)
-    c.args.t c.index-state.result.now refl lt c.index-state.ensures in
-    let has : (m : Moment) → IsMachineAt c.args.job.now m c.args.self.now
-    → HasMade c.args.job.now m c.args.t 0 c.index-state.result.now =
-    λ m at. has_made c.args.job.now c.args.self.now m c.args.t 0 c.index-state.result.now
-    c.requires.next at found (c.requires.made c.index-state.result.now found) in
-    let again = slice_get_read c.args.self.now.tasks.items (length c.args.self.now.tasks.items)
-    c.args.t c.index.result.now refl lt c.index.ensures in
-    let are : NextAre c.args.job.now c.args.self.now c.args.t 0 c.deref-3.result.now =
-    λ m at. (has m at).here.next ∙ sym c.deref.ensures.value ∙ sym (c.in_default.ensures.none refl)
-    ∙ ap (map (λ x. Ok x)) (sym c.deref-3.ensures.value) in
+    let lt = state_there c.requires.next (λ e. (cc)) in
+    let a = goal.at.returns-clause-made c in
+    let has = has_all a.After-index-state in
+    let again = state_read c.requires.next (λ e. (cc)) c.index.ensures in
+    let are = are a.After-deref-3 has in
     let m = c.requires.next.some.0 in
     let at = c.requires.next.some.1 in
     let vs = c.deref-3.result.now in

@@ -1,11 +1,10 @@
 -- The value is signalled as the number that stands at the registration of the output.
 use Rattle.std.proofs.Common.{◌≡◌, ◌<◌, ◌*◌, [], ◌∷◌, length, get_or, refl, sym, ap, subst, ◌∙◌, arith, to_z-of_z}
-use Rattle.std.proofs.lemmas.Option.{slice_get_read}
 use Rattle.phase_any.specs.phase_accum.Sends.{IsSend}
 use Rattle.graph_runs.specs.Nexts.{signals}
 use Rattle.graph_runs.specs.TaskEvents.{signal}
 use Rattle.stream_job.specs.Places.{owed_in}
-use Rattle.stream_job.proofs.Lively.{has_state}
+use Rattle.stream_job.proofs.Lively.{state_read, state_there}
 use Rattle.stream_job.proofs.Setting.{set_read}
 use Rattle.stream_job.proofs.Signals.{signal_few, signals_at, signals_so, values_sent, refused_turn, signalled_turn, with_owing}
 use Rattle.stream_job.proofs.machine.Machine.signal_value.Goals as goal
@@ -17,10 +16,7 @@ output_of-k-requires-clause-output c =
 
 pub offset_bounds-deref-k : goal.offset_bounds-deref-k
 offset_bounds-deref-k c =
-    let lt = has_state c.args.job.now c.args.self.now c.args.t (signals c.args.output)
-    c.requires.next (λ e. (cc)) in
-    let found = slice_get_read c.args.self.now.tasks.items (length c.args.self.now.tasks.items)
-    c.args.t c.index.result.now refl lt c.index.ensures in
+    let found = state_read c.requires.next (λ e. (cc)) c.index.ensures in
     let place = (signals_at c.args.job.now c.args.self.now c.requires.next.some.0 c.args.t
     c.args.output c.index.result.now c.requires.next c.requires.next.some.1 found).place in
     let same = c.output_of-k.ensures.registration in
@@ -31,16 +27,10 @@ offset_bounds-deref-k c =
 
 pub bounds-deref-k : goal.bounds-deref-k
 bounds-deref-k c =
-    let lt = has_state c.args.job.now c.args.self.now c.args.t (signals c.args.output)
-    c.requires.next (λ e. (cc)) in
-    let found = slice_get_read c.args.self.now.tasks.items (length c.args.self.now.tasks.items)
-    c.args.t c.index.result.now refl lt c.index.ensures in
+    let found = state_read c.requires.next (λ e. (cc)) c.index.ensures in
     let place = (signals_at c.args.job.now c.args.self.now c.requires.next.some.0 c.args.t
     c.args.output c.index.result.now c.requires.next c.requires.next.some.1 found).place in
-    let same = c.output_of-k.ensures.registration in
-    let long : length c.deref.result.now ≡ length c.index.result.now.numbers.items =
-    ap length c.deref.ensures in
-    omega arith
+    omega (arith, c.output_of-k.ensures.registration, ap length c.deref.ensures)
 
 pub signal_on-requires-clause-send : goal.signal_on-requires-clause-send
 signal_on-requires-clause-send c =
@@ -50,10 +40,7 @@ signal_on-requires-clause-send c =
 
 pub returns-in_default : goal.returns-in_default
 returns-in_default c =
-    let lt = has_state c.args.job.now c.args.self.now c.args.t (signals c.args.output)
-    c.requires.next (λ e. (cc)) in
-    let found = slice_get_read c.args.self.now.tasks.items (length c.args.self.now.tasks.items)
-    c.args.t c.index.result.now refl lt c.index.ensures in
+    let found = state_read c.requires.next (λ e. (cc)) c.index.ensures in
     let number = get_or c.deref.result.now c.output_of-k.result.0 0 in
     let p = c.output_of-k.result.1 in
     refused_turn c.args.job.now c.args.self.now c.signal_on.new.self c.args.t number p
@@ -69,10 +56,8 @@ returns-in_default c =
 
 pub returns : goal.returns
 returns c =
-    let lt = has_state c.args.job.now c.args.self.now c.args.t (signals c.args.output)
-    c.requires.next (λ e. (cc)) in
-    let found = slice_get_read c.args.self.now.tasks.items (length c.args.self.now.tasks.items)
-    c.args.t c.index.result.now refl lt c.index.ensures in
+    let lt = state_there c.requires.next (λ e. (cc)) in
+    let found = state_read c.requires.next (λ e. (cc)) c.index.ensures in
     let it = c.requires.next.some.1.tasks c.args.t c.index.result.now found in
     let none = it.made_none c.requires.kind in
     let owed = c.owed_after_signal.result in

@@ -27,11 +27,10 @@ signal_blocks-requires-clause-some c =
     let m = c.requires.some.0 in
     let at = c.requires.some.1 in
     let is = c.requires.is m at in
-    let some = values_some c.args.job.now m c.args.t c.args.j at.graph c.requires.there is in
     let many = values_many c.args.job.now m c.args.t c.args.j
     (owed_in state.owed state.made.items) (c.state-state.ensures m at).stands.owes is in
-    let long = c.owed_many.ensures in
-    omega arith
+    let some = values_some c.args.job.now m c.args.t c.args.j at.graph c.requires.there is in
+    omega (arith, c.owed_many.ensures)
 
 pub returns : goal.returns
 returns c = λ m at.

@@ -14,9 +14,7 @@ bounds-deref-k c =
     let in_numbers = (number_of_input c.args.job.now c.requires.live.0 c.args.t c.args.k
     (place_of c.state.result.now) at.graph (c.state.ensures c.requires.live.0 at).stands
     c.requires.live.2 c.requires.input).0 in
-    let same : length c.deref.result.now ≡ length c.state.result.now.numbers.items =
-    ap length c.deref.ensures in
-    omega arith
+    omega (arith, ap length c.deref.ensures)
 
 pub returns : goal.returns
 returns c = λ m at live.

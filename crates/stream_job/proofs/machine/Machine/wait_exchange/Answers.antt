@@ -1,7 +1,6 @@
 -- A peer waits as the number that stands at its second registration.
 use Rattle.std.proofs.Common.{rules, SFits, w64, to_z, of_z, ◌≡◌, ◌<◌, length, get_or, refl, ap, subst, ◌∙◌, arith, to_z-of_z}
 use Rattle.std.specs.Prelude.{Ok}
-use Rattle.std.proofs.lemmas.Option.{slice_get_read}
 use Rattle.phase_any.specs.phase_base.declared.limits.TheConstants.{PHASES_MAX}
 use Rattle.phase_any.specs.phase_history.Replies.{after_wait}
 use Rattle.graph_runs.specs.Nexts.{exchanges}
@@ -9,35 +8,27 @@ use Rattle.graph_lang.specs.graph_base.Graphs.{task_at}
 use Rattle.graph_runs.specs.TaskPlaces.{owed_after_exchange, exchange}
 use Rattle.graph_runs.specs.Turned.{with_at}
 use Rattle.stream_job.specs.Machines.{HasCores}
-use Rattle.stream_job.proofs.Lively.{has_state}
+use Rattle.stream_job.proofs.Lively.{state_read, state_there}
 use Rattle.stream_job.proofs.Setting.{set_read}
 use Rattle.stream_job.proofs.Waits.{exchange_waits_at, exchange_some, exchanged_turn, blocked_exchange, never_ended, phase_few, with_owed}
 use Rattle.stream_job.proofs.machine.Machine.wait_exchange.Goals as goal
 
 pub bounds-deref-1 : goal.bounds-deref-1
 bounds-deref-1 c =
-    let lt = has_state c.args.job.now c.args.self.now c.args.t exchanges c.requires (λ e. (cc)) in
-    let found = slice_get_read c.args.self.now.tasks.items (length c.args.self.now.tasks.items)
-    c.args.t c.index-state.result.now refl lt c.index-state.ensures in
+    let found = state_read c.requires (λ e. (cc)) c.index-state.ensures in
     let place = (exchange_waits_at c.args.job.now c.args.self.now c.requires.some.0 c.args.t
     c.index-state.result.now c.requires c.requires.some.1 found).place in
-    let long : length c.deref.result.now ≡ length c.index-state.result.now.numbers.items =
-    ap length c.deref.ensures in
-    omega arith
+    omega (arith, ap length c.deref.ensures)
 
 pub unreachable-requires : goal.unreachable-requires
 unreachable-requires c =
-    let lt = has_state c.args.job.now c.args.self.now c.args.t exchanges c.requires (λ e. (cc)) in
-    let found = slice_get_read c.args.self.now.tasks.items (length c.args.self.now.tasks.items)
-    c.args.t c.index-state.result.now refl lt c.index-state.ensures in
+    let found = state_read c.requires (λ e. (cc)) c.index-state.ensures in
     exchange_some c.args.job.now c.args.self.now c.args.t c.index-state.result.now c.requires found
     (λ x e. c.in_default.not-Exchange x e)
 
 pub unreachable-requires-in-Ok-Ended : goal.unreachable-requires-in-Ok-Ended
 unreachable-requires-in-Ok-Ended c =
-    let lt = has_state c.args.job.now c.args.self.now c.args.t exchanges c.requires (λ e. (cc)) in
-    let found = slice_get_read c.args.self.now.tasks.items (length c.args.self.now.tasks.items)
-    c.args.t c.index-state.result.now refl lt c.index-state.ensures in
+    let found = state_read c.requires (λ e. (cc)) c.index-state.ensures in
     never_ended c.args.job.now c.args.self.now c.args.t (get_or c.deref.result.now 1 0)
     c.input_of-phaser.result c.index-state.result.now c.requires found
     c.input_of-phaser.ensures.phaser (ap (λ ns. get_or ns 1 0) c.deref.ensures)
@@ -55,9 +46,8 @@ told_got-requires c =
 
 pub returns-in-Ok-Value : goal.returns-in-Ok-Value
 returns-in-Ok-Value c =
-    let lt = has_state c.args.job.now c.args.self.now c.args.t exchanges c.requires (λ e. (cc)) in
-    let found = slice_get_read c.args.self.now.tasks.items (length c.args.self.now.tasks.items)
-    c.args.t c.index-state.result.now refl lt c.index-state.ensures in
+    let lt = state_there c.requires (λ e. (cc)) in
+    let found = state_read c.requires (λ e. (cc)) c.index-state.ensures in
     let fits_x : SFits w64 c.in-Exchange.x = search rules in
     let fits_e : SFits w64 c.number_taken.result = search rules in
     exchanged_turn c.args.job.now c.args.self.now _ c.args.t (get_or c.deref.result.now 1 0)
@@ -82,9 +72,7 @@ returns-in-Ok-Value c =
 
 pub returns-in-Err : goal.returns-in-Err
 returns-in-Err c =
-    let lt = has_state c.args.job.now c.args.self.now c.args.t exchanges c.requires (λ e. (cc)) in
-    let found = slice_get_read c.args.self.now.tasks.items (length c.args.self.now.tasks.items)
-    c.args.t c.index-state.result.now refl lt c.index-state.ensures in
+    let found = state_read c.requires (λ e. (cc)) c.index-state.ensures in
     blocked_exchange c.args.job.now c.args.self.now c.wait_on.new.self c.args.t
     (get_or c.deref.result.now 1 0) c.input_of-phaser.result c.index-state.result.now
     c.in-Err.field-0 c.requires found c.input_of-phaser.ensures.phaser

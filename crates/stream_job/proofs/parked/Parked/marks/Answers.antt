@@ -13,10 +13,8 @@ loop-list-preserved c = λ t e. by t (c.mark.ensures t e)
   where
     there : c.loop-list.list-index < length c.args.self.now
     there =
-        let seen = ap length c.self.view_is in
         let lent = ap length c.deref-list-items.ensures.value in
-        let test = c.loop-list-test.true in
-        omega arith
+        omega (arith, ap length c.self.view_is, c.loop-list-test.true)
 
     items : c.list-item.result ≡ get_or c.args.self.now c.loop-list.list-index []
     items =

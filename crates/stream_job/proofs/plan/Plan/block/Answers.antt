@@ -28,12 +28,8 @@ returns-then-steps-saturating_sub c = λ m begun.
     ∙ ap (λ u. until_allows u b c.task.result.now.block) c.until_of.ensures
     ∙ ap (until_allows (task_at job.graph t).until b) block in
     let left : steps ≤ plan.to - b =
-    (let test = c.if-steps-saturating_sub.true in
-    let less = c.saturating_sub.ensures in omega arith) in
+    (omega (arith, c.if-steps-saturating_sub.true, c.saturating_sub.ensures)) in
     let lines = range_with_len 0 (length job.graph.tasks) in
     let all = all-allow job t plan.from plan.to b steps is.none c.if-plan-begun.true left in
     let allow : ℕ → ℕ → ℕ → ℕ = λ n s d. child_allows t n (task_at job.graph d).parent s in
-    let P : ℕ → Type 0 =
-    λ n. fold (allow n) (until_allows (task_at job.graph t).until n (task_at job.graph t).block)
-    lines ≡ steps in
-    subst P (sym begun) (ap (λ s. fold (allow b) s lines) (sym first) ∙ all)
+    rw begun (ap (λ s. fold (allow b) s lines) (sym first) ∙ all)

@@ -31,10 +31,7 @@ push_reserved-requires c =
     c.requires.filter.0 c.requires.filter.1 c.loop-outcome.invariant fir in
     let long : length (map number_of first) ≡ i =
     length-map first number_of ∙ length-take-le i c.args.outcomes.now (omega arith) in
-    let room = c.requires.room fir in
-    let same = c.loop-outcome.invariant.room in
-    let items = c.loop-outcome.self.made.ok.0 in
-    omega arith
+    omega (arith, c.requires.room fir, c.loop-outcome.invariant.room, c.loop-outcome.self.made.ok.0)
 
 pub loop-outcome-preserved : goal.loop-outcome-preserved
 loop-outcome-preserved c =

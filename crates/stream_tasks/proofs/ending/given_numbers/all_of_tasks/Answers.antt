@@ -12,6 +12,5 @@ loop-p-preserved c =
     let at : get_or (map (λ g. g.items) c.args.gave.now) p [] ≡ c.deref.result.now =
     get_or-map (λ g. g.items) c.args.gave.now p c.index-gave-p.result [] (omega (arith, c.loop-p-test.true))
     ∙ (ap (λ g. g.items) (sym c.index-gave-p.is) ∙ sym c.deref.ensures.value) in
-    let A : List ℕ → Type 0 = λ l. AreOfTasks job c.args.parts.now p l in
     below_next (λ q. AreOfTasks job c.args.parts.now q (get_or (map (λ g. g.items) c.args.gave.now) q []))
-    p c.loop-p.invariant (subst A (sym at) (c.are_of_tasks.ensures c.if-not-are_of_tasks.false))
+    p c.loop-p.invariant (rw at (c.are_of_tasks.ensures c.if-not-are_of_tasks.false))

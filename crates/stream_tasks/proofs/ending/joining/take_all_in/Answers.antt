@@ -51,9 +51,7 @@ registration-p-requires-clause-number c =
     ap (λ (g : Graph). registrations_of g (task_at g c.args.t)) c.graph-in-loop.ensures.graph in
     let long : length c.loop.lefts.items ≡ length c.pop.new.self.items + 1 =
     ap length popped ∙ length-append c.pop.new.self.items (c.in-Some.left ∷ []) in
-    let many = ap length same in
-    let at = c.len.ensures in
-    omega arith
+    omega (arith, ap length same, c.len.ensures)
 
 -- a registration as code reads it
 registration_is : (job : Job) (t k n : ℕ) (g : Graph) (r : Registration)

@@ -13,17 +13,12 @@ invariant_of-self g c =
     let s = c.self.inside.state in
     let i = c.in-Some.i in
     let new = c.register.new.self in
-    let With : Option ℕ → Type 0 = λ o. IsWith g.J.Run.job spots s o in
-    let After : Option ℕ → Type 0 = λ o. IsWith g.J.Run.job spots new o in
-    let Before : Job → Type 0 = λ job. IsRegistering job spots s i in
-    let Now : Job → Type 0 = λ job. IsRegistering job spots new i in
-    let Whole : Job → Type 0 = λ job. IsWhole job new in
-    let before : IsRegistering g.J.Run.job spots s i = subst With c.in-Some.is c.self.invariant.2 c.if-self.false in
+    let before : IsRegistering g.J.Run.job spots s i = rw c.in-Some.is at c.self.invariant.2 c.if-self.false in
     let now : new.met ≡ false → IsRegistering g.J.Run.job spots new i =
-    λ met. subst Now is (c.register.ensures.registering spots (subst Before (sym is) before) met) in (
+    λ met. rw is at (c.register.ensures.registering spots (rw is before) met) in (
       is,
-      registering_task g.J.Run.job spots new i (subst Whole is c.register.ensures.whole) now,
-      subst After (sym c.in-Some.is) now,
+      registering_task g.J.Run.job spots new i (rw is at c.register.ensures.whole) now,
+      rw c.in-Some.is now,
     )
 
 pub invariant_of-self-in-Some-due : goal.invariant_of-self-in-Some-due
@@ -34,13 +29,10 @@ invariant_of-self-in-Some-due g c =
     let job = c.self.inside.job.now in
     let new = c.begin-self-inside.new.self in
     let due : IsDue job s c.in-Some-due.i = c.in-Some-due.ensures.some in
-    let Old : Job → Type 0 = λ job. IsTask job spots s in
-    let New : Job → Type 0 = λ job. IsTask job spots new in
-    let With : Job → Type 0 = λ job. IsWith job spots new c.begin-self-inside.result in
-    let task = subst Old (sym is) c.self.invariant.1 in (
+    let task = rw (← is) at c.self.invariant.1 in (
       is,
-      subst New is (c.begin-self-inside.ensures.task job spots task),
-      subst With is (c.begin-self-inside.ensures.with job spots task due),
+      rw (← is) (c.begin-self-inside.ensures.task job spots task),
+      rw (← is) (c.begin-self-inside.ensures.with job spots task due),
     )
 
 pub invariant_of-self-in-None : goal.invariant_of-self-in-None
@@ -48,11 +40,8 @@ invariant_of-self-in-None g c =
     let is = c.self.invariant.0 in
     let spots = g.J.Run.spots in
     let s = c.self.inside.state in
-    let new = c.turn.new.self in
-    let Old : Job → Type 0 = λ job. IsTask job spots s in
-    let New : Job → Type 0 = λ job. IsTask job spots new in
-    let With : Option ℕ → Type 0 = λ o. IsWith g.J.Run.job spots new o in (
+    let new = c.turn.new.self in (
       is,
-      subst New is (c.turn.ensures spots (subst Old (sym is) c.self.invariant.1)),
-      subst With (sym c.in_default.is) tt,
+      rw is at (c.turn.ensures spots (rw is c.self.invariant.1)),
+      rw c.in_default.is tt,
     )

@@ -36,9 +36,7 @@ pub index-requires : goal.index-requires
 index-requires c =
     let s = c.args.self.now in
     let n = c.requires.next.1.registering in
-    let few = slice_get_within s.children.items c.args.i n.kid n.found in
-    let long = s.children.ok.0 in
-    omega arith
+    omega (arith, slice_get_within s.children.items c.args.i n.kid n.found, s.children.ok.0)
 
 pub task-requires : goal.task-requires
 task-requires c =
@@ -82,8 +80,7 @@ keep-requires-clause-child c =
 pub returns-in-Ok-clause-whole : goal.returns-in-Ok-clause-whole
 returns-in-Ok-clause-whole c =
     let job = c.args.job.now in
-    let W : TaskState → Type 0 = λ s. IsWhole job s in
-    subst W (sym c.keep.ensures.rest)
+    rw c.keep.ensures.rest
     (whole_keeps job c.args.self.now c.args.i c.args.k c.add.new.self c.keep.new.self.children
     c.keep.new.self.child_holds c.keep.ensures.before c.keep.ensures.kid c.requires.whole
     c.keep.ensures.found c.keep.ensures.kids c.keep.ensures.task c.keep.ensures.at)
@@ -99,16 +96,13 @@ returns-in-Ok-clause-registering c = λ spots next.
     let is = child_is s c.args.i n.kid c.index.result.now n.found c.index.ensures in
     let stays = joins_as job n.kid c.index.result.now c.graph.result.now _ _ is
     c.graph.ensures.graph c.task.ensures.task c.if-task.false in
-    let G : Mode → Type 0 = λ mode. GoesOn (λ x y. HasAdded mode x y c.in-Ok.member)
-    c.index_mut.result.now c.add.new.self in
     let goes = adds_goes c.args.registration.mode c.index_mut.result.now c.add.new.self
     c.in-Ok.member c.in-Ok.ensures.ok in
-    let N : TaskState → Type 0 = λ x. IsRegistering job spots x c.args.i in
-    subst N (sym c.keep.ensures.rest)
+    rw c.keep.ensures.rest
     (registering_adds job spots s c.args.i c.args.k c.index_mut.result.now c.add.new.self
     c.in-Ok.member c.keep.ensures.kid c.keep.new.self.children c.keep.new.self.child_holds
     c.requires.whole n stays next.room next.on.few (next.on.here ∙ ap (λ x. x.phaser) next.is)
-    c.index_mut.ensures.value (subst G (ap (λ x. x.mode) next.is) goes) c.keep.ensures.kids
+    c.index_mut.ensures.value (rw (ap (λ x. x.mode) next.is) at goes) c.keep.ensures.kids
     (c.keep.ensures.task ∙ ap (λ (x : Child). x.task) same)
     (c.keep.ensures.numbers
     ∙ ap (λ (x : Child). x.numbers.items ++ (member_in c.in-Ok.member).number ∷ []) same)

@@ -11,8 +11,7 @@ use Rattle.stream_tasks.proofs.task_state.TaskState.add_now.Goals as goal
 
 pub returns-in-Ok-clause-whole : goal.returns-in-Ok-clause-whole
 returns-in-Ok-clause-whole c = λ job whole.
-    let W : TaskState → Type 0 = λ s. IsWhole job s in
-    subst W (sym c.keep.ensures.rest)
+    rw c.keep.ensures.rest
     (whole_keeps job c.args.self.now c.args.i c.args.k c.add_now.new.self c.keep.new.self.children
     c.keep.new.self.child_holds c.keep.ensures.before c.keep.ensures.kid whole
     c.keep.ensures.found c.keep.ensures.kids c.keep.ensures.task c.keep.ensures.at)
@@ -25,8 +24,7 @@ returns-in-Ok-clause-registering c = λ job spots whole next.
     same_Some c.keep.ensures.before n.kid (sym c.keep.ensures.found ∙ n.found) in
     let goes = adds_now_goes c.index_mut.result.now c.add_now.new.self c.in-Ok.member c.in-Ok.start
     c.in-Ok.ensures.ok in
-    let N : TaskState → Type 0 = λ x. IsRegistering job spots x c.args.i in
-    subst N (sym c.keep.ensures.rest)
+    rw c.keep.ensures.rest
     (registering_adds_now job spots s c.args.i c.args.k c.args.p c.index_mut.result.now
     c.add_now.new.self c.in-Ok.member c.in-Ok.start c.keep.ensures.kid c.keep.new.self.children
     c.keep.new.self.child_holds whole next c.index_mut.ensures.value goes c.keep.ensures.kids

@@ -24,21 +24,14 @@ index_mut-requires c =
     let task = c.requires.task in
     let owes = owes_exchange s c.args.x c.requires.owed c.requires.none_made in
     let on = exchange_on job task.0 s c.args.x c.requires.met c.requires.over owes task.1 in
-    let few : 1 < length (registrations_at job s.number) = on.1 in
-    let many : length s.holds.items ≡ length (registrations_at job s.number) = task.1.whole.holds in
-    let long : s.holds.len ≡ length s.holds.items = s.holds.ok.0 in
-    omega arith
+    omega (arith, on.1, task.1.whole.holds, s.holds.ok.0)
 
 -- there is a place for what it gets
 pub get_into-requires : goal.get_into-requires
 get_into-requires c =
     let s = c.args.self.now in
     let whole = c.requires.task.1.whole in
-    let enough = whole.places.outcomes in
-    let own = whole.places.own in
-    let own_few = whole.places.own_few in
-    let full : vec_len s.outcomes ≡ length s.outcomes.items = s.outcomes.ok.0 in
-    omega arith
+    omega (arith, whole.places.outcomes, whole.places.own, whole.places.own_few, s.outcomes.ok.0)
 
 pub returns-then-is_too_big : goal.returns-then-is_too_big
 returns-then-is_too_big c = λ spots task.

@@ -23,19 +23,14 @@ index_mut-requires g c =
     let whole = c.requires.step.task.whole in
     let on = input_on job s c.first_input_of-k.result c.input_of-p.result whole
     (c.first_input_of-k.ensures.within c.requires.kind) c.input_of-p.ensures.phaser in
-    let few : c.first_input_of-k.result < length (registrations_at job s.number) = on.0 in
-    let many : length s.holds.items ≡ length (registrations_at job s.number) = whole.holds in
-    let long : s.holds.len ≡ length s.holds.items = s.holds.ok.0 in
-    omega arith
+    omega (arith, on.0, whole.holds, s.holds.ok.0)
 
 -- there is a place for what each step gets
 pub get_into-requires : goal.get_into-requires
 get_into-requires g c =
     let s = c.args.self.now in
     let enough = c.requires.step.task.whole.places.outcomes in
-    let few : c.steps-steps.result ≤ s.most = c.steps-steps.ensures.few in
-    let full : vec_len s.outcomes ≡ length s.outcomes.items = s.outcomes.ok.0 in
-    omega arith
+    omega (arith, c.steps-steps.ensures.few, s.outcomes.ok.0)
 
 pub owed_after-requires-clause-filter : goal.owed_after-requires-clause-filter
 owed_after-requires-clause-filter g c =

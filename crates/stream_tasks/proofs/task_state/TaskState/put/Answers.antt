@@ -25,10 +25,7 @@ index_mut-requires c =
     (owes_value s c.args.output c.args.value c.requires.owed c.requires.none_made) task.1 in
     let on = output_on c.args.job.now s c.args.output c.output_of-k.result.0 c.output_of-k.result.1 task.1.whole less
     c.output_of-k.ensures.registration c.output_of-k.ensures.phaser in
-    let many : length s.holds.items ≡ length (registrations_at c.args.job.now s.number) = task.1.whole.holds in
-    let long : s.holds.len ≡ length s.holds.items = s.holds.ok.0 in
-    let less : c.output_of-k.result.0 < length (registrations_at c.args.job.now s.number) = on.0 in
-    omega arith
+    omega (arith, task.1.whole.holds, s.holds.ok.0, on.0)
 
 pub returns-in-Ok : goal.returns-in-Ok
 returns-in-Ok c = λ spots task.

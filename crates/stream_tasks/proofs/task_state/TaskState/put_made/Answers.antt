@@ -19,10 +19,7 @@ index_mut-requires c =
     let less = owed_output c.args.job.now task.0 s 0 s.made.items c.requires.met (owes_made s c.requires.made) task.1 in
     let on = output_on c.args.job.now s 0 c.output_of-k.result.0 c.output_of-k.result.1 task.1.whole less
     c.output_of-k.ensures.registration c.output_of-k.ensures.phaser in
-    let many : length s.holds.items ≡ length (registrations_at c.args.job.now s.number) = task.1.whole.holds in
-    let long : s.holds.len ≡ length s.holds.items = s.holds.ok.0 in
-    let less : c.output_of-k.result.0 < length (registrations_at c.args.job.now s.number) = on.0 in
-    omega arith
+    omega (arith, task.1.whole.holds, s.holds.ok.0, on.0)
 
 -- there are places for what the filter has made
 pub put_all-requires : goal.put_all-requires

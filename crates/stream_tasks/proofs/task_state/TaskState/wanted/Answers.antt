@@ -13,7 +13,4 @@ index-requires g c =
     let some : 0 < length (signalled_by (task_at job.graph s.number)) = search rules in
     let on = output_on job s 0 c.output_of-k.result.0 c.output_of-k.result.1 c.requires some
     c.output_of-k.ensures.registration c.output_of-k.ensures.phaser in
-    let few : c.output_of-k.result.0 < length (registrations_at job s.number) = on.0 in
-    let many : length s.holds.items ≡ length (registrations_at job s.number) = c.requires.holds in
-    let long : s.holds.len ≡ length s.holds.items = s.holds.ok.0 in
-    omega arith
+    omega (arith, on.0, c.requires.holds, s.holds.ok.0)
