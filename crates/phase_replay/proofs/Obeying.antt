@@ -61,9 +61,7 @@ held_by-others (send ∷ sends) task other =
     ≡ cond (eqb task other) [] (cond (eqb send.0 other) (send.1 ∷ held_by sends other) (held_by sends other))) [
       | true ↦ λ t.
           let same : send.0 ≡ task = eqb-true _ _ t in
-          let P : ℕ → Type 0 = λ n. held_by (held_by_others sends task) other
-          ≡ cond (eqb task other) [] (cond (eqb n other) (send.1 ∷ held_by sends other) (held_by sends other)) in
-          subst P (sym same) (held_by-others sends task other ∙ own (eqb task other) (held_by sends other) (send.1 ∷ held_by sends other))
+          rw same (held_by-others sends task other ∙ own (eqb task other) (held_by sends other) (send.1 ∷ held_by sends other))
       | false ↦ λ t. elim (eqb send.0 other) as (λ b. (eqb send.0 other ≡ b)
           → cond b (send.1 ∷ held_by (held_by_others sends task) other) (held_by (held_by_others sends task) other)
           ≡ cond (eqb task other) [] (cond b (send.1 ∷ held_by sends other) (held_by sends other))) [
@@ -94,7 +92,7 @@ sends_kept : {A : Type 0} (op : Operation A) (b : Bool) (kept own : Parcel A) (s
     → StandsForSends op (cond b own kept) (sends ++ cond b (v ∷ []) [])
 sends_kept op true kept own sends v holds more = more refl
 sends_kept op false kept own sends v holds more =
-    let S : List ℤ → Type 0 = λ l. StandsForSends op kept l in subst S (sym (append-nil sends)) holds
+    rw (append-nil sends) holds
 
 pub holds_sent : {A : Type 0} (op : Operation A) (old new : Parcels A) (own : Parcel A) (held : Held) (task : ℕ) (v : ℤ)
     → ((other : ℕ) → StandsForSends op (held_at op old other) (held_by held other))
@@ -102,13 +100,10 @@ pub holds_sent : {A : Type 0} (op : Operation A) (old new : Parcels A) (own : Pa
     → StandsForSends op own (held_by held task ++ v ∷ [])
     → (other : ℕ) → StandsForSends op (held_at op new other) (held_by (held ++ (task, v) ∷ []) other)
 holds_sent {A} op old new own held task v holds puts more other =
-    let P : List ℤ → Type 0 = λ l. StandsForSends op (held_at op new other) l in
-    let K : Parcel A → Type 0 = λ p. StandsForSends op p (held_by held other ++ cond (eqb task other) (v ∷ []) []) in
-    subst P (sym (held_by-push held task other v))
-    (subst K (sym (puts other))
+    rw (held_by-push held task other v)
+    (rw (puts other)
     (sends_kept op (eqb task other) (held_at op old other) own (held_by held other) v (holds other) (λ same.
-    let O : ℕ → Type 0 = λ n. StandsForSends op own (held_by held n ++ v ∷ []) in
-    subst O (eqb-true _ _ same) more)))
+    rw (eqb-true _ _ same) at more)))
 
 -- a task's sends are given up, and nothing is kept of them
 sends_cleared : {A : Type 0} (op : Operation A) (b : Bool) (kept none : Parcel A) (sends : List ℤ)
@@ -123,10 +118,8 @@ pub holds_cleared : {A : Type 0} (op : Operation A) (old new : Parcels A) (held 
     → StandsForSends op (nothing op) []
     → (other : ℕ) → StandsForSends op (held_at op new other) (held_by (held_by_others held task) other)
 holds_cleared {A} op old new held task holds clears none other =
-    let P : List ℤ → Type 0 = λ l. StandsForSends op (held_at op new other) l in
-    let K : Parcel A → Type 0 = λ p. StandsForSends op p (cond (eqb task other) [] (held_by held other)) in
-    subst P (sym (held_by-others held task other))
-    (subst K (sym (clears other))
+    rw (held_by-others held task other)
+    (rw (clears other)
     (sends_cleared op (eqb task other) (held_at op old other) (nothing op) (held_by held other) (holds other) none))
 
 -- nothing stands for no send
@@ -151,8 +144,7 @@ phaser_sent op old new own limits h held task e v stands found signals more puts
     ap (λ o. done_unless (refusal_at o no.NoTask (send_rows (length (held_by held task))))) found_h
     ∙ ap (λ b. done_unless (cond (not b) (Some no.NoSignal) (cond (leb 65536 (length (held_by held task))) (Some no.TooManySends) None))) signals
     ∙ ap (λ b. done_unless (cond b (Some no.TooManySends) None)) few in
-    let R : WholeReply → Type 0 = λ r. PhaserStandsFor op (record { core = old.core; held = new; sends = old.sends }) limits h (held_after_send r held task v) in
-    subst R (sym accepted) (record {
+    rw accepted (record {
       limits_are = stands.limits_are;
       core = stands.core;
       holds = holds_sent op old.held new own held task v stands.holds puts more;
@@ -169,11 +161,8 @@ pub phaser_signalled : {A : Type 0} (op : Operation A) (old : ScriptPhaser A) (c
     (after_call op.value limits h (held_signal held task single))
     (held_after_signal (signal_reply limits h task (held_by held task ∷ []) single) held task)
 phaser_signalled op old core new limits h held task phase single stands same ok after clears =
-    let L : Limits → Type 0 = λ l. signal_reply l h task (held_by held task ∷ []) single ≡ Ok phase in
-    let accepted : signal_reply limits h task (held_by held task ∷ []) single ≡ Ok phase = subst L stands.limits_are ok in
-    let R : Result ℕ SignalRefusal → Type 0 = λ r. PhaserStandsFor op (record { core = core; held = new; sends = old.sends }) limits
-    (after_reply (held_signal held task single) (reply_by SignalledIn NotSignalled r) h) (held_after_signal r held task) in
-    subst R (sym accepted) (record {
+    let accepted : signal_reply limits h task (held_by held task ∷ []) single ≡ Ok phase = rw stands.limits_are at ok in
+    rw accepted (record {
       limits_are = same ∙ stands.limits_are;
       core = after;
       holds = holds_cleared op old.held new held task stands.holds clears (nothing_held op);
@@ -188,9 +177,7 @@ pub phaser_dropped : {A : Type 0} (op : Operation A) (old : ScriptPhaser A) (cor
     → PhaserStandsFor op (record { core = core; held = new; sends = old.sends }) limits
     (after_call op.value limits h (Drop task)) (held_after_drop (drop_refusal h task) held task)
 phaser_dropped op old core new limits h held task stands same accepted after clears =
-    let R : Option NoTask → Type 0 = λ r. PhaserStandsFor op (record { core = core; held = new; sends = old.sends }) limits
-    (after_reply (Drop task) (reply_by (λ answer. CallAccepted) NotDropped (refused_or r task)) h) (held_after_drop r held task) in
-    subst R (sym accepted) (record {
+    rw accepted (record {
       limits_are = same ∙ stands.limits_are;
       core = after;
       holds = holds_cleared op old.held new held task stands.holds clears (nothing_held op);
@@ -219,7 +206,7 @@ TellsOf op old command reply = (limits : Limits) (h : History) (held : Held)
 pub replies : {A : Type 0} (op : Operation A) (old : ScriptPhaser A) (reply : WholeReply) (values : List ℤ) (command given : Command)
     → command ≡ given → RepliesTo op old (whole_command values given) reply → RepliesTo op old (whole_command values command) reply
 replies op old reply values command given is same =
-    let P : Command → Type 0 = λ c. RepliesTo op old (whole_command values c) reply in subst P (sym is) same
+    rw is same
 
 pub tells : {A : Type 0} (op : Operation A) (old : ScriptPhaser A) (reply : Reply) (outcomes : List Outcome) (values : List ℤ) (command given : Command)
     → command ≡ given → TellsOf op old (whole_command values given) reply
@@ -236,23 +223,23 @@ tells_if_ok op old (Err e) outcomes values command given is same = tt
 pub stands_on_ok : {A E : Type 0} (op : Operation A) (old new : ScriptPhaser A) (r : Result Reply E) (values : List ℤ) (command given : Command)
     → command ≡ given → OnOk r (StandsAfter op old new (whole_command values given)) → OnOk r (StandsAfter op old new (whole_command values command))
 stands_on_ok op old new r values command given is stands =
-    let P : Command → Type 0 = λ c. OnOk r (StandsAfter op old new (whole_command values c)) in subst P (sym is) stands
+    rw is stands
 
 pub ok_on_err : {A E : Type 0} (op : Operation A) (old : ScriptPhaser A) (r : Result Reply E) (values : List ℤ) (command given : Command)
     → command ≡ given → OnErr r (IsOkAfter op old (whole_command values given)) → OnErr r (IsOkAfter op old (whole_command values command))
 ok_on_err op old r values command given is ok =
-    let P : Command → Type 0 = λ c. OnErr r (IsOkAfter op old (whole_command values c)) in subst P (sym is) ok
+    rw is ok
 
 pub asks_as : {R E : Type 0} (r : Result R E) (values : List ℤ) (command given : Command)
     → command ≡ given → MayWantMemory (Some (whole_command values given)) → OnErr r (MayWantMemory (Some (whole_command values command)))
 asks_as (Ok x) values command given is may = tt
 asks_as (Err e) values command given is may =
-    let P : Command → Type 0 = λ c. MayWantMemory (Some (whole_command values c)) in subst P (sym is) may
+    rw is may
 
 pub stands_then : {A : Type 0} (op : Operation A) (old new : ScriptPhaser A) (values : List ℤ) (command given : Command)
     → command ≡ given → StandsAfter op old new (whole_command values given) → StandsAfter op old new (whole_command values command)
 stands_then op old new values command given is stands =
-    let P : Command → Type 0 = λ c. StandsAfter op old new (whole_command values c) in subst P (sym is) stands
+    rw is stands
 
 -- a member's drop is accepted
 pub drop_is_accepted : {A : Type 0} (op : Operation A) (old : ScriptPhaser A) (limits : Limits) (h : History) (held : Held) (task : ℕ)
@@ -273,12 +260,11 @@ pub block_refused : {A : Type 0} (op : Operation A) (old : ScriptPhaser A) (limi
     → signal_reason refusal ≡ block_reply op.value limits h held task values
 block_refused op old limits h held task values e refusal stands found signals none refused =
     let found_h : entry_of (members_of h) task ≡ Some e = sym (found ∙ ap (λ ms. entry_of ms task) stands.core.members_are) in
-    let L : Limits → Type 0 = λ l. signal_reply l h task (one_each values) None ≡ Err refusal in
     let allowed : block_refusal h held task ≡ None =
     ap (λ o. refusal_at o no.NoTask (block_rows (held_by held task))) found_h
     ∙ ap (λ b. cond (not b) (Some no.NoSignal) (cond (nat_lt 0 (length (held_by held task))) (Some no.Held) None)) signals
     ∙ ap (λ n. cond (nat_lt 0 n) (Some no.Held) None) none in
     sym (
     ap (λ o. refused_or_reply o (script_reply (reply_by SignalledIn NotSignalled (signal_reply limits h task (one_each values) None)))) allowed
-    ∙ ap (λ r. script_reply (reply_by SignalledIn NotSignalled r)) (subst L stands.limits_are refused)
+    ∙ ap (λ r. script_reply (reply_by SignalledIn NotSignalled r)) (rw stands.limits_are at refused)
     )

@@ -78,8 +78,7 @@ stands_under old new op p q v r command u w =
     on_ok (StandsAfter op p q command) (AnyStandsAfter old new command) r (λ after operation limits h held stands.
     let d = u.down operation limits h held stands in
     let V : (List ℤ → Outcome) → Type 0 = λ value. PhaserStandsFor op q limits (history_after value limits h held command) (held_after limits h held command) in
-    let O : Op → Type 0 = λ o. AnyStandsFor new o limits (history_after (value_by operation) limits h held command) (held_after limits h held command) in
-    subst O d.0 (w.up limits _ _ (subst V (same_value old op p v operation u d.0) (after limits h held d.1))))
+    rw d.0 at (w.up limits _ _ (subst V (same_value old op p v operation u d.0) (after limits h held d.1))))
 
 pub ok_under : {A E : Type 0} (old : AnyPhaser) (op : Operation A) (p : ScriptPhaser A) (v : Op) (r : Result Reply E) (command : WholeCommand)
     → IsUnder old op p v → OnErr r (IsOkAfter op p command) → OnErr r (AnyIsOkAfter old command)
@@ -107,8 +106,7 @@ sum_up p limits h held stands = stands
 
 pub under_sum : (whole : AnyPhaser) (p : ScriptPhaser ℤ) → whole ≡ phaser.Sum p → IsUnder whole sum_operation p Sum
 under_sum whole p is =
-    let P : AnyPhaser → Type 0 = λ w. IsUnder w sum_operation p Sum in
-    subst P (sym is) (record { values = refl; down = sum_down p; up = sum_up p })
+    rw is (record { values = refl; down = sum_down p; up = sum_up p })
 
 product_down : (p : ScriptPhaser ℤ) (operation : Op) (limits : Limits) (h : History) (held : Held)
     → AnyStandsFor (phaser.Product p) operation limits h held → (Product ≡ operation) × PhaserStandsFor product_operation p limits h held
@@ -126,8 +124,7 @@ product_up p limits h held stands = stands
 
 pub under_product : (whole : AnyPhaser) (p : ScriptPhaser ℤ) → whole ≡ phaser.Product p → IsUnder whole product_operation p Product
 under_product whole p is =
-    let P : AnyPhaser → Type 0 = λ w. IsUnder w product_operation p Product in
-    subst P (sym is) (record { values = refl; down = product_down p; up = product_up p })
+    rw is (record { values = refl; down = product_down p; up = product_up p })
 
 least_down : (p : ScriptPhaser (Option ℤ)) (operation : Op) (limits : Limits) (h : History) (held : Held)
     → AnyStandsFor (phaser.Least p) operation limits h held → (Least ≡ operation) × PhaserStandsFor least_operation p limits h held
@@ -145,8 +142,7 @@ least_up p limits h held stands = stands
 
 pub under_least : (whole : AnyPhaser) (p : ScriptPhaser (Option ℤ)) → whole ≡ phaser.Least p → IsUnder whole least_operation p Least
 under_least whole p is =
-    let P : AnyPhaser → Type 0 = λ w. IsUnder w least_operation p Least in
-    subst P (sym is) (record { values = refl; down = least_down p; up = least_up p })
+    rw is (record { values = refl; down = least_down p; up = least_up p })
 
 greatest_down : (p : ScriptPhaser (Option ℤ)) (operation : Op) (limits : Limits) (h : History) (held : Held)
     → AnyStandsFor (phaser.Greatest p) operation limits h held → (Greatest ≡ operation) × PhaserStandsFor greatest_operation p limits h held
@@ -164,8 +160,7 @@ greatest_up p limits h held stands = stands
 
 pub under_greatest : (whole : AnyPhaser) (p : ScriptPhaser (Option ℤ)) → whole ≡ phaser.Greatest p → IsUnder whole greatest_operation p Greatest
 under_greatest whole p is =
-    let P : AnyPhaser → Type 0 = λ w. IsUnder w greatest_operation p Greatest in
-    subst P (sym is) (record { values = refl; down = greatest_down p; up = greatest_up p })
+    rw is (record { values = refl; down = greatest_down p; up = greatest_up p })
 
 any_down : (p : ScriptPhaser (Option ℤ)) (operation : Op) (limits : Limits) (h : History) (held : Held)
     → AnyStandsFor (phaser.Any p) operation limits h held → (Any ≡ operation) × PhaserStandsFor any_operation p limits h held
@@ -183,5 +178,4 @@ any_up p limits h held stands = stands
 
 pub under_any : (whole : AnyPhaser) (p : ScriptPhaser (Option ℤ)) → whole ≡ phaser.Any p → IsUnder whole any_operation p Any
 under_any whole p is =
-    let P : AnyPhaser → Type 0 = λ w. IsUnder w any_operation p Any in
-    subst P (sym is) (record { values = refl; down = any_down p; up = any_up p })
+    rw is (record { values = refl; down = any_down p; up = any_up p })

@@ -23,11 +23,11 @@ pub session_goes_on : {R E : Type 0} (old new : Option AnyPhaser) (r : Result R 
     → OnErr r (new ≡ old) → IsSession old → IsSession new
 session_goes_on old new (Ok reply) command after same is = (after_command is.0 command, after is.0 is.1)
 session_goes_on old new (Err fault) command after same is =
-    let S : Option AnyPhaser → Type 0 = λ p. IsSession p in subst S (sym same) is
+    rw same is
 
 -- a session has come as far as some state
 pub session_stands : (alloc : Global) (phaser : Option AnyPhaser) (session : SessionState)
     → session_of alloc phaser ≡ session → IsSession phaser → (state : ScriptState) × Stands session state
 unfolding Stands
 session_stands alloc phaser session view is =
-    let S : SessionState → Type 0 = λ s. MaybeStandsFor s.phaser is.0 in (is.0, subst S view is.1)
+    (is.0, rw (← view) is.1)

@@ -215,7 +215,7 @@ phaser_is_reply op laws limits h held legal (Drop task) fits = dropped_is_reply 
 legal_at : {A : Type 0} (op : Operation A) (p : ScriptPhaser A) (limits : Limits) (h : History) (held : Held)
     → PhaserStandsFor op p limits h held → IsLegal limits h
 legal_at op p limits h held stands =
-    let L : Limits → Type 0 = λ l. IsLegal l h in subst L stands.limits_are stands.core.legal
+    rw stands.limits_are at stands.core.legal
 
 any_is_reply : (p : AnyPhaser) (operation : Op) (limits : Limits) (h : History) (held : Held) (command : WholeCommand)
     → AnyStandsFor p operation limits h held → IsCommand command → IsReply (phaser_reply (value_by operation) limits h held command)

@@ -81,9 +81,13 @@ event_begins job m machine event at none next u there sink = by event next
         zero_first (task_at job.graph t) (m.begun t) k Sink kind (λ j. absurd (cc)) next.1.first in
         let its : kept_by job m t ≡ m.taken t 0 =
         ap (kept_by job m) same ∙ kept ∙ ap (λ x. m.taken x 0) (sym same) in
-        rw same at (rw (kept_wait job m t k p n outcomes none next zero_is
-        ∙ ap (λ l. l ++ kept_of outcomes) its)
-        (rw (first_is job m t k p n outcomes zero_is)
+        let Begins : ℕ → Type 0 = λ x. IsPrefix (kept_by job after x) (after.taken x 0) in
+        let More : List ℤ → Type 0 = λ l. IsPrefix l (after.taken t 0) in
+        let Less : List ℤ → Type 0 = λ l. IsPrefix (m.taken t 0 ++ kept_of outcomes) l in
+        subst Begins same
+        (subst More (sym (kept_wait job m t k p n outcomes none next zero_is
+        ∙ ap (λ l. l ++ kept_of outcomes) its))
+        (subst Less (sym (first_is job m t k p n outcomes zero_is))
         (more_begins (m.taken t 0) outcomes)))
 
     by : (event : TaskEvent) → IsNext job m event

@@ -89,7 +89,11 @@ few_moved job before after t p event moved same few q lt = by (eqb q p) refl
     from : greatest_used (after.history q) ≡ greatest_used (before.history q)
         → greatest_used (after.history q) ≤ numbered (after.number q) (length job.graph.tasks)
     from now =
-        omega (arith, was, many)
+        let low : greatest_used (before.history q)
+        ≤ numbered (before.number q) (length job.graph.tasks) = was in
+        let kept : numbered (after.number q) (length job.graph.tasks)
+        ≡ numbered (before.number q) (length job.graph.tasks) = many in
+        omega arith
 
     by : (b : Bool) → eqb q p ≡ b
         → greatest_used (after.history q) ≤ numbered (after.number q) (length job.graph.tasks)
@@ -205,12 +209,16 @@ roots_use job p (suc n) = by (root_mode job n p) (roots_use job p n)
         let none : numbered (root_number job p) n ≡ numbered (root_number job p) n + 0 = omega arith in
         e ∙ none
     by (Some mode) e =
-        omega (arith, refl)
+        let now : greatest_used (with_root (roots_joined job p n) (Some mode))
+        ≡ max (greatest_used (roots_joined job p n) + 1) (greatest_used (roots_joined job p n)) = refl in
+        omega arith
 
 pub opening_uses_few : (job : Job) → UsesFew job (opening job)
 opening_uses_few job p lt =
     let n = length job.graph.tasks in
-    omega (arith, roots_use job p n)
+    let same : greatest_used (roots_joined job p n) ≡ numbered (root_number job p) n =
+    roots_use job p n in
+    omega arith
 
 -- ---- a number is left
 

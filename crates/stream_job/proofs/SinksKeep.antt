@@ -82,7 +82,9 @@ kept_begins (x ∷ xs) = by (is_too_big x) refl (kept_begins xs)
 pub kept_few : (outcomes : List Outcome) → length (kept_of outcomes) ≤ length (map number outcomes)
 kept_few outcomes =
     let begins = kept_begins outcomes in
-    omega (arith, length-append (kept_of outcomes) begins.0, ap length begins.1)
+    let all = length-append (kept_of outcomes) begins.0 in
+    let same = ap length begins.1 in
+    omega arith
 
 -- ---- one task over one event
 
@@ -123,7 +125,10 @@ kept_moved job before after t p u event moved quiet =
         → received_by (value_at job q) (after.history q) n
         ≡ received_by (value_at job q) (before.history q) n
     by true e =
-        rw (eqb-true q p e) (λ n has.
+        let S : ℕ → Type 0 = λ r. (n : ℕ) → before.number r u ≡ Some n
+        → received_by (value_at job r) (after.history r) n
+        ≡ received_by (value_at job r) (before.history r) n in
+        subst S (sym (eqb-true q p e)) (λ n has.
         ap (λ h. received_by (value_at job p) h n) moved.here ∙ quiet n has)
     by false e = λ n has.
         ap (λ h. received_by (value_at job q) h n)
@@ -152,7 +157,9 @@ kept_joined job before after p c a u event s = by (eqb q p) refl (eqb u c) refl
         → received_by (value_at job r) (after.history r) x
         ≡ received_by (value_at job r) (before.history r) x
     histories r x true e =
-        rw (eqb-true r p e)
+        let S : ℕ → Type 0 = λ y. received_by (value_at job y) (after.history y) x
+        ≡ received_by (value_at job y) (before.history y) x in
+        subst S (sym (eqb-true r p e))
         (ap (λ h. received_by (value_at job p) h x) s.here ∙ s.quiet x)
     histories r x false e =
         ap (λ h. received_by (value_at job r) h x)
@@ -263,7 +270,9 @@ kept_wait job m t k p n outcomes none next first =
     let s = first_waits_are job m t k p n outcomes next.1 in
     let place : p ≡ input_at (task_at job.graph t) 0 =
     sym s.place ∙ ap (input_at (task_at job.graph t)) first in
-    rw place at (
+    let Keeps : ℕ → Type 0 = λ q. kept_on job after q (after.number q t)
+    ≡ kept_on job m q (m.number q t) ++ kept_of outcomes in
+    subst Keeps place (
     ap (kept_on job after p) (s.moved.numbers p t ∙ s.numbered)
     ∙ ap kept_of (ap (λ h. received_by (value_at job p) h n) s.moved.here ∙ s.answered)
     ∙ kept_of-append (received_by (value_at job p) (m.history p) n) outcomes
@@ -373,7 +382,9 @@ kept_within job m t ran there some =
     by None on = omega arith
     by (Some n) on =
         let q = input_at (task_at job.graph t) 0 in
-        omega (arith, ap length on.taken, kept_few (received_by (value_at job q) (m.history q) n))
+        let same = ap length on.taken in
+        let few = kept_few (received_by (value_at job q) (m.history q) n) in
+        omega arith
 
 -- ---- the opening
 

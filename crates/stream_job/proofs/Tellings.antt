@@ -146,13 +146,15 @@ made_there job m t it is reached s = by (answer_of_turn job m t) refl it s
     by : (answer : Answer) → answer_of_turn job m t ≡ answer → (it : Made)
         → Shows job m t answer it → IsOnPhaser it t (length job.graph.phasers)
     by (makes event) e (made.Event p word) s =
-        rw s.0 at (event_there job m event
+        let P : ℕ → Type 0 = λ q. q < length job.graph.phasers in
+        subst P s.0 (event_there job m event
         (turn_makes_next job m t event is reached.ran (λ c due. reached.to_come) e))
     by (makes event) e (made.Blocked p) s = absurd s
     by is_blocked e (made.Event p word) s = absurd s
     by is_blocked e (made.Blocked p) s =
         let both = blocked_there job m t is e in
-        (rw s at both.0, both.1)
+        let P : ℕ → Type 0 = λ q. q < length job.graph.phasers in
+        (subst P s both.0, both.1)
     by is_gone e (made.Event p word) s = absurd s
     by is_gone e (made.Blocked p) s = absurd s
     by (has_made at) e (made.Event p word) s = absurd s

@@ -204,7 +204,8 @@ done_few job m p ran there =
     let h = m.history p in
     let legal = (ran.phasers p there).legal in
     let below : done_of h ≤ top_of h = done_below_top h (sound_of (limits_at job p) h legal) in
-    omega (arith, top_within (limits_at job p) h legal)
+    let most : top_of h ≤ PHASES_MAX = top_within (limits_at job p) h legal in
+    omega arith
 
 -- nor does a wait get one
 pub phase_few : (job : Job) (m : Moment) (p n phase : ℕ) (outcome : Outcome) → HasRun job m
@@ -213,7 +214,10 @@ pub phase_few : (job : Job) (m : Moment) (p n phase : ℕ) (outcome : Outcome) �
     → phase < PHASES_MAX
 phase_few job m p n phase outcome ran there reply =
     let tells = reply_tells (value_at job p) (limits_at job p) (m.history p) n phase outcome reply in
-    omega (arith, tells.0, tells.1, done_few job m p ran there)
+    let below : wait_phase (m.history p) n < done_of (m.history p) = tells.0 in
+    let is : phase ≡ wait_phase (m.history p) n = tells.1 in
+    let few = done_few job m p ran there in
+    omega arith
 
 -- ---- what is asked of the phaser
 
@@ -275,7 +279,8 @@ pub exchange_few : (job : Job) (machine : Machine) (m : Moment) (t : ℕ)
 exchange_few job machine m t next at =
     let is = next.is m at in
     let there = (live-is job m t (live_next job m t turns.exchanges is (λ e. absurd (cc)))).there in
-    omega (arith, (peer_ends job t at.graph there (is_peer job m t is)).0)
+    let ends = (peer_ends job t at.graph there (is_peer job m t is)).0 in
+    omega arith
 
 pub exchange_waits_at : (job : Job) (machine : Machine) (m : Moment) (t : ℕ) (state : TaskState)
     → IsNextIn job machine t turns.exchanges → IsMachineAt job m machine
@@ -643,7 +648,8 @@ may_take job old m t k n p steps phase count outcomes state asks at all there =
       block = made.next.1.block;
       nothing = nothing_owed state.owed state.made.items (owes_nothing job m t
           (owed_in state.owed state.made.items) it.stands.owes b.step.none);
-      room = λ fir. (omega (arith, it.made_room fir));
+      room = λ fir. (let room : (task_at job.graph t).block ≤ state.made.cap = it.made_room fir in
+          omega arith);
       begun = omega arith;
     }
 
@@ -799,6 +805,9 @@ sink_there job old m t state sink at found is =
         let lt = slice_get_within (sinks_of job) state.sink t
         ((at.tasks t state found).sink (sink_kind (task_at job.graph t).kind e)) in
         let f : ℕ → ℕ × List ℤ = λ u. (u, kept_by job m u) in
+        let many : length (map sink_values old.lines.items) ≡ length (map f (sinks_of job)) =
+        ap length at.lines in
         let one = length-map old.lines.items sink_values in
-        omega (arith, ap length at.lines, length-map (sinks_of job) f)
+        let two = length-map (sinks_of job) f in
+        omega arith
     by false e = tt

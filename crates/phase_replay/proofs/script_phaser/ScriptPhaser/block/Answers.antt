@@ -10,8 +10,7 @@ use Rattle.phase_replay.proofs.script_phaser.ScriptPhaser.block.Goals as goal
 pub returns-in-Err-clause-reply : goal.returns-in-Err-clause-reply
 returns-in-Err-clause-reply g c limits h held stands outcomes =
     let signals : mode_signals c.in-Some.entry.mode ≡ true = search rules in
-    let S : Parcel g.row.A.Denot → Type 0 = λ p. StandsForSends g.A.Accumulate.operation p (held_by held c.args.task) in
-    let holds = subst S (sym c.of.ensures) (stands.holds c.args.task) in
+    let holds = rw (← c.of.ensures) at (stands.holds c.args.task) in
     let none : length (held_by held c.args.task) ≡ 0 = omega (arith, holds.count_is, c.count.ensures.value, c.if-count-gt0.false) in
     c.signal_reason.ensures outcomes
     ∙ block_refused g.A.Accumulate.operation c.args.self.now limits h held c.args.task c.args.values.now c.in-Some.entry c.in-Err.refusal

@@ -38,8 +38,7 @@ returns-in-Send-clause-reply g c =
 
 pub returns-in-Send-clause-after : goal.returns-in-Send-clause-after
 returns-in-Send-clause-after g c =
-    let C : Command → Type 0 = λ command. IsCommand (whole_command c.args.values.now command) in
-    let is_command = subst C c.in-Send.is c.requires in
+    let is_command = rw c.in-Send.is at c.requires in
     let small : nat_abs c.in-Send.value ≤ most = is_command.1 in
     let same : to_z w64 (of_z w64 c.in-Send.value) ≡ c.in-Send.value = omega (arith, ints, small) in
     stands_on_ok g.A.Accumulate.operation c.args.self.now c.send.new.self c.send.result c.args.values.now c.args.command _ c.in-Send.is (simp same at c.send.ensures.after)
@@ -71,8 +70,7 @@ returns-in-Now-clause-asks g c = asks_as c.add_now.result c.args.values.now c.ar
 
 pub block-requires : goal.block-requires
 block-requires g c =
-    let C : Command → Type 0 = λ command. IsCommand (whole_command c.args.values.now command) in
-    let is_command = subst C c.in-Block.is c.requires in
+    let is_command = rw c.in-Block.is at c.requires in
     is_command.1
 
 pub returns-in-Block-clause-reply : goal.returns-in-Block-clause-reply
@@ -85,8 +83,7 @@ returns-in-Block-clause-after g c =
 
 pub take-requires : goal.take-requires
 take-requires g c =
-    let C : Command → Type 0 = λ command. IsCommand (whole_command c.args.values.now command) in
-    let is_command = subst C c.in-Take.is c.requires in
+    let is_command = rw c.in-Take.is at c.requires in
     is_command.2
 
 pub returns-in-Take-clause-reply : goal.returns-in-Take-clause-reply

@@ -10,7 +10,6 @@ use Rattle.phase_replay.proofs.script_phaser.ScriptPhaser.send.Goals as goal
 pub returns-in_ok-put-in-Ok-clause-after : goal.returns-in_ok-put-in-Ok-clause-after
 returns-in_ok-put-in-Ok-clause-after g c limits h held stands =
     let signals : mode_signals c.in-Some.entry.mode ≡ true = search rules in
-    let S : Parcel g.row.A.Denot → Type 0 = λ p. StandsForSends g.A.Accumulate.operation p (held_by held c.args.task) in
     phaser_sent g.A.Accumulate.operation c.args.self.now c.put.new.self c.send.new.self limits h held c.args.task c.in-Some.entry c.args.value stands c.in-Some.ensures
-    signals (simp (to_z-of_z, c.ranges.value) at (c.in-Ok.ensures.stands (held_by held c.args.task) (subst S (sym c.of-pending.ensures) (stands.holds c.args.task))))
+    signals (simp (to_z-of_z, c.ranges.value) at (c.in-Ok.ensures.stands (held_by held c.args.task) (rw c.of-pending.ensures (stands.holds c.args.task))))
     c.in_ok-put-in-Ok.ensures.ok

@@ -9,8 +9,7 @@ use Rattle.phase_replay.proofs.session.Session.answer.Goals as goal
 
 pub returns-in_default-clause-one_line : goal.returns-in_default-clause-one_line
 returns-in_default-clause-one_line c =
-    let L : List ℕ → Type 0 = λ l. IsOneLine l × (length l ≤ 363) in
-    subst L (sym c.write.ensures) (reply_is_one_line BadLine tt, reply_short BadLine tt)
+    rw c.write.ensures (reply_is_one_line BadLine tt, reply_short BadLine tt)
 
 pub returns-in_default-clause-stands : goal.returns-in_default-clause-stands
 returns-in_default-clause-stands c = session_stands c.self.inside.alloc c.self.inside.phaser c.args.self.now c.self.view_is c.self.invariant

@@ -108,7 +108,9 @@ bounds-deref-k c =
     let found = state_read c.requires.next (λ e. (cc)) c.index.ensures in
     let place = (first_waits_at c.args.job.now c.args.self.now c.requires.next.some.0 c.args.t c.args.k
     c.index.result.now c.requires.next c.requires.next.some.1 found).place in
-    omega (arith, ap length c.deref.ensures)
+    let long : length c.deref.result.now ≡ length c.index.result.now.numbers.items =
+    ap length c.deref.ensures in
+    omega arith
 
 pub slice_bounds-out-end : goal.slice_bounds-out-end
 slice_bounds-out-end c =
@@ -208,9 +210,12 @@ told_got-requires c =
     let at = c.requires.next.some.1 in
     let p = c.input_of-phaser.result in
     let got = all a.In-Ok-Values (long a.After-wait_block_on) m at in
+    let complete : c.in-Ok-Values.phase + c.in-Ok-Values.count ≤ done_of (m.history p) =
+    got.complete in
     let last : done_of (m.history p) ≤ PHASES_MAX =
     done_few c.args.job.now m p at.reached.ran c.input_of-phaser.ensures.within in
-    omega (arith, got.complete, got.many)
+    let so_many = got.many in
+    omega arith
 
 pub unreachable-requires : goal.unreachable-requires
 unreachable-requires c =

@@ -17,14 +17,22 @@ use Rattle.stream_job.proofs.world.World.lines.Goals as goal
 
 pub returns-clause-taken : goal.returns-clause-taken
 returns-clause-taken c =
-    rw c.self.view_is at (λ m at none.
+    let P : WorldState → Type 0 = λ w. (m : Moment) → IsWorldAt w m → w.met ≡ None
+    → map sink_values c.deref.result.now
+    ≡ map {B = ℕ × List ℤ} (λ t. (t, m.taken t 0)) (sinks_of w.job) in
+    subst P c.self.view_is (λ m at none.
     (let job = c.self.inside.job.now in
     ap (map sink_values) c.deref.ensures.value ∙ at.machine.lines
     ∙ lines_taken job m at.machine.graph at.machine.reached.ran (subst (HasMet job m) none at.met)))
 
 pub returns-clause-begin : goal.returns-clause-begin
 returns-clause-begin c =
-    rw c.self.view_is at (λ m t at there sink.
+    let P : WorldState → Type 0 = λ w. (m : Moment) (t : ℕ) → IsWorldAt w m
+    → t < length w.job.graph.tasks → is_sink_at w.job t ≡ true
+    → IsPrefix (kept_by w.job m t)
+    (taken_from (numbers_of (started w.job m)) (task_at w.job.graph t)
+    (span_in (started w.job m) t) 0) in
+    subst P c.self.view_is (λ m t at there sink.
     (let job = c.self.inside.job.now in
     begins_further (kept_by job m t) (m.taken t 0)
     (taken_from (numbers_of (started job m)) (task_at job.graph t) (span_in (started job m) t) 0)
@@ -35,7 +43,10 @@ returns-clause-begin c =
 
 pub returns-clause-all : goal.returns-clause-all
 returns-clause-all c =
-    rw c.self.view_is at (λ m at none dead.
+    let P : WorldState → Type 0 = λ w. (m : Moment) → IsWorldAt w m → w.met ≡ None
+    → ((t : ℕ) → is_live w.job m t ≡ false)
+    → answer_of (started w.job m) ≡ Ok (map sink_values c.deref.result.now) in
+    subst P c.self.view_is (λ m at none dead.
     (let job = c.self.inside.job.now in
     let met = subst (HasMet job m) none at.met in
     c.all_gone.ensures.answer job m
@@ -47,5 +58,7 @@ returns-clause-all c =
 -- at each moment the lines have their starts
 pub returns-clause-starts : goal.returns-clause-starts
 returns-clause-starts c =
-    rw c.self.view_is at (λ m at.
+    let P : WorldState → Type 0 = λ w. (m : Moment) → IsWorldAt w m
+    → map (λ line. line.start) c.deref.result.now ≡ map (begins_at w.job m) (sinks_of w.job) in
+    subst P c.self.view_is (λ m at.
     ap (map (λ line. line.start)) c.deref.ensures.value ∙ at.machine.starts)

@@ -7,4 +7,6 @@ use Rattle.stream_job.proofs.world.World.stalled.Goals as goal
 
 pub returns-then-is_none-clause-stalled : goal.returns-then-is_none-clause-stalled
 returns-then-is_none-clause-stalled c =
-    rw c.self.view_is at (λ m at none. c.is_stalled.ensures m at.machine at.parked)
+    let P : WorldState → Type 0 = λ w. (m : Moment) → IsWorldAt w m → w.met ≡ None
+    → is_stalled w.job m ≡ c.is_stalled.result in
+    subst P c.self.view_is (λ m at none. c.is_stalled.ensures m at.machine at.parked)

@@ -44,13 +44,17 @@ invariant_of-self-2 c =
 
 pub returns-clause-table : goal.returns-clause-table
 returns-clause-table c =
-    rw c.self.view_is at (λ m at.
+    let P : WorldState → Type 0 = λ w. (m : Moment) → IsWorldAt w m
+    → turn_tells w.job w.met m c.args.task ≡ Some (told_of c.told-told.result) in
+    subst P c.self.view_is (λ m at.
     turn_tells_so c.self.inside.job.now c.self.inside.met m c.args.task c.in_ok-made.made
     c.told-told.result c.in_default.is (c.in_ok-made.ensures.made.shows m at.machine) c.told-told.ensures)
 
 pub returns-clause-parked : goal.returns-clause-parked
 returns-clause-parked c =
-    rw c.self.view_is at (λ m at.
+    let P : WorldState → Type 0 = λ w. (m : Moment) → IsWorldAt w m
+    → c.note.new.self ≡ parked_by w m c.args.task in
+    subst P c.self.view_is (λ m at.
     turn_parks_so record {
       job = c.self.inside.job.now;
       machine = c.self.inside.machine;
@@ -61,7 +65,14 @@ returns-clause-parked c =
 
 pub returns-clause-after : goal.returns-clause-after
 returns-clause-after c =
-    rw c.self.view_is at (λ m at.
+    let P : WorldState → Type 0 = λ w. (m : Moment) → IsWorldAt w m
+    → IsWorldAt record {
+      job = c.self.inside.job.now;
+      machine = c.make.new.self;
+      met = c.too_big-self-inside.result;
+      parked = c.note.new.self;
+    } (after_turn_of w m c.args.task) in
+    subst P c.self.view_is (λ m at.
     turn_stands_so record {
       job = c.self.inside.job.now;
       machine = c.self.inside.machine;
