@@ -97,8 +97,7 @@ impl Machine {
         ensures cores { (m : Moment) → IsMachineAt job.now m self.old
             → HasCores job.now (with_at p (after_signal result number (map one values.now)
             (phaser_at job.now.graph p).single (m.history p)) m.history) self.new.cores.items }
-        ensures tasks { self.new.tasks ≡ self.old.tasks }
-        ensures lines { self.new.lines ≡ self.old.lines }
+        ensures others { (self.new.tasks ≡ self.old.tasks) × (self.new.lines ≡ self.old.lines) }
         ensures parcels { parcels.new ≡ parcels.old }
     {
         let single = job.graph().phaser(p).single;

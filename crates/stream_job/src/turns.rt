@@ -343,8 +343,8 @@ impl Machine {
         mode: Mode,
     ) -> Result<(), RegisterRefusal>
         requires machine { IsMachine job.now self.old }
-        requires phaser { p < length job.now.graph.phasers }
-        requires child { c < length job.now.graph.tasks }
+        requires places { (p < length job.now.graph.phasers)
+            × (c < length job.now.graph.tasks) }
         ensures refused { IfErr result (λ e. e ≢ RegisterRefusal.OutOfMemory → (m : Moment)
             → IsMachineAt job.now m self.old
             → add_refusal job.now c (m.history p) parent child mode ≡ Some e) }

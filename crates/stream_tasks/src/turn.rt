@@ -287,15 +287,14 @@ fn owed_after(
     requires task { t < length job.now.graph.tasks }
     requires source { (task_at job.now.graph t).kind ≢ kind.Source }
     requires filter { (taken : List ℤ) × HasFilter (task_at job.now.graph t) filter.old taken }
-    requires none { made.old.items ≡ [] }
-    requires some { 1 ≤ length got.now }
-    requires block { IsBlock (task_at job.now.graph t).kind (length got.now) }
-    requires room { length got.now ≤ vec_capacity made.old }
+    requires made { (made.old.items ≡ []) × (length got.now ≤ vec_capacity made.old) }
+    requires block { (1 ≤ length got.now)
+        × IsBlock (task_at job.now.graph t).kind (length got.now) }
     ensures taken { IfSome result (λ owed.
         HasTaken job.now t begun got.now filter.old filter.new owed made.new.items) }
     ensures others { (task_at job.now.graph t).kind ≢ kind.Fir → made.new.items ≡ [] }
-    ensures few { length made.new.items ≤ length got.now }
-    ensures room { vec_capacity made.new ≡ vec_capacity made.old }
+    ensures room { (length made.new.items ≤ length got.now)
+        × (vec_capacity made.new ≡ vec_capacity made.old) }
 {
     if !all_fit(got) {
         return None;
@@ -321,8 +320,7 @@ fn filter_all(
     requires task { t < length job.now.graph.tasks }
     requires kind { (task_at job.now.graph t).kind ≡ kind.Fir }
     requires filter { (taken : List ℤ) × HasFilter (task_at job.now.graph t) filter.old taken }
-    requires none { made.old.items ≡ [] }
-    requires room { length outcomes.now ≤ vec_capacity made.old }
+    requires made { (made.old.items ≡ []) × (length outcomes.now ≤ vec_capacity made.old) }
     ensures made { result ≡ true → (taken : List ℤ)
         → HasFilter (task_at job.now.graph t) filter.old taken
         → let task = task_at job.now.graph t in

@@ -13,7 +13,7 @@ use Rattle.stream_tasks.proofs.turn.filter_all.Goals as goal
 
 pub loop-outcome-init : goal.loop-outcome-init
 loop-outcome-init c =
-    (made_none (task_at c.args.job.now.graph c.args.t) c.args.filter.now c.args.made.now.items c.requires.none, refl)
+    (made_none (task_at c.args.job.now.graph c.args.t) c.args.filter.now c.args.made.now.items c.requires.made.0, refl)
 
 pub filtered-requires-clause-filter : goal.filtered-requires-clause-filter
 filtered-requires-clause-filter c = (
@@ -29,7 +29,7 @@ push_reserved-requires c =
     let many = c.loop-outcome.invariant.0.many in
     let long : length (map number first) ≡ i =
     length-map first number ∙ length-take-le i c.args.outcomes.now (omega arith) in
-    omega (arith, c.requires.room, c.loop-outcome.invariant.1, c.loop-outcome.made.ok.0)
+    omega (arith, c.requires.made.1, c.loop-outcome.invariant.1, c.loop-outcome.made.ok.0)
 
 pub loop-outcome-preserved : goal.loop-outcome-preserved
 loop-outcome-preserved c =

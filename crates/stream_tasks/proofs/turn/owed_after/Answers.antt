@@ -30,7 +30,7 @@ returns-in-Fir-clause-taken c =
         record {
           fit = c.all_fit.ensures c.if-not-all_fit.false;
           owes = λ taken has. filter_owes task c.args.begun taken c.args.got.now
-              c.filter_all.new.made.items fir c.requires.some (c.filter_all.ensures.made e taken has);
+              c.filter_all.new.made.items fir c.requires.block.0 (c.filter_all.ensures.made e taken has);
           filter = c.filter_all.ensures.filter e;
           filters = λ is. refl;
           others = λ no. absurd (no fir);
@@ -48,14 +48,14 @@ returns-in_default-clause-taken c =
     record {
       fit = c.all_fit.ensures c.if-not-all_fit.false;
       owes = λ taken has.
-          ap (λ made. owed_by c.owed_after_wait.result made) c.requires.none
+          ap (λ made. owed_by c.owed_after_wait.result made) c.requires.made.0
           ∙ c.owed_after_wait.ensures.owed taken has
           ∙ ap (λ x. owed_after_wait task c.args.begun taken (x ∷ [])) got
-          ∙ others_owe task c.args.begun taken os none c.requires.source no_filter c.requires.block;
+          ∙ others_owe task c.args.begun taken os none c.requires.source no_filter c.requires.block.1;
       filter = λ taken has fir. absurd (no_filter fir);
       filters = λ fir. absurd (no_filter fir);
-      others = λ no. c.requires.none;
+      others = λ no. c.requires.made.0;
     }
 
 pub returns-in_default-clause-others : goal.returns-in_default-clause-others
-returns-in_default-clause-others c = λ no. c.requires.none
+returns-in_default-clause-others c = λ no. c.requires.made.0

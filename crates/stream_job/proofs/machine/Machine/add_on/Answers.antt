@@ -29,7 +29,7 @@ index_mut-requires c =
     let now : (task_at job.graph c.args.c).joins_now ≡ true =
     ap (λ t. t.joins_now) (sym line) ∙ c.if-not-task.false in
     let many = at.tasks_many in
-    let there : c.args.c < length job.graph.tasks = c.requires.child in
+    let there : c.args.c < length job.graph.tasks = c.requires.places.1 in
     let found = slice_get_read c.args.self.now.tasks.items (length c.args.self.now.tasks.items)
     c.args.c c.index.result.now refl (omega arith)
     (c.index.ensures ∙ ap (λ v. get_or v.items c.args.c c.index.result.now) c.register_now_on.ensures.tasks) in
@@ -46,7 +46,7 @@ returns-clause-lines c = λ m at.
     let now : (task_at job.graph c.args.c).joins_now ≡ true =
     ap (λ t. t.joins_now) (sym line) ∙ c.if-not-task.false in
     let many = at.tasks_many in
-    let there : c.args.c < length job.graph.tasks = c.requires.child in
+    let there : c.args.c < length job.graph.tasks = c.requires.places.1 in
     let found = slice_get_read c.args.self.now.tasks.items (length c.args.self.now.tasks.items)
     c.args.c c.index.result.now refl (omega arith)
     (c.index.ensures ∙ ap (λ v. get_or v.items c.args.c c.index.result.now) c.register_now_on.ensures.tasks) in

@@ -48,9 +48,13 @@ pub core-requires-clause-phaser : goal.core-requires-clause-phaser
 core-requires-clause-phaser c =
     there (goal.at.core-requires-clause-phaser c).After-registration-registration
 
-pub add_on-requires-clause-phaser : goal.add_on-requires-clause-phaser
-add_on-requires-clause-phaser c =
-    there (goal.at.add_on-requires-clause-phaser c).After-registration-registration
+pub add_on-requires-clause-places : goal.add_on-requires-clause-places
+add_on-requires-clause-places c =
+    let lt = child_below c.args.job.now c.args.self.now c.args.t c.args.c c.requires in
+    let many = c.requires.some.1.tasks_many in (
+      there (goal.at.add_on-requires-clause-places c).After-registration-registration,
+      omega arith,
+    )
 
 pub push_reserved-requires : goal.push_reserved-requires
 push_reserved-requires c =

@@ -158,7 +158,7 @@ returns-in_default-signal_values_on-clause-made c =
     ∙ ap (λ k. get_or c.index.result.now.numbers.items k 0) c.output_of-k.ensures.registration)
     are)
     c.in_default-signal_values_on.ensures.reply c.in_default-signal_values_on.ensures.cores
-    c.signal_values_on.ensures.tasks c.signal_values_on.ensures.lines
+    c.signal_values_on.ensures.others.0 c.signal_values_on.ensures.others.1
 
 pub returns-clause-made : goal.returns-clause-made
 returns-clause-made c =
@@ -172,7 +172,7 @@ returns-clause-made c =
     let vs = c.deref-3.result.now in
     let number = get_or c.deref-2.result.now c.output_of-k.result.0 0 in
     let filters = (has m at).filters in
-    let items = ap (λ v. v.items) c.signal_values_on.ensures.tasks in
+    let items = ap (λ v. v.items) c.signal_values_on.ensures.others.0 in
     let same = read_same c.args.self.now.tasks.items c.args.t c.index_mut.result.now
     c.index.result.now lt
     (c.index_mut.ensures.value ∙ ap (λ xs. get_or xs c.args.t c.index_mut.result.now) items)
@@ -186,7 +186,7 @@ returns-clause-made c =
     (set_read (λ s. with_owing s s.owed c.clear.new.self) c.args.self.now.tasks.items
     c.signal_values_on.new.self.tasks.items c.args.t c.index.result.now c.index_mut.result.now
     items lt c.index.ensures c.index_mut.ensures.value)
-    c.signal_values_on.ensures.lines
+    c.signal_values_on.ensures.others.1
     (record {
       owes = ap (owed_in c.index.result.now.owed) c.clear.ensures.items
           ∙ ap (λ o. owed_in o []) ((at.tasks c.args.t c.index.result.now again).made_by filters)

@@ -96,8 +96,8 @@ returns-in_default-clause-made c =
     c.index-state.result.now c.requires.next found c.output_of-k.ensures.phaser
     (numbered (goal.at.returns-in_default-clause-made c).After-samples)
     read.are m at).answer)
-    c.in_default.ensures.reply c.in_default.ensures.cores c.signal_values_on.ensures.tasks
-    c.signal_values_on.ensures.lines
+    c.in_default.ensures.reply c.in_default.ensures.cores c.signal_values_on.ensures.others.0
+    c.signal_values_on.ensures.others.1
 
 pub returns-clause-made : goal.returns-clause-made
 returns-clause-made c =
@@ -115,6 +115,6 @@ returns-clause-made c =
     (set_read (λ s. with_begun s (c.index-state.result.now.begun + c.sample_block-many.result))
     c.args.self.now.tasks.items c.signal_values_on.new.self.tasks.items c.args.t
     c.index-state.result.now c.index_mut.result.now
-    (ap (λ v. v.items) c.signal_values_on.ensures.tasks) lt c.index-state.ensures
+    (ap (λ v. v.items) c.signal_values_on.ensures.others.0) lt c.index-state.ensures
     c.index_mut.ensures.value)
-    c.signal_values_on.ensures.lines
+    c.signal_values_on.ensures.others.1

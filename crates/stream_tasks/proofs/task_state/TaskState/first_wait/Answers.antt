@@ -47,7 +47,7 @@ returns-in_default g c = λ spots task.
     let less : c.in-Ok-Values.count ≤ steps = few.1 in
     let taken = take_length c.in-Ok-Values.count c.deref.result.now in
     let made : length c.owed_after.new.made.items ≤ length (take c.in-Ok-Values.count c.deref.result.now) =
-    c.owed_after.ensures.few in
+    c.owed_after.ensures.room.0 in
     let few_made : length c.owed_after.new.made.items ≤ s.most = omega arith in
     c.meet-in_default.ensures.keeps c.args.job.now spots
     (whole_moves c.args.job.now s c.first_input_of-k.result c.get_into.new.hold
@@ -59,7 +59,7 @@ returns-in_default g c = λ spots task.
       outcomes = c.get_into.new.places;
     })
     (record {
-      made = c.owed_after.ensures.room;
+      made = c.owed_after.ensures.room.1;
       few_made = few_made;
       outcomes = c.get_into.ensures.places;
       sends = λ op. refl;
@@ -96,7 +96,7 @@ returns-in-Some g c = λ spots task.
     sym (take-append-le count out (drop steps places) (omega arith))
     ∙ ap (take count) (take-append-drop steps places) ∙ ap (take count) (sym same) in
     let taken_all : length os ≡ count = length-take-le count got (omega arith) in
-    let made : length c.owed_after.new.made.items ≤ length os = c.in-Some.ensures.few in
+    let made : length c.owed_after.new.made.items ≤ length os = c.in-Some.ensures.room.0 in
     let few_made : length c.owed_after.new.made.items ≤ s.most = omega arith in
     let taken = c.in-Some.ensures.taken in
     task_takes job spots s k p steps os c.index_mut.result.now c.get_into.new.hold
@@ -118,7 +118,7 @@ returns-in-Some g c = λ spots task.
     ∙ ap (λ graph. is_sink (task_at graph t).kind) c.graph.ensures.graph ∙ yes)
     ∙ ap (λ l. l ++ map number os) c.make_room.ensures.items))
     (record {
-      made = c.owed_after.ensures.room;
+      made = c.owed_after.ensures.room.1;
       few_made = few_made;
       outcomes = many;
       sends = λ op. refl;
