@@ -1,11 +1,11 @@
 //! Calls on a phaser of sums, with no more of what they promise than that a registration stays on
 //! its phaser, and that it holds nothing: a test that goes by these is proved at once.
-ghost use Rattle.std.specs.Prelude.{◌≡◌, IfSome};
+ghost use Rattle.std.specs.Prelude.{◌≡◌, IfOk, IfSome};
 ghost use Rattle.phase_received.specs.phase_shared.Regs.{phaser_lock};
 
-use phase_received::phase_accum::{Single, Sum};
+use phase_received::phase_accum::{Outcome, Pending, Single, Sum};
 use phase_received::phase_base::{Mode, Spec};
-use phase_received::phase_core::{Got, SignalRefusal, WaitRefusal};
+use phase_received::phase_core::{Got, GotBlock, RegisterRefusal, SignalRefusal, WaitRefusal};
 use phase_received::phase_shared::{Next, NoRule, Phaser, Reg, Tried};
 use std::alloc::Global;
 use std::sync::Wait;
@@ -91,4 +91,78 @@ pub(crate) fn made_with_child<R: Wait>(
         return None;
     };
     Some((phaser, founder, child))
+}
+
+// Signals its phase, where that is at once.
+pub(crate) fn signalled(phaser: &SumPhaser, reg: &mut SumReg) -> Result<u64, Tried<SignalRefusal>>
+    requires { reg.old.at ≡ phaser_lock phaser.now }
+    ensures { reg.new.at ≡ reg.old.at }
+{
+    reg.try_signal(phaser, None)
+}
+
+// Signals a phase for each of these lists, where that is at once, or hands them back.
+pub(crate) fn block_signalled(
+    phaser: &SumPhaser,
+    reg: &mut SumReg,
+    lists: Vec<Pending<Sum>>,
+) -> Result<u64, (Tried<SignalRefusal>, Vec<Pending<Sum>>)>
+    requires at { reg.old.at ≡ phaser_lock phaser.now }
+    requires none_held { reg.old.held.count ≡ 0 }
+    ensures at { reg.new.at ≡ reg.old.at }
+    ensures held { reg.new.held ≡ reg.old.held }
+{
+    reg.try_signal_block(phaser, lists, None)
+}
+
+// The same with lists that are lent.
+pub(crate) fn lists_signalled(
+    phaser: &SumPhaser,
+    reg: &mut SumReg,
+    lists: &[Pending<Sum>],
+) -> Result<u64, Tried<SignalRefusal>>
+    requires at { reg.old.at ≡ phaser_lock phaser.now }
+    requires none_held { reg.old.held.count ≡ 0 }
+    ensures at { reg.new.at ≡ reg.old.at }
+    ensures held { reg.new.held ≡ reg.old.held }
+{
+    reg.try_signal_lists(phaser, lists, None)
+}
+
+// Waits for as many phases as there are places, where that is at once.
+pub(crate) fn block_waited(
+    phaser: &SumPhaser,
+    reg: &mut SumReg,
+    out: &mut [Outcome],
+) -> Result<GotBlock, Tried<WaitRefusal>>
+    requires { reg.old.at ≡ phaser_lock phaser.now }
+    ensures { reg.new.at ≡ reg.old.at }
+{
+    reg.try_wait_block(phaser, out)
+}
+
+// The same, and waits until it can.
+pub(crate) fn block_got<R: Wait>(
+    rt: &R,
+    phaser: &SumPhaser,
+    reg: &mut SumReg,
+    out: &mut [Outcome],
+) -> Result<GotBlock, WaitRefusal>
+    requires { reg.old.at ≡ phaser_lock phaser.now }
+    ensures { reg.new.at ≡ reg.old.at }
+{
+    reg.wait_block(rt, phaser, out)
+}
+
+// A child that joins now, where it can be registered at once.
+pub(crate) fn joined_now(
+    phaser: &SumPhaser,
+    parent: &mut SumReg,
+) -> Result<SumReg, Tried<RegisterRefusal>>
+    requires { parent.old.at ≡ phaser_lock phaser.now }
+    ensures at { parent.new.at ≡ parent.old.at }
+    ensures held { parent.new.held ≡ parent.old.held }
+    ensures child { IfOk result (λ child. child.at ≡ phaser_lock phaser.now) }
+{
+    parent.try_register_now(phaser)
 }
