@@ -67,7 +67,7 @@ fn nexts_of(alloc: Global, world: &World<'_>, tasks: usize) -> Result<String, Fa
 
 /// What a world has at its opening.
 fn opening_of(alloc: Global, world: &World<'_>, tasks: usize) -> Result<String, Fail> {
-    let mut text = nexts_of(alloc, world, tasks + 1)?;
+    let mut text = nexts_of(alloc, world, tasks.saturating_add(1))?;
     text.push_str(&text_of(alloc, world.lines())?)?;
     Ok(text)
 }
