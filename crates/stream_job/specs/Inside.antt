@@ -2,14 +2,16 @@
 use Rattle.std.specs.Prelude.{◌≡◌, ℕ, ◌+◌, ◌≤◌, ℤ, List, [], ◌∷◌, ◌++◌, Option, Some, None, slice_get, set, get_or, Bool, true, false, ◌&&◌, ◌||◌, nat_le, Ok, Err, ◌≢◌, ◌==◌, length, map, nat_lt, ◌-◌, Result, if◌then◌else◌}
 use Rattle.std.specs.List.{All}
 use Rattle.std.specs.Vec.{vec_len, vec_capacity}
-use Rattle.graph_runs.specs.Answers.{answer_to, was_blocked, answer_of_turn, after_answer}
+use Rattle.graph_runs.specs.Answers.{answer_to, was_blocked, answer_of_turn, after_answer, makes}
+use Rattle.graph_runs.specs.TaskEvents.{first_wait}
+use Rattle.phase_any.specs.phase_accum.declared.outcome.Outcome.{Outcome}
 use Rattle.stream_eval.specs.declared.whole.Lines.{Lines}
 use Rattle.phase_any.specs.phase_base.Limits.{Limits}
 use Rattle.phase_any.specs.phase_base.declared.entry.Entry.{Entry}
 use Rattle.phase_any.specs.phase_base.Members.{entry_of, least, wait_phases}
 use Rattle.phase_any.specs.phase_history.Histories.{History, members_of, done_of}
 use Rattle.phase_any.specs.phase_history.Refusals.{is_ahead, register_refusal, register_now_refusal}
-use Rattle.stream_eval.specs.stream_lists.Jobs.{Job}
+use Rattle.stream_eval.specs.stream_lists.Jobs.{Job, with_samples}
 use Rattle.graph_runs.specs.Moments.{Moment}
 use Rattle.graph_runs.specs.Nexts.{Next, has_signaller, next_of}
 use Rattle.graph_runs.specs.TaskPlaces.{Owed, nothing, values, exchange}
@@ -22,12 +24,13 @@ use Rattle.phase_any.specs.phase_history.declared.event.Event.{Event}
 use Rattle.phase_any.specs.phase_history.declared.event.Event.TheVariants.{Registered, RegisteredNow}
 use Rattle.phase_any.specs.phase_history.declared.refusal.RegisterRefusal.{RegisterRefusal}
 use Rattle.graph_lang.specs.graph_base.Graphs.{task_at}
-use Rattle.stream_eval.specs.stream_lists.Lists.{sinks_of}
-use Rattle.stream_eval.specs.Results.{sink_values}
-use Rattle.stream_job.specs.Machines.{IsMachine, IsMachineAt, UsesFew, IsLineOf}
+use Rattle.stream_eval.specs.stream_lists.Lists.{is_sink_at, sinks_of}
+use Rattle.stream_job.specs.Machines.{IsMachine, IsMachineAt, UsesFew, HasRoom, kept_behind}
 use Rattle.stream_job.specs.SinkLines.{begins_at}
 use Rattle.stream_job.specs.declared.task_state.TaskState.{TaskState}
 use Rattle.stream_job.specs.declared.machine.Machine.{Machine}
+use Rattle.stream_job.specs.declared.made.Made.{Made}
+use Rattle.stream_job.specs.Turning.{HadTurn}
 
 -- a sink's values with these behind them
 abbrev pub more : List ℤ → ℕ × List ℤ → ℕ × List ℤ
@@ -97,6 +100,23 @@ pub record IsNextIn (job : Job) (machine : Machine) (t : ℕ) (next : turns.Next
   pub answered : (m : Moment) → IsMachineAt job m machine
       → answer_of_turn job m t ≢ answers.is_refused
 
+-- with some samples this is what task t does next
+abbrev pub MayDo : Job → Machine → ℕ → Next → Type 0
+MayDo job machine t next = (s : List (List ℤ)) × IsNextIn (with_samples s job) machine t next
+
+-- with whatever samples this is what task t did next, it had a turn, of which the code tells so
+abbrev pub HasDone : Job → Machine → Machine → ℕ → Next → Made → Type 0
+HasDone job old new t next it = (s : List (List ℤ))
+    → IsNextIn (with_samples s job) old t next → HadTurn (with_samples s job) old new t it
+
+-- the line of task t, where it is a sink, has room for what its turn gets
+abbrev pub HasRoomNext : Job → Machine → ℕ → Type 0
+HasRoomNext job machine t = (m : Moment) (k p n : ℕ) (outcomes : List Outcome)
+    (state : TaskState) → IsMachineAt job m machine
+    → answer_of_turn job m t ≡ makes (first_wait t k p n outcomes)
+    → slice_get machine.tasks.items t ≡ Some state → is_sink_at job t ≡ true
+    → HasRoomIn machine.lines.items (length outcomes) state.sink
+
 -- task t is a filter that has made values which it has not signalled
 abbrev pub OwesMade : Machine → ℕ → Type 0
 OwesMade machine t = (state : TaskState) → slice_get machine.tasks.items t ≡ Some state
@@ -128,6 +148,7 @@ begins_with job m c phase t =
 
 -- the lines after it
 pub record HasBegun (job : Job) (m : Moment) (c phase : ℕ) (old new : List Lines) : Type 0 where
-  pub values : map sink_values new ≡ map sink_values old
-  pub starts : map (λ line. line.start) new ≡ map (begins_with job m c phase) (sinks_of job)
-  pub own : All (IsLineOf job) old → All (IsLineOf job) new
+  pub values : (given : ℕ → List ℤ) → map (kept_behind given) new ≡ map (kept_behind given) old
+  pub starts : map (λ line. line.start) old ≡ map (begins_at job m) (sinks_of job)
+      → map (λ line. line.start) new ≡ map (begins_with job m c phase) (sinks_of job)
+  pub own : (room : ℕ → ℕ) → All (HasRoom room) old → All (HasRoom room) new

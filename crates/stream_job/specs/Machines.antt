@@ -1,16 +1,17 @@
--- The moments that a machine stands for.
-use Rattle.std.specs.Prelude.{◌≡◌, ℕ, zero, suc, ◌+◌, ◌<◌, ◌≤◌, List, Bool, true, ◌||◌, Option, Some, None, is_some, if◌then◌else◌, length, map, slice_get, vec_capacity}
+-- The moments that a machine stands for, and what the lines of its sinks keep.
+use Rattle.std.specs.Prelude.{◌≡◌, ℕ, ℤ, zero, suc, ◌+◌, ◌<◌, ◌≤◌, List, [], ◌++◌, Bool, true, ◌||◌, Option, Some, None, is_some, if◌then◌else◌, length, map, slice_get, drop, vec_capacity}
 use Rattle.std.specs.List.{All}
 use Rattle.phase_any.specs.phase_history.Histories.{History, greatest_used}
 use Rattle.graph_lang.specs.graph_base.Graphs.{phaser_at, task_at}
+use Rattle.graph_lang.specs.graph_base.declared.line.Kind.TheVariants.{Source}
 use Rattle.graph_lang.specs.graph_base.TaskLines.{IsGraph}
-use Rattle.stream_eval.specs.stream_lists.Jobs.{Job, least}
+use Rattle.stream_eval.specs.stream_lists.Jobs.{Job, least, samples_in, with_samples}
 use Rattle.stream_eval.specs.stream_lists.Lists.{sinks_of}
 use Rattle.stream_eval.specs.stream_lists.Meetings.{meeting_line}
 use Rattle.stream_eval.specs.stream_lists.Spans.{span_in}
-use Rattle.stream_eval.specs.Results.{sink_values}
 use Rattle.stream_eval.specs.declared.whole.Lines.{Lines}
 use Rattle.graph_runs.specs.Moments.{Moment, limits_at}
+use Rattle.phase_any.specs.phase_accum.Sends.{AreSends}
 use Rattle.phase_any.specs.Phasers.{PhaserStandsFor}
 use Rattle.phase_any.specs.declared.any_phaser.AnyPhaser.{AnyPhaser}
 use Rattle.graph_runs.specs.Reached.{IsReachable}
@@ -28,6 +29,10 @@ pub record HasCores (job : Job) (history : ℕ → History) (cores : List AnyPha
   pub each : (p : ℕ) (core : AnyPhaser) → slice_get cores p ≡ Some core
       → PhaserStandsFor core (phaser_at job.graph p).op (limits_at job p) (history p)
 
+-- they have some histories
+abbrev pub HasSomeCores : Job → List AnyPhaser → Type 0
+HasSomeCores job cores = (history : ℕ → History) × HasCores job history cores
+
 -- how many of the first n tasks have a number
 abbrev pub numbered : (ℕ → Option ℕ) → ℕ → ℕ
 numbered number zero = 0
@@ -38,12 +43,8 @@ abbrev pub UsesFew : Job → Moment → Type 0
 UsesFew job m = (p : ℕ) → p < length job.graph.phasers
     → greatest_used (m.history p) ≤ numbered (m.number p) (length job.graph.tasks)
 
--- a sink's line has room for all that the sink takes in its steps, wherever it begins
-pub record IsLineOf (job : Job) (line : Lines) : Type 0 where
-  pub room : (span_in (least job) line.task).steps ≤ vec_capacity line.values
-
--- the machine stands at a moment that turns lead to: each core has the history of its phaser, each
--- task is in its state, and the lines are what the sinks keep
+-- the machine stands at a moment that turns lead to: each core has the history of its phaser, and
+-- each task is in its state
 pub record IsMachineAt (job : Job) (m : Moment) (machine : Machine) : Type 0 where
   pub graph : IsGraph job.graph
   pub apart : meeting_line job ≡ None
@@ -53,10 +54,6 @@ pub record IsMachineAt (job : Job) (m : Moment) (machine : Machine) : Type 0 whe
   pub tasks_many : length machine.tasks.items ≡ length job.graph.tasks
   pub tasks : (t : ℕ) (state : TaskState) → slice_get machine.tasks.items t ≡ Some state
       → IsTaskAt job m t state
-  pub lines : map sink_values machine.lines.items ≡ map (λ t. (t, kept_by job m t)) (sinks_of job)
-  pub starts : map (λ line. line.start) machine.lines.items
-      ≡ map (begins_at job m) (sinks_of job)
-  pub own : All (IsLineOf job) machine.lines.items
 
 -- the machine stands at some moment
 abbrev pub IsMachine : Job → Machine → Type 0
@@ -66,6 +63,54 @@ IsMachine job machine = (m : Moment) × IsMachineAt job m machine
 abbrev pub IsLiveIn : Job → Machine → ℕ → Type 0
 IsLiveIn job machine t =
     (m : Moment) × IsMachineAt job m machine × (turns.is_live job m t ≡ true)
+
+-- ---- samples of which the machine keeps none
+
+-- the machine stands at some moment of a run of the graph with some samples
+abbrev pub IsSome : Job → Machine → Type 0
+IsSome job machine = (s : List (List ℤ)) × IsMachine (with_samples s job) machine
+
+-- and there the task is live
+abbrev pub IsLiveSome : Job → Machine → ℕ → Type 0
+IsLiveSome job machine t = (s : List (List ℤ)) × IsLiveIn (with_samples s job) machine t
+
+-- of these samples task t, where it is a source, has still to signal those that it awaits
+abbrev pub AwaitsAt : Job → List (List ℤ) → Moment → ℕ → List ℤ → Type 0
+AwaitsAt job s m t awaits = t < length job.graph.tasks → (task_at job.graph t).kind ≡ Source
+    → drop (m.begun t) (samples_in job s t) ≡ awaits
+
+-- these may be the samples that came so far, of which task t has still to signal some
+pub record MayHaveCome (job : Job) (machine : Machine) (t : ℕ) (awaits : List ℤ)
+    (s : List (List ℤ)) : Type 0 where
+  pub stands : IsMachine (with_samples s job) machine
+  pub awaits : (m : Moment) → IsMachineAt (with_samples s job) m machine → AwaitsAt job s m t awaits
+  pub sends : t < length job.graph.tasks → AreSends (samples_in job s t)
+
+-- ---- the lines of the sinks
+
+-- a sink's line behind what the sink has handed over
+abbrev pub kept_behind : (ℕ → List ℤ) → Lines → ℕ × List ℤ
+kept_behind given line = (line.task, given line.task ++ line.values.items)
+
+-- nothing was handed over
+abbrev pub none_given : ℕ → List ℤ
+none_given t = []
+
+-- the sinks keep what they have received, but for what they have handed over, and where they begin
+pub record KeepsLines (job : Job) (given : ℕ → List ℤ) (m : Moment) (lines : List Lines) : Type 0
+    where
+  pub values : map (kept_behind given) lines ≡ map (λ t. (t, kept_by job m t)) (sinks_of job)
+  pub starts : map (λ line. line.start) lines ≡ map (begins_at job m) (sinks_of job)
+
+-- a sink's line has so much room
+pub record HasRoom (room : ℕ → ℕ) (line : Lines) : Type 0 where
+  pub room : room line.task ≤ vec_capacity line.values
+
+-- it has room for all that the sink takes in its steps, wherever it begins
+abbrev pub IsLineOf : Job → Lines → Type 0
+IsLineOf job = HasRoom (λ t. (span_in (least job) t).steps)
+
+-- ---- steps
 
 -- whether a task makes no further step
 abbrev pub is_over : Job → Moment → ℕ → Bool

@@ -1,7 +1,7 @@
 -- When the call of a task is blocked, by where the task stands.
-use Rattle.std.specs.Prelude.{◌≡◌, ◌<◌, ℕ, true, length}
+use Rattle.std.specs.Prelude.{◌≡◌, ◌<◌, ℕ, ℤ, List, true, length}
 use Rattle.phase_any.specs.phase_accum.Sends.{AreSends}
-use Rattle.stream_eval.specs.stream_lists.Jobs.{Job, samples_at}
+use Rattle.stream_eval.specs.stream_lists.Jobs.{Job, samples_at, with_samples}
 use Rattle.graph_runs.specs.Moments.{Moment}
 use Rattle.graph_runs.specs.Nexts.{Next, is_live, next_of}
 use Rattle.stream_job.specs.Machines.{IsMachine, IsMachineAt}
@@ -15,3 +15,8 @@ pub record MakesNext (job : Job) (machine : Machine) (t : ℕ) (next : Next) : T
   pub is : (m : Moment) → IsMachineAt job m machine → next_of job m t ≡ next
   -- the samples of a source can be sent
   pub sends : AreSends (samples_at job t)
+
+-- with some samples this is what the live task does next
+abbrev pub MayMakeNext : Job → Machine → ℕ → Next → Type 0
+MayMakeNext job machine t next =
+    (s : List (List ℤ)) × MakesNext (with_samples s job) machine t next

@@ -1,5 +1,6 @@
 -- What a turn of a task does to a machine and to the lists of blocked tasks.
-use Rattle.std.specs.Prelude.{◌≡◌, ℕ, List, [], Option, Some, None, set, get_or}
+use Rattle.std.specs.Prelude.{◌≡◌, ℕ, ℤ, List, [], Option, Some, None, set, get_or}
+use Rattle.std.specs.List.{All}
 use Rattle.graph_lang.specs.graph_base.declared.place.Place.TheVariants as place
 use Rattle.stream_eval.specs.stream_lists.Jobs.{Job}
 use Rattle.stream_eval.specs.stream_lists.Ranges.{Where}
@@ -11,7 +12,7 @@ use Rattle.graph_runs.specs.Answers as answers
 use Rattle.graph_runs.specs.Answers.{Answer, Told, answer_of_turn, after_answer}
 use Rattle.stream_job.specs.Blocking.{called_on}
 use Rattle.stream_job.specs.Parking.{with_task}
-use Rattle.stream_job.specs.Machines.{IsMachineAt}
+use Rattle.stream_job.specs.Machines.{IsMachineAt, KeepsLines, HasRoom}
 use Rattle.stream_job.specs.Worlds.{WorldState}
 use Rattle.stream_job.specs.declared.machine.Machine.{Machine}
 use Rattle.stream_job.specs.declared.made.Made.{Made}
@@ -63,11 +64,17 @@ Shows job m t answer it = ⊥
 
 -- the machine had a turn of task t, of which the code tells so: at each moment that the machine
 -- stood for it tells the answer of the table, and the machine stands for the moment after, where no
--- wait was answered a value too big before
+-- wait was answered a value too big before. The lines have kept what the sinks received, and have
+-- the room that they had
 pub record HadTurn (job : Job) (old new : Machine) (t : ℕ) (it : Made) : Type 0 where
   pub shows : (m : Moment) → IsMachineAt job m old → Shows job m t (answer_of_turn job m t) it
   pub after : (m : Moment) → IsMachineAt job m old → HasAnsweredNone job m
       → IsMachineAt job (after_answer job (answer_of_turn job m t) m) new
+  pub lines : (given : ℕ → List ℤ) (m : Moment) → IsMachineAt job m old → HasAnsweredNone job m
+      → KeepsLines job given m old.lines.items
+      → KeepsLines job given (after_answer job (answer_of_turn job m t) m) new.lines.items
+  pub own : (room : ℕ → ℕ) → All (HasRoom room) old.lines.items
+      → All (HasRoom room) new.lines.items
 
 -- ---- a world
 

@@ -1,15 +1,15 @@
 //! The calls of a task on its phasers.
-ghost use Rattle.std.specs.Prelude.{◌≡◌, ◌≢◌, ◌<◌, ◌≤◌, [], ◌∷◌, length, map, Some, None, IfOk, IfErr, OnOk, OnErr};
+ghost use Rattle.std.specs.Prelude.{◌≡◌, ◌≢◌, ◌<◌, ◌≤◌, ℕ, [], ◌∷◌, length, map, Some, None, IfOk, IfErr, OnOk, OnErr};
 ghost use Rattle.phase_any.specs.phase_accum.Sends.{AreSends, IsSend};
 ghost use Rattle.phase_any.specs.phase_accum.Values.{value_by};
 ghost use Rattle.phase_any.specs.phase_history.declared.event.Event.TheVariants.{Dropped, Registered, RegisteredNow};
-ghost use Rattle.phase_any.specs.phase_history.Histories.{done_of};
+ghost use Rattle.phase_any.specs.phase_history.Histories.{History, done_of};
 ghost use Rattle.phase_any.specs.phase_history.Phases.{stream_of};
 ghost use Rattle.phase_any.specs.phase_core.Blocks.{written};
 ghost use Rattle.phase_any.specs.phase_history.Refusals.{drop_refusal, register_refusal, register_now_refusal};
 ghost use Rattle.phase_any.specs.phase_history.Replies.{signal_reply, wait_reply, wait_block_reply, after_signal, after_wait, after_wait_block};
 ghost use Rattle.graph_lang.specs.graph_base.Graphs.{phaser_at};
-ghost use Rattle.graph_runs.specs.Moments.{one, Moment, limits_at, value_at};
+ghost use Rattle.graph_runs.specs.Moments.{one, limits_at, value_at};
 ghost use Rattle.graph_runs.specs.Turned.{with_at};
 
 use crate::machine::Machine;
@@ -20,18 +20,21 @@ use phase_any::phase_core::{Got, GotBlock, NoTask, RegisterRefusal, SignalRefusa
 use stream_eval::stream_lists::Job;
 
 impl Machine {
-    ghost use Rattle.stream_job.specs.Machines.{IsMachineAt, IsMachine, HasCores};
+    ghost use Rattle.stream_job.specs.Machines.{HasCores, HasSomeCores};
 
     /// Ends a registration on phaser `p`.
     pub fn drop_on(&mut self, job: &Job, p: usize, number: u64) -> Result<(), NoTask>
-        requires machine { IsMachine job.now self.old }
+        requires cores { HasSomeCores job.now self.old.cores.items }
         requires phaser { p < length job.now.graph.phasers }
-        ensures ok { OnOk result ((m : Moment) → IsMachineAt job.now m self.old
-            → drop_refusal (m.history p) number ≡ None) }
-        ensures refused { IfErr result (λ e. (m : Moment) → IsMachineAt job.now m self.old
-            → drop_refusal (m.history p) number ≡ Some e) }
-        ensures cores { OnOk result ((m : Moment) → IsMachineAt job.now m self.old
-            → HasCores job.now (with_at p (Dropped number ∷ m.history p) m.history)
+        ensures ok { OnOk result ((h : ℕ → History)
+            → HasCores job.now h self.old.cores.items
+            → drop_refusal (h p) number ≡ None) }
+        ensures refused { IfErr result (λ e. (h : ℕ → History)
+            → HasCores job.now h self.old.cores.items
+            → drop_refusal (h p) number ≡ Some e) }
+        ensures cores { OnOk result ((h : ℕ → History)
+            → HasCores job.now h self.old.cores.items
+            → HasCores job.now (with_at p (Dropped number ∷ h p) h)
             self.new.cores.items) }
         ensures tasks { self.new.tasks ≡ self.old.tasks }
         ensures lines { self.new.lines ≡ self.old.lines }
@@ -41,12 +44,14 @@ impl Machine {
 
     /// Waits on phaser `p`.
     pub fn wait_on(&mut self, job: &Job, p: usize, number: u64) -> Result<Got, WaitRefusal>
-        requires machine { IsMachine job.now self.old }
+        requires cores { HasSomeCores job.now self.old.cores.items }
         requires phaser { p < length job.now.graph.phasers }
-        ensures reply { (m : Moment) → IsMachineAt job.now m self.old
-            → wait_reply (value_at job.now p) (limits_at job.now p) (m.history p) number ≡ result }
-        ensures cores { (m : Moment) → IsMachineAt job.now m self.old
-            → HasCores job.now (with_at p (after_wait result number (m.history p)) m.history)
+        ensures reply { (h : ℕ → History)
+            → HasCores job.now h self.old.cores.items
+            → wait_reply (value_at job.now p) (limits_at job.now p) (h p) number ≡ result }
+        ensures cores { (h : ℕ → History)
+            → HasCores job.now h self.old.cores.items
+            → HasCores job.now (with_at p (after_wait result number (h p)) h)
             self.new.cores.items }
         ensures tasks { self.new.tasks ≡ self.old.tasks }
         ensures lines { self.new.lines ≡ self.old.lines }
@@ -62,15 +67,17 @@ impl Machine {
         number: u64,
         x: i64,
     ) -> Result<u64, SignalRefusal>
-        requires machine { IsMachine job.now self.old }
+        requires cores { HasSomeCores job.now self.old.cores.items }
         requires phaser { p < length job.now.graph.phasers }
         requires send { IsSend x }
-        ensures reply { (m : Moment) → IsMachineAt job.now m self.old
-            → signal_reply (limits_at job.now p) (m.history p) number ((x ∷ []) ∷ [])
+        ensures reply { (h : ℕ → History)
+            → HasCores job.now h self.old.cores.items
+            → signal_reply (limits_at job.now p) (h p) number ((x ∷ []) ∷ [])
             (phaser_at job.now.graph p).single ≡ result }
-        ensures cores { (m : Moment) → IsMachineAt job.now m self.old
+        ensures cores { (h : ℕ → History)
+            → HasCores job.now h self.old.cores.items
             → HasCores job.now (with_at p (after_signal result number ((x ∷ []) ∷ [])
-            (phaser_at job.now.graph p).single (m.history p)) m.history) self.new.cores.items }
+            (phaser_at job.now.graph p).single (h p)) h) self.new.cores.items }
         ensures tasks { self.new.tasks ≡ self.old.tasks }
         ensures lines { self.new.lines ≡ self.old.lines }
     {
@@ -87,16 +94,18 @@ impl Machine {
         values: &[i64],
         parcels: &mut Parcels,
     ) -> Result<u64, SignalRefusal>
-        requires machine { IsMachine job.now self.old }
+        requires cores { HasSomeCores job.now self.old.cores.items }
         requires phaser { p < length job.now.graph.phasers }
         requires sends { AreSends values.now }
         requires room { length values.now ≤ parcels.old }
-        ensures reply { (m : Moment) → IsMachineAt job.now m self.old
-            → signal_reply (limits_at job.now p) (m.history p) number (map one values.now)
+        ensures reply { (h : ℕ → History)
+            → HasCores job.now h self.old.cores.items
+            → signal_reply (limits_at job.now p) (h p) number (map one values.now)
             (phaser_at job.now.graph p).single ≡ result }
-        ensures cores { (m : Moment) → IsMachineAt job.now m self.old
+        ensures cores { (h : ℕ → History)
+            → HasCores job.now h self.old.cores.items
             → HasCores job.now (with_at p (after_signal result number (map one values.now)
-            (phaser_at job.now.graph p).single (m.history p)) m.history) self.new.cores.items }
+            (phaser_at job.now.graph p).single (h p)) h) self.new.cores.items }
         ensures others { (self.new.tasks ≡ self.old.tasks) × (self.new.lines ≡ self.old.lines) }
         ensures parcels { parcels.new ≡ parcels.old }
     {
@@ -112,15 +121,18 @@ impl Machine {
         number: u64,
         out: &mut [Outcome],
     ) -> Result<GotBlock, WaitRefusal>
-        requires machine { IsMachine job.now self.old }
+        requires cores { HasSomeCores job.now self.old.cores.items }
         requires phaser { p < length job.now.graph.phasers }
-        ensures reply { (m : Moment) → IsMachineAt job.now m self.old
-            → wait_block_reply (limits_at job.now p) (m.history p) number (length out.old)
+        ensures reply { (h : ℕ → History)
+            → HasCores job.now h self.old.cores.items
+            → wait_block_reply (limits_at job.now p) (h p) number (length out.old)
             ≡ result }
-        ensures out { (m : Moment) → IsMachineAt job.now m self.old
-            → out.new ≡ written result (stream_of (value_at job.now p) (m.history p)) out.old }
-        ensures cores { (m : Moment) → IsMachineAt job.now m self.old
-            → HasCores job.now (with_at p (after_wait_block result number (m.history p)) m.history)
+        ensures out { (h : ℕ → History)
+            → HasCores job.now h self.old.cores.items
+            → out.new ≡ written result (stream_of (value_at job.now p) (h p)) out.old }
+        ensures cores { (h : ℕ → History)
+            → HasCores job.now h self.old.cores.items
+            → HasCores job.now (with_at p (after_wait_block result number (h p)) h)
             self.new.cores.items }
         ensures tasks { self.new.tasks ≡ self.old.tasks }
         ensures lines { self.new.lines ≡ self.old.lines }
@@ -137,16 +149,18 @@ impl Machine {
         parent: u64,
         child: u64,
     ) -> Result<u64, RegisterRefusal>
-        requires machine { IsMachine job.now self.old }
+        requires cores { HasSomeCores job.now self.old.cores.items }
         requires phaser { p < length job.now.graph.phasers }
         ensures refused { IfErr result (λ e. e ≢ RegisterRefusal.OutOfMemory → (m : Moment)
             → IsMachineAt job.now m self.old
-            → register_now_refusal (m.history p) parent child ≡ Some e) }
-        ensures ok { IfOk result (λ phase. (m : Moment) → IsMachineAt job.now m self.old
-            → (register_now_refusal (m.history p) parent child ≡ None)
-            × (phase ≡ done_of (m.history p))) }
-        ensures cores { OnOk result ((m : Moment) → IsMachineAt job.now m self.old
-            → HasCores job.now (with_at p (RegisteredNow parent child ∷ m.history p) m.history)
+            → register_now_refusal (h p) parent child ≡ Some e) }
+        ensures ok { IfOk result (λ phase. (h : ℕ → History)
+            → HasCores job.now h self.old.cores.items
+            → (register_now_refusal (h p) parent child ≡ None)
+            × (phase ≡ done_of (h p))) }
+        ensures cores { OnOk result ((h : ℕ → History)
+            → HasCores job.now h self.old.cores.items
+            → HasCores job.now (with_at p (RegisteredNow parent child ∷ h p) h)
             self.new.cores.items) }
         ensures err { OnErr result (self.new.cores ≡ self.old.cores) }
         ensures tasks { self.new.tasks ≡ self.old.tasks }
@@ -164,15 +178,17 @@ impl Machine {
         child: u64,
         mode: Mode,
     ) -> Result<(), RegisterRefusal>
-        requires machine { IsMachine job.now self.old }
+        requires cores { HasSomeCores job.now self.old.cores.items }
         requires phaser { p < length job.now.graph.phasers }
         ensures refused { IfErr result (λ e. e ≢ RegisterRefusal.OutOfMemory → (m : Moment)
             → IsMachineAt job.now m self.old
-            → register_refusal (m.history p) parent child mode ≡ Some e) }
-        ensures ok { OnOk result ((m : Moment) → IsMachineAt job.now m self.old
-            → register_refusal (m.history p) parent child mode ≡ None) }
-        ensures cores { OnOk result ((m : Moment) → IsMachineAt job.now m self.old
-            → HasCores job.now (with_at p (Registered parent child mode ∷ m.history p) m.history)
+            → register_refusal (h p) parent child mode ≡ Some e) }
+        ensures ok { OnOk result ((h : ℕ → History)
+            → HasCores job.now h self.old.cores.items
+            → register_refusal (h p) parent child mode ≡ None) }
+        ensures cores { OnOk result ((h : ℕ → History)
+            → HasCores job.now h self.old.cores.items
+            → HasCores job.now (with_at p (Registered parent child mode ∷ h p) h)
             self.new.cores.items) }
         ensures err { OnErr result (self.new.cores ≡ self.old.cores) }
         ensures tasks { self.new.tasks ≡ self.old.tasks }

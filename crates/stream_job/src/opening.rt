@@ -30,8 +30,8 @@ fn opened_line(alloc: Global, job: &Job, t: usize) -> Result<Lines, AllocError>
     })
 }
 
-/// The sinks, in the order of their lines.
-fn opened_lines(alloc: Global, job: &Job) -> Result<Vec<Lines>, AllocError>
+/// The sinks, in the order of their lines, with room for all that they take.
+pub fn opened_lines(alloc: Global, job: &Job) -> Result<Vec<Lines>, AllocError>
     ensures lines { IfOk result (λ lines.
         map sink_values lines.items ≡ map (λ t. (t, [])) (sinks_of job.now)) }
     ensures starts { IfOk result (λ lines.
@@ -51,18 +51,19 @@ impl Machine {
     ghost use Rattle.stream_job.specs.Machines.{IsMachineAt};
 
     /// Makes the phasers of a graph, on which its tasks without a parent are registered, in the
-    /// order of their lines.
+    /// order of their lines, with these lines of its sinks.
     ///
     /// It takes memory for a slot of each phase that a phaser may have open, an entry for each
-    /// registration, the window of each filter, and all values of each sink.
-    pub fn new(alloc: Global, job: &Job) -> Result<Machine, AllocError>
-        ensures { IfOk result (λ machine. IsMachineAt job.now (opening job.now) machine) }
+    /// registration, and the window of each filter.
+    pub fn new(alloc: Global, job: &Job, lines: Vec<Lines>) -> Result<Machine, AllocError>
+        ensures opening { IfOk result (λ machine. IsMachineAt job.now (opening job.now) machine) }
+        ensures lines { IfOk result (λ machine. machine.lines ≡ lines) }
     {
         let _tasks = job.graph().tasks();
         Ok(Machine {
             cores: opened_cores(alloc, job)?,
             tasks: opened_tasks(alloc, job)?,
-            lines: opened_lines(alloc, job)?,
+            lines,
         })
     }
 }

@@ -1,5 +1,5 @@
 //! What the turns of a task ask of the lines of its graph, found once.
-ghost use Rattle.std.specs.Prelude.{◌≡◌, ◌<◌, ◌≤◌, ℕ, true, false, Some, length, IfOk};
+ghost use Rattle.std.specs.Prelude.{◌≡◌, ◌<◌, ◌≤◌, ℕ, true, false, Some, drop, length, IfOk};
 ghost use Rattle.phase_any.specs.phase_accum.Sends.{AreSends};
 ghost use Rattle.graph_lang.specs.graph_base.declared.line.Parent.{Parent as ParentValue};
 ghost use Rattle.graph_lang.specs.graph_base.Graphs.{task_at};
@@ -102,6 +102,20 @@ impl Plan {
         ensures sends { AreSends result.now }
     {
         job.samples(self.tasks[t].source)
+    }
+
+    /// Those of them that come after so many.
+    pub fn samples_from<'a>(&self, job: &'a Job, t: usize, begun: u64) -> &'a [i64]
+        requires plan { IsPlan job.now self.now }
+        requires task { t < length job.now.graph.tasks }
+        ensures value { result.now ≡ drop begun (samples_at job.now t) }
+        ensures sends { AreSends (samples_at job.now t) }
+    {
+        let samples = self.samples(job, t);
+        if begun >= samples.len() as u64 {
+            return &[];
+        }
+        &samples[begun as usize..]
     }
 }
 

@@ -3,7 +3,7 @@ ghost use Rattle.std.specs.Prelude.{◌≡◌, ◌<◌, length};
 ghost use Rattle.std.specs.List.{fold, range_with_len};
 ghost use Rattle.graph_lang.specs.graph_base.Graphs.{task_at};
 ghost use Rattle.graph_runs.specs.Moments.{Moment};
-ghost use Rattle.graph_runs.specs.NextBlocks.{block_of, child_allows, sample_block_of, until_allows};
+ghost use Rattle.graph_runs.specs.NextBlocks.{block_of, child_allows, until_allows};
 ghost use Rattle.stream_job.specs.Plans.{IsPlan};
 
 use crate::plan::Plan;
@@ -27,16 +27,6 @@ impl Plan {
             return steps;
         }
         self.children_allow(job, t, begun, steps)
-    }
-
-    /// The same of a source: at most the samples that are left.
-    pub fn sample_block(&self, job: &Job, t: usize, begun: u64) -> u64
-        requires plan { IsPlan job.now self.now }
-        requires task { t < length job.now.graph.tasks }
-        ensures { (m : Moment) → m.begun t ≡ begun → sample_block_of job.now m t ≡ result }
-    {
-        let left = (self.samples(job, t).len() as u64).saturating_sub(begun);
-        self.block(job, t, begun).min(left)
     }
 
     /// So many steps of task number `t`, but none past the boundary of a child that comes later.

@@ -1,5 +1,5 @@
 //! Whether no task can move.
-ghost use Rattle.std.specs.Prelude.{◌≡◌, ◌<◌, ◌≤◌, ◌&&◌, ◌||◌, ℕ, true, false, nat_le, length, get_or, Some};
+ghost use Rattle.std.specs.Prelude.{◌≡◌, ◌<◌, ◌≤◌, ◌&&◌, ◌||◌, ℕ, ℤ, List, true, false, nat_le, length, get_or, Some};
 ghost use Rattle.std.specs.List.{list_any, list_all, range_with_len};
 ghost use Rattle.phase_any.specs.phase_base.Limits.{Limits};
 ghost use Rattle.phase_any.specs.phase_base.Members.{least, wait_phases};
@@ -15,6 +15,7 @@ ghost use Rattle.stream_job.specs.Inside.{blocks_signal, blocks_wait, would_bloc
 ghost use Rattle.stream_job.specs.Blocking.{AreBlocked};
 ghost use Rattle.stream_job.specs.Machines.{next_by};
 ghost use Rattle.stream_job.specs.Plans.{IsPlan};
+ghost use Rattle.stream_eval.specs.stream_lists.Jobs.{with_samples};
 
 use crate::machine::Machine;
 use crate::parked::Parked;
@@ -27,8 +28,8 @@ use phase_any::phase_base::PHASES_MAX;
 use stream_eval::stream_lists::Job;
 
 impl Machine {
-    ghost use Rattle.stream_job.specs.Machines.{IsMachineAt, IsMachine, IsLiveIn};
-    ghost use Rattle.stream_job.specs.Stalls.{MakesNext};
+    ghost use Rattle.stream_job.specs.Machines.{IsLiveSome, IsMachine, IsMachineAt, IsSome, MayHaveCome};
+    ghost use Rattle.stream_job.specs.Stalls.{MakesNext, MayMakeNext};
 
     /// Whether some task is live, and the turn of each live task would be blocked. It asks the
     /// phasers for those tasks alone that stand in no list.
@@ -42,9 +43,9 @@ impl Machine {
     }
 
     /// Whether some task is live.
-    fn has_live(&self, job: &Job) -> bool
-        requires { IsMachine job.now self.now }
-        ensures { (m : Moment) → IsMachineAt job.now m self.now
+    pub fn has_live(&self, job: &Job) -> bool
+        requires { IsSome job.now self.now }
+        ensures { (s : List (List ℤ)) (m : Moment) → IsMachineAt (with_samples s job.now) m self.now
             → list_any (is_live job.now m)
             (range_with_len 0 (length job.now.graph.tasks)) ≡ result }
     {
@@ -66,39 +67,44 @@ impl Machine {
             ≡ result }
     {
         for t in 0..job.graph().tasks() {
-            if !marks[t] && !self.is_still(job, plan, t) {
+            if !marks[t] && !self.is_still(job, plan, t, self.awaits(job, plan, t)) {
                 return false;
             }
         }
         true
     }
 
-    /// Whether task number `t` is not live, or its turn would be blocked.
-    fn is_still(&self, job: &Job, plan: &Plan, t: usize) -> bool
-        requires machine { IsMachine job.now self.now }
+    /// Whether task number `t`, which, where it is a source, has these samples still to signal, is
+    /// not live, or its turn would be blocked.
+    pub fn is_still(&self, job: &Job, plan: &Plan, t: usize, awaits: &[i64]) -> bool
+        requires came { (s : List (List ℤ)) × MayHaveCome job.now self.now t awaits.now s }
         requires plan { IsPlan job.now plan.now }
         requires task { t < length job.now.graph.tasks }
-        ensures { (m : Moment) → IsMachineAt job.now m self.now → is_still job.now m t ≡ result }
+        ensures { (s : List (List ℤ)) (m : Moment) → MayHaveCome job.now self.now t awaits.now s
+            → IsMachineAt (with_samples s job.now) m self.now
+            → is_still (with_samples s job.now) m t ≡ result }
     {
-        let _sends = plan.samples(job, t);
         if !self.state(job, t).is_live(job, t) {
             return true;
         }
-        self.step_blocks(job, plan, t, self.next(job, plan, t))
+        self.step_blocks(job, plan, t, awaits, self.next(job, plan, t, awaits))
     }
 
     /// Whether a live task's turn would be blocked, where this is what it does next.
-    fn step_blocks(&self, job: &Job, plan: &Plan, t: usize, step: Step) -> bool
-        requires next { MakesNext job.now self.now t (next_by step) }
+    fn step_blocks(&self, job: &Job, plan: &Plan, t: usize, awaits: &[i64], step: Step) -> bool
+        requires next { (s : List (List ℤ)) × MayHaveCome job.now self.now t awaits.now s
+            × MakesNext (with_samples s job.now) self.now t (next_by step) }
         requires plan { IsPlan job.now plan.now }
-        ensures { (m : Moment) → IsMachineAt job.now m self.now
-            → would_block job.now m t (next_by step) ≡ result }
+        ensures { (s : List (List ℤ)) (m : Moment) → MayHaveCome job.now self.now t awaits.now s
+            → MakesNext (with_samples s job.now) self.now t (next_by step)
+            → IsMachineAt (with_samples s job.now) m self.now
+            → would_block (with_samples s job.now) m t (next_by step) ≡ result }
     {
         match step {
             Step::NotLive => false,
             Step::Register { .. } => false,
             Step::Leave => false,
-            Step::Sample => self.samples_block(job, plan, t),
+            Step::Sample => self.samples_block(job, plan, t, awaits),
             Step::Signal { output } => self.values_block(job, t, output),
             Step::Wait { input } => self.wait_blocks(job, t, input),
             Step::Exchange => self.wait_blocks(job, t, 1),
@@ -106,22 +112,28 @@ impl Machine {
     }
 
     /// Whether the signal of a source's next samples would be blocked.
-    fn samples_block(&self, job: &Job, plan: &Plan, t: usize) -> bool
-        requires next { MakesNext job.now self.now t samples }
+    fn samples_block(&self, job: &Job, plan: &Plan, t: usize, awaits: &[i64]) -> bool
+        requires next { (s : List (List ℤ)) × MayHaveCome job.now self.now t awaits.now s
+            × MakesNext (with_samples s job.now) self.now t samples }
         requires plan { IsPlan job.now plan.now }
-        ensures { (m : Moment) → IsMachineAt job.now m self.now
-            → would_block job.now m t samples ≡ result }
+        ensures { (s : List (List ℤ)) (m : Moment) → MayHaveCome job.now self.now t awaits.now s
+            → MakesNext (with_samples s job.now) self.now t samples
+            → IsMachineAt (with_samples s job.now) m self.now
+            → would_block (with_samples s job.now) m t samples ≡ result }
     {
-        let many = plan.sample_block(job, t, self.state(job, t).begun);
+        let begun = self.state(job, t).begun;
+        let many = plan.block(job, t, begun).min(awaits.len() as u64);
         self.signal_blocks(job, t, 0, many)
     }
 
     /// Whether the signal of the values that are owed on output `j` would be blocked. Where one is
     /// out of range, none is signalled.
     fn values_block(&self, job: &Job, t: usize, j: usize) -> bool
-        requires { MakesNext job.now self.now t (signals j) }
-        ensures { (m : Moment) → IsMachineAt job.now m self.now
-            → would_block job.now m t (signals j) ≡ result }
+        requires { MayMakeNext job.now self.now t (signals j) }
+        ensures { (s : List (List ℤ)) (m : Moment)
+            → MakesNext (with_samples s job.now) self.now t (signals j)
+            → IsMachineAt (with_samples s job.now) m self.now
+            → would_block (with_samples s job.now) m t (signals j) ≡ result }
     {
         let state = self.state(job, t);
         if !state.are_in_range() {
@@ -132,11 +144,11 @@ impl Machine {
 
     /// Whether a live task's signal of so many phases on its output `j` would be blocked.
     fn signal_blocks(&self, job: &Job, t: usize, j: usize, many: u64) -> bool
-        requires live { IsLiveIn job.now self.now t }
+        requires live { IsLiveSome job.now self.now t }
         requires output { j < length (signalled_by (task_at job.now.graph t)) }
         requires some { 1 ≤ many }
-        ensures { (m : Moment) → IsMachineAt job.now m self.now → is_live job.now m t ≡ true
-            → let p = output_at job.now t j in
+        ensures { (s : List (List ℤ)) (m : Moment) → IsMachineAt (with_samples s job.now) m self.now
+            → is_live job.now m t ≡ true → let p = output_at job.now t j in
             blocks_signal (limits_at job.now p) (m.history p) (number_on m t p) many ≡ result }
     {
         let (k, p) = output_of(job, t, j);
@@ -151,10 +163,10 @@ impl Machine {
 
     /// Whether a live task's wait on its input `k` would be blocked.
     fn wait_blocks(&self, job: &Job, t: usize, k: usize) -> bool
-        requires live { IsLiveIn job.now self.now t }
+        requires live { IsLiveSome job.now self.now t }
         requires input { k < length (task_at job.now.graph t).inputs }
-        ensures { (m : Moment) → IsMachineAt job.now m self.now → is_live job.now m t ≡ true
-            → let p = input_at (task_at job.now.graph t) k in
+        ensures { (s : List (List ℤ)) (m : Moment) → IsMachineAt (with_samples s job.now) m self.now
+            → is_live job.now m t ≡ true → let p = input_at (task_at job.now.graph t) k in
             blocks_wait (m.history p) (number_on m t p) ≡ result }
     {
         let p = input_of(job, t, k);

@@ -1,8 +1,9 @@
 //! How a task stands on its phasers.
-ghost use Rattle.std.specs.Prelude.{◌≡◌, ◌<◌, length};
+ghost use Rattle.std.specs.Prelude.{◌≡◌, ◌<◌, ℤ, List, length};
 ghost use Rattle.graph_runs.specs.Moments.{Moment};
 ghost use Rattle.graph_runs.specs.Nexts.{registrations_at};
-ghost use Rattle.stream_job.specs.Machines.{IsMachine, IsMachineAt};
+ghost use Rattle.stream_eval.specs.stream_lists.Jobs.{with_samples};
+ghost use Rattle.stream_job.specs.Machines.{IsMachineAt, IsSome};
 ghost use Rattle.stream_job.specs.Standing.{standing};
 
 use crate::machine::Machine;
@@ -13,10 +14,11 @@ impl Machine {
     /// The mode and the phases of task number `t` on the phaser of its registration number `k`,
     /// while it is registered there.
     pub fn standing(&self, job: &Job, t: usize, k: usize) -> Option<Entry>
-        requires machine { IsMachine job.now self.now }
+        requires machine { IsSome job.now self.now }
         requires task { t < length job.now.graph.tasks }
         requires registration { k < length (registrations_at job.now t) }
-        ensures { (m : Moment) → IsMachineAt job.now m self.now → standing job.now m t k ≡ result }
+        ensures { (s : List (List ℤ)) (m : Moment) → IsMachineAt (with_samples s job.now) m self.now
+            → standing job.now m t k ≡ result }
     {
         let numbers = &self.state(job, t).numbers;
         if k >= numbers.len() {

@@ -5,6 +5,7 @@ ghost use Rattle.stream_eval.specs.stream_lists.Lists.{number};
 ghost use Rattle.graph_runs.specs.Moves.{IsBlock};
 ghost use Rattle.graph_runs.specs.declared.owed.Owed.TheVariants.{Nothing};
 ghost use Rattle.graph_lang.specs.graph_base.Graphs.{task_at};
+ghost use Rattle.stream_eval.specs.stream_lists.Jobs.{with_samples};
 ghost use Rattle.graph_runs.specs.Steps.{HasFilter};
 ghost use Rattle.graph_runs.specs.Moments.{Moment};
 ghost use Rattle.graph_runs.specs.Nexts.{first_missing, is_live};
@@ -43,7 +44,8 @@ impl TaskState {
     /// Whether task number `t` is registered on all phasers of its line.
     pub fn is_registered(&self, job: &Job, t: usize) -> bool
         requires { t < length job.now.graph.tasks }
-        ensures { (m : Moment) → StandsAt job.now m t (place_of self.now)
+        ensures { (s : List (List ℤ)) (m : Moment)
+            → StandsAt (with_samples s job.now) m t (place_of self.now)
             → is_some (first_missing job.now m t) ≡ not result }
     {
         self.numbers.len() >= job.graph().registrations(t)
@@ -52,7 +54,8 @@ impl TaskState {
     /// Whether task number `t` is live.
     pub fn is_live(&self, job: &Job, t: usize) -> bool
         requires { t < length job.now.graph.tasks }
-        ensures { (m : Moment) → StandsAt job.now m t (place_of self.now)
+        ensures { (s : List (List ℤ)) (m : Moment)
+            → StandsAt (with_samples s job.now) m t (place_of self.now)
             → is_live job.now m t ≡ result }
     {
         self.is_registered(job, t) && self.left < self.numbers.len()

@@ -1,9 +1,9 @@
 //! The turn of a task, by what it does next.
-ghost use Rattle.std.specs.Prelude.{◌≡◌, ◌≢◌, ◌<◌, ◌≤◌, ◌+◌, ◌++◌, ◌∷◌, [], ℕ, true, length, map, slice_get, Some, None, Ok, IfSome, IfOk, IfErr, OnOk, OnErr, if◌then◌else◌, vec_capacity};
+ghost use Rattle.std.specs.Prelude.{◌≡◌, ◌≢◌, ◌<◌, ◌≤◌, ◌+◌, ◌++◌, ◌∷◌, [], ℕ, ℤ, List, true, length, map, slice_get, Some, None, Ok, IfSome, IfOk, IfErr, OnOk, OnErr, if◌then◌else◌, vec_capacity};
 ghost use Rattle.std.specs.List.{All, position_from};
 ghost use Rattle.graph_lang.specs.graph_base.Graphs.{task_at};
 ghost use Rattle.graph_lang.specs.graph_base.declared.line.Kind.TheVariants.{Fir as filters};
-ghost use Rattle.phase_any.specs.phase_history.Histories.{done_of};
+ghost use Rattle.phase_any.specs.phase_history.Histories.{History, done_of};
 ghost use Rattle.graph_lang.specs.stream_filters.Range.{ranged};
 ghost use Rattle.graph_runs.specs.Moments.{Moment};
 ghost use Rattle.graph_runs.specs.Answers.{next_values, told_got};
@@ -11,13 +11,12 @@ ghost use Rattle.graph_runs.specs.Turned.{with_at};
 ghost use Rattle.graph_runs.specs.Nexts as turns;
 ghost use Rattle.graph_runs.specs.Nexts.{is_live, number_on};
 ghost use Rattle.stream_job.specs.Turning.{IsRegistration, HadTurn, told_of};
-ghost use Rattle.stream_job.specs.Inside.{IsNextIn, with_line, HasRoomIn, OwesMade, is_over, add_refusal, add_event, HasBegun};
+ghost use Rattle.stream_job.specs.Inside.{HasDone, HasRoomIn, HasRoomNext, IsNextIn, MayDo, OwesMade, is_over, with_line, add_refusal, add_event, HasBegun};
 ghost use Rattle.stream_job.specs.Buffers.{HasPlaces};
 ghost use Rattle.stream_job.specs.Plans.{IsPlan};
 ghost use Rattle.stream_job.specs.SinkLines.{kept_of};
-ghost use Rattle.stream_eval.specs.stream_lists.Jobs.{Job as JobValue};
+ghost use Rattle.stream_eval.specs.stream_lists.Jobs.{with_samples};
 ghost use Rattle.stream_eval.specs.stream_lists.Lists.{is_sink_at};
-ghost use Rattle.stream_eval.specs.Results.{sink_values};
 
 use crate::buffers::Buffers;
 use crate::machine::Machine;
@@ -38,33 +37,39 @@ use std::alloc::AllocError;
 use stream_eval::stream_lists::Job;
 
 impl Machine {
-    ghost use Rattle.stream_job.specs.Machines.{IsMachine, IsMachineAt, IsLiveIn, IsLineOf, HasCores, next_by};
+    ghost use Rattle.stream_job.specs.Machines.{HasCores, HasRoom, IsLiveSome, IsMachineAt, IsSome, MayHaveCome, kept_behind, next_by};
 
-    /// Gives a turn to task number `t`: it makes its next call.
+    /// Gives a turn to task number `t`, which, where it is a source, has these samples still to
+    /// signal: it makes its next call. Where it is a sink, there is room for what it gets.
     pub fn make(
         &mut self,
         job: &Job,
         plan: &Plan,
         buffers: &mut Buffers,
         t: usize,
+        awaits: &[i64],
     ) -> Result<Made, AllocError>
-        requires machine { IsMachine job.now self.old }
+        requires came { (s : List (List ℤ)) × MayHaveCome job.now self.old t awaits.now s
+            × HasRoomNext (with_samples s job.now) self.old t }
         requires plan { IsPlan job.now plan.now }
         requires places { HasPlaces job.now buffers.old }
-        ensures made { IfOk result (λ made. HadTurn job.now self.old self.new t made) }
+        ensures made { IfOk result (λ made. (s : List (List ℤ))
+            → MayHaveCome job.now self.old t awaits.now s
+            → HadTurn (with_samples s job.now) self.old self.new t made) }
         ensures err { OnErr result (self.new ≡ self.old) }
-        ensures memory { OnErr result ((m : Moment) → IsMachineAt job.now m self.old
-            → IsRegistration (turns.next_of job.now m t)) }
+        ensures memory { OnErr result ((s : List (List ℤ)) (m : Moment)
+            → MayHaveCome job.now self.old t awaits.now s
+            → IsMachineAt (with_samples s job.now) m self.old
+            → IsRegistration (turns.next_of (with_samples s job.now) m t)) }
         ensures places { buffers.new ≡ buffers.old }
     {
-        let step = self.next(job, plan, t);
+        let step = self.next(job, plan, t, awaits);
         if step == Step::NotLive {
             return Ok(Made::Nothing);
         }
-        let _samples = plan.samples(job, t);
         laws::turns_stay_reached();
         laws::no_turn_is_refused();
-        self.make_step(job, plan, buffers, t, step)
+        self.make_step(job, plan, buffers, t, awaits, step)
     }
 
     /// A task makes this step.
@@ -74,12 +79,18 @@ impl Machine {
         plan: &Plan,
         buffers: &mut Buffers,
         t: usize,
+        awaits: &[i64],
         step: Step,
     ) -> Result<Made, AllocError>
-        requires next { IsNextIn job.now self.old t (next_by step) }
+        requires next { (s : List (List ℤ)) × MayHaveCome job.now self.old t awaits.now s
+            × IsNextIn (with_samples s job.now) self.old t (next_by step)
+            × HasRoomNext (with_samples s job.now) self.old t }
         requires plan { IsPlan job.now plan.now }
         requires places { HasPlaces job.now buffers.old }
-        ensures made { IfOk result (λ made. HadTurn job.now self.old self.new t made) }
+        ensures made { IfOk result (λ made. (s : List (List ℤ))
+            → MayHaveCome job.now self.old t awaits.now s
+            → IsNextIn (with_samples s job.now) self.old t (next_by step)
+            → HadTurn (with_samples s job.now) self.old self.new t made) }
         ensures err { OnErr result (self.new ≡ self.old) }
         // A registration alone asks for memory.
         ensures memory { OnErr result (IsRegistration (next_by step)) }
@@ -89,7 +100,7 @@ impl Machine {
             Step::NotLive => Ok(Made::Nothing),
             Step::Register { child } => self.register_child(job, t, child),
             Step::Leave => Ok(self.leave(job, t)),
-            Step::Sample => Ok(self.signal_samples(job, plan, buffers, t)),
+            Step::Sample => Ok(self.signal_samples(job, plan, buffers, t, awaits)),
             Step::Signal { output } => Ok(self.signal_owed(job, buffers, t, output)),
             Step::Wait { input } => Ok(self.wait_first(job, plan, buffers, t, input)),
             Step::Exchange => Ok(self.wait_exchange(job, t)),
@@ -98,8 +109,8 @@ impl Machine {
 
     /// A task leaves the first phaser that it has not left.
     fn leave(&mut self, job: &Job, t: usize) -> Made
-        requires { IsNextIn job.now self.old t turns.leaves }
-        ensures { HadTurn job.now self.old self.new t result }
+        requires { MayDo job.now self.old t turns.leaves }
+        ensures { HasDone job.now self.old self.new t turns.leaves result }
     {
         let state = &self.tasks[t];
         let left = state.left;
@@ -116,20 +127,30 @@ impl Machine {
         }
     }
 
-    /// A source signals its next samples, a block of them.
-    fn signal_samples(&mut self, job: &Job, plan: &Plan, buffers: &mut Buffers, t: usize) -> Made
-        requires next { IsNextIn job.now self.old t turns.samples }
+    /// A source signals the next of the samples that it has still to signal, a block of them.
+    fn signal_samples(
+        &mut self,
+        job: &Job,
+        plan: &Plan,
+        buffers: &mut Buffers,
+        t: usize,
+        awaits: &[i64],
+    ) -> Made
+        requires next { (s : List (List ℤ)) × MayHaveCome job.now self.old t awaits.now s
+            × IsNextIn (with_samples s job.now) self.old t turns.samples }
         requires plan { IsPlan job.now plan.now }
         requires places { HasPlaces job.now buffers.old }
-        ensures made { HadTurn job.now self.old self.new t result }
+        ensures made { (s : List (List ℤ)) → MayHaveCome job.now self.old t awaits.now s
+            → IsNextIn (with_samples s job.now) self.old t turns.samples
+            → HadTurn (with_samples s job.now) self.old self.new t result }
         ensures places { buffers.new ≡ buffers.old }
     {
         let (k, phaser) = output_of(job, t, 0);
         let state = &self.tasks[t];
         let begun = state.begun;
         let number = state.numbers[k];
-        let many = plan.sample_block(job, t, begun);
-        let samples = &plan.samples(job, t)[begun as usize..(begun + many) as usize];
+        let many = plan.block(job, t, begun).min(awaits.len() as u64);
+        let samples = &awaits[..many as usize];
         let parcels = &mut buffers.parcels;
         let Ok(_) = self.signal_values_on(job, phaser, number, samples, parcels) else {
             return Made::Blocked { phaser };
@@ -143,9 +164,9 @@ impl Machine {
 
     /// A task signals what it owes on this output.
     fn signal_owed(&mut self, job: &Job, buffers: &mut Buffers, t: usize, output: usize) -> Made
-        requires next { IsNextIn job.now self.old t (turns.signals output) }
+        requires next { MayDo job.now self.old t (turns.signals output) }
         requires places { HasPlaces job.now buffers.old }
-        ensures made { HadTurn job.now self.old self.new t result }
+        ensures made { HasDone job.now self.old self.new t (turns.signals output) result }
         ensures places { buffers.new ≡ buffers.old }
     {
         let state = &self.tasks[t];
@@ -164,10 +185,10 @@ impl Machine {
 
     /// A filter signals all that it has made, where all of it is in range.
     fn signal_made(&mut self, job: &Job, buffers: &mut Buffers, t: usize) -> Made
-        requires next { IsNextIn job.now self.old t (turns.signals 0) }
+        requires next { MayDo job.now self.old t (turns.signals 0) }
         requires made { OwesMade self.old t }
         requires places { HasPlaces job.now buffers.old }
-        ensures made { HadTurn job.now self.old self.new t result }
+        ensures made { HasDone job.now self.old self.new t (turns.signals 0) result }
         ensures places { buffers.new ≡ buffers.old }
     {
         let state = &self.tasks[t];
@@ -192,11 +213,12 @@ impl Machine {
 
     /// A task that is no filter signals this value, which is in range, on this output.
     fn signal_value(&mut self, job: &Job, t: usize, output: usize, x: i64) -> Made
-        requires next { IsNextIn job.now self.old t (turns.signals output) }
+        requires next { MayDo job.now self.old t (turns.signals output) }
         requires kind { (task_at job.now.graph t).kind ≢ filters }
-        requires value { (m : Moment) → IsMachineAt job.now m self.old
-            → map ranged (next_values job.now m t output) ≡ Ok x ∷ [] }
-        ensures { HadTurn job.now self.old self.new t result }
+        requires value { (s : List (List ℤ)) (m : Moment)
+            → IsMachineAt (with_samples s job.now) m self.old
+            → map ranged (next_values (with_samples s job.now) m t output) ≡ Ok x ∷ [] }
+        ensures { HasDone job.now self.old self.new t (turns.signals output) result }
     {
         let (k, phaser) = output_of(job, t, output);
         let number = self.tasks[t].numbers[k];
@@ -219,10 +241,11 @@ impl Machine {
         t: usize,
         k: usize,
     ) -> Made
-        requires next { IsNextIn job.now self.old t (turns.waits k) }
+        requires next { (s : List (List ℤ)) × IsNextIn (with_samples s job.now) self.old t (turns.waits k)
+            × HasRoomNext (with_samples s job.now) self.old t }
         requires plan { IsPlan job.now plan.now }
         requires places { HasPlaces job.now buffers.old }
-        ensures made { HadTurn job.now self.old self.new t result }
+        ensures made { HasDone job.now self.old self.new t (turns.waits k) result }
         ensures places { buffers.new ≡ buffers.old }
     {
         let phaser = input_of(job, t, k);
@@ -262,12 +285,12 @@ impl Machine {
     fn keep(&mut self, sink: Option<usize>, outcomes: &[Outcome])
         requires there { IfSome sink (λ i. i < length self.old.lines.items) }
         requires room { IfSome sink (HasRoomIn self.old.lines.items (length outcomes.now)) }
-        ensures lines { map sink_values self.new.lines.items
-            ≡ with_line sink (kept_of outcomes.now) (map sink_values self.old.lines.items) }
+        ensures lines { (given : ℕ → List ℤ) → map (kept_behind given) self.new.lines.items
+            ≡ with_line sink (kept_of outcomes.now) (map (kept_behind given) self.old.lines.items) }
         ensures starts { map (λ line. line.start) self.new.lines.items
             ≡ map (λ line. line.start) self.old.lines.items }
-        ensures own { (job : JobValue) → All (IsLineOf job) self.old.lines.items
-            → All (IsLineOf job) self.new.lines.items }
+        ensures own { (room : ℕ → ℕ) → All (HasRoom room) self.old.lines.items
+            → All (HasRoom room) self.new.lines.items }
         ensures cores { self.new.cores ≡ self.old.cores }
         ensures tasks { self.new.tasks ≡ self.old.tasks }
     {
@@ -278,8 +301,8 @@ impl Machine {
 
     /// A peer waits on E.
     fn wait_exchange(&mut self, job: &Job, t: usize) -> Made
-        requires { IsNextIn job.now self.old t turns.exchanges }
-        ensures { HadTurn job.now self.old self.new t result }
+        requires { MayDo job.now self.old t turns.exchanges }
+        ensures { HasDone job.now self.old self.new t turns.exchanges result }
     {
         let phaser = input_of(job, t, 1);
         let state = &self.tasks[t];
@@ -302,8 +325,9 @@ impl Machine {
 
     /// A task registers its child on the next phaser of the child's line.
     fn register_child(&mut self, job: &Job, t: usize, c: usize) -> Result<Made, AllocError>
-        requires { IsNextIn job.now self.old t (turns.registers c) }
-        ensures made { IfOk result (λ made. HadTurn job.now self.old self.new t made) }
+        requires { MayDo job.now self.old t (turns.registers c) }
+        ensures made { IfOk result
+            (HasDone job.now self.old self.new t (turns.registers c)) }
         ensures err { OnErr result (self.new ≡ self.old) }
     {
         let _all = job.graph().registrations(c);
@@ -342,18 +366,19 @@ impl Machine {
         child: u64,
         mode: Mode,
     ) -> Result<(), RegisterRefusal>
-        requires machine { IsMachine job.now self.old }
+        requires machine { IsSome job.now self.old }
         requires places { (p < length job.now.graph.phasers)
             × (c < length job.now.graph.tasks) }
-        ensures refused { IfErr result (λ e. e ≢ RegisterRefusal.OutOfMemory → (m : Moment)
-            → IsMachineAt job.now m self.old
-            → add_refusal job.now c (m.history p) parent child mode ≡ Some e) }
-        ensures ok { OnOk result ((m : Moment) → IsMachineAt job.now m self.old
-            → add_refusal job.now c (m.history p) parent child mode ≡ None) }
-        ensures cores { OnOk result ((m : Moment) → IsMachineAt job.now m self.old
-            → HasCores job.now (with_at p (add_event job.now c parent child mode ∷ m.history p)
-            m.history) self.new.cores.items) }
-        ensures lines { OnOk result ((m : Moment) → IsMachineAt job.now m self.old
+        ensures refused { IfErr result (λ e. e ≢ RegisterRefusal.OutOfMemory
+            → (h : ℕ → History) → HasCores job.now h self.old.cores.items
+            → add_refusal job.now c (h p) parent child mode ≡ Some e) }
+        ensures ok { OnOk result ((h : ℕ → History) → HasCores job.now h self.old.cores.items
+            → add_refusal job.now c (h p) parent child mode ≡ None) }
+        ensures cores { OnOk result ((h : ℕ → History) → HasCores job.now h self.old.cores.items
+            → HasCores job.now (with_at p (add_event job.now c parent child mode ∷ h p) h)
+            self.new.cores.items) }
+        ensures lines { OnOk result ((s : List (List ℤ)) (m : Moment)
+            → IsMachineAt (with_samples s job.now) m self.old
             → HasBegun job.now m c (done_of (m.history p)) self.old.lines.items
             self.new.lines.items) }
         ensures err { OnErr result (self.new ≡ self.old) }
@@ -370,9 +395,9 @@ impl Machine {
 
     /// The number of a live task on a phaser, 0 where it has none.
     fn number_on(&self, job: &Job, t: usize, p: usize) -> u64
-        requires { IsLiveIn job.now self.now t }
-        ensures { (m : Moment) → IsMachineAt job.now m self.now → is_live job.now m t ≡ true
-            → number_on m t p ≡ result }
+        requires { IsLiveSome job.now self.now t }
+        ensures { (s : List (List ℤ)) (m : Moment) → IsMachineAt (with_samples s job.now) m self.now
+            → is_live job.now m t ≡ true → number_on m t p ≡ result }
     {
         for k in 0..job.graph().registrations(t) {
             if job.graph().registration(t, k).phaser == p {

@@ -13,6 +13,7 @@ ghost use Rattle.graph_runs.specs.Answers.{is_stalled, turn_tells};
 
 use crate::buffers::Buffers;
 use crate::machine::Machine;
+use crate::opening::opened_lines;
 use crate::parked::Parked;
 use crate::plan::Plan;
 use crate::step::Step;
@@ -42,10 +43,11 @@ pub struct World<'a> {
 
 impl<'a> Model for World<'a> {
     ghost use Rattle.std.specs.Prelude.{◌≡◌, length};
+    ghost use Rattle.std.specs.List.{All};
     ghost use Rattle.graph_runs.specs.Moments.{Moment};
-    ghost use Rattle.stream_job.specs.Worlds.{WorldState, HasMet};
+    ghost use Rattle.stream_job.specs.Worlds.{WorldState, IsWorldAt};
     ghost use Rattle.stream_job.specs.Blocking.{AreBlocked};
-    ghost use Rattle.stream_job.specs.Machines.{IsMachineAt};
+    ghost use Rattle.stream_job.specs.Machines.{IsLineOf, IsMachineAt, KeepsLines, none_given};
     ghost use Rattle.stream_job.specs.Plans.{IsPlan};
     ghost use Rattle.stream_job.specs.Buffers.{HasPlaces};
 
@@ -58,9 +60,12 @@ impl<'a> Model for World<'a> {
       parked = w.parked;
     } };
 
-    ghost invariant = { λ w. ((m : Moment) × IsMachineAt w.job.now m w.machine
-        × AreBlocked w.job.now m w.parked × HasMet w.job.now m w.met)
-        × (length w.parked ≡ length w.job.now.graph.phasers) × IsPlan w.job.now w.plan
+    ghost invariant = { λ w. ((m : Moment) × IsWorldAt (record {
+        job = w.job.now;
+        machine = w.machine;
+        met = w.met;
+        parked = w.parked;
+    }) m) × (length w.parked ≡ length w.job.now.graph.phasers) × IsPlan w.job.now w.plan
         × HasPlaces w.job.now w.buffers };
 }
 
@@ -85,7 +90,7 @@ impl<'a> World<'a> {
         ensures parked { IfOk result (λ world. (p : ℕ) → get_or world.parked p [] ≡ []) }
     {
         let plan = Plan::new(alloc, job)?;
-        let machine = Machine::new(alloc, job)?;
+        let machine = Machine::new(alloc, job, opened_lines(alloc, job)?)?;
         let buffers = Buffers::new(alloc, job)?;
         let parked = Parked::new(alloc, job.graph().phasers())?;
         Ok(World {
@@ -113,7 +118,8 @@ impl<'a> World<'a> {
         // A world stands for some moment, whatever was done with it before.
         ensures stands { (m : Moment) × IsWorldAt self.now m }
     {
-        self.machine.next(self.job, &self.plan, task)
+        let awaits = self.machine.awaits(self.job, &self.plan, task);
+        self.machine.next(self.job, &self.plan, task, awaits)
     }
 
     /// Returns each sink's number and what it has taken so far, in the order of the lines. A value
@@ -198,9 +204,9 @@ impl<'a> World<'a> {
         if let Some((place, phase)) = self.met {
             return Ok(Turned::TooBig { place, phase });
         }
-        let made = self
-            .machine
-            .make(self.job, &self.plan, &mut self.buffers, task)?;
+        let awaits = self.machine.awaits(self.job, &self.plan, task);
+        let (plan, buffers) = (&self.plan, &mut self.buffers);
+        let made = self.machine.make(self.job, plan, buffers, task, awaits)?;
         self.parked.note(made, task);
         self.plan.pass(self.job, &self.machine.tasks, task);
         let told = made.told(task);
