@@ -9,6 +9,7 @@ pub mod Runs
 pub mod SinkLines
 pub mod Stalls
 pub mod Standing
+pub mod Streams
 pub mod TaskLists
 pub mod Tellings
 pub mod Turning

@@ -8,6 +8,7 @@
 
 mod buffers;
 mod calls;
+mod input;
 mod machine;
 mod made;
 mod next;
@@ -19,9 +20,14 @@ mod plan;
 mod plan_blocks;
 mod roots;
 mod runs;
+mod sink_lines;
 mod stalls;
 mod standing;
 mod step;
+mod stopped;
+mod stream;
+mod stream_stops;
+mod stream_turns;
 mod task_list;
 mod task_state;
 mod text_jobs;
@@ -35,6 +41,8 @@ pub use phase_any;
 pub use phase_any::{phase_accum, phase_base, phase_core, phase_history};
 pub use runs::{RunTurnsFault, run_turns};
 pub use step::Step;
+pub use stopped::Stopped;
+pub use stream::Stream;
 pub use stream_eval::stream_lists::{
     Job, JobRefusal, LENGTH_MAX, Span, input_number, laws, number_of, output_number, taken_count,
 };

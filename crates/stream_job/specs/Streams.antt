@@ -1,0 +1,217 @@
+-- What a run that is fed stands for: all samples that came so far, which nobody keeps, a moment of
+-- their run, and what each sink has handed over; and when it stops.
+use Rattle.std.specs.Prelude.{◌≡◌, ℕ, ℤ, ◌+◌, ◌-◌, ◌<◌, ◌≤◌, ◌||◌, ◌&&◌, ◌==◌, ◌++◌, Bool, true, false, nat_lt, List, [], Option, Some, None, length, drop, get_or, set, slice_get, min, max, map, is_some, vec_capacity, if◌then◌else◌}
+use Rattle.std.specs.List.{find, list_all, list_any, range_with_len}
+use Rattle.phase_any.specs.phase_accum.Sends.{AreSends}
+use Rattle.graph_lang.specs.graph_base.Graphs.{source_number, sources_of, task_at}
+use Rattle.graph_lang.specs.graph_base.declared.line.Kind.TheVariants.{Source}
+use Rattle.stream_eval.specs.stream_lists.Jobs.{Job, samples_in, with_samples}
+use Rattle.stream_eval.specs.stream_lists.Lists.{is_sink_at, sinks_of}
+use Rattle.stream_eval.specs.stream_lists.Meetings.{meeting_line}
+use Rattle.stream_eval.specs.stream_lists.Ranges.{Where}
+use Rattle.graph_runs.specs.Answers.{after_turns, is_still}
+use Rattle.graph_runs.specs.Feeds.{Call, IsOpenAt, call_of, hungers}
+use Rattle.graph_runs.specs.Moments.{Moment}
+use Rattle.graph_runs.specs.NextBlocks.{block_of}
+use Rattle.graph_runs.specs.Nexts as nexts
+use Rattle.graph_runs.specs.Nexts.{Next, is_live, next_of}
+use Rattle.stream_job.specs.Machines.{IsMachineAt, KeepsLines}
+use Rattle.stream_job.specs.SinkLines.{kept_by}
+use Rattle.stream_job.specs.Worlds.{HasMet}
+use Rattle.stream_job.specs.declared.input.Input.{Input}
+use Rattle.stream_job.specs.declared.input.TheConstants.{COUNT_MAX, INPUT_ROOM}
+use Rattle.stream_job.specs.declared.machine.Machine.{Machine}
+use Rattle.stream_job.specs.declared.sink_lines.TheConstants.{LINE_ROOM}
+use Rattle.stream_job.specs.declared.stopped.Stopped.{Stopped}
+use Rattle.stream_job.specs.declared.stopped.Stopped.TheVariants as stopped
+
+-- a job that lends its graph, the machine, what waits of each source's samples, and where a value
+-- was out of range
+pub record StreamState : Type 0 where
+  pub job : Job
+  pub machine : Machine
+  pub inputs : List Input
+  pub met : Option Where
+
+-- ---- samples
+
+-- all samples that came so far, where these came to those of a source
+abbrev pub fed : List (List ℤ) → ℕ → List ℤ → List (List ℤ)
+fed s source xs = set s source (get_or s source [] ++ xs)
+
+-- whether no more samples come for source number k
+abbrev pub has_ended : List Input → ℕ → Bool
+has_ended inputs k = of (slice_get inputs k)
+  where
+    of : Option Input → Bool
+    of None = true
+    of (Some input) = input.ended
+
+-- the same of task t
+abbrev pub ended_at : StreamState → ℕ → Bool
+ended_at stream t = has_ended stream.inputs (source_number stream.job.graph.tasks t)
+
+-- an input keeps of these samples those that are still to be signalled after so many steps
+pub record Keeps (input : Input) (begun : ℕ) (xs : List ℤ) : Type 0 where
+  pub early : input.from ≤ begun
+  pub kept : input.values.items ≡ drop input.from xs
+  pub sends : AreSends xs
+  pub few : length xs ≤ COUNT_MAX
+  pub begun_few : begun ≤ length xs
+
+-- the inputs do so at a moment
+abbrev pub AreKept : Job → List (List ℤ) → Moment → List Input → Type 0
+AreKept job s m inputs = (t : ℕ) (input : Input) → t < length job.graph.tasks
+    → (task_at job.graph t).kind ≡ Source
+    → slice_get inputs (source_number job.graph.tasks t) ≡ Some input
+    → Keeps input (m.begun t) (samples_in job s t)
+
+-- how many samples a feed takes, where so many came, of which so many were signalled, and so many
+-- are fed
+abbrev pub feed_takes : ℕ → ℕ → ℕ → ℕ
+feed_takes came begun many =
+    min many (min (INPUT_ROOM - (came - begun)) (COUNT_MAX - came))
+
+-- ---- feeds
+
+-- a feed of so many samples to a source takes this many of them
+abbrev pub FeedTakes : StreamState → List (List ℤ) → Moment → ℕ → ℕ → ℕ → Type 0
+FeedTakes stream s m source many took = (t : ℕ) → t < length stream.job.graph.tasks
+    → (task_at stream.job.graph t).kind ≡ Source
+    → source_number stream.job.graph.tasks t ≡ source
+    → took ≡ (if is_some stream.met || has_ended stream.inputs source then 0
+    else feed_takes (length (samples_in stream.job s t)) (m.begun t) many)
+
+-- but for what waits of its sources' samples, a stream is as it was
+pub record IsSameBut (old new : StreamState) : Type 0 where
+  pub job : new.job ≡ old.job
+  pub machine : new.machine ≡ old.machine
+  pub met : new.met ≡ old.met
+
+-- a source has ended, and of the others those that had
+abbrev pub ended_with : List Input → ℕ → ℕ → Bool
+ended_with inputs source k = k == source || has_ended inputs k
+
+-- no samples came
+abbrev pub none_came : Job → List (List ℤ)
+none_came job = map (λ k. []) (range_with_len 0 (sources_of job.graph))
+
+-- ---- moments
+
+-- the stream stands for these samples, this moment, and what each sink has handed over
+pub record IsStreamAt (stream : StreamState) (s : List (List ℤ)) (m : Moment)
+    (given : ℕ → List ℤ) : Type 0 where
+  pub each : length s ≡ sources_of stream.job.graph
+  pub machine : IsMachineAt (with_samples s stream.job) m stream.machine
+  pub lines : KeepsLines stream.job given m stream.machine.lines.items
+  pub kept : AreKept stream.job s m stream.inputs
+  pub open : IsOpenAt (with_samples s stream.job) (ended_at stream) m
+  pub met : HasMet (with_samples s stream.job) m stream.met
+
+-- ---- stops
+
+-- how many values the line of task t may have
+abbrev pub line_room : Job → ℕ → ℕ
+line_room job t = max LINE_ROOM (task_at job.graph t).block
+
+-- whether a sink that waits next has no room for its next block
+abbrev pub is_full : Job → Moment → (ℕ → List ℤ) → ℕ → Bool
+is_full job m given t = of (next_of job m t)
+  where
+    of : Next → Bool
+    of (nexts.waits k) =
+        is_sink_at job t
+        && nat_lt (line_room job t)
+        (length (kept_by job m t) - length (given t) + block_of job m t)
+    of next = false
+
+-- whether a source waits for a sample
+abbrev pub is_hungry : Job → (ℕ → Bool) → Moment → ℕ → Bool
+is_hungry job ended m t = of (call_of job ended m t)
+  where
+    of : Call → Bool
+    of hungers = true
+    of call = false
+
+-- whether task t makes no event now: it is not live, its turn would be blocked, it waits for a
+-- sample, or it has no room
+abbrev pub rests : Job → (ℕ → Bool) → Moment → (ℕ → List ℤ) → ℕ → Bool
+rests job ended m given t = is_still job m t || is_hungry job ended m t || is_full job m given t
+
+-- the numbers of all tasks
+abbrev pub all_tasks : Job → List ℕ
+all_tasks job = range_with_len 0 (length job.graph.tasks)
+
+-- the first sink that has no room
+abbrev pub first_full : Job → Moment → (ℕ → List ℤ) → Option ℕ
+first_full job m given = find (is_full job m given) (all_tasks job)
+
+-- the first source that waits for a sample
+abbrev pub first_hungry : Job → (ℕ → Bool) → Moment → Option ℕ
+first_hungry job ended m = find (is_hungry job ended m) (all_tasks job)
+
+-- some task is live
+abbrev pub is_some_live : Job → Moment → Bool
+is_some_live job m = list_any (is_live job m) (all_tasks job)
+
+-- why it stops, where the first sink without room is this task, and the first source that waits for
+-- a sample this one
+abbrev pub stop_by : Job → Option ℕ → Option ℕ → Bool → Stopped → Type 0
+stop_by job (Some t) hungry live (stopped.Full sink) = slice_get (sinks_of job) sink ≡ Some t
+stop_by job None (Some t) live (stopped.Hungry source) =
+    source_number job.graph.tasks t ≡ source
+stop_by job None None true stopped.Stalled = Unit {0}
+stop_by job None None false stopped.Done = Unit {0}
+stop_by job full hungry live stop = ⊥
+
+-- no value was out of range, and no task makes an event now
+pub record Rests (stream : StreamState) (s : List (List ℤ)) (m : Moment) (given : ℕ → List ℤ)
+    : Type 0 where
+  pub none : stream.met ≡ None
+  pub rest : let job = with_samples s stream.job in
+      list_all (rests job (ended_at stream) m given) (all_tasks job) ≡ true
+
+-- it stops so at a moment: a sink without room is told first, and then a source that waits for a
+-- sample
+abbrev pub StopsAt : StreamState → List (List ℤ) → Moment → (ℕ → List ℤ) → Stopped → Type 0
+StopsAt stream s m given (stopped.TooBig place phase) = stream.met ≡ Some (place, phase)
+StopsAt stream s m given stopped.Paused = Unit {0}
+StopsAt stream s m given stop =
+    let job = with_samples s stream.job in
+    Rests stream s m given
+    × stop_by job (first_full job m given) (first_hungry job (ended_at stream) m)
+    (is_some_live job m) stop
+
+-- a stream went on by turns: for whatever samples came, whatever moment it stood at, and whatever
+-- the sinks had handed over, it stands for the same samples at a moment that turns lead to, and no
+-- sink has handed over more
+pub record GoesOn (old new : StreamState) : Type 0 where
+  pub later : (s : List (List ℤ)) (m : Moment) (given : ℕ → List ℤ) → IsStreamAt old s m given
+      → (turns : List ℕ)
+      × IsStreamAt new s (after_turns (with_samples s old.job) m turns) given
+  pub job : new.job ≡ old.job
+  pub inputs : new.inputs ≡ old.inputs
+
+-- ---- what holds of every stream
+
+-- no two tasks meet, however many samples come
+abbrev pub IsApart : Job → Type 0
+IsApart job = (s : List (List ℤ)) → ((t : ℕ) → t < length job.graph.tasks
+    → (task_at job.graph t).kind ≡ Source → length (samples_in job s t) ≤ COUNT_MAX)
+    → meeting_line (with_samples s job) ≡ None
+
+-- an input has room for all samples that may wait, and for as many that were signalled
+abbrev pub HasInputRoom : Input → Type 0
+HasInputRoom input = INPUT_ROOM + INPUT_ROOM ≤ vec_capacity input.values
+
+-- an input is that of the source of this number
+pub record IsInputOf (job : Job) (k : ℕ) (input : Input) : Type 0 where
+  pub there : input.task < length job.graph.tasks
+  pub kind : (task_at job.graph input.task).kind ≡ Source
+  pub number : source_number job.graph.tasks input.task ≡ k
+  pub room : HasInputRoom input
+
+-- there is one for each source
+pub record AreInputs (job : Job) (inputs : List Input) : Type 0 where
+  pub many : length inputs ≡ sources_of job.graph
+  pub each : (k : ℕ) (input : Input) → slice_get inputs k ≡ Some input → IsInputOf job k input

@@ -1,0 +1,168 @@
+//! Where a run that is fed stops.
+ghost use Rattle.std.specs.Prelude.{◌≡◌, ◌<◌, ℕ, ℤ, List, IfSome, None, Some, is_some, length, true};
+ghost use Rattle.std.specs.List.{find, list_all};
+ghost use Rattle.stream_eval.specs.stream_lists.Jobs.{with_samples};
+ghost use Rattle.graph_runs.specs.Moments.{Moment};
+ghost use Rattle.graph_runs.specs.Nexts.{next_of};
+ghost use Rattle.stream_job.specs.Machines.{IsMachineAt, IsSome, MayHaveCome, next_by};
+ghost use Rattle.stream_job.specs.Plans.{IsPlan};
+ghost use Rattle.stream_job.specs.Streams.{AreInputs, AreKept};
+
+use crate::input::Input;
+use crate::machine::Machine;
+use crate::plan::Plan;
+use crate::sink_lines::line_room;
+use crate::step::Step;
+use crate::stopped::Stopped;
+use crate::stream::Stream;
+use graph_runs::{is_cut, until_of};
+use stream_eval::stream_lists::Job;
+
+impl Stream {
+    ghost use Rattle.stream_job.specs.Streams.{IsStreamAt, StopsAt, all_tasks, ended_at, first_full, first_hungry, is_full, is_hungry, rests};
+
+    /// Why no task can move, where none can.
+    pub fn stop(&self) -> Option<Stopped>
+        ensures { IfSome result (λ stop. (s : List (List ℤ)) (m : Moment) (given : ℕ → List ℤ)
+            → IsStreamAt self.now s m given → StopsAt self.now s m given stop) }
+    {
+        if let Some((place, phase)) = self.met {
+            return Some(Stopped::TooBig { place, phase });
+        }
+        if !self.all_rest() {
+            return None;
+        }
+        if let Some(t) = self.first_full() {
+            let sink = self.machine.tasks[t].sink;
+            return Some(Stopped::Full { sink });
+        }
+        if let Some(t) = self.first_hungry() {
+            let source = self.plan.tasks[t].source;
+            return Some(Stopped::Hungry { source });
+        }
+        if self.machine.has_live(&self.job) {
+            return Some(Stopped::Stalled);
+        }
+        Some(Stopped::Done)
+    }
+
+    /// Whether no task makes an event now.
+    fn all_rest(&self) -> bool
+        requires { self.now.met ≡ None }
+        ensures { (s : List (List ℤ)) (m : Moment) (given : ℕ → List ℤ)
+            → IsStreamAt self.now s m given → let job = with_samples s self.now.job in
+            list_all (rests job (ended_at self.now) m given) (all_tasks job) ≡ result }
+    {
+        for t in 0..self.job.graph().tasks() {
+            if !self.rests(t) {
+                return false;
+            }
+        }
+        true
+    }
+
+    /// The first sink that has no room.
+    fn first_full(&self) -> Option<usize>
+        ensures { (s : List (List ℤ)) (m : Moment) (given : ℕ → List ℤ)
+            → IsStreamAt self.now s m given
+            → first_full (with_samples s self.now.job) m given ≡ result }
+    {
+        for t in 0..self.job.graph().tasks() {
+            if self.is_full(t) {
+                return Some(t);
+            }
+        }
+        None
+    }
+
+    /// The first source that waits for a sample.
+    fn first_hungry(&self) -> Option<usize>
+        ensures { (s : List (List ℤ)) (m : Moment) (given : ℕ → List ℤ)
+            → IsStreamAt self.now s m given
+            → first_hungry (with_samples s self.now.job) (ended_at self.now) m ≡ result }
+    {
+        for t in 0..self.job.graph().tasks() {
+            if self.is_hungry(t) {
+                return Some(t);
+            }
+        }
+        None
+    }
+
+    /// Whether a task makes no event now.
+    fn rests(&self, t: usize) -> bool
+        requires { t < length self.now.job.graph.tasks }
+        ensures { (s : List (List ℤ)) (m : Moment) (given : ℕ → List ℤ)
+            → IsStreamAt self.now s m given
+            → rests (with_samples s self.now.job) (ended_at self.now) m given t ≡ result }
+    {
+        let awaits = awaited(&self.job, &self.plan, &self.machine, &self.inputs, t);
+        self.machine.is_still(&self.job, &self.plan, t, awaits)
+            || self.is_hungry(t)
+            || self.is_full(t)
+    }
+
+    /// What a task does next.
+    fn step(&self, t: usize) -> Step
+        requires { t < length self.now.job.graph.tasks }
+        ensures { (s : List (List ℤ)) (m : Moment) (given : ℕ → List ℤ)
+            → IsStreamAt self.now s m given
+            → next_of (with_samples s self.now.job) m t ≡ next_by result }
+    {
+        let awaits = awaited(&self.job, &self.plan, &self.machine, &self.inputs, t);
+        self.machine.next(&self.job, &self.plan, t, awaits)
+    }
+
+    /// Whether a task is a source that waits for a sample.
+    pub fn is_hungry(&self, t: usize) -> bool
+        requires { t < length self.now.job.graph.tasks }
+        ensures { (s : List (List ℤ)) (m : Moment) (given : ℕ → List ℤ)
+            → IsStreamAt self.now s m given
+            → is_hungry (with_samples s self.now.job) (ended_at self.now) m t ≡ result }
+    {
+        if !self.job.graph().is_source(t) || self.inputs[self.plan.tasks[t].source].ended {
+            return false;
+        }
+        let begun = self.machine.tasks[t].begun;
+        let awaits = awaited(&self.job, &self.plan, &self.machine, &self.inputs, t);
+        awaits.is_empty() && !is_cut(until_of(&self.job, t), begun) && self.step(t) == Step::Leave
+    }
+
+    /// Whether a task is a sink that waits next and has no room for what it may get.
+    pub fn is_full(&self, t: usize) -> bool
+        requires { t < length self.now.job.graph.tasks }
+        ensures { (s : List (List ℤ)) (m : Moment) (given : ℕ → List ℤ)
+            → IsStreamAt self.now s m given
+            → is_full (with_samples s self.now.job) m given t ≡ result }
+    {
+        if !self.job.graph().is_sink(t) {
+            return false;
+        }
+        let state = &self.machine.tasks[t];
+        let steps = self.plan.block(&self.job, t, state.begun);
+        let kept = self.machine.lines[state.sink].values.len() as u64;
+        line_room(&self.job, t).saturating_sub(kept) < steps
+            && matches!(self.step(t), Step::Wait { .. })
+    }
+}
+
+/// The samples that a task, where it is a source, has still to signal.
+pub fn awaited<'a>(
+    job: &Job,
+    plan: &Plan,
+    machine: &Machine,
+    inputs: &'a [Input],
+    t: usize,
+) -> &'a [i64]
+    requires task { t < length job.now.graph.tasks }
+    requires plan { IsPlan job.now plan.now }
+    requires machine { IsSome job.now machine.now }
+    requires inputs { AreInputs job.now inputs.now }
+    ensures { (s : List (List ℤ)) (m : Moment) → IsMachineAt (with_samples s job.now) m machine.now
+        → AreKept job.now s m inputs.now → MayHaveCome job.now machine.now t result.now s }
+{
+    if !job.graph().is_source(t) {
+        return &[];
+    }
+    inputs[plan.tasks[t].source].awaits(machine.tasks[t].begun)
+}

@@ -1,0 +1,96 @@
+//! The turns of a run that is fed.
+ghost use Rattle.std.specs.Prelude.{◌≡◌, ◌≢◌, ◌<◌, ℕ, ℤ, List, Ok, IfOk, length, map, false, true, None, Some};
+ghost use Rattle.stream_eval.specs.stream_lists.Jobs.{with_samples};
+ghost use Rattle.stream_eval.specs.stream_lists.Ranges.{answer_of};
+ghost use Rattle.graph_runs.specs.Moments.{Moment, started};
+
+use crate::stopped::Stopped;
+use crate::stream::Stream;
+use crate::stream_stops::awaited;
+use crate::turned::Turned;
+use graph_runs::{feeds, outcomes};
+use std::alloc::AllocError;
+
+/// The turns that a task gets one after the other, while it moves, at most.
+const TURNS: usize = 64;
+
+impl Stream {
+    ghost use Rattle.stream_job.specs.Machines.{kept_behind};
+    ghost use Rattle.stream_job.specs.Streams.{GoesOn, IsStreamAt, StopsAt};
+    ghost use Rattle.stream_job.specs.declared.stopped.Stopped.TheVariants.{Done};
+
+    /// Gives turns to the tasks until none can move, and returns why.
+    ///
+    /// A source that was not told to have ended waits for a sample where it has none left, but a
+    /// child that is due there comes first. A sink without room is told before a hungry source,
+    /// since to read it may let others move. A value out of range is the first that a turn meets,
+    /// and one of every run whose samples go on so; it is told again by each later call.
+    ///
+    /// A child's registration may ask for memory, and nothing else does. Where there is none, no
+    /// value is lost, and the call can be made again.
+    pub fn run(&mut self) -> Result<Stopped, AllocError>
+        ensures goes_on { GoesOn self.old self.new }
+        ensures stops { IfOk result (λ stop. (s : List (List ℤ)) (m : Moment)
+            (given : ℕ → List ℤ) → IsStreamAt self.new s m given
+            → StopsAt self.new s m given stop) }
+        ensures done { IfOk result (λ stop. stop ≡ Done → (s : List (List ℤ)) (m : Moment)
+            (given : ℕ → List ℤ) → IsStreamAt self.new s m given
+            → answer_of (started (with_samples s self.new.job) m)
+            ≡ Ok (map (kept_behind given) self.new.machine.lines.items)) }
+    {
+        for _ in 0..u32::MAX {
+            if self.round()? {
+                continue;
+            }
+            if let Some(stop) = self.stop() {
+                outcomes::all_gone();
+                return Ok(stop);
+            }
+        }
+        Ok(Stopped::Paused)
+    }
+
+    /// Gives turns to each task, in the order of their lines, and to each of them while it moves.
+    /// Returns whether some task moved.
+    fn round(&mut self) -> Result<bool, AllocError>
+        ensures { GoesOn self.old self.new }
+    {
+        let mut moved = false;
+        for t in 0..self.job.graph().tasks() {
+            moved |= self.turns(t)?;
+        }
+        Ok(moved)
+    }
+
+    /// Gives turns to a task while it moves, and returns whether it did.
+    fn turns(&mut self, t: usize) -> Result<bool, AllocError>
+        requires { t < length self.old.job.graph.tasks }
+        ensures { GoesOn self.old self.new }
+    {
+        for made in 0..TURNS {
+            if !self.turn(t)? {
+                return Ok(made > 0);
+            }
+        }
+        Ok(true)
+    }
+
+    /// Gives a turn to a task, where it waits for no sample and has room, and returns whether it
+    /// moved.
+    fn turn(&mut self, t: usize) -> Result<bool, AllocError>
+        requires { t < length self.old.job.graph.tasks }
+        ensures { GoesOn self.old self.new }
+    {
+        if self.met.is_some() || self.is_hungry(t) || self.is_full(t) {
+            return Ok(false);
+        }
+        feeds::feeds_go_on();
+        let awaits = awaited(&self.job, &self.plan, &self.machine, &self.inputs, t);
+        let (plan, buffers) = (&self.plan, &mut self.buffers);
+        let made = self.machine.make(&self.job, plan, buffers, t, awaits)?;
+        self.plan.pass(&self.job, &self.machine.tasks, t);
+        let told = made.told(t);
+        self.met = told.too_big();
+        Ok(matches!(told, Turned::Moved | Turned::Ended))
+    }
+}
