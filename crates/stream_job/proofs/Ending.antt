@@ -1,7 +1,8 @@
 -- Whether a live task makes no further step.
-use Rattle.std.proofs.Common.{◌≡◌, ◌≢◌, ℕ, ◌<◌, Bool, true, false, not, ◌&&◌, ◌||◌, Option, Some, is_some, length, get_or, nat_le, refl, sym, ap, subst, ◌∙◌, arith}
+use Rattle.std.proofs.Common.{◌≡◌, ◌≢◌, ℕ, ℤ, ◌-◌, ◌<◌, ◌≤◌, ◌⊎◌, inl, inr, List, Bool, true, false, not, ◌&&◌, ◌||◌, eqb, Option, Some, is_some, length, drop, get_or, nat_le, refl, sym, ap, subst, ◌∙◌, arith}
 use Rattle.std.specs.Prelude.{unwrap_or}
-use Rattle.std.proofs.lemmas.Bool.{lt-ltb, le-ltb}
+use Rattle.std.proofs.lemmas.Bool.{lt-ltb, le-ltb, lt-leb, le-leb, eq-eqb, ne_eqb, cases_lt}
+use Rattle.std.proofs.lemmas.List.{length-drop}
 use Rattle.std.proofs.lemmas.Option.{slice_get-get_or}
 use Rattle.phase_any.specs.phase_base.declared.entry.Entry.{Entry}
 use Rattle.phase_any.specs.phase_base.Members.{entry_of}
@@ -10,7 +11,7 @@ use Rattle.graph_lang.specs.graph_base.Graphs.{task_at, is_source}
 use Rattle.graph_lang.specs.graph_base.TaskLines.{IsGraph}
 use Rattle.graph_lang.specs.graph_base.declared.line.Kind.{Kind}
 use Rattle.graph_lang.specs.graph_base.declared.line.Kind.TheVariants.{Source, Fir, Split, Join, Peer, Sink}
-use Rattle.stream_eval.specs.stream_lists.Jobs.{Job}
+use Rattle.stream_eval.specs.stream_lists.Jobs.{Job, samples_at}
 use Rattle.graph_runs.specs.Moments.{Moment, HasRun, input_at, first_input}
 use Rattle.graph_runs.specs.Nexts.{is_live, is_cut, has_input_ended, has_run_out, has_signaller, number_on, has_left, registrations_at}
 use Rattle.graph_runs.specs.TaskPlaces.{TaskPlace, StandsAt, registration_at, registration_of_output}
@@ -136,6 +137,31 @@ over_by_input job m t k q at result is ran stands live none uncut never first fe
     ∙ sym (ap (λ x. not (has_signaller (h x)) && nat_le (done_of (h x)) w.entry.wait_phase) same)
     ∙ answered w.entry found
 
+-- of a list nothing is left where as many as it has are taken from it
+none_left : (samples rest : List ℤ) (begun : ℕ) → drop begun samples ≡ rest
+    → nat_le (length samples) begun ≡ eqb (length rest) 0
+none_left samples rest begun is = by (cases_lt begun (length samples))
+  where
+    many : length rest ≡ length samples - begun
+    many = sym (ap length is) ∙ length-drop begun samples
+
+    by : (begun < length samples) ⊎ (length samples ≤ begun)
+        → nat_le (length samples) begun ≡ eqb (length rest) 0
+    by (inl lt) =
+        lt-leb (length samples) begun lt
+        ∙ sym (ne_eqb (length rest) 0 (λ none. absurd (omega (arith, many, none, lt))))
+    by (inr le) =
+        le-leb (length samples) begun le
+        ∙ sym (eq-eqb (length rest) 0 (omega (arith, many, le)))
+
+-- whether a source that `until` does not cut makes no further step, by the samples that are left
+pub over_by_samples : (job : Job) (m : Moment) (t : ℕ) (rest : List ℤ)
+    → is_cut (task_at job.graph t).until (m.begun t) ≡ false → (task_at job.graph t).kind ≡ Source
+    → drop (m.begun t) (samples_at job t) ≡ rest → is_over job m t ≡ eqb (length rest) 0
+over_by_samples job m t rest uncut source is =
+    ap (λ b. b || has_input_ended job m t (task_at job.graph t).kind) uncut
+    ∙ ap (has_input_ended job m t) source ∙ none_left (samples_at job t) rest (m.begun t) is
+
 -- whether `until` cuts a task, by its state
 pub cut_is : (job : Job) (m : Moment) (t : ℕ) (at : TaskPlace) → StandsAt job m t at
     → (until : Option ℕ) → until ≡ (task_at job.graph t).until
@@ -143,6 +169,14 @@ pub cut_is : (job : Job) (m : Moment) (t : ℕ) (at : TaskPlace) → StandsAt jo
 cut_is job m t at stands until same =
     ap (is_cut (task_at job.graph t).until) stands.begun
     ∙ ap (λ o. is_cut o at.begun) (sym same)
+
+pub source_is : (kind : Kind) → is_source kind ≡ true → kind ≡ Source
+source_is Source e = refl
+source_is Fir e = absurd (cc)
+source_is Split e = absurd (cc)
+source_is Join e = absurd (cc)
+source_is Peer e = absurd (cc)
+source_is Sink e = absurd (cc)
 
 pub no_source : (kind : Kind) → is_source kind ≡ false → kind ≢ Source
 no_source Source e = absurd (cc)

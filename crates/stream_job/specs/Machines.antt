@@ -80,10 +80,10 @@ AwaitsAt job s m t awaits = t < length job.graph.tasks → (task_at job.graph t)
     → drop (m.begun t) (samples_in job s t) ≡ awaits
 
 -- these may be the samples that came so far, of which task t has still to signal some
-pub record MayHaveCome (job : Job) (machine : Machine) (t : ℕ) (awaits : List ℤ)
+pub record MayHaveCome (job : Job) (machine : Machine) (t : ℕ) (rest : List ℤ)
     (s : List (List ℤ)) : Type 0 where
   pub stands : IsMachine (with_samples s job) machine
-  pub awaits : (m : Moment) → IsMachineAt (with_samples s job) m machine → AwaitsAt job s m t awaits
+  pub awaits : (m : Moment) → IsMachineAt (with_samples s job) m machine → AwaitsAt job s m t rest
   pub sends : t < length job.graph.tasks → AreSends (samples_in job s t)
 
 -- ---- the lines of the sinks
@@ -103,8 +103,8 @@ pub record KeepsLines (job : Job) (given : ℕ → List ℤ) (m : Moment) (lines
   pub starts : map (λ line. line.start) lines ≡ map (begins_at job m) (sinks_of job)
 
 -- a sink's line has so much room
-pub record HasRoom (room : ℕ → ℕ) (line : Lines) : Type 0 where
-  pub room : room line.task ≤ vec_capacity line.values
+pub record HasRoom (needs : ℕ → ℕ) (line : Lines) : Type 0 where
+  pub room : needs line.task ≤ vec_capacity line.values
 
 -- it has room for all that the sink takes in its steps, wherever it begins
 abbrev pub IsLineOf : Job → Lines → Type 0

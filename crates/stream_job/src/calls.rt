@@ -151,8 +151,8 @@ impl Machine {
     ) -> Result<u64, RegisterRefusal>
         requires cores { HasSomeCores job.now self.old.cores.items }
         requires phaser { p < length job.now.graph.phasers }
-        ensures refused { IfErr result (λ e. e ≢ RegisterRefusal.OutOfMemory → (m : Moment)
-            → IsMachineAt job.now m self.old
+        ensures refused { IfErr result (λ e. e ≢ RegisterRefusal.OutOfMemory
+            → (h : ℕ → History) → HasCores job.now h self.old.cores.items
             → register_now_refusal (h p) parent child ≡ Some e) }
         ensures ok { IfOk result (λ phase. (h : ℕ → History)
             → HasCores job.now h self.old.cores.items
@@ -180,8 +180,8 @@ impl Machine {
     ) -> Result<(), RegisterRefusal>
         requires cores { HasSomeCores job.now self.old.cores.items }
         requires phaser { p < length job.now.graph.phasers }
-        ensures refused { IfErr result (λ e. e ≢ RegisterRefusal.OutOfMemory → (m : Moment)
-            → IsMachineAt job.now m self.old
+        ensures refused { IfErr result (λ e. e ≢ RegisterRefusal.OutOfMemory
+            → (h : ℕ → History) → HasCores job.now h self.old.cores.items
             → register_refusal (h p) parent child mode ≡ Some e) }
         ensures ok { OnOk result ((h : ℕ → History)
             → HasCores job.now h self.old.cores.items

@@ -4,7 +4,7 @@ use Rattle.std.proofs.lemmas.Option.{slice_get_read}
 use Rattle.stream_job.proofs.machine.Machine.core.Goals as goal
 
 pub returns : goal.returns
-returns c = λ m stands.
+returns c = λ s m stands.
     let many : length c.args.self.now.cores.items ≡ length c.args.job.now.graph.phasers =
     stands.cores.many in
     let there : c.args.p < length c.args.job.now.graph.phasers = c.requires.phaser in

@@ -9,15 +9,15 @@ use Rattle.stream_job.proofs.machine.Machine.drop_on.Goals as goal
 
 pub returns-clause-cores : goal.returns-clause-cores
 returns-clause-cores c =
-    on_ok c.drop_task.result (λ after m at.
-    set_core c.args.job.now m.history c.args.self.now.cores.items c.args.p c.drop_task.new.self
-    (Dropped c.args.number ∷ m.history c.args.p) at.cores c.requires.phaser
+    on_ok c.drop_task.result (λ after h at.
+    set_core c.args.job.now h c.args.self.now.cores.items c.args.p c.drop_task.new.self
+    (Dropped c.args.number ∷ h c.args.p) at c.requires.phaser
     (after (phaser_at c.args.job.now.graph c.args.p).op (limits_at c.args.job.now c.args.p)
-    (m.history c.args.p)
+    (h c.args.p)
     (let many : length c.args.self.now.cores.items ≡ length c.args.job.now.graph.phasers =
-    at.cores.many in
+    at.many in
     let there : c.args.p < length c.args.job.now.graph.phasers = c.requires.phaser in
-    at.cores.each c.args.p c.index_mut.result.now
+    at.each c.args.p c.index_mut.result.now
     (slice_get_read c.args.self.now.cores.items (length c.args.self.now.cores.items) c.args.p
     c.index_mut.result.now refl (omega arith) c.index_mut.ensures.value))))
     c.drop_task.ensures.after

@@ -1,6 +1,7 @@
 -- By the number of the output's registration.
 use Rattle.std.proofs.Common.{◌≡◌, length, get_or, refl, ap, sym, ◌∙◌, arith}
 use Rattle.graph_lang.specs.graph_base.Graphs.{task_at, phaser_at}
+use Rattle.stream_eval.specs.stream_lists.Jobs.{with_samples}
 use Rattle.graph_runs.specs.Moments.{limits_at}
 use Rattle.graph_runs.specs.Nexts.{number_on}
 use Rattle.graph_runs.specs.Answers.{output_at}
@@ -12,19 +13,21 @@ use Rattle.stream_job.proofs.machine.Machine.signal_blocks.Goals as goal
 
 pub bounds-deref-k : goal.bounds-deref-k
 bounds-deref-k c =
-    let at = c.requires.live.1 in
-    let in_numbers = (number_of_output c.args.job.now c.requires.live.0 c.args.t c.args.j
-    (place_of c.state.result.now) at.graph (c.state.ensures c.requires.live.0 at).stands
-    c.requires.live.2 c.requires.output).0 in
+    let job = with_samples c.requires.live.0 c.args.job.now in
+    let m = c.requires.live.1.0 in
+    let at = c.requires.live.1.1 in
+    let in_numbers = (number_of_output job m c.args.t c.args.j
+    (place_of c.state.result.now) at.graph (c.state.ensures c.requires.live.0 m at).stands
+    c.requires.live.1.2 c.requires.output).0 in
     omega (arith, c.output_of-k.ensures.registration, ap length c.deref.ensures)
 
 pub returns : goal.returns
-returns c = λ m at live.
-    let job = c.args.job.now in
+returns c = λ s m at live.
+    let job = with_samples s c.args.job.now in
     let p = c.output_of-k.result.1 in
     let same : p ≡ output_at job c.args.t c.args.j = c.output_of-k.ensures.phaser in
     let number = (number_of_output job m c.args.t c.args.j (place_of c.state.result.now) at.graph
-    (c.state.ensures m at).stands live c.requires.output).1 in
+    (c.state.ensures s m at).stands live c.requires.output).1 in
     sym (ap (λ q. blocks_signal (limits_at job q) (m.history q) (number_on m c.args.t q) c.args.many)
     same)
     ∙ ap (λ n. blocks_signal (limits_at job p) (m.history p) n c.args.many)
@@ -32,6 +35,6 @@ returns c = λ m at live.
     ∙ ap (λ k. get_or c.state.result.now.numbers.items k 0) (sym c.output_of-k.ensures.registration)
     ∙ ap (λ ns. get_or ns c.output_of-k.result.0 0) (sym c.deref.ensures))
     ∙ c.signal_blocks.ensures (phaser_at job.graph p).op (limits_at job p) (m.history p)
-    (c.core.ensures m at) refl
+    (c.core.ensures s m at) refl
     (sym (ap (λ line. line.bound) (c.phaser.ensures.phaser
     ∙ ap (λ g. phaser_at g p) c.graph.ensures.graph)))

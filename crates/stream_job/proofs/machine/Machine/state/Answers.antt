@@ -4,7 +4,7 @@ use Rattle.std.proofs.lemmas.Option.{slice_get_read}
 use Rattle.stream_job.proofs.machine.Machine.state.Goals as goal
 
 pub returns : goal.returns
-returns c = λ m stands.
+returns c = λ s m stands.
     let many : length c.args.self.now.tasks.items ≡ length c.args.job.now.graph.tasks =
     stands.tasks_many in
     let task : c.args.t < length c.args.job.now.graph.tasks = c.requires.task in
