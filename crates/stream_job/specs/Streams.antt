@@ -105,7 +105,7 @@ pub record IsStreamAt (stream : StreamState) (s : List (List ℤ)) (m : Moment)
   pub machine : IsMachineAt (with_samples s stream.job) m stream.machine
   pub lines : KeepsLines stream.job given m stream.machine.lines.items
   pub kept : AreKept stream.job s m stream.inputs
-  pub open : IsOpenAt (with_samples s stream.job) (ended_at stream) m
+  pub stays_open : IsOpenAt (with_samples s stream.job) (ended_at stream) m
   pub met : HasMet (with_samples s stream.job) m stream.met
 
 -- ---- stops
