@@ -1,5 +1,6 @@
 pub mod Events
 pub mod Leaving
+pub mod LinesAfter
 pub mod LinesBegin
 pub mod Lively
 pub mod Makes

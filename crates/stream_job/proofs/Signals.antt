@@ -52,7 +52,7 @@ use Rattle.graph_runs.proofs.Stepping.{signal_follows, sample_follows}
 use Rattle.stream_job.specs.Blocking.{called_on}
 use Rattle.stream_job.specs.Inside as inside
 use Rattle.stream_job.specs.Inside.{IsNextIn, OwesMade, is_over}
-use Rattle.stream_job.specs.Machines.{IsMachineAt, HasCores, IsLineOf}
+use Rattle.stream_job.specs.Machines.{IsMachineAt, HasCores, IsLineOf, KeepsLines}
 use Rattle.stream_job.specs.Places.{IsTaskAt, owed_in, place_of}
 use Rattle.stream_job.specs.Turning.{HadTurn, Shows, phaser_of}
 use Rattle.stream_job.specs.declared.machine.Machine.{Machine}
@@ -63,7 +63,8 @@ use Rattle.stream_job.proofs.Ending.{number_of_output}
 use Rattle.stream_job.proofs.Events.{after_own, unchanged}
 use Rattle.stream_job.proofs.Lively.{live_next}
 use Rattle.stream_job.proofs.Makes.{makes_event}
-use Rattle.stream_job.proofs.SinksKeep.{NoSinkWaits, lines_stay}
+use Rattle.stream_job.proofs.LinesAfter.{quiet_lines, same_lines, same_rooms}
+use Rattle.stream_job.proofs.SinksKeep.{NoSinkWaits}
 use Rattle.stream_job.proofs.WhatNext.{signals_owes, signals_step, samples_begins}
 
 -- ---- a call that the phaser would not take now
@@ -71,14 +72,18 @@ use Rattle.stream_job.proofs.WhatNext.{signals_owes, signals_step, samples_begin
 pub blocked_turn : (job : Job) (old new : Machine) (t p : ℕ) (next : Next)
     → IsNextIn job old t next → called_on job t next ≡ p
     → ((m : Moment) → IsMachineAt job m old → answer_of_turn job m t ≡ is_blocked)
-    → ((m : Moment) → IsMachineAt job m old → IsMachineAt job m new)
+    → ((m : Moment) → IsMachineAt job m old → IsMachineAt job m new) → new.lines ≡ old.lines
     → HadTurn job old new t (Blocked p)
-blocked_turn job old new t p next is called answer same = record {
+blocked_turn job old new t p next is called answer same lines = record {
   shows = λ m at.
       subst (λ a. Shows job m t a (Blocked p)) (sym (answer m at))
       (ap (called_on job t) (is.is m at) ∙ called);
   after = λ m at none.
       subst (λ a. IsMachineAt job (after_answer job a m) new) (sym (answer m at)) (same m at);
+  lines = λ given m at none kept.
+      subst (λ a. KeepsLines job given (after_answer job a m) new.lines.items) (sym (answer m at))
+      (same_lines job given m old new lines kept);
+  own = same_rooms old new lines;
 }
 
 -- ---- the values
@@ -289,7 +294,7 @@ pub refused_turn : (job : Job) (old new : Machine) (t number p : ℕ) (vs : List
     → new.tasks ≡ old.tasks → new.lines ≡ old.lines → HadTurn job old new t (Blocked p)
 refused_turn job old new t number p vs next event r is called answers reply cores tasks lines =
     blocked_turn job old new t p next is called answer
-    (λ m at. unchanged job m old new p at (cores m at) tasks lines)
+    (λ m at. unchanged job m old new p at (cores m at) tasks lines) lines
   where
     refused : (m : Moment) → IsMachineAt job m old
         → answer_of_turn job m t ≡ signal_answer event (Some r)
@@ -320,11 +325,10 @@ moved_turn job old new t p next event left is there none quiet phaser told answe
           (phaser, told m);
       after = λ m at good.
           after_own job m old new t event left at (answer m at) none there (is.stays m at)
-          (is.few m at) (cores m at) tasks (stands m at)
-          (ap (λ l. map sink_values l.items) lines ∙ at.lines
-          ∙ lines_stay job m old t event at (answer m at) quiet)
-          (ap (λ l. map (λ line. line.start) l.items) lines)
-          (subst (λ l. All (IsLineOf job) l.items) (sym lines) at.own);
+          (is.few m at) (cores m at) tasks (stands m at) (ap (λ l. length l.items) lines);
+      lines = λ given m at good.
+          quiet_lines job given m old new t event at (answer m at) none quiet lines;
+      own = same_rooms old new lines;
     }
 
 -- the answer where the phaser accepts
@@ -685,6 +689,10 @@ over_turn job old t j at step state vs next over count = record {
       (ap (λ n. (place.Task t, n)) steps);
   after = λ m stands good.
       subst (λ a. IsMachineAt job (after_answer job a m) old) (sym (over m stands).answer) stands;
+  lines = λ given m stands good kept.
+      subst (λ a. KeepsLines job given (after_answer job a m) old.lines.items)
+      (sym (over m stands).answer) kept;
+  own = λ room all. all;
 }
 
 -- ---- samples

@@ -43,8 +43,8 @@ abbrev pub UsesFew : Job → Moment → Type 0
 UsesFew job m = (p : ℕ) → p < length job.graph.phasers
     → greatest_used (m.history p) ≤ numbered (m.number p) (length job.graph.tasks)
 
--- the machine stands at a moment that turns lead to: each core has the history of its phaser, and
--- each task is in its state
+-- the machine stands at a moment that turns lead to: each core has the history of its phaser, each
+-- task is in its state, and there is a line for each sink
 pub record IsMachineAt (job : Job) (m : Moment) (machine : Machine) : Type 0 where
   pub graph : IsGraph job.graph
   pub apart : meeting_line job ≡ None
@@ -54,6 +54,7 @@ pub record IsMachineAt (job : Job) (m : Moment) (machine : Machine) : Type 0 whe
   pub tasks_many : length machine.tasks.items ≡ length job.graph.tasks
   pub tasks : (t : ℕ) (state : TaskState) → slice_get machine.tasks.items t ≡ Some state
       → IsTaskAt job m t state
+  pub lines_many : length machine.lines.items ≡ length (sinks_of job)
 
 -- the machine stands at some moment
 abbrev pub IsMachine : Job → Machine → Type 0

@@ -379,7 +379,7 @@ impl Machine {
             self.new.cores.items) }
         ensures lines { OnOk result ((s : List (List ℤ)) (m : Moment)
             → IsMachineAt (with_samples s job.now) m self.old
-            → HasBegun job.now m c (done_of (m.history p)) self.old.lines.items
+            → HasBegun (with_samples s job.now) m c (done_of (m.history p)) self.old.lines.items
             self.new.lines.items) }
         ensures err { OnErr result (self.new ≡ self.old) }
         ensures tasks { self.new.tasks ≡ self.old.tasks }
