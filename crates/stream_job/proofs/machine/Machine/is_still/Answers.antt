@@ -1,5 +1,5 @@
 -- A live task's turn is blocked where its next call is.
-use Rattle.std.proofs.Common.{◌≡◌, ℤ, List, true, cond, ap, ◌∙◌}
+use Rattle.std.proofs.Common.{ℤ, List, true, cond, ap, ◌∙◌}
 use Rattle.stream_eval.specs.stream_lists.Jobs.{with_samples}
 use Rattle.graph_runs.specs.Answers.{answer_of_turn, was_blocked}
 use Rattle.stream_job.specs.Inside.{would_block}

@@ -1,5 +1,5 @@
 -- By the number of the samples that are next.
-use Rattle.std.proofs.Common.{◌≡◌, ◌≤◌, length, min, ap, sym, ◌∙◌, arith}
+use Rattle.std.proofs.Common.{◌≡◌, ap, ◌∙◌, arith}
 use Rattle.stream_eval.specs.stream_lists.Jobs.{with_samples}
 use Rattle.graph_runs.specs.Answers.{output_at}
 use Rattle.graph_runs.specs.Moments.{limits_at}
