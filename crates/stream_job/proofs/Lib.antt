@@ -10,6 +10,7 @@ pub mod Begins
 pub mod Begun
 pub mod ChildLists
 pub mod Children
+pub mod NextSteps
 pub mod Numbering
 pub mod Ending
 pub mod InTurn
