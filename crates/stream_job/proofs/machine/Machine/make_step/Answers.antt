@@ -22,6 +22,18 @@ returns-in-Register-clause-memory c =
     on_err c.register_child.result
     (λ same. (c.in-Register.child, ap next_by c.in-Register.is)) c.register_child.ensures.err
 
+pub returns-in-Sample-clause-made : goal.returns-in-Sample-clause-made
+returns-in-Sample-clause-made c = λ s may next.
+    c.signal_samples.ensures.made s may
+    (subst (IsNextIn (with_samples s c.args.job.now) c.args.self.now c.args.t)
+    (ap next_by c.in-Sample.is) next)
+
+pub returns-in-Signal-clause-made : goal.returns-in-Signal-clause-made
+returns-in-Signal-clause-made c = λ s may next.
+    c.signal_owed.ensures.made s
+    (subst (IsNextIn (with_samples s c.args.job.now) c.args.self.now c.args.t)
+    (ap next_by c.in-Signal.is) next)
+
 pub returns-in-Wait-clause-made : goal.returns-in-Wait-clause-made
 returns-in-Wait-clause-made c = λ s may next.
     c.wait_first.ensures.made s

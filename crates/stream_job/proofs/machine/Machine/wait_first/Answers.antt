@@ -235,8 +235,8 @@ keep-requires-clause-room c =
     let job = with_samples s c.args.job.now in
     let a = goal.at.keep-requires-clause-room c in
     let old = c.args.self.now in
-    let m = next.some.0 in
-    let at = next.some.1 in
+    let m = c.requires.next.2.0 in
+    let at = c.requires.next.2.1 in
     let p = c.input_of-phaser.result in
     let n = get_or c.deref.result.now c.args.k 0 in
     let v = c.in-Ok-Values in
@@ -246,7 +246,7 @@ keep-requires-clause-room c =
     (sym c.wait_block_on.ensures.lines)
     (room_of job old c.args.t got c.index.result.now c.sink_of-sink.result
     (c.sink_of-sink.ensures c.index.result.now asked.found)
-    (λ sink. c.requires.next.2 m c.args.k p n got c.index.result.now at (next.is m at)
+    (λ sink. c.requires.next.2.2 c.args.k p n got c.index.result.now (next.is m at)
     (first_answer job old m c.args.t c.args.k n p c.block-steps.result v.phase v.count got
     c.index.result.now asked at (all s a.In-Ok-Values next (long s a.After-wait_block_on next) m at))
     asked.found sink))
