@@ -30,5 +30,6 @@ pub mod LeftAlone
 pub mod Staying
 pub mod BlockedLists
 pub mod Blocks
+pub mod StreamLines
 pub use Rattle.graph_runs.proofs as graph_runs_lemmas
 pub use Rattle.stream_eval.proofs.stream_lists_lemmas as stream_lists_lemmas
