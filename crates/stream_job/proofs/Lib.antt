@@ -31,5 +31,8 @@ pub mod Staying
 pub mod BlockedLists
 pub mod Blocks
 pub mod StreamLines
+pub mod Feeding
+pub mod FedMachines
+pub mod FedStreams
 pub use Rattle.graph_runs.proofs as graph_runs_lemmas
 pub use Rattle.stream_eval.proofs.stream_lists_lemmas as stream_lists_lemmas
