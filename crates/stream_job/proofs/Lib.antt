@@ -31,6 +31,7 @@ pub mod Staying
 pub mod BlockedLists
 pub mod Blocks
 pub mod StreamLines
+pub mod GivenLines
 pub mod Feeding
 pub mod FedMachines
 pub mod FedStreams
