@@ -35,5 +35,6 @@ pub mod GivenLines
 pub mod Feeding
 pub mod FedMachines
 pub mod FedStreams
+pub mod OpenedInputs
 pub use Rattle.graph_runs.proofs as graph_runs_lemmas
 pub use Rattle.stream_eval.proofs.stream_lists_lemmas as stream_lists_lemmas
