@@ -36,5 +36,6 @@ pub mod Feeding
 pub mod FedMachines
 pub mod FedStreams
 pub mod OpenedInputs
+pub mod OpenedStreams
 pub use Rattle.graph_runs.proofs as graph_runs_lemmas
 pub use Rattle.stream_eval.proofs.stream_lists_lemmas as stream_lists_lemmas
