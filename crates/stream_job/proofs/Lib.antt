@@ -35,6 +35,7 @@ pub mod GivenLines
 pub mod Feeding
 pub mod FedMachines
 pub mod FedStreams
+pub mod BareLists
 pub mod OpenedInputs
 pub mod OpenedStreams
 pub use Rattle.graph_runs.proofs as graph_runs_lemmas

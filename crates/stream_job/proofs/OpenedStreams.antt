@@ -1,13 +1,11 @@
 -- A stream stands at the opening, where no samples came.
 use Rattle.std.proofs.Common.{◌≡◌, ℕ, ℤ, zero, suc, ◌+◌, ◌<◌, true, false, List, [], ◌∷◌, Some, None, length, get_or, slice_get, map, refl, sym, ap, subst, ◌∙◌, arith}
 use Rattle.std.specs.List.{All, range_with_len}
-use Rattle.std.proofs.lemmas.List.{length-map}
-use Rattle.std.proofs.lemmas.List.FromFn.{length-range_with_len}
 use Rattle.std.proofs.lemmas.Option.{get_or_from_slice_get, slice_get_within}
 use Rattle.graph_lang.specs.graph_base.Graphs.{source_number, sources_of}
 use Rattle.stream_eval.specs.Results.{sink_values}
 use Rattle.stream_eval.specs.declared.whole.Lines.{Lines}
-use Rattle.stream_eval.specs.stream_lists.Jobs.{Job, samples_in, with_samples}
+use Rattle.stream_eval.specs.stream_lists.Jobs.{Job, with_samples}
 use Rattle.stream_eval.specs.stream_lists.Lists.{sinks_of}
 use Rattle.graph_runs.specs.Beginnings.{opening}
 use Rattle.graph_runs.proofs.AnsweredInTurn.{opening_answers_none}
@@ -18,15 +16,10 @@ use Rattle.stream_job.specs.SinkLines.{begins_at, kept_by}
 use Rattle.stream_job.specs.Streams.{IsStreamAt, Keeps, has_ended, none_came}
 use Rattle.stream_job.specs.declared.input.Input.{Input}
 use Rattle.stream_job.specs.declared.machine.Machine.{Machine}
+use Rattle.stream_job.proofs.BareLists.{all_bare, bare-length}
 use Rattle.stream_job.proofs.Begins.{opened_begins}
 use Rattle.stream_job.proofs.SinkLines.{map_same}
 use Rattle.stream_job.proofs.SinksKeep.{opened_kept}
-
--- of empty lists each is empty
-all_empty : (ks : List ℕ) (n : ℕ) → get_or (map {B = List ℤ} (λ k. []) ks) n [] ≡ []
-all_empty [] n = refl
-all_empty (k ∷ ks) zero = refl
-all_empty (k ∷ ks) (suc n) = all_empty ks n
 
 -- no source has ended, where no input has
 pub none_ended : (inputs : List Input) (k : ℕ) → All (λ input. input.ended ≡ false) inputs
@@ -46,8 +39,7 @@ pub stream_opens : (job : Job) (machine : Machine) (inputs : List Input)
 stream_opens job machine inputs none at values starts empty =
     let as_bare : job ≡ with_samples (none_came job) job = ap (λ s. with_samples s job) none in
     record {
-      each = length-map (range_with_len 0 (sources_of job.graph)) (λ k. [])
-          ∙ length-range_with_len 0 (sources_of job.graph);
+      each = bare-length (sources_of job.graph);
       machine = subst (λ j. IsMachineAt j (opening job) machine) as_bare at;
       lines = record {
         values = values
@@ -60,7 +52,7 @@ stream_opens job machine inputs none at values starts empty =
       kept = λ t input there kind found.
           (let k = source_number job.graph.tasks t in
           let lt = slice_get_within inputs k input found in
-          subst (Keeps input 0) (sym (all_empty (range_with_len 0 (sources_of job.graph)) k))
+          subst (Keeps input 0) (sym (all_bare (range_with_len 0 (sources_of job.graph)) k))
           (subst (λ one. Keeps one 0 []) (get_or_from_slice_get inputs k input input found)
           (empty k input lt)));
       stays_open = λ t p n there pp kind over number gone. absurd
