@@ -3,7 +3,7 @@ use Rattle.std.proofs.Common.{◌≡◌, ◌≢◌, ℕ, ◌<◌, ◌≤◌, Boo
 use Rattle.std.specs.Prelude.{IsSome, option_map}
 use Rattle.std.specs.List.{All}
 use Rattle.std.proofs.lemmas.Bool.{cases_lt, eq-eqb, ne_eqb}
-use Rattle.std.proofs.lemmas.List.{length-map, map-set, get_or_past}
+use Rattle.std.proofs.lemmas.List.{map-set, get_or_past}
 use Rattle.std.proofs.lemmas.List.Elements.{All-get_or, All-set}
 use Rattle.std.proofs.lemmas.Option.{slice_get_within}
 use Rattle.graph_lang.specs.graph_base.declared.line.Parent.{Parent}
@@ -11,12 +11,11 @@ use Rattle.graph_lang.specs.graph_base.Graphs.{task_at, no_task}
 use Rattle.graph_lang.specs.graph_base.TaskLines.{IsGraph}
 use Rattle.stream_eval.specs.stream_lists.Jobs.{Job}
 use Rattle.stream_eval.specs.stream_lists.Lists.{is_sink_at, sinks_of}
-use Rattle.stream_eval.specs.Results.{sink_values}
 use Rattle.stream_eval.specs.declared.whole.Lines.{Lines}
 use Rattle.graph_runs.specs.Beginnings.{opening, root_number}
 use Rattle.graph_runs.specs.Moments.{Moment, input_at}
-use Rattle.stream_job.specs.SinkLines.{kept_by, begins_at}
-use Rattle.stream_job.specs.Machines.{IsMachineAt, IsLineOf}
+use Rattle.stream_job.specs.SinkLines.{begins_at}
+use Rattle.stream_job.specs.Machines.{IsMachineAt, HasRoom, kept_behind}
 use Rattle.stream_job.specs.Inside.{begins_with, HasBegun}
 use Rattle.stream_job.specs.declared.machine.Machine.{Machine}
 use Rattle.stream_job.specs.declared.task_state.TaskState.{TaskState}
@@ -38,9 +37,8 @@ pub now_line : (job : Job) (m : Moment) (machine : Machine) (c : ℕ) (state : T
 now_line job m machine c state at there found now =
     let within = slice_get_within (sinks_of job) state.sink c
     (now_place job m machine c state at there found now) in
-    let f : ℕ → ℕ × List ℤ = λ t. (t, kept_by job m t) in
-    let lines = length-map machine.lines.items sink_values in
-    omega (arith, ap length at.lines, length-map (sinks_of job) f)
+    let many = at.lines_many in
+    omega arith
 
 -- at this phase
 pub lines_begin : (job : Job) (m : Moment) (machine : Machine) (c phase : ℕ) (state : TaskState)
@@ -57,19 +55,20 @@ lines_begin job m machine c phase state lines read at there found now same is =
     let below = now_line job m machine c state at there found now in
     let lt : i < length lines = subst (λ l. i < length l) (sym same) below in
     record {
-      values = line_stays sink_values lines i read new is refl ∙ ap (map sink_values) same;
-      starts = map-set (λ line. line.start) lines i new
+      values = λ given. line_stays (kept_behind given) lines i read new is refl
+          ∙ ap (map (kept_behind given)) same;
+      starts = λ starts. map-set (λ line. line.start) lines i new
           ∙ ap (λ l. set (map (λ line. line.start) l) i (Some phase)) same
-          ∙ ap (λ starts. set starts i (Some phase)) at.starts
+          ∙ ap (λ starts. set starts i (Some phase)) starts
           ∙ ap (λ o. set (map (begins_at job m) (sinks_of job)) i o) (sym here)
           ∙ one_set (begins_at job m) (begins_with job m c phase) c 0 i (sinks_of job)
           (filter_ascends (is_sink_at job) 0 (length job.graph.tasks)) place
           (λ u apart. sym (other u apart));
-      own = λ all.
-          (let own : All (IsLineOf job) lines = subst (All (IsLineOf job)) (sym same) all in
-          let was : IsLineOf job read =
-          subst (IsLineOf job) (sym is) (All-get_or (IsLineOf job) lines i read lt own) in
-          All-set (IsLineOf job) lines i new (record { room = was.room }) own);
+      own = λ room all.
+          (let own : All (HasRoom room) lines = subst (All (HasRoom room)) (sym same) all in
+          let was : HasRoom room read =
+          subst (HasRoom room) (sym is) (All-get_or (HasRoom room) lines i read lt own) in
+          All-set (HasRoom room) lines i new (record { room = was.room }) own);
     }
   where
     here : begins_with job m c phase c ≡ Some phase
@@ -80,13 +79,13 @@ lines_begin job m machine c phase state lines read at there found now same is =
 
 -- where the child does not join now, the lines are as they were
 pub lines_plain : (job : Job) (m : Moment) (machine : Machine) (c phase : ℕ) (lines : List Lines)
-    → IsMachineAt job m machine → (task_at job.graph c).joins_now ≡ false
+    → (task_at job.graph c).joins_now ≡ false
     → lines ≡ machine.lines.items → HasBegun job m c phase machine.lines.items lines
-lines_plain job m machine c phase lines at now same = record {
-  values = ap (map sink_values) same;
-  starts = ap (map (λ line. line.start)) same ∙ at.starts
+lines_plain job m machine c phase lines now same = record {
+  values = λ given. ap (map (kept_behind given)) same;
+  starts = λ starts. ap (map (λ line. line.start)) same ∙ starts
       ∙ map_same (begins_at job m) (begins_with job m c phase) (sinks_of job) (λ u. sym (plain u));
-  own = λ all. subst (All (IsLineOf job)) (sym same) all;
+  own = λ room all. subst (All (HasRoom room)) (sym same) all;
 }
   where
     plain : (u : ℕ) → begins_with job m c phase u ≡ begins_at job m u

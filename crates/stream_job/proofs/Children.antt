@@ -1,5 +1,5 @@
 -- The turn of a task that registers its child.
-use Rattle.std.proofs.Common.{◌≡◌, ◌≢◌, ℕ, List, ◌+◌, ◌-◌, ◌^◌, ◌<◌, ◌≤◌, Bool, true, false, cond, eqb, [], ◌∷◌, ◌++◌, Option, Some, None, length, get_or, slice_get, set, is_some, refl, sym, ap, subst, ◌∙◌, ◌⊎◌, inl, inr, arith}
+use Rattle.std.proofs.Common.{◌≡◌, ◌≢◌, ℕ, List, ◌+◌, ◌-◌, ◌^◌, ◌<◌, ◌≤◌, Bool, true, false, cond, eqb, [], ◌∷◌, ◌++◌, Option, Some, None, length, get_or, slice_get, set, is_some, refl, sym, ap, subst, ◌∙◌, ◌⊎◌, inl, inr, arith, map}
 use Rattle.std.specs.Prelude.{unwrap_or, nat_lt, option_map}
 use Rattle.smallvec.specs.SmallVec.{SmallVec}
 use Rattle.phase_any.specs.phase_core.phase_registry.Rosters.{next_after}
@@ -34,10 +34,11 @@ use Rattle.graph_runs.proofs.PlacesFollow.{child_follows, parent_follows}
 use Rattle.graph_runs.proofs.TurnRegistering.{due_child}
 use Rattle.graph_runs.proofs.PlacesLemmas.{on_ends}
 use Rattle.stream_job.specs.Places.{IsTaskAt, place_of}
-use Rattle.stream_job.specs.Machines.{IsMachineAt, HasCores, UsesFew}
+use Rattle.stream_job.specs.Machines.{IsMachineAt, HasCores, UsesFew, KeepsLines, kept_behind, none_given}
 use Rattle.stream_job.specs.SinkLines.{begins_at}
 use Rattle.stream_job.specs.Turning.{HadTurn, Shows, phaser_of}
 use Rattle.stream_job.specs.Inside.{IsNextIn, add_refusal, add_event, begins_with, HasBegun}
+use Rattle.stream_eval.specs.declared.whole.Lines.{Lines}
 use Rattle.stream_job.specs.declared.machine.Machine.{Machine}
 use Rattle.stream_job.specs.declared.task_state.TaskState.{TaskState}
 use Rattle.stream_job.specs.declared.made.Made.TheVariants.{Event}
@@ -400,6 +401,14 @@ child_event_is job m t p n c a mode input = by (task_at job.graph c).joins_now r
           begins = λ u. begins_plain job m t p n c a mode u now;
         }
 
+-- lines that keep as much are as many
+many_lines : (old new : List Lines)
+    → map (kept_behind none_given) new ≡ map (kept_behind none_given) old
+    → length new ≡ length old
+many_lines old new same =
+    sym (length-map new (kept_behind none_given)) ∙ ap length same
+    ∙ length-map old (kept_behind none_given)
+
 -- the machine after it
 pub child_turn : (job : Job) (old new : Machine) (t c p n a : ℕ) (mode : Mode)
     (state : TaskState) (numbers : SmallVec ℕ) → IsNextIn job old t (registers c)
@@ -421,6 +430,18 @@ child_turn job old new t c p n a mode state numbers next found phaser in_mode nu
       shows = λ m at. subst (λ x. Shows job m t x (Event p Moved)) (sym (answer m at))
           ((it m at).on, (it m at).told);
       after = λ m at none. after m at;
+      lines = λ given m at none kept.
+          (let begun = lines m at in
+          subst (λ x. KeepsLines job given (after_answer job x m) new.lines.items)
+          (sym (answer m at)) record {
+            values = begun.values given ∙ kept.values
+                ∙ lines_stay job m old t event at (answer m at)
+                (child_quiet job event c (it m at).of_child);
+            starts = begun.starts kept.starts
+                ∙ map_same (begins_with job m c (done_of (m.history p)))
+                (begins_at job (after_turn job event m)) (sinks_of job) (it m at).begins;
+          });
+      own = (lines next.some.0 next.some.1).own;
     }
   where
     event : TaskEvent
@@ -515,12 +536,8 @@ child_turn job old new t c p n a mode state numbers next found phaser in_mode nu
           cores = subst (λ hs. HasCores job hs new.cores.items) (sym e.history) (cores m at);
           tasks_many = omega arith;
           tasks = λ u s read. all u s (subst (λ xs. slice_get xs u ≡ Some s) tasks read);
-          lines = begun.values ∙ at.lines
-              ∙ lines_stay job m old t event at (answer m at) (child_quiet job event c e.of_child);
-          starts = begun.starts
-              ∙ map_same (begins_with job m c (done_of (m.history p)))
-              (begins_at job (after_turn job event m)) (sinks_of job) e.begins;
-          own = begun.own at.own;
+          lines_many = many_lines old.lines.items new.lines.items (begun.values none_given)
+              ∙ at.lines_many;
         }
 
 -- a fresh number

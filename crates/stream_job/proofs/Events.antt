@@ -105,12 +105,9 @@ pub after_own : (job : Job) (m : Moment) (old new : Machine) (t : ℕ) (event : 
     → HasCores job (after_turn job event m).history new.cores.items
     → new.tasks.items ≡ set old.tasks.items t state
     → IsTaskAt job (after_turn job event m) t state
-    → map sink_values new.lines.items
-    ≡ map (λ u. (u, kept_by job (after_turn job event m) u)) (sinks_of job)
-    → map (λ line. line.start) new.lines.items ≡ map (λ line. line.start) old.lines.items
-    → All (IsLineOf job) new.lines.items
+    → length new.lines.items ≡ length old.lines.items
     → IsMachineAt job (after_answer job (answer_of_turn job m t) m) new
-after_own job m old new t event state at answer none there reached few cores tasks here lines starts own =
+after_own job m old new t event state at answer none there reached few cores tasks here lines =
     let after = after_turn job event m in
     let long = length-set old.tasks.items t state in
     let many : length new.tasks.items ≡ length (set old.tasks.items t state) = ap length tasks in
@@ -128,11 +125,7 @@ after_own job m old new t event state at answer none there reached few cores tas
       tasks_many = omega arith;
       tasks = λ u other found. all u other
           (subst (λ xs. slice_get xs u ≡ Some other) tasks found);
-      lines = lines;
-      starts = starts ∙ at.starts
-          ∙ map_same (begins_at job m) (begins_at job after) (sinks_of job)
-          (λ u. begins_same job m event u none);
-      own = own;
+      lines_many = lines ∙ at.lines_many;
     }
 
 -- a machine of which nothing but a core was asked
@@ -148,7 +141,5 @@ unchanged job m old new p at cores tasks lines = record {
   tasks_many = ap (λ v. length v.items) tasks ∙ at.tasks_many;
   tasks = λ u state found. at.tasks u state
       (subst (λ v. slice_get v.items u ≡ Some state) tasks found);
-  lines = ap (λ l. map sink_values l.items) lines ∙ at.lines;
-  starts = ap (λ l. map (λ line. line.start) l.items) lines ∙ at.starts;
-  own = subst (λ l. All (IsLineOf job) l.items) (sym lines) at.own;
+  lines_many = ap (λ l. length l.items) lines ∙ at.lines_many;
 }

@@ -22,7 +22,7 @@ use Rattle.stream_job.specs.declared.machine.Machine.{Machine}
 use Rattle.stream_job.specs.declared.task_state.TaskState.{TaskState}
 use Rattle.stream_job.specs.declared.made.Made.TheVariants.{Event}
 use Rattle.stream_job.specs.declared.turned.Turned.{Turned}
-use Rattle.stream_job.proofs.SinksKeep.{lines_stay}
+use Rattle.stream_job.proofs.LinesAfter.{quiet_lines, same_rooms}
 use Rattle.stream_job.proofs.Lively.{LeavesAt, leaves_at, leaves_now}
 use Rattle.stream_job.proofs.Setting.{read_same}
 use Rattle.phase_any.specs.phase_history.declared.refusal.NoTask.{NoTask}
@@ -50,6 +50,9 @@ left_turn job old new t p number state told next found phaser numbered accepted 
     record {
       shows = λ m at. shows m at;
       after = λ m at none. after m at;
+      lines = λ given m at none.
+          quiet_lines job given m old new t (leave t p number) at (answer m at) refl tt lines;
+      own = same_rooms old new lines;
     }
   where
     is : (m : Moment) → IsMachineAt job m old → IsTaskAt job m t state
@@ -106,10 +109,7 @@ left_turn job old new t p number state told next found phaser numbered accepted 
           made_none = it.made_none;
           sink = it.sink;
         })
-        (ap (λ l. map sink_values l.items) lines ∙ at.lines
-        ∙ lines_stay job m old t (leave t p number) at (answer m at) tt)
-        (ap (λ l. map (λ line. line.start) l.items) lines)
-        (subst (λ l. All (IsLineOf job) l.items) (sym lines) at.own)
+        (ap (λ l. length l.items) lines)
 
 -- what the drop of a task that leaves is answered
 leaves_so : (job : Job) (old : Machine) (t p number : ℕ) (state : TaskState)

@@ -1,5 +1,6 @@
 pub mod Events
 pub mod Leaving
+pub mod LinesAfter
 pub mod LinesBegin
 pub mod Lively
 pub mod Makes
@@ -9,6 +10,7 @@ pub mod Begins
 pub mod Begun
 pub mod ChildLists
 pub mod Children
+pub mod NextSteps
 pub mod Numbering
 pub mod Ending
 pub mod InTurn

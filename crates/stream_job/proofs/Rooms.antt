@@ -12,7 +12,6 @@ use Rattle.graph_lang.specs.graph_base.Graphs.{task_at}
 use Rattle.stream_eval.specs.stream_lists.Jobs.{Job, least}
 use Rattle.stream_eval.specs.stream_lists.Lists.{is_sink_at, sinks_of}
 use Rattle.stream_eval.specs.stream_lists.Spans.{span_in, takes_from}
-use Rattle.stream_eval.specs.Results.{sink_values}
 use Rattle.stream_eval.specs.declared.whole.Lines.{Lines}
 use Rattle.stream_eval.proofs.stream_lists_lemmas.Starts.{fewer_steps}
 use Rattle.graph_runs.specs.Moments.{Moment, IsRegistered, input_at, started}
@@ -22,34 +21,32 @@ use Rattle.graph_runs.specs.Settled.{IsReady, Stands}
 use Rattle.graph_runs.proofs.Whole.{stands_all}
 use Rattle.graph_runs.proofs.Started.{run_started, ready_as}
 use Rattle.graph_runs.proofs.StepsLemmas.{has_inputs}
-use Rattle.graph_runs.specs.Nexts.{waits, number_on}
+use Rattle.graph_runs.specs.Nexts.{next_of, waits, number_on}
 use Rattle.graph_runs.specs.Answers.{makes, answer_of_turn, after_answer}
 use Rattle.graph_runs.specs.Reached.{IsReachable}
 use Rattle.graph_runs.specs.TaskEvents.{first_wait, after_turn}
 use Rattle.graph_runs.proofs.Boundaries.{all_taken}
 use Rattle.graph_runs.proofs.Signalling.{Live, live-is, number_there}
-use Rattle.stream_job.specs.Inside.{HasRoomIn, IsNextIn}
-use Rattle.stream_job.specs.Machines.{IsMachineAt, IsLineOf}
+use Rattle.stream_job.specs.Inside.{HasRoomIn, HasRoomNext}
+use Rattle.stream_job.specs.Machines.{HasRoom, IsLineOf, IsMachineAt, KeepsLines, kept_behind, none_given}
 use Rattle.stream_job.specs.declared.machine.Machine.{Machine}
 use Rattle.stream_job.specs.declared.task_state.TaskState.{TaskState}
 use Rattle.stream_job.specs.SinkLines.{kept_by}
 use Rattle.stream_job.proofs.SinksKeep.{kept_within}
 use Rattle.stream_job.proofs.Lively.{live_next}
-use Rattle.stream_job.proofs.Waits.{sink_kind, first_few}
+use Rattle.stream_job.proofs.Waits.{sink_kind, waits_few}
 use Rattle.stream_job.proofs.WhatNext.{Begins, waits_begins}
 
--- the line of a sink is its task's, with what the task keeps
-line_is : (job : Job) (m : Moment) (machine : Machine) (i t : ℕ) (line : Lines)
-    → IsMachineAt job m machine → slice_get (sinks_of job) i ≡ Some t
-    → slice_get machine.lines.items i ≡ Some line
-    → sink_values line ≡ (t, kept_by job m t)
-line_is job m machine i t line at sink found =
+-- the line of a sink is its task's, with what the task keeps behind what it has handed over
+pub line_is : (job : Job) (given : ℕ → List ℤ) (m : Moment) (lines : List Lines) (i t : ℕ)
+    (line : Lines) → KeepsLines job given m lines → slice_get (sinks_of job) i ≡ Some t
+    → slice_get lines i ≡ Some line → kept_behind given line ≡ (t, kept_by job m t)
+line_is job given m lines i t line kept sink found =
     let f : ℕ → ℕ × List ℤ = λ u. (u, kept_by job m u) in
     let none : ℕ × List ℤ = (0, []) in
-    sym (ap sink_values (get_or_from_slice_get machine.lines.items i line line found))
-    ∙ sym (get_or-map sink_values machine.lines.items i line none
-    (slice_get_within machine.lines.items i line found))
-    ∙ ap (λ xs. get_or xs i none) at.lines
+    sym (ap (kept_behind given) (get_or_from_slice_get lines i line line found))
+    ∙ sym (get_or-map (kept_behind given) lines i line none (slice_get_within lines i line found))
+    ∙ ap (λ xs. get_or xs i none) kept.values
     ∙ get_or-map f (sinks_of job) i t none (slice_get_within (sinks_of job) i t sink)
     ∙ ap f (get_or_from_slice_get (sinks_of job) i t t sink)
 
@@ -76,21 +73,22 @@ steps_left job m t k p n outcomes ready live few reached numbered =
     ap (λ b. cond b (further (m.begun t) outcomes) (m.begun t)) (eq-eqb t t refl) in
     omega (arith, further-length (m.begun t) outcomes)
 
-pub sink_room : (job : Job) (old : Machine) (m : Moment) (t k p n : ℕ) (outcomes : List Outcome)
-    (state : TaskState) (sink : Option ℕ) → IsNextIn job old t (waits k) → IsMachineAt job m old
-    → slice_get old.tasks.items t ≡ Some state
-    → sink ≡ cond (is_sink_at job t) (Some state.sink) None
-    → answer_of_turn job m t ≡ makes (first_wait t k p n outcomes)
-    → IfSome sink (HasRoomIn old.lines.items (length outcomes))
-sink_room job old m t k p n outcomes state sink next at found is answer =
-    subst (λ o. IfSome o (HasRoomIn old.lines.items (length outcomes))) (sym is)
-    (by (is_sink_at job t) refl)
+-- there is room for what a turn gets, at one moment
+room_at : (job : Job) (old : Machine) (m : Moment) (t k p n : ℕ) (outcomes : List Outcome)
+    (state : TaskState) → KeepsLines job none_given m old.lines.items
+    → All (IsLineOf job) old.lines.items
+    → IsReachable job (after_answer job (answer_of_turn job m t) m) → IsMachineAt job m old
+    → next_of job m t ≡ waits k → answer_of_turn job m t ≡ makes (first_wait t k p n outcomes)
+    → slice_get old.tasks.items t ≡ Some state → (task_at job.graph t).kind ≡ Sink
+    → HasRoomIn old.lines.items (length outcomes) state.sink
+room_at job old m t k p n outcomes state kept owns stays at next answer found kind =
+    room state.sink ((at.tasks t state found).sink kind)
   where
     live : Live job m t
-    live = live-is job m t (live_next job m t (waits k) (next.is m at) (λ e. absurd (cc)))
+    live = live-is job m t (live_next job m t (waits k) next (λ e. absurd (cc)))
 
     few : k < length (task_at job.graph t).inputs
-    few = first_few job old m t k next at
+    few = waits_few job m t k at.graph next
 
     numbered : m.number (input_at (task_at job.graph t) k) t
         ≡ Some (number_on m t (input_at (task_at job.graph t) k))
@@ -98,16 +96,16 @@ sink_room job old m t k p n outcomes state sink next at found is answer =
         number_there job m t (input_at (task_at job.graph t) k) at.graph live (inr (k, few, refl))
 
     after : IsReachable job (after_turn job (first_wait t k p n outcomes) m)
-    after = subst (λ a. IsReachable job (after_answer job a m)) answer (next.stays m at)
+    after = subst (λ a. IsReachable job (after_answer job a m)) answer stays
 
-    room : (i : ℕ) → slice_get (sinks_of job) i ≡ Some t → (task_at job.graph t).kind ≡ Sink
+    room : (i : ℕ) → slice_get (sinks_of job) i ≡ Some t
         → HasRoomIn old.lines.items (length outcomes) i
-    room i place kind = λ line read.
-        let here : sink_values line ≡ (t, kept_by job m t) =
-        line_is job m old i t line at place read in
+    room i place = λ line read.
+        let here : kept_behind none_given line ≡ (t, kept_by job m t) =
+        line_is job none_given m old.lines.items i t line kept place read in
         let owner : line.task ≡ t = ap (λ x. x.0) here in
         let long : length line.values.items ≡ length (kept_by job m t) = ap (λ x. length x.1) here in
-        let b : Begins job m t k = waits_begins job m t k (next.is m at) in
+        let b : Begins job m t k = waits_begins job m t k next in
         let some : 0 < length (task_at job.graph t).inputs =
         has_inputs (task_at job.graph t).kind (length (task_at job.graph t).inputs)
         (length (task_at job.graph t).outputs) (at.graph.tasks t live.there).ends b.kind in
@@ -122,29 +120,44 @@ sink_room job old m t k p n outcomes state sink next at found is answer =
         let lt = slice_get_within old.lines.items i line read in
         let own : IsLineOf job line =
         subst (IsLineOf job) (get_or_from_slice_get old.lines.items i line line read)
-        (All-get_or (IsLineOf job) old.lines.items i line lt at.own) in
+        (All-get_or (IsLineOf job) old.lines.items i line lt owns) in
         let enough : (span_in (least job) line.task).steps ≤ vec_capacity line.values = own.room in
         let same : (span_in (least job) line.task).steps ≡ (span_in (least job) t).steps =
         ap (λ u. (span_in (least job) u).steps) owner in
         omega (arith, line.values.ok.0)
 
+-- where the lines keep all, and have room for all, there is room for what a turn gets
+pub sink_room : (job : Job) (old : Machine) (t : ℕ) → ((m : Moment) → IsMachineAt job m old
+    → KeepsLines job none_given m old.lines.items) → All (IsLineOf job) old.lines.items
+    → ((m : Moment) → IsMachineAt job m old
+    → IsReachable job (after_answer job (answer_of_turn job m t) m)) → HasRoomNext job old t
+sink_room job old t kept owns stays = λ m k p n outcomes state at next answer found sink.
+    room_at job old m t k p n outcomes state (kept m at) owns (stays m at) at next answer found
+    (sink_kind (task_at job.graph t).kind sink)
+
+-- as the code has the place of the line
+pub room_of : (job : Job) (old : Machine) (t : ℕ) (outcomes : List Outcome) (state : TaskState)
+    (sink : Option ℕ) → sink ≡ cond (is_sink_at job t) (Some state.sink) None
+    → (is_sink_at job t ≡ true → HasRoomIn old.lines.items (length outcomes) state.sink)
+    → IfSome sink (HasRoomIn old.lines.items (length outcomes))
+room_of job old t outcomes state sink is room =
+    subst (λ o. IfSome o (HasRoomIn old.lines.items (length outcomes))) (sym is)
+    (by (is_sink_at job t) refl)
+  where
     by : (b : Bool) → is_sink_at job t ≡ b
         → IfSome (cond b (Some state.sink) None) (HasRoomIn old.lines.items (length outcomes))
-    by true e =
-        let kind = sink_kind (task_at job.graph t).kind e in
-        room state.sink ((at.tasks t state found).sink kind) kind
+    by true e = room e
     by false e = tt
 
 -- a line that has taken values has the room that it had
-pub line_kept : (job : Job) (lines : List Lines) (i : ℕ) (read kept : Lines) → i < length lines
-    → read ≡ get_or lines i read → kept.task ≡ read.task
-    → vec_capacity kept.values ≡ vec_capacity read.values → All (IsLineOf job) lines
-    → All (IsLineOf job) (set lines i kept)
-line_kept job lines i read kept lt is owner same all =
-    let was : IsLineOf job read =
-    subst (IsLineOf job) (sym is) (All-get_or (IsLineOf job) lines i read lt all) in
-    let steps : (span_in (least job) kept.task).steps ≡ (span_in (least job) read.task).steps =
-    ap (λ u. (span_in (least job) u).steps) owner in
-    let enough : (span_in (least job) read.task).steps ≤ vec_capacity read.values = was.room in
+pub line_kept : (needs : ℕ → ℕ) (lines : List Lines) (i : ℕ) (read kept : Lines)
+    → i < length lines → read ≡ get_or lines i read → kept.task ≡ read.task
+    → vec_capacity kept.values ≡ vec_capacity read.values → All (HasRoom needs) lines
+    → All (HasRoom needs) (set lines i kept)
+line_kept needs lines i read kept lt is owner same all =
+    let was : HasRoom needs read =
+    subst (HasRoom needs) (sym is) (All-get_or (HasRoom needs) lines i read lt all) in
+    let steps : needs kept.task ≡ needs read.task = ap needs owner in
+    let enough : needs read.task ≤ vec_capacity read.values = was.room in
     let room : vec_capacity kept.values ≡ vec_capacity read.values = same in
-    All-set (IsLineOf job) lines i kept (record { room = omega arith }) all
+    All-set (HasRoom needs) lines i kept (record { room = omega arith }) all

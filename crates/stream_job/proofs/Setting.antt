@@ -1,5 +1,5 @@
 -- One element of a list is set: the others stay.
-use Rattle.std.proofs.Common.{◌≡◌, ◌≢◌, ℕ, zero, suc, ◌<◌, ◌≤◌, [], ◌∷◌, Bool, true, false, cond, eqb, eq-eqb, List, Some, length, get_or, slice_get, set, refl, sym, ap, subst, ◌∙◌, arith}
+use Rattle.std.proofs.Common.{◌≡◌, ◌≢◌, ℕ, ℤ, zero, suc, ◌<◌, ◌≤◌, [], ◌∷◌, Bool, true, false, cond, eqb, eq-eqb, List, Some, length, get_or, slice_get, set, refl, sym, ap, subst, ◌∙◌, arith}
 use Rattle.std.specs.Prelude.{Result, Ok, Err, OnOk, OnErr, IfOk, IfErr}
 use Rattle.std.specs.Vec.{with_item}
 use Rattle.std.specs.declared.vec.Vec.{Vec}
@@ -9,7 +9,7 @@ use Rattle.std.proofs.lemmas.Option.{slice_get-get_or, slice_get_within, slice_g
 use Rattle.std.proofs.lemmas.Bool.{eqb-true}
 use Rattle.phase_any.specs.phase_history.Histories.{History}
 use Rattle.graph_lang.specs.graph_base.Graphs.{phaser_at}
-use Rattle.stream_eval.specs.stream_lists.Jobs.{Job}
+use Rattle.stream_eval.specs.stream_lists.Jobs.{Job, with_samples}
 use Rattle.graph_runs.specs.Moments.{limits_at}
 use Rattle.graph_runs.specs.Turned.{with_at}
 use Rattle.phase_any.specs.Phasers.{PhaserStandsFor}
@@ -65,6 +65,15 @@ set_core job history cores p core h has there stands = record {
         sym (ap (λ b. cond b h (history q)) e) in
         subst (λ g. Stands other q g) there
         (has.each q other (slice_get-set_other cores p q core other apart found))
+
+-- the cores have their histories whatever samples came
+pub bare_cores : {job : Job} {history : ℕ → History} {cores : List AnyPhaser}
+    (s : List (List ℤ)) → HasCores (with_samples s job) history cores → HasCores job history cores
+bare_cores s has = record { many = has.many; each = has.each }
+
+pub full_cores : {job : Job} {history : ℕ → History} {cores : List AnyPhaser}
+    (s : List (List ℤ)) → HasCores job history cores → HasCores (with_samples s job) history cores
+full_cores s has = record { many = has.many; each = has.each }
 
 -- what holds where a call was accepted may be weakened there
 pub on_ok : {A R : Type 0} {P Q : Type 0} (r : Result A R) → (P → Q) → OnOk r P → OnOk r Q

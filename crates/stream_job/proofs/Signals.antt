@@ -1,5 +1,5 @@
 -- The turn of a task that signals.
-use Rattle.std.proofs.Common.{◌≡◌, ◌≢◌, ℕ, ℤ, List, zero, suc, ◌+◌, ◌-◌, ◌<◌, ◌≤◌, Bool, true, false, cond, not, eqb, [], ◌∷◌, Option, Some, None, length, get_or, slice_get, set, map, take, drop, refl, sym, ap, subst, ◌∙◌, arith}
+use Rattle.std.proofs.Common.{◌≡◌, ◌≢◌, ℕ, ℤ, List, zero, suc, ◌+◌, ◌-◌, ◌<◌, ◌≤◌, Bool, true, false, cond, not, eqb, [], ◌∷◌, Option, Some, None, length, get_or, slice_get, set, map, take, drop, refl, sym, ap, subst, ◌∙◌, arith, min}
 use Rattle.std.specs.Prelude.{Result, Ok, Err, nat_le, unsigned_abs}
 use Rattle.std.specs.List.{All, position_from}
 use Rattle.std.specs.declared.vec.Vec.{Vec}
@@ -52,7 +52,7 @@ use Rattle.graph_runs.proofs.Stepping.{signal_follows, sample_follows}
 use Rattle.stream_job.specs.Blocking.{called_on}
 use Rattle.stream_job.specs.Inside as inside
 use Rattle.stream_job.specs.Inside.{IsNextIn, OwesMade, is_over}
-use Rattle.stream_job.specs.Machines.{IsMachineAt, HasCores, IsLineOf}
+use Rattle.stream_job.specs.Machines.{IsMachineAt, HasCores, IsLineOf, KeepsLines}
 use Rattle.stream_job.specs.Places.{IsTaskAt, owed_in, place_of}
 use Rattle.stream_job.specs.Turning.{HadTurn, Shows, phaser_of}
 use Rattle.stream_job.specs.declared.machine.Machine.{Machine}
@@ -63,7 +63,8 @@ use Rattle.stream_job.proofs.Ending.{number_of_output}
 use Rattle.stream_job.proofs.Events.{after_own, unchanged}
 use Rattle.stream_job.proofs.Lively.{live_next}
 use Rattle.stream_job.proofs.Makes.{makes_event}
-use Rattle.stream_job.proofs.SinksKeep.{NoSinkWaits, lines_stay}
+use Rattle.stream_job.proofs.LinesAfter.{quiet_lines, same_lines, same_rooms}
+use Rattle.stream_job.proofs.SinksKeep.{NoSinkWaits}
 use Rattle.stream_job.proofs.WhatNext.{signals_owes, signals_step, samples_begins}
 
 -- ---- a call that the phaser would not take now
@@ -71,14 +72,18 @@ use Rattle.stream_job.proofs.WhatNext.{signals_owes, signals_step, samples_begin
 pub blocked_turn : (job : Job) (old new : Machine) (t p : ℕ) (next : Next)
     → IsNextIn job old t next → called_on job t next ≡ p
     → ((m : Moment) → IsMachineAt job m old → answer_of_turn job m t ≡ is_blocked)
-    → ((m : Moment) → IsMachineAt job m old → IsMachineAt job m new)
+    → ((m : Moment) → IsMachineAt job m old → IsMachineAt job m new) → new.lines ≡ old.lines
     → HadTurn job old new t (Blocked p)
-blocked_turn job old new t p next is called answer same = record {
+blocked_turn job old new t p next is called answer same lines = record {
   shows = λ m at.
       subst (λ a. Shows job m t a (Blocked p)) (sym (answer m at))
       (ap (called_on job t) (is.is m at) ∙ called);
   after = λ m at none.
       subst (λ a. IsMachineAt job (after_answer job a m) new) (sym (answer m at)) (same m at);
+  lines = λ given m at none kept.
+      subst (λ a. KeepsLines job given (after_answer job a m) new.lines.items) (sym (answer m at))
+      (same_lines job given m old new lines kept);
+  own = same_rooms old new lines;
 }
 
 -- ---- the values
@@ -289,7 +294,7 @@ pub refused_turn : (job : Job) (old new : Machine) (t number p : ℕ) (vs : List
     → new.tasks ≡ old.tasks → new.lines ≡ old.lines → HadTurn job old new t (Blocked p)
 refused_turn job old new t number p vs next event r is called answers reply cores tasks lines =
     blocked_turn job old new t p next is called answer
-    (λ m at. unchanged job m old new p at (cores m at) tasks lines)
+    (λ m at. unchanged job m old new p at (cores m at) tasks lines) lines
   where
     refused : (m : Moment) → IsMachineAt job m old
         → answer_of_turn job m t ≡ signal_answer event (Some r)
@@ -320,11 +325,10 @@ moved_turn job old new t p next event left is there none quiet phaser told answe
           (phaser, told m);
       after = λ m at good.
           after_own job m old new t event left at (answer m at) none there (is.stays m at)
-          (is.few m at) (cores m at) tasks (stands m at)
-          (ap (λ l. map sink_values l.items) lines ∙ at.lines
-          ∙ lines_stay job m old t event at (answer m at) quiet)
-          (ap (λ l. map (λ line. line.start) l.items) lines)
-          (subst (λ l. All (IsLineOf job) l.items) (sym lines) at.own);
+          (is.few m at) (cores m at) tasks (stands m at) (ap (λ l. length l.items) lines);
+      lines = λ given m at good.
+          quiet_lines job given m old new t event at (answer m at) none quiet lines;
+      own = same_rooms old new lines;
     }
 
 -- the answer where the phaser accepts
@@ -685,6 +689,10 @@ over_turn job old t j at step state vs next over count = record {
       (ap (λ n. (place.Task t, n)) steps);
   after = λ m stands good.
       subst (λ a. IsMachineAt job (after_answer job a m) old) (sym (over m stands).answer) stands;
+  lines = λ given m stands good kept.
+      subst (λ a. KeepsLines job given (after_answer job a m) old.lines.items)
+      (sym (over m stands).answer) kept;
+  own = λ room all. all;
 }
 
 -- ---- samples
@@ -916,32 +924,33 @@ pub record ReadSamples (job : Job) (machine : Machine) (t begun many : ℕ) (vs 
   pub long : length vs ≡ many
   pub are : NextSamplesAre job machine t vs
 
-pub read_samples : (job : Job) (machine : Machine) (t many : ℕ) (xs : List ℤ)
+pub read_samples : (job : Job) (machine : Machine) (t block many : ℕ) (rest : List ℤ)
     (state : TaskState) → IsNextIn job machine t turns.samples
-    → slice_get machine.tasks.items t ≡ Some state → xs ≡ samples_at job t
-    → ((m : Moment) → m.begun t ≡ state.begun → sample_block_of job m t ≡ many)
-    → ReadSamples job machine t state.begun many
-    (take (state.begun + many - state.begun) (drop state.begun xs))
-read_samples job machine t many xs state next found same block =
+    → slice_get machine.tasks.items t ≡ Some state → drop state.begun (samples_at job t) ≡ rest
+    → ((m : Moment) → m.begun t ≡ state.begun → block_of job m t ≡ block)
+    → many ≡ min block (length rest)
+    → ReadSamples job machine t state.begun many (take many rest)
+read_samples job machine t block many rest state next found same blocks is_many =
     let m = next.some.0 in
     let at = next.some.1 in
+    let xs = samples_at job t in
     let s = samples_at_place job machine m t state next at found in
     let begun : m.begun t ≡ state.begun = (at.tasks t state found).stands.begun in
-    let of = block_of_samples job machine m t many state next at found (block m begun) in
-    let least : sample_block_of job m t ≡ many = block m begun in
+    let least : (n : Moment) → n.begun t ≡ state.begun → sample_block_of job n t ≡ many =
+    λ n e. ap (λ b. min b (length xs - n.begun t)) (blocks n e)
+    ∙ ap (λ b. min block (length xs - b)) e
+    ∙ ap (min block) (sym (length-drop state.begun xs) ∙ ap length same) ∙ sym is_many in
+    let of = block_of_samples job machine m t many state next at found (least m begun) in
+    let one = least m begun in
     let most = block_few job m t in
-    let off : state.begun + many - state.begun ≡ many = omega arith in
-    let is : take (state.begun + many - state.begun) (drop state.begun xs)
-    ≡ take many (drop state.begun (samples_at job t)) =
-    ap (λ n. take n (drop state.begun xs)) off
-    ∙ ap (λ l. take many (drop state.begun l)) same in
+    let is : take many rest ≡ take many (drop state.begun xs) = ap (take many) (sym same) in
     record {
       there = s.there;
       some = of.some;
       few = of.few;
       block = omega arith;
       long = ap length is ∙ of.long;
-      are = λ n stands. next_samples_are job machine t many state found block n stands ∙ sym is;
+      are = λ n stands. next_samples_are job machine t many state found least n stands ∙ sym is;
     }
 
 -- whether a task has made values

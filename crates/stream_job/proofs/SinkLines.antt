@@ -6,9 +6,9 @@ use Rattle.std.specs.List.{filter, range_with_len}
 use Rattle.std.proofs.Math.Seq.{map-set_same}
 use Rattle.std.proofs.lemmas.List.{map-set, get_or-map}
 use Rattle.std.proofs.lemmas.Option.{slice_get_read, slice_get_within, get_or_from_slice_get, same_Some}
-use Rattle.stream_eval.specs.Results.{sink_values}
 use Rattle.stream_eval.specs.declared.whole.Lines.{Lines}
 use Rattle.stream_job.specs.Inside.{HasRoomIn, more, with_line}
+use Rattle.stream_job.specs.Machines.{kept_behind}
 
 -- a line that is written keeps what it had of this
 pub line_stays : {Y : Type 0} (f : Lines → Y) (lines : List Lines) (i : ℕ) (read new : Lines)
@@ -29,16 +29,18 @@ room_for lines i many read sink is there room value =
     ((subst (λ o. IfSome o (HasRoomIn lines many)) is room) read
     (slice_get_read lines (length lines) i read refl (line_there lines i sink is there) value))
 
-pub kept_line : (lines : List Lines) (i : ℕ) (read new : Lines) (xs : List ℤ) (sink : Option ℕ)
-    → sink ≡ Some i → IfSome sink (λ k. k < length lines) → read ≡ get_or lines i read
-    → sink_values new ≡ more xs (sink_values read)
-    → map sink_values (set lines i new) ≡ with_line sink xs (map sink_values lines)
-kept_line lines i read new xs sink is there value longer =
+pub kept_line : (given : ℕ → List ℤ) (lines : List Lines) (i : ℕ) (read new : Lines)
+    (xs : List ℤ) (sink : Option ℕ) → sink ≡ Some i → IfSome sink (λ k. k < length lines)
+    → read ≡ get_or lines i read → kept_behind given new ≡ more xs (kept_behind given read)
+    → map (kept_behind given) (set lines i new)
+    ≡ with_line sink xs (map (kept_behind given) lines)
+kept_line given lines i read new xs sink is there value longer =
+    let keeps = kept_behind given in
     let lt = line_there lines i sink is there in
-    map-set sink_values lines i new
-    ∙ ap (set (map sink_values lines) i) (longer
-    ∙ ap (more xs) (ap sink_values value ∙ sym (get_or-map sink_values lines i read (0, []) lt)))
-    ∙ sym (ap (λ o. with_line o xs (map sink_values lines)) is)
+    map-set keeps lines i new
+    ∙ ap (set (map keeps lines) i) (longer
+    ∙ ap (more xs) (ap keeps value ∙ sym (get_or-map keeps lines i read (0, []) lt)))
+    ∙ sym (ap (λ o. with_line o xs (map keeps lines)) is)
 
 pub map_same : {X Y : Type 0} (f g : X → Y) (xs : List X) → ((x : X) → f x ≡ g x)
     → map f xs ≡ map g xs

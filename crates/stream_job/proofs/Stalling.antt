@@ -1,5 +1,5 @@
 -- Whether the call of a live task is blocked, where no turn is refused.
-use Rattle.std.proofs.Common.{◌≡◌, ◌≢◌, ℕ, suc, ◌+◌, ◌-◌, ◌<◌, ◌≤◌, Bool, true, false, not, eqb, ◌&&◌, ◌||◌, cond, ℤ, pos, List, [], ◌∷◌, Option, Some, None, is_some, map, drop, refl, sym, ap, subst, ◌∙◌, arith}
+use Rattle.std.proofs.Common.{◌≡◌, ◌≢◌, ℕ, suc, ◌+◌, ◌-◌, ◌<◌, ◌≤◌, Bool, true, false, not, eqb, ◌&&◌, ◌||◌, cond, ℤ, pos, List, [], ◌∷◌, Option, Some, None, is_some, map, drop, min, refl, sym, ap, subst, ◌∙◌, arith}
 use Rattle.std.specs.Prelude.{nat_le, nat_lt, length}
 use Rattle.std.specs.List.{position_from}
 use Rattle.std.proofs.lemmas.Bool.{leb-true, leb-false, le-leb, lt-ltb, le-ltb}
@@ -26,6 +26,7 @@ use Rattle.phase_any.specs.phase_history.Replies.{wait_reply, wait_block_reply, 
 use Rattle.phase_any.specs.phase_accum.Sends.{AreSends}
 use Rattle.graph_lang.specs.stream_filters.Range.{ranged}
 use Rattle.graph_lang.specs.graph_base.declared.place.Place.TheVariants as place
+use Rattle.graph_lang.specs.graph_base.declared.line.Kind.TheVariants.{Source}
 use Rattle.graph_lang.specs.graph_base.declared.registration.Registration.{Registration}
 use Rattle.graph_lang.specs.graph_base.Graphs.{task_at, phaser_at}
 use Rattle.graph_lang.specs.graph_base.TaskLines.{IsGraph}
@@ -340,6 +341,16 @@ sample_blocks job m t is sends reached next =
     signal_turn_blocked job m t 0 vs (sample t 0 p (number_on m t p) vs) (omega arith) s.none
     (never_refused job m t samples is sends reached next)
     ∙ ap (blocks_signal (limits_at job p) (m.history p) (number_on m t p)) long
+
+-- how many they are, by the samples that the source awaits
+pub sample_block_is : (job : Job) (m : Moment) (t block : ℕ) (rest : List ℤ)
+    → block_of job m t ≡ block → next_of job m t ≡ samples
+    → ((task_at job.graph t).kind ≡ Source → drop (m.begun t) (samples_at job t) ≡ rest)
+    → sample_block_of job m t ≡ min block (length rest)
+sample_block_is job m t block rest same next awaits =
+    ap (λ n. min n (length (samples_at job t) - m.begun t)) same
+    ∙ ap (min block) (sym (length-drop (m.begun t) (samples_at job t))
+    ∙ ap length (awaits (samples_begins job m t next).kind))
 
 -- there is a sample to signal
 pub samples_some : (job : Job) (m : Moment) (t : ℕ) → IsGraph job.graph

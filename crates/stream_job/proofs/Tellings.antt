@@ -18,7 +18,7 @@ use Rattle.graph_runs.specs.Reached.{IsReachable}
 use Rattle.graph_runs.proofs.Signalling.{live-is}
 use Rattle.graph_runs.proofs.Turning.{turn_makes_next}
 use Rattle.graph_runs.proofs.Outputs.{output_there}
-use Rattle.stream_job.specs.Machines.{IsMachineAt}
+use Rattle.stream_job.specs.Machines.{IsMachineAt, KeepsLines, none_given}
 use Rattle.stream_job.specs.Blocking.{called_on, AreBlocked}
 use Rattle.stream_job.specs.Turning.{Shows, HadTurn, after_turn_of, met_by, phaser_of, parked_after, parked_by, told_of}
 use Rattle.stream_job.specs.Parking.{with_task}
@@ -172,6 +172,10 @@ pub gone_turn : (job : Job) (machine : Machine) (t : ℕ)
 gone_turn job machine t gone = record {
   shows = λ m at. shows m at;
   after = λ m at none. after m at;
+  lines = λ given m at none kept.
+      subst (λ a. KeepsLines job given (after_answer job a m) machine.lines.items)
+      (sym (answer m at)) kept;
+  own = λ room all. all;
 }
   where
     answer : (m : Moment) → IsMachineAt job m machine → answer_of_turn job m t ≡ is_gone
@@ -277,6 +281,8 @@ turn_stands_so world new parked met m t it word none had same says as_told at =
     subst (IsWorldAt record { job = world.job; machine = new; met = met; parked = parked })
     (sym (as_is world none)) record {
       machine = had.after m at.machine (subst (HasMet world.job m) none at.met);
+      lines = had.lines none_given m at.machine (subst (HasMet world.job m) none at.met) at.lines;
+      own = had.own (λ t. (span_in (least world.job) t).steps) at.own;
       parked = turn_blocks_so world.job world.machine new m t it world.parked parked had same
           at.machine at.parked;
       met = subst (HasMet world.job (after_answer world.job (answer_of_turn world.job m t) m))

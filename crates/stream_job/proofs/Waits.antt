@@ -62,7 +62,7 @@ use Rattle.graph_runs.specs.declared.owed.Owed.TheVariants as code
 use Rattle.stream_job.specs.Buffers.{HasPlaces}
 use Rattle.stream_job.specs.Inside.{with_line, IsNextIn}
 use Rattle.stream_job.specs.Places.{place_of, owed_in, HasTaken}
-use Rattle.stream_job.specs.Machines.{IsMachineAt, HasCores, IsLineOf}
+use Rattle.stream_job.specs.Machines.{IsMachineAt, HasCores, IsLineOf, KeepsLines, HasRoom, kept_behind}
 use Rattle.stream_job.specs.Turning.{HadTurn, Shows, told_of}
 use Rattle.stream_job.specs.declared.machine.Machine.{Machine}
 use Rattle.stream_job.specs.declared.task_state.TaskState.{TaskState}
@@ -70,6 +70,7 @@ use Rattle.stream_job.specs.declared.made.Made.{Made}
 use Rattle.stream_job.specs.declared.made.Made.TheVariants.{Event, Blocked}
 use Rattle.stream_job.specs.declared.turned.Turned.{Turned}
 use Rattle.stream_job.specs.SinkLines.{kept_by, kept_of}
+use Rattle.stream_job.proofs.LinesAfter.{quiet_lines, same_rooms, starts_stay}
 use Rattle.stream_job.proofs.SinksKeep.{lines_keep, lines_stay}
 use Rattle.stream_job.proofs.Begun.{begun_few}
 use Rattle.stream_job.proofs.Ending.{number_of_input}
@@ -240,15 +241,19 @@ waits_by job machine m t k state at found live few =
       number = it.1;
     }
 
+pub waits_few : (job : Job) (m : Moment) (t k : ℕ) → IsGraph job.graph
+    → next_of job m t ≡ turns.waits k → k < length (task_at job.graph t).inputs
+waits_few job m t k graph is =
+    let there = (live-is job m t (live_next job m t (turns.waits k) is (λ e. absurd (cc)))).there in
+    let b = waits_begins job m t k is in
+    subst (λ i. i < length (task_at job.graph t).inputs) (sym b.first)
+    (first_looks (task_at job.graph t) (m.begun t) (graph.tasks t there).ends b.kind).0
+
 pub first_few : (job : Job) (machine : Machine) (m : Moment) (t k : ℕ)
     → IsNextIn job machine t (turns.waits k) → IsMachineAt job m machine
     → k < length (task_at job.graph t).inputs
 first_few job machine m t k next at =
-    let is = next.is m at in
-    let there = (live-is job m t (live_next job m t (turns.waits k) is (λ e. absurd (cc)))).there in
-    let b = waits_begins job m t k is in
-    subst (λ i. i < length (task_at job.graph t).inputs) (sym b.first)
-    (first_looks (task_at job.graph t) (m.begun t) (at.graph.tasks t there).ends b.kind).0
+    waits_few job m t k at.graph (next.is m at)
 
 pub first_waits_at : (job : Job) (machine : Machine) (m : Moment) (t k : ℕ) (state : TaskState)
     → IsNextIn job machine t (turns.waits k) → IsMachineAt job m machine
@@ -419,7 +424,14 @@ pub exchanged_turn : (job : Job) (old new : Machine) (t n p phase : ℕ) (x : �
     → told_of told ≡ told_got p phase (outcome ∷ [])
     → HadTurn job old new t (Event p told)
 exchanged_turn job old new t n p phase x outcome state owed told next found phaser numbered owes reply cores tasks lines after_owes tells =
-    record { shows = shows; after = after }
+    record {
+      shows = shows;
+      after = after;
+      lines = λ given m at none.
+          quiet_lines job given m old new t (exchange_wait t p n outcome) at (answer m at) refl tt
+          lines;
+      own = same_rooms old new lines;
+    }
   where
     answer : (m : Moment) → IsMachineAt job m old
         → answer_of_turn job m t ≡ makes (exchange_wait t p n outcome)
@@ -484,10 +496,7 @@ exchanged_turn job old new t n p phase x outcome state owed told next found phas
           made_none = it.made_none;
           sink = it.sink;
         })
-        (ap (λ l. map sink_values l.items) lines ∙ at.lines
-        ∙ lines_stay job m old t event at (answer m at) tt)
-        (ap (λ l. map (λ line. line.start) l.items) lines)
-        (subst (λ l. All (IsLineOf job) l.items) (sym lines) at.own)
+        (ap (λ l. length l.items) lines)
 
 -- a wait that the phaser would not take now
 pub blocked_exchange : (job : Job) (old new : Machine) (t n p : ℕ) (state : TaskState)
@@ -500,7 +509,7 @@ pub blocked_exchange : (job : Job) (old new : Machine) (t n p : ℕ) (state : Ta
     → new.tasks ≡ old.tasks → new.lines ≡ old.lines → HadTurn job old new t (Blocked p)
 blocked_exchange job old new t n p state r next found phaser numbered reply cores tasks lines =
     blocked_turn job old new t p turns.exchanges next (sym phaser) answer
-    (λ m at. unchanged job m old new p at (cores m at) tasks lines)
+    (λ m at. unchanged job m old new p at (cores m at) tasks lines) lines
   where
     refused : (m : Moment) → IsMachineAt job m old
         → answer_of_turn job m t ≡ wait_answer (exchange_wait t p n) (Err r)
@@ -662,14 +671,28 @@ pub first_turn : (job : Job) (old new : Machine) (t k n p steps phase count : �
     → ((m : Moment) → IsMachineAt job m old
     → HasCores job (with_at p (Waited n count ∷ m.history p) m.history) new.cores.items)
     → new.tasks.items ≡ set old.tasks.items t took
-    → map sink_values new.lines.items
-    ≡ with_line sink (kept_of outcomes) (map sink_values old.lines.items)
+    → ((given : ℕ → List ℤ) → map (kept_behind given) new.lines.items
+    ≡ with_line sink (kept_of outcomes) (map (kept_behind given) old.lines.items))
     → map (λ line. line.start) new.lines.items ≡ map (λ line. line.start) old.lines.items
-    → (All (IsLineOf job) old.lines.items → All (IsLineOf job) new.lines.items)
+    → ((room : ℕ → ℕ) → All (HasRoom room) old.lines.items → All (HasRoom room) new.lines.items)
     → told_of told ≡ told_got p phase outcomes
     → HadTurn job old new t (Event p told)
 first_turn job old new t k n p steps phase count outcomes state took sink told asks has sinks all cores tasks lines starts own tells =
-    record { shows = shows; after = after }
+    record {
+      shows = shows;
+      after = after;
+      lines = λ given m at none kept.
+          subst (λ a. KeepsLines job given (after_answer job a m) new.lines.items)
+          (sym (answer m at)) record {
+            values = lines given
+                ∙ ap (with_line sink (kept_of outcomes)) kept.values
+                ∙ ap (λ o. with_line o (kept_of outcomes)
+                (map (λ u. (u, kept_by job m u)) (sinks_of job))) sinks
+                ∙ sink_lines m at none (is_sink_at job t) refl;
+            starts = starts ∙ kept.starts ∙ starts_stay job m event refl;
+          };
+      own = own;
+    }
   where
     event : TaskEvent
     event = first_wait t k p n outcomes
@@ -737,13 +760,8 @@ first_turn job old new t k n p steps phase count outcomes state took sink told a
           made_none = has.made_none;
           sink = λ kind. ap (slice_get (sinks_of job)) has.sink ∙ it.sink kind;
         })
-        (lines
-        ∙ ap (with_line sink (kept_of outcomes)) at.lines
-        ∙ ap (λ o. with_line o (kept_of outcomes) (map (λ u. (u, kept_by job m u)) (sinks_of job)))
-        sinks
-        ∙ sink_lines m at none (is_sink_at job t) refl)
-        starts
-        (own at.own)
+        (sym (length-map new.lines.items (λ line. line.start)) ∙ ap length starts
+        ∙ length-map old.lines.items (λ line. line.start))
 
 -- a machine and an answer by other names
 pub had_as : (job : Job) (old new same : Machine) (t : ℕ) (it told : Made) → new ≡ same
@@ -762,7 +780,7 @@ pub blocked_first : (job : Job) (old new : Machine) (t k n p steps : ℕ) (state
     → new.tasks ≡ old.tasks → new.lines ≡ old.lines → HadTurn job old new t (Blocked p)
 blocked_first job old new t k n p steps state r asks reply cores tasks lines =
     blocked_turn job old new t p (turns.waits k) asks.next (sym asks.phaser) answer
-    (λ m at. unchanged job m old new p at (cores m at) tasks lines)
+    (λ m at. unchanged job m old new p at (cores m at) tasks lines) lines
   where
     event : Moment → ℕ → ℕ → TaskEvent
     event m phase count =
@@ -804,10 +822,6 @@ sink_there job old m t state sink at found is =
     by true e =
         let lt = slice_get_within (sinks_of job) state.sink t
         ((at.tasks t state found).sink (sink_kind (task_at job.graph t).kind e)) in
-        let f : ℕ → ℕ × List ℤ = λ u. (u, kept_by job m u) in
-        let many : length (map sink_values old.lines.items) ≡ length (map f (sinks_of job)) =
-        ap length at.lines in
-        let one = length-map old.lines.items sink_values in
-        let two = length-map (sinks_of job) f in
+        let many = at.lines_many in
         omega arith
     by false e = tt

@@ -13,7 +13,7 @@ use Rattle.phase_any.specs.phase_history.Histories.{History, members_of, done_of
 use Rattle.phase_any.specs.phase_history.Refusals.{is_ahead, register_refusal, register_now_refusal}
 use Rattle.stream_eval.specs.stream_lists.Jobs.{Job, with_samples}
 use Rattle.graph_runs.specs.Moments.{Moment}
-use Rattle.graph_runs.specs.Nexts.{Next, has_signaller, next_of}
+use Rattle.graph_runs.specs.Nexts.{Next, has_signaller, next_of, waits}
 use Rattle.graph_runs.specs.TaskPlaces.{Owed, nothing, values, exchange}
 use Rattle.graph_lang.specs.stream_filters.declared.fault.TooBigValue.{TooBigValue}
 use Rattle.graph_runs.specs.Reached.{IsReachable}
@@ -112,7 +112,7 @@ HasDone job old new t next it = (s : List (List ℤ))
 -- the line of task t, where it is a sink, has room for what its turn gets
 abbrev pub HasRoomNext : Job → Machine → ℕ → Type 0
 HasRoomNext job machine t = (m : Moment) (k p n : ℕ) (outcomes : List Outcome)
-    (state : TaskState) → IsMachineAt job m machine
+    (state : TaskState) → IsMachineAt job m machine → next_of job m t ≡ waits k
     → answer_of_turn job m t ≡ makes (first_wait t k p n outcomes)
     → slice_get machine.tasks.items t ≡ Some state → is_sink_at job t ≡ true
     → HasRoomIn machine.lines.items (length outcomes) state.sink

@@ -1,6 +1,5 @@
 -- The moments that a machine stands for, and what the lines of its sinks keep.
 use Rattle.std.specs.Prelude.{◌≡◌, ℕ, ℤ, zero, suc, ◌+◌, ◌<◌, ◌≤◌, List, [], ◌++◌, Bool, true, ◌||◌, Option, Some, None, is_some, if◌then◌else◌, length, map, slice_get, drop, vec_capacity}
-use Rattle.std.specs.List.{All}
 use Rattle.phase_any.specs.phase_history.Histories.{History, greatest_used}
 use Rattle.graph_lang.specs.graph_base.Graphs.{phaser_at, task_at}
 use Rattle.graph_lang.specs.graph_base.declared.line.Kind.TheVariants.{Source}
@@ -43,8 +42,8 @@ abbrev pub UsesFew : Job → Moment → Type 0
 UsesFew job m = (p : ℕ) → p < length job.graph.phasers
     → greatest_used (m.history p) ≤ numbered (m.number p) (length job.graph.tasks)
 
--- the machine stands at a moment that turns lead to: each core has the history of its phaser, and
--- each task is in its state
+-- the machine stands at a moment that turns lead to: each core has the history of its phaser, each
+-- task is in its state, and there is a line for each sink
 pub record IsMachineAt (job : Job) (m : Moment) (machine : Machine) : Type 0 where
   pub graph : IsGraph job.graph
   pub apart : meeting_line job ≡ None
@@ -54,6 +53,7 @@ pub record IsMachineAt (job : Job) (m : Moment) (machine : Machine) : Type 0 whe
   pub tasks_many : length machine.tasks.items ≡ length job.graph.tasks
   pub tasks : (t : ℕ) (state : TaskState) → slice_get machine.tasks.items t ≡ Some state
       → IsTaskAt job m t state
+  pub lines_many : length machine.lines.items ≡ length (sinks_of job)
 
 -- the machine stands at some moment
 abbrev pub IsMachine : Job → Machine → Type 0

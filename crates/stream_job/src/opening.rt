@@ -56,6 +56,7 @@ impl Machine {
     /// It takes memory for a slot of each phase that a phaser may have open, an entry for each
     /// registration, and the window of each filter.
     pub fn new(alloc: Global, job: &Job, lines: Vec<Lines>) -> Result<Machine, AllocError>
+        requires { length lines.items ≡ length (sinks_of job.now) }
         ensures opening { IfOk result (λ machine. IsMachineAt job.now (opening job.now) machine) }
         ensures lines { IfOk result (λ machine. machine.lines ≡ lines) }
     {

@@ -64,7 +64,7 @@ impl Machine {
         ensures places { buffers.new ≡ buffers.old }
     {
         let step = self.next(job, plan, t, awaits);
-        if step == Step::NotLive {
+        if let Step::NotLive = step {
             return Ok(Made::Nothing);
         }
         laws::turns_stay_reached();
@@ -216,6 +216,7 @@ impl Machine {
         requires next { MayDo job.now self.old t (turns.signals output) }
         requires kind { (task_at job.now.graph t).kind ≢ filters }
         requires value { (s : List (List ℤ)) (m : Moment)
+            → IsNextIn (with_samples s job.now) self.old t (turns.signals output)
             → IsMachineAt (with_samples s job.now) m self.old
             → map ranged (next_values (with_samples s job.now) m t output) ≡ Ok x ∷ [] }
         ensures { HasDone job.now self.old self.new t (turns.signals output) result }
@@ -379,7 +380,7 @@ impl Machine {
             self.new.cores.items) }
         ensures lines { OnOk result ((s : List (List ℤ)) (m : Moment)
             → IsMachineAt (with_samples s job.now) m self.old
-            → HasBegun job.now m c (done_of (m.history p)) self.old.lines.items
+            → HasBegun (with_samples s job.now) m c (done_of (m.history p)) self.old.lines.items
             self.new.lines.items) }
         ensures err { OnErr result (self.new ≡ self.old) }
         ensures tasks { self.new.tasks ≡ self.old.tasks }

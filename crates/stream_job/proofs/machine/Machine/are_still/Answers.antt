@@ -11,13 +11,15 @@ returns-then-not-is_still c = λ m at marked.
     c.tasks-t-end.ensures.count ∙ ap (λ g. length g.tasks) c.graph.ensures.graph in
     let lt : c.loop-t.t < c.tasks-t-end.result = c.loop-t-test.true in
     not_all_in_range (is_still c.args.job.now m) (length c.args.job.now.graph.tasks) c.loop-t.t
-    (omega arith) (c.is_still.ensures m at ∙ c.if-not-is_still.true)
+    (omega arith)
+    (c.is_still.ensures c.args.job.now.samples m c.awaits.ensures at ∙ c.if-not-is_still.true)
 
 pub loop-t-preserved : goal.loop-t-preserved
 loop-t-preserved c = λ m at marked d lt.
     let here : is_still c.args.job.now m c.loop-t.t ≡ true = elim c.else-not-marks-t.branch [
       | else-not-marks-t-via-then-not-marks-t+else-not-is_still w ↦
-          w.is_still.ensures m at ∙ w.if-not-is_still.false
+          w.is_still.ensures c.args.job.now.samples m w.awaits.ensures at
+          ∙ w.if-not-is_still.false
       | else-not-marks-t-via-else-not-marks-t w ↦ marked c.loop-t.t w.if-not-marks-t.false
     ] in
     one_more (λ x. is_still c.args.job.now m x ≡ true) c.loop-t.t (c.loop-t.invariant m at marked)

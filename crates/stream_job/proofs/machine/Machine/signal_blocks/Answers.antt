@@ -1,11 +1,10 @@
 -- By the number of the output's registration.
 use Rattle.std.proofs.Common.{◌≡◌, length, get_or, refl, ap, sym, ◌∙◌, arith}
-use Rattle.graph_lang.specs.graph_base.Graphs.{task_at, phaser_at}
+use Rattle.graph_lang.specs.graph_base.Graphs.{phaser_at}
 use Rattle.stream_eval.specs.stream_lists.Jobs.{with_samples}
 use Rattle.graph_runs.specs.Moments.{limits_at}
 use Rattle.graph_runs.specs.Nexts.{number_on}
 use Rattle.graph_runs.specs.Answers.{output_at}
-use Rattle.graph_runs.specs.TaskPlaces.{registration_of_output}
 use Rattle.stream_job.specs.Places.{place_of}
 use Rattle.stream_job.specs.Inside.{blocks_signal}
 use Rattle.stream_job.proofs.Ending.{number_of_output}

@@ -3,22 +3,29 @@ use Rattle.std.proofs.Common.{◌≡◌, ◌<◌, ◌*◌, [], ◌∷◌, length
 use Rattle.phase_any.specs.phase_accum.Sends.{IsSend}
 use Rattle.graph_runs.specs.Nexts.{signals}
 use Rattle.graph_runs.specs.TaskEvents.{signal}
+use Rattle.stream_eval.specs.stream_lists.Jobs.{with_samples}
 use Rattle.stream_job.specs.Places.{owed_in}
 use Rattle.stream_job.proofs.Lively.{state_read, state_there}
-use Rattle.stream_job.proofs.Setting.{set_read}
+use Rattle.stream_job.proofs.Setting.{set_read, bare_cores, full_cores}
 use Rattle.stream_job.proofs.Signals.{signal_few, signals_at, signals_so, values_sent, refused_turn, signalled_turn, with_owing}
 use Rattle.stream_job.proofs.machine.Machine.signal_value.Goals as goal
 
 pub output_of-k-requires-clause-output : goal.output_of-k-requires-clause-output
 output_of-k-requires-clause-output c =
-    (signal_few c.args.job.now c.args.self.now c.requires.next.some.0 c.args.t c.args.output
-    c.requires.next c.requires.next.some.1)
+    let s = c.requires.next.0 in
+    let next = c.requires.next.1 in
+    let job = with_samples s c.args.job.now in
+    (signal_few job c.args.self.now next.some.0 c.args.t c.args.output
+    next next.some.1)
 
 pub offset_bounds-deref-k : goal.offset_bounds-deref-k
 offset_bounds-deref-k c =
-    let found = state_read c.requires.next (λ e. (cc)) c.index.ensures in
-    let place = (signals_at c.args.job.now c.args.self.now c.requires.next.some.0 c.args.t
-    c.args.output c.index.result.now c.requires.next c.requires.next.some.1 found).place in
+    let s = c.requires.next.0 in
+    let next = c.requires.next.1 in
+    let job = with_samples s c.args.job.now in
+    let found = state_read next (λ e. (cc)) c.index.ensures in
+    let place = (signals_at job c.args.self.now next.some.0 c.args.t
+    c.args.output c.index.result.now next next.some.1 found).place in
     let same = c.output_of-k.ensures.registration in
     let long : length c.deref.result.now ≡ length c.index.result.now.numbers.items =
     ap length c.deref.ensures in
@@ -27,48 +34,60 @@ offset_bounds-deref-k c =
 
 pub bounds-deref-k : goal.bounds-deref-k
 bounds-deref-k c =
-    let found = state_read c.requires.next (λ e. (cc)) c.index.ensures in
-    let place = (signals_at c.args.job.now c.args.self.now c.requires.next.some.0 c.args.t
-    c.args.output c.index.result.now c.requires.next c.requires.next.some.1 found).place in
+    let s = c.requires.next.0 in
+    let next = c.requires.next.1 in
+    let job = with_samples s c.args.job.now in
+    let found = state_read next (λ e. (cc)) c.index.ensures in
+    let place = (signals_at job c.args.self.now next.some.0 c.args.t
+    c.args.output c.index.result.now next next.some.1 found).place in
     omega (arith, c.output_of-k.ensures.registration, ap length c.deref.ensures)
 
 pub signal_on-requires-clause-send : goal.signal_on-requires-clause-send
 signal_on-requires-clause-send c =
+    let s = c.requires.next.0 in
+    let next = c.requires.next.1 in
+    let job = with_samples s c.args.job.now in
     subst IsSend (sym (to_z-of_z c.ranges.x))
-    (values_sent c.args.job.now c.args.self.now c.args.t c.args.output (c.args.x ∷ [])
-    c.requires.next c.requires.value).0
+    (values_sent job c.args.self.now c.args.t c.args.output (c.args.x ∷ [])
+    next (λ m at. c.requires.value s m next at)).0
 
 pub returns-in_default : goal.returns-in_default
-returns-in_default c =
-    let found = state_read c.requires.next (λ e. (cc)) c.index.ensures in
+returns-in_default c = λ s next.
+    let job = with_samples s c.args.job.now in
+    let found = state_read next (λ e. (cc)) c.index.ensures in
     let number = get_or c.deref.result.now c.output_of-k.result.0 0 in
     let p = c.output_of-k.result.1 in
-    refused_turn c.args.job.now c.args.self.now c.signal_on.new.self c.args.t number p
+    refused_turn job c.args.self.now c.signal_on.new.self c.args.t number p
     (c.args.x ∷ []) (signals c.args.output) (signal c.args.t c.args.output p number (c.args.x ∷ []))
-    c.in_default.field-0 c.requires.next (sym c.output_of-k.ensures.phaser)
-    (signals_so c.args.job.now c.args.self.now c.args.t c.args.output number p (c.args.x ∷ [])
-    c.index.result.now c.requires.next found c.output_of-k.ensures.phaser
+    c.in_default.field-0 next (sym c.output_of-k.ensures.phaser)
+    (signals_so job c.args.self.now c.args.t c.args.output number p (c.args.x ∷ [])
+    c.index.result.now next found c.output_of-k.ensures.phaser
     (ap (λ ns. get_or ns c.output_of-k.result.0 0) c.deref.ensures
     ∙ ap (λ k. get_or c.index.result.now.numbers.items k 0) c.output_of-k.ensures.registration)
-    c.requires.value)
-    (simp (to_z-of_z, c.ranges.x) at c.in_default.ensures.reply) c.in_default.ensures.cores
+    (λ m at. c.requires.value s m next at))
+    (λ m at. (simp (to_z-of_z, c.ranges.x) at c.in_default.ensures.reply) m.history
+    (bare_cores s at.cores))
+    (λ m at. full_cores s (c.in_default.ensures.cores m.history (bare_cores s at.cores)))
     c.signal_on.ensures.tasks c.signal_on.ensures.lines
 
 pub returns : goal.returns
-returns c =
-    let lt = state_there c.requires.next (λ e. (cc)) in
-    let found = state_read c.requires.next (λ e. (cc)) c.index.ensures in
-    let it = c.requires.next.some.1.tasks c.args.t c.index.result.now found in
+returns c = λ s next.
+    let job = with_samples s c.args.job.now in
+    let lt = state_there next (λ e. (cc)) in
+    let found = state_read next (λ e. (cc)) c.index.ensures in
+    let it = next.some.1.tasks c.args.t c.index.result.now found in
     let none = it.made_none c.requires.kind in
     let owed = c.owed_after_signal.result in
-    signalled_turn c.args.job.now c.args.self.now _ c.args.t c.args.output
+    signalled_turn job c.args.self.now _ c.args.t c.args.output
     (get_or c.deref.result.now c.output_of-k.result.0 0) c.output_of-k.result.1 c.in-Ok.field-0
-    (c.args.x ∷ []) c.index.result.now owed c.index.result.now.made c.requires.next found
+    (c.args.x ∷ []) c.index.result.now owed c.index.result.now.made next found
     c.output_of-k.ensures.phaser
     (ap (λ ns. get_or ns c.output_of-k.result.0 0) c.deref.ensures
     ∙ ap (λ k. get_or c.index.result.now.numbers.items k 0) c.output_of-k.ensures.registration)
-    c.requires.value (simp (to_z-of_z, c.ranges.x) at c.in-Ok.ensures.reply)
-    (simp (to_z-of_z, c.ranges.x) at c.in-Ok.ensures.cores)
+    (λ m at. c.requires.value s m next at) (λ m at. (simp (to_z-of_z, c.ranges.x) at c.in-Ok.ensures.reply) m.history
+    (bare_cores s at.cores))
+    (λ m at. full_cores s ((simp (to_z-of_z, c.ranges.x) at c.in-Ok.ensures.cores) m.history
+    (bare_cores s at.cores)))
     (set_read (λ s. with_owing s c.owed_after_signal.result s.made) c.args.self.now.tasks.items
     c.signal_on.new.self.tasks.items c.args.t c.index.result.now c.index_mut.result.now
     (ap (λ v. v.items) c.signal_on.ensures.tasks) lt c.index.ensures c.index_mut.ensures.value)
@@ -80,3 +99,8 @@ returns c =
       made_by = λ fir. absurd (c.requires.kind fir);
       made_none = λ other. none;
     })
+
+pub signal_on-requires-clause-cores : goal.signal_on-requires-clause-cores
+signal_on-requires-clause-cores c =
+    let next = c.requires.next.1 in
+    (next.some.0.history, bare_cores c.requires.next.0 next.some.1.cores)

@@ -1,5 +1,6 @@
 -- Values in range are signalled.
 use Rattle.std.proofs.Common.{ap, ◌∙◌, arith}
+use Rattle.stream_eval.specs.stream_lists.Jobs.{with_samples}
 use Rattle.graph_runs.specs.Answers.{output_at}
 use Rattle.graph_runs.specs.Moments.{limits_at}
 use Rattle.graph_runs.specs.Nexts.{number_on}
@@ -10,35 +11,42 @@ use Rattle.stream_job.proofs.Stalling.{value_blocks, value_moves, values_many, v
 use Rattle.stream_job.proofs.machine.Machine.values_block.Goals as goal
 
 pub returns-then-not-are_in_range : goal.returns-then-not-are_in_range
-returns-then-not-are_in_range c = λ m at.
+returns-then-not-are_in_range c = λ s m makes at.
+    let job = with_samples s c.args.job.now in
     let state = c.state-state.result.now in
-    value_moves c.args.job.now m c.args.t c.args.j (owed_in state.owed state.made.items)
-    (c.requires.is m at) (c.state-state.ensures m at).stands.owes
+    value_moves job m c.args.t c.args.j (owed_in state.owed state.made.items)
+    (makes.is m at) (c.state-state.ensures s m at).stands.owes
     (c.are_in_range.ensures ∙ c.if-not-are_in_range.true)
 
 pub signal_blocks-requires-clause-output : goal.signal_blocks-requires-clause-output
 signal_blocks-requires-clause-output c =
-    signal_output c.args.job.now c.requires.some.0 c.args.t c.args.j
-    (c.requires.is c.requires.some.0 c.requires.some.1)
+    let makes = c.requires.1 in
+    signal_output (with_samples c.requires.0 c.args.job.now) makes.some.0 c.args.t c.args.j
+    (makes.is makes.some.0 makes.some.1)
 
 pub signal_blocks-requires-clause-some : goal.signal_blocks-requires-clause-some
 signal_blocks-requires-clause-some c =
     let state = c.state-state.result.now in
-    let m = c.requires.some.0 in
-    let at = c.requires.some.1 in
-    let is = c.requires.is m at in
-    let many = values_many c.args.job.now m c.args.t c.args.j
-    (owed_in state.owed state.made.items) (c.state-state.ensures m at).stands.owes is in
-    let some = values_some c.args.job.now m c.args.t c.args.j at.graph c.requires.there is in
+    let s = c.requires.0 in
+    let makes = c.requires.1 in
+    let job = with_samples s c.args.job.now in
+    let m = makes.some.0 in
+    let at = makes.some.1 in
+    let is = makes.is m at in
+    let many = values_many job m c.args.t c.args.j
+    (owed_in state.owed state.made.items) (c.state-state.ensures s m at).stands.owes is in
+    let some = values_some job m c.args.t c.args.j at.graph makes.there is in
     omega (arith, c.owed_many.ensures)
 
 pub returns : goal.returns
-returns c = λ m at.
+returns c = λ s m makes at.
+    let job = with_samples s c.args.job.now in
     let state = c.state-state.result.now in
-    let p = output_at c.args.job.now c.args.t c.args.j in
-    value_blocks c.args.job.now m c.args.t c.args.j (owed_in state.owed state.made.items) at.graph
-    c.requires.sends at.reached c.requires.there (c.requires.is m at)
-    (c.state-state.ensures m at).stands.owes (c.are_in_range.ensures ∙ c.if-not-are_in_range.false)
-    ∙ ap (blocks_signal (limits_at c.args.job.now p) (m.history p) (number_on m c.args.t p))
+    let p = output_at job c.args.t c.args.j in
+    value_blocks job m c.args.t c.args.j (owed_in state.owed state.made.items) at.graph
+    makes.sends at.reached makes.there (makes.is m at)
+    (c.state-state.ensures s m at).stands.owes
+    (c.are_in_range.ensures ∙ c.if-not-are_in_range.false)
+    ∙ ap (blocks_signal (limits_at job p) (m.history p) (number_on m c.args.t p))
     c.owed_many.ensures
-    ∙ c.signal_blocks.ensures m at (c.requires.live m at)
+    ∙ c.signal_blocks.ensures s m at (makes.live m at)

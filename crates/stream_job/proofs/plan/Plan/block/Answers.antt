@@ -1,5 +1,5 @@
 -- No child comes within these steps, so that all of them are allowed.
-use Rattle.std.proofs.Common.{◌≡◌, ℕ, ◌-◌, ◌≤◌, length, refl, ap, sym, subst, ◌∙◌, arith}
+use Rattle.std.proofs.Common.{◌≡◌, ℕ, ◌-◌, ◌≤◌, length, refl, ap, sym, ◌∙◌, arith}
 use Rattle.std.specs.List.{fold, range_with_len}
 use Rattle.std.proofs.lemmas.Option.{slice_get_read}
 use Rattle.graph_lang.specs.graph_base.Graphs.{task_at}

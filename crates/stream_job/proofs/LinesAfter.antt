@@ -1,0 +1,49 @@
+-- The lines of the sinks after a turn that writes none of them.
+use Rattle.std.proofs.Common.{◌≡◌, ℕ, ℤ, List, None, map, sym, ap, subst, ◌∙◌}
+use Rattle.std.specs.List.{All}
+use Rattle.stream_eval.specs.stream_lists.Jobs.{Job}
+use Rattle.stream_eval.specs.stream_lists.Lists.{sinks_of}
+use Rattle.graph_runs.specs.Moments.{Moment}
+use Rattle.graph_runs.specs.TaskEvents.{TaskEvent, after_turn}
+use Rattle.graph_runs.specs.TaskPlaces.{child_of}
+use Rattle.graph_runs.specs.Answers.{makes, answer_of_turn, after_answer}
+use Rattle.stream_job.specs.Machines.{HasRoom, IsMachineAt, KeepsLines, kept_behind}
+use Rattle.stream_job.specs.SinkLines.{begins_at}
+use Rattle.stream_job.specs.declared.machine.Machine.{Machine}
+use Rattle.stream_job.proofs.Events.{begins_same}
+use Rattle.stream_job.proofs.SinkLines.{map_same}
+use Rattle.stream_job.proofs.SinksKeep.{NoSinkWaits, lines_stay}
+
+-- lines that are the same keep the same
+pub same_lines : (job : Job) (given : ℕ → List ℤ) (m : Moment) (old new : Machine)
+    → new.lines ≡ old.lines → KeepsLines job given m old.lines.items
+    → KeepsLines job given m new.lines.items
+same_lines job given m old new lines kept =
+    subst (λ l. KeepsLines job given m l.items) (sym lines) kept
+
+-- and have the same room
+pub same_rooms : (old new : Machine) → new.lines ≡ old.lines → (room : ℕ → ℕ)
+    → All (HasRoom room) old.lines.items → All (HasRoom room) new.lines.items
+same_rooms old new lines room all = subst (λ l. All (HasRoom room) l.items) (sym lines) all
+
+-- where each sink begins after an event that registers no child
+pub starts_stay : (job : Job) (m : Moment) (event : TaskEvent) → child_of event ≡ None
+    → map (begins_at job m) (sinks_of job)
+    ≡ map (begins_at job (after_turn job event m)) (sinks_of job)
+starts_stay job m event none =
+    map_same (begins_at job m) (begins_at job (after_turn job event m)) (sinks_of job)
+    (λ u. begins_same job m event u none)
+
+-- the lines after an event by which no sink waits and no child comes
+pub quiet_lines : (job : Job) (given : ℕ → List ℤ) (m : Moment) (old new : Machine) (t : ℕ)
+    (event : TaskEvent) → IsMachineAt job m old → answer_of_turn job m t ≡ makes event
+    → child_of event ≡ None → NoSinkWaits job event → new.lines ≡ old.lines
+    → KeepsLines job given m old.lines.items
+    → KeepsLines job given (after_answer job (answer_of_turn job m t) m) new.lines.items
+quiet_lines job given m old new t event at answer none quiet lines kept =
+    subst (λ a. KeepsLines job given (after_answer job a m) new.lines.items) (sym answer) record {
+      values = ap (λ l. map (kept_behind given) l.items) lines ∙ kept.values
+          ∙ lines_stay job m old t event at answer quiet;
+      starts = ap (λ l. map (λ line. line.start) l.items) lines ∙ kept.starts
+          ∙ starts_stay job m event none;
+    }
