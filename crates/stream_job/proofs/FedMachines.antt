@@ -38,6 +38,7 @@ machine_fed job m more machine goes apart at = record {
   few = at.few;
   cores = record { many = at.cores.many; each = at.cores.each };
   tasks_many = at.tasks_many;
+  lines_many = at.lines_many;
   tasks = λ t state found. task_fed job m more t state goes
       (let lt = slice_get_within machine.tasks.items t state found in
       let many = at.tasks_many in omega arith)

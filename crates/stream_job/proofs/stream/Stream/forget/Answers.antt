@@ -1,7 +1,7 @@
 -- The sink has handed over all that it has kept, and its line is empty.
 use Rattle.std.proofs.Common.{◌≡◌, ◌<◌, ℕ, ℤ, List, length, set, refl, sym, subst, ◌∙◌}
 use Rattle.std.specs.Vec.{with_item}
-use Rattle.std.proofs.lemmas.List.Elements.{All-set}
+use Rattle.std.proofs.lemmas.List.{length-set}
 use Rattle.stream_eval.specs.stream_lists.Jobs.{with_samples}
 use Rattle.stream_eval.specs.stream_lists.Lists.{sinks_of}
 use Rattle.graph_runs.specs.Moments.{Moment}
@@ -48,6 +48,11 @@ stands c s m given at =
         few = at.machine.few;
         cores = at.machine.cores;
         tasks_many = at.machine.tasks_many;
+        lines_many = length-set c.self.inside.machine.lines.items sink record {
+          task = line.task;
+          start = line.start;
+          values = c.clear.new.self;
+        } ∙ at.machine.lines_many;
         tasks = at.machine.tasks;
       };
       lines = lines_forget c.self.inside.job given m c.self.inside.machine.lines.items sink line
