@@ -68,7 +68,7 @@ impl Input {
         self.forget(begun);
         let came = self.from + self.values.len() as u64;
         let waits = (came - begun) as usize;
-        let left = usize::try_from(COUNT_MAX - came).unwrap_or(usize::MAX);
+        let left = (COUNT_MAX - came) as usize;
         let many = samples.len().min(INPUT_ROOM.saturating_sub(waits)).min(left);
         for sample in &samples[..many] {
             self.values.push_reserved(*sample);

@@ -127,10 +127,10 @@ impl Stream {
         ensures others { IsSameBut self.old self.new }
         ensures ended { (k : ℕ) → has_ended self.new.inputs k ≡ has_ended self.old.inputs k }
     {
-        let input = &mut self.inputs[source];
-        if input.ended || self.met.is_some() {
+        if self.inputs[source].ended || self.met.is_some() {
             return 0;
         }
+        let input = &mut self.inputs[source];
         let begun = self.machine.tasks[input.task].begun;
         input.take(begun, samples)
     }
