@@ -14,7 +14,7 @@ use Rattle.stream_job.specs.Streams.{StreamState, AreInputs, AreKept, IsApart, I
 use Rattle.stream_job.specs.Worlds.{HasMet}
 use Rattle.stream_job.specs.declared.input.Input.{Input}
 use Rattle.stream_job.specs.declared.task_state.TaskState.{TaskState}
-use Rattle.stream_job.specs.declared.input.TheConstants.{COUNT_MAX}
+use Rattle.stream_eval.specs.stream_lists.declared.sample_counts.TheConstants.{COUNT_MAX}
 use Rattle.stream_job.proofs.Feeding.{ended_found, ended_stays, ended_then, is_fed, one_source, samples_fed, samples_others, source-within}
 use Rattle.stream_job.proofs.FedMachines.{machine_fed}
 use Rattle.stream_job.proofs.Setting.{slice_get-set_same, slice_get-set_other}

@@ -17,7 +17,7 @@ use Rattle.graph_runs.specs.Feeds.{IsFed}
 use Rattle.graph_runs.proofs.Entries.{IsPrefix-refl}
 use Rattle.stream_job.specs.Streams.{Keeps, fed, has_ended, ended_with}
 use Rattle.stream_job.specs.declared.input.Input.{Input}
-use Rattle.stream_job.specs.declared.input.TheConstants.{COUNT_MAX}
+use Rattle.stream_eval.specs.stream_lists.declared.sample_counts.TheConstants.{COUNT_MAX}
 
 -- ---- inputs
 

@@ -4,12 +4,10 @@ ghost use Rattle.phase_any.specs.phase_accum.Sends.{AreSends};
 ghost use Rattle.stream_job.specs.Streams.{Keeps, feed_takes};
 
 use std::alloc::{AllocError, Global};
+use stream_eval::stream_lists::COUNT_MAX;
 
 /// How many samples of a source may wait to be signalled.
 pub const INPUT_ROOM: usize = 4096;
-
-/// The most samples of a source.
-pub const COUNT_MAX: u64 = 36_028_797_018_963_968;
 
 /// Of all samples that a source was fed so far, the last ones: those from number `from` on.
 #[derive(Drop)]

@@ -21,7 +21,6 @@ returns-clause-opening c =
         each = c.in_ok-opened_cores.ensures.cores;
       };
       tasks_many = c.in_ok-opened_tasks.ensures.many;
-      lines_many = c.requires;
       tasks = c.in_ok-opened_tasks.ensures.tasks;
       lines_many = c.requires;
     }
