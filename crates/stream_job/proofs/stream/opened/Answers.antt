@@ -1,5 +1,5 @@
 -- The parts are those of the opening.
-use Rattle.std.proofs.Common.{◌≡◌, ◌<◌, ℕ, ap, map, sym, subst, ◌∙◌, arith, length}
+use Rattle.std.proofs.Common.{ap, map, sym, subst, ◌∙◌, arith}
 use Rattle.std.specs.List.{All}
 use Rattle.stream_eval.specs.Results.{sink_values}
 use Rattle.stream_eval.specs.declared.whole.Lines.{Lines}
