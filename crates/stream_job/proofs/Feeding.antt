@@ -23,7 +23,8 @@ use Rattle.stream_job.specs.declared.input.TheConstants.{COUNT_MAX}
 
 pub sends_taken : (n : ℕ) (xs : List ℤ) → AreSends xs → AreSends (take n xs)
 sends_taken n xs sends =
-    AreSends-append_left (take n xs) (drop n xs) (subst AreSends (sym (take-append-drop n xs)) sends)
+    AreSends-append_left (take n xs) (drop n xs)
+    (subst AreSends (sym (take-append-drop n xs)) sends)
 
 pub keeps_more : (input new : Input) (begun : ℕ) (xs vs : List ℤ) → Keeps input begun xs
     → AreSends vs → length xs + length vs ≤ COUNT_MAX → new.from ≡ input.from

@@ -58,6 +58,7 @@ stream_opens job machine inputs none at values starts empty =
       stays_open = λ t p n there pp kind over number gone. absurd
           (let q = (opening_has_begun job at.graph).opened.phasers p pp in
           let wrong : true ≡ false = sym gone
-          ∙ none_dropped q.founder ((opening job).history p) n q.opening (q.apart t n number) in cc);
+          ∙ none_dropped q.founder ((opening job).history p) n q.opening (q.apart t n number) in
+          cc);
       met = opening_answers_none job;
     }

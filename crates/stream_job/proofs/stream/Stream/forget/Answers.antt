@@ -98,5 +98,6 @@ returns-clause-stands c =
       };
       inputs = c.self.inside.inputs.items;
       met = c.self.inside.met;
-    } s m (with_at (sink_at w.job c.args.sink) (kept_by w.job m (sink_at w.job c.args.sink)) given) in
+    } s m (with_at (sink_at w.job c.args.sink) (kept_by w.job m (sink_at w.job c.args.sink))
+    given) in
     subst P c.self.view_is (stands c)
