@@ -171,9 +171,11 @@ is_fed job s ended source xs lt opens = record {
   where
     by_begins : (t : ℕ) (b : Bool) → eqb (source_number job.graph.tasks t) source ≡ b
         → IsPrefix (samples_in job s t) (samples_in job (fed s source xs) t)
-    by_begins t true e =
-        (xs, sym (samples_fed job s source t xs lt
-        (eqb-true (source_number job.graph.tasks t) source e)))
+    by_begins t true e = (
+      xs,
+      sym (samples_fed job s source t xs lt
+          (eqb-true (source_number job.graph.tasks t) source e)),
+    )
     by_begins t false e =
         let not : source_number job.graph.tasks t ≢ source =
         λ same. (let no = sym (eq-eqb (source_number job.graph.tasks t) source same) ∙ e in cc) in

@@ -22,11 +22,15 @@ invariant_of-result c =
     let job = c.args.job in
     let lines = c.in_ok-bounded_lines.ensures in
     let same = ap (λ v. v.items) c.in_ok-machine.ensures.lines in (
-      (none_came job, opening job, none_given,
-          stream_opens job c.in_ok-machine.machine c.in_ok-inputs.inputs.items c.requires.none
-          c.in_ok-machine.ensures.opening (ap (map sink_values) same ∙ lines.lines)
-          (ap (map (λ (line : Lines). line.start)) same ∙ lines.starts)
-          c.in_ok-inputs.ensures.empty),
+      (
+        none_came job,
+        opening job,
+        none_given,
+        stream_opens job c.in_ok-machine.machine c.in_ok-inputs.inputs.items c.requires.none
+            c.in_ok-machine.ensures.opening (ap (map sink_values) same ∙ lines.lines)
+            (ap (map (λ (line : Lines). line.start)) same ∙ lines.starts)
+            c.in_ok-inputs.ensures.empty,
+      ),
       c.in_ok-plan.ensures,
       c.in_ok-buffers.ensures,
       c.requires.apart,
