@@ -92,7 +92,8 @@ stream_fed stream s m given source xs input new at apart many none found opens s
       stays_open = λ t p n there pp kind over. at.stays_open t p n there pp kind
           (sym (ended_stays stream.inputs source (source_number stream.job.graph.tasks t) input new
           found same) ∙ over);
-      met = subst (HasMet (with_samples more stream.job) m) (sym none) (subst (HasMet job m) none at.met);
+      met = subst (HasMet (with_samples more stream.job) m) (sym none)
+          (subst (HasMet job m) none at.met);
     }
   where
     more : List (List ℤ)
@@ -194,7 +195,8 @@ feed_took stream s m given source many took input state at is found read none op
     (kept_input stream s m given source input state at is found read)
     ∙ ap (λ n. feed_takes (length (samples_in job s input.task)) n many) (sym begun)
     ∙ ap (λ u. feed_takes (length (samples_in job s u)) (m.begun u) many) same
-    ∙ sym (ap (λ b. if b then 0 else feed_takes (length (samples_in job s t)) (m.begun t) many) over)
+    ∙ sym (ap (λ b. if b then 0
+    else feed_takes (length (samples_in job s t)) (m.begun t) many) over)
 
 -- a feed takes nothing, where the source has ended or a value was out of range
 pub none_took : (stream : StreamState) (s : List (List ℤ)) (m : Moment) (source many : ℕ)

@@ -23,7 +23,8 @@ use Rattle.stream_eval.specs.stream_lists.declared.sample_counts.TheConstants.{C
 
 pub sends_taken : (n : ℕ) (xs : List ℤ) → AreSends xs → AreSends (take n xs)
 sends_taken n xs sends =
-    AreSends-append_left (take n xs) (drop n xs) (subst AreSends (sym (take-append-drop n xs)) sends)
+    AreSends-append_left (take n xs) (drop n xs)
+    (subst AreSends (sym (take-append-drop n xs)) sends)
 
 pub keeps_more : (input new : Input) (begun : ℕ) (xs vs : List ℤ) → Keeps input begun xs
     → AreSends vs → length xs + length vs ≤ COUNT_MAX → new.from ≡ input.from
@@ -170,9 +171,11 @@ is_fed job s ended source xs lt opens = record {
   where
     by_begins : (t : ℕ) (b : Bool) → eqb (source_number job.graph.tasks t) source ≡ b
         → IsPrefix (samples_in job s t) (samples_in job (fed s source xs) t)
-    by_begins t true e =
-        (xs, sym (samples_fed job s source t xs lt
-        (eqb-true (source_number job.graph.tasks t) source e)))
+    by_begins t true e = (
+      xs,
+      sym (samples_fed job s source t xs lt
+          (eqb-true (source_number job.graph.tasks t) source e)),
+    )
     by_begins t false e =
         let not : source_number job.graph.tasks t ≢ source =
         λ same. (let no = sym (eq-eqb (source_number job.graph.tasks t) source same) ∙ e in cc) in

@@ -1,5 +1,5 @@
 -- The line of a sink behind what the sink has handed over, and what stays when it hands over all.
-use Rattle.std.proofs.Common.{◌≡◌, ◌≢◌, ℕ, ℤ, zero, suc, ◌+◌, ◌<◌, ◌≤◌, Bool, true, false, eqb, cond, List, [], ◌∷◌, ◌++◌, Option, Some, None, length, get_or, slice_get, set, map, refl, sym, ap, subst, ◌∙◌, arith}
+use Rattle.std.proofs.Common.{◌≡◌, ◌≢◌, ℕ, ℤ, zero, suc, ◌+◌, ◌<◌, Bool, true, false, eqb, cond, List, [], ◌∷◌, ◌++◌, Some, None, length, get_or, slice_get, set, map, refl, sym, ap, subst, ◌∙◌, arith}
 use Rattle.std.specs.Prelude.{vec_capacity}
 use Rattle.std.specs.List.{All, filter, range_with_len}
 use Rattle.std.proofs.lemmas.List.Elements.{All-get_or, All-set}
@@ -167,7 +167,8 @@ lines_forget job given m lines sink line new keeps lt value task start none = re
         let there : i < length lines = omega arith in
         let one = get_or lines i new in
         let itself : one ≡ get_or lines i one = get_or-any lines i new one there in
-        let its : one.task ≡ sink_at job i = line_task job given m lines i one keeps within itself in
+        let its : one.task ≡ sink_at job i =
+        line_task job given m lines i one keeps within itself in
         let other : one.task ≢ u = λ is. sinks_apart job i sink within lt apart (sym its ∙ is) in
         ap (kept_behind (with_at u all given)) (get_or-set_other lines sink i new new apart)
         ∙ ap (λ l. (one.task, l ++ one.values.items)) (at_other u all given one.task other)

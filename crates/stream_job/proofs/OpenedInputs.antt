@@ -1,12 +1,12 @@
 -- The inputs of the sources, to which nothing came.
-use Rattle.std.proofs.Common.{◌≡◌, ℕ, ℤ, zero, suc, ◌+◌, ◌<◌, ◌≤◌, true, false, List, [], ◌∷◌, ◌++◌, Some, length, slice_get, refl, sym, ap, subst, ◌∙◌, arith, inl, inr}
+use Rattle.std.proofs.Common.{◌≡◌, ℕ, zero, suc, ◌+◌, ◌<◌, ◌≤◌, true, false, List, [], ◌∷◌, ◌++◌, Some, length, slice_get, refl, sym, ap, subst, ◌∙◌, arith, inl, inr}
 use Rattle.std.specs.Prelude.{◌⊎◌}
 use Rattle.std.specs.List.{All}
 use Rattle.std.proofs.lemmas.List.{length_push, take_all}
 use Rattle.std.proofs.lemmas.List.Elements.{All-nil, All-push}
 use Rattle.std.proofs.lemmas.List.Sums.{count_by_more_yes, count_by_more_no}
 use Rattle.std.proofs.lemmas.Option.{same_Some}
-use Rattle.graph_lang.specs.graph_base.Graphs.{no_task, task_at, is_source, source_number, sources_of, sources_among}
+use Rattle.graph_lang.specs.graph_base.Graphs.{no_task, task_at, is_source, source_number, sources_among}
 use Rattle.stream_eval.specs.stream_lists.Jobs.{Job}
 use Rattle.stream_job.specs.Streams.{AreInputs, HasInputRoom, IsInputOf, Keeps}
 use Rattle.stream_job.specs.declared.input.Input.{Input}

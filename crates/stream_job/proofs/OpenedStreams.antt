@@ -1,5 +1,5 @@
 -- A stream stands at the opening, where no samples came.
-use Rattle.std.proofs.Common.{◌≡◌, ℕ, ℤ, zero, suc, ◌+◌, ◌<◌, true, false, List, [], ◌∷◌, Some, None, length, get_or, slice_get, map, refl, sym, ap, subst, ◌∙◌, arith}
+use Rattle.std.proofs.Common.{◌≡◌, ℕ, zero, suc, ◌<◌, true, false, List, [], ◌∷◌, None, length, map, sym, ap, subst, ◌∙◌, arith}
 use Rattle.std.specs.List.{All, range_with_len}
 use Rattle.std.proofs.lemmas.Option.{get_or_from_slice_get, slice_get_within}
 use Rattle.graph_lang.specs.graph_base.Graphs.{source_number, sources_of}
@@ -58,6 +58,7 @@ stream_opens job machine inputs none at values starts empty =
       stays_open = λ t p n there pp kind over number gone. absurd
           (let q = (opening_has_begun job at.graph).opened.phasers p pp in
           let wrong : true ≡ false = sym gone
-          ∙ none_dropped q.founder ((opening job).history p) n q.opening (q.apart t n number) in cc);
+          ∙ none_dropped q.founder ((opening job).history p) n q.opening (q.apart t n number) in
+          cc);
       met = opening_answers_none job;
     }

@@ -67,7 +67,10 @@ impl Input {
         let came = self.from + self.values.len() as u64;
         let waits = (came - begun) as usize;
         let left = (COUNT_MAX - came) as usize;
-        let many = samples.len().min(INPUT_ROOM.saturating_sub(waits)).min(left);
+        let many = samples
+            .len()
+            .min(INPUT_ROOM.saturating_sub(waits))
+            .min(left);
         for sample in &samples[..many] {
             self.values.push_reserved(*sample);
         }

@@ -75,11 +75,11 @@ impl Model for Stream {
 
     ghost invariant = { λ x. ((s : List (List ℤ)) × (m : Moment) × (given : ℕ → List ℤ)
         × IsStreamAt (record {
-        job = x.job;
-        machine = x.machine;
-        inputs = x.inputs.items;
-        met = x.met;
-    }) s m given) × IsPlan x.job x.plan × HasPlaces x.job x.buffers × IsApart x.job
+          job = x.job;
+          machine = x.machine;
+          inputs = x.inputs.items;
+          met = x.met;
+        }) s m given) × IsPlan x.job x.plan × HasPlaces x.job x.buffers × IsApart x.job
         × AreInputs x.job x.inputs.items
         × All (HasRoom (line_room x.job)) x.machine.lines.items };
 }

@@ -1,5 +1,5 @@
 -- The parts are those of the opening.
-use Rattle.std.proofs.Common.{◌≡◌, ◌<◌, ℕ, ap, map, sym, subst, ◌∙◌, arith, length}
+use Rattle.std.proofs.Common.{ap, map, sym, subst, ◌∙◌, arith}
 use Rattle.std.specs.List.{All}
 use Rattle.stream_eval.specs.Results.{sink_values}
 use Rattle.stream_eval.specs.declared.whole.Lines.{Lines}
@@ -22,11 +22,15 @@ invariant_of-result c =
     let job = c.args.job in
     let lines = c.in_ok-bounded_lines.ensures in
     let same = ap (λ v. v.items) c.in_ok-machine.ensures.lines in (
-      (none_came job, opening job, none_given,
-          stream_opens job c.in_ok-machine.machine c.in_ok-inputs.inputs.items c.requires.none
-          c.in_ok-machine.ensures.opening (ap (map sink_values) same ∙ lines.lines)
-          (ap (map (λ (line : Lines). line.start)) same ∙ lines.starts)
-          c.in_ok-inputs.ensures.empty),
+      (
+        none_came job,
+        opening job,
+        none_given,
+        stream_opens job c.in_ok-machine.machine c.in_ok-inputs.inputs.items c.requires.none
+            c.in_ok-machine.ensures.opening (ap (map sink_values) same ∙ lines.lines)
+            (ap (map (λ (line : Lines). line.start)) same ∙ lines.starts)
+            c.in_ok-inputs.ensures.empty,
+      ),
       c.in_ok-plan.ensures,
       c.in_ok-buffers.ensures,
       c.requires.apart,

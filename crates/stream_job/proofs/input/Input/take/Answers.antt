@@ -1,10 +1,8 @@
 -- The samples that are taken stand behind those that wait.
-use Rattle.std.proofs.Common.{◌≡◌, ◌≤◌, ◌-◌, ◌+◌, ◌++◌, ◌∷◌, [], ℤ, List, length, take, get_or, pos, FitsSigned, w64, rules, arith, sym, ap, subst, ◌∙◌}
-use Rattle.std.specs.Prelude.{min}
+use Rattle.std.proofs.Common.{◌≡◌, ◌+◌, ◌++◌, ◌∷◌, [], ℤ, List, length, take, get_or, pos, FitsSigned, w64, rules, arith, sym, ap, ◌∙◌}
 use Rattle.std.proofs.lemmas.Int.{to_z-of_z}
 use Rattle.std.proofs.lemmas.List.{append_assoc, length-drop, length-take, take_more, take_all}
-use Rattle.phase_any.specs.phase_accum.Sends.{AreSends}
-use Rattle.stream_job.specs.Streams.{Keeps, feed_takes}
+use Rattle.stream_job.specs.Streams.{Keeps}
 use Rattle.stream_job.proofs.Feeding.{keeps_more, sends_taken}
 use Rattle.stream_job.proofs.input.Input.take.Goals as goal
 

@@ -15,19 +15,23 @@ found c =
     input_there c.self.inside.job c.self.inside.inputs.items c.args.source c.index_mut.result.now
     c.self.invariant.4 (subst P (sym c.self.view_is) c.requires) c.index_mut.ensures.value
 
-
 pub invariant_of-self : goal.invariant_of-self
 invariant_of-self c =
     let i = c.self.invariant in
     let input = c.index_mut.result.now in
     let job = c.self.inside.job in
     let inputs = c.self.inside.inputs.items in (
-      (i.0.0, i.0.1, i.0.2, stream_ends (record {
-        job = c.self.inside.job;
-        machine = c.self.inside.machine;
-        inputs = c.self.inside.inputs.items;
-        met = c.self.inside.met;
-      }) i.0.0 i.0.1 i.0.2 c.args.source input i.0.3 (found c)),
+      (
+        i.0.0,
+        i.0.1,
+        i.0.2,
+        stream_ends (record {
+          job = c.self.inside.job;
+          machine = c.self.inside.machine;
+          inputs = c.self.inside.inputs.items;
+          met = c.self.inside.met;
+        }) i.0.0 i.0.1 i.0.2 c.args.source input i.0.3 (found c),
+      ),
       i.1,
       i.2,
       i.3,
@@ -40,16 +44,16 @@ pub returns-clause-stands : goal.returns-clause-stands
 returns-clause-stands c =
     let P : StreamState → Type 0 = λ w. (s : List (List ℤ)) (m : Moment) (given : ℕ → List ℤ)
     → IsStreamAt w s m given → IsStreamAt (with_input (record {
-        job = c.self.inside.job;
-        machine = c.self.inside.machine;
-        inputs = c.self.inside.inputs.items;
-        met = c.self.inside.met;
+      job = c.self.inside.job;
+      machine = c.self.inside.machine;
+      inputs = c.self.inside.inputs.items;
+      met = c.self.inside.met;
     }) c.args.source (that_ended c.index_mut.result.now)) s m given in
     subst P c.self.view_is (λ s m given at. stream_ends (record {
-        job = c.self.inside.job;
-        machine = c.self.inside.machine;
-        inputs = c.self.inside.inputs.items;
-        met = c.self.inside.met;
+      job = c.self.inside.job;
+      machine = c.self.inside.machine;
+      inputs = c.self.inside.inputs.items;
+      met = c.self.inside.met;
     }) s m given c.args.source c.index_mut.result.now at (found c))
 
 pub returns-clause-ended : goal.returns-clause-ended

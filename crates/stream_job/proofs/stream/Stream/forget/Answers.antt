@@ -1,12 +1,10 @@
 -- The sink has handed over all that it has kept, and its line is empty.
-use Rattle.std.proofs.Common.{◌≡◌, ◌<◌, ℕ, ℤ, List, length, set, refl, sym, subst, ◌∙◌}
+use Rattle.std.proofs.Common.{◌<◌, ℕ, ℤ, List, length, refl, sym, subst, ◌∙◌}
 use Rattle.std.specs.Vec.{with_item}
 use Rattle.std.proofs.lemmas.List.{length-set}
-use Rattle.stream_eval.specs.stream_lists.Jobs.{with_samples}
 use Rattle.stream_eval.specs.stream_lists.Lists.{sinks_of}
 use Rattle.graph_runs.specs.Moments.{Moment}
 use Rattle.graph_runs.specs.Turned.{with_at}
-use Rattle.stream_job.specs.Machines.{HasRoom}
 use Rattle.stream_job.specs.SinkLines.{kept_by}
 use Rattle.stream_job.specs.Streams.{StreamState, IsStreamAt, line_room}
 use Rattle.stream_job.proofs.GivenLines.{line_room_stays, lines_forget, sink_at}
@@ -100,5 +98,6 @@ returns-clause-stands c =
       };
       inputs = c.self.inside.inputs.items;
       met = c.self.inside.met;
-    } s m (with_at (sink_at w.job c.args.sink) (kept_by w.job m (sink_at w.job c.args.sink)) given) in
+    } s m (with_at (sink_at w.job c.args.sink) (kept_by w.job m (sink_at w.job c.args.sink))
+    given) in
     subst P c.self.view_is (stands c)

@@ -1,5 +1,5 @@
 -- The line of the sink keeps what was not forgotten, and it is right whatever comes.
-use Rattle.std.proofs.Common.{◌≡◌, ◌<◌, ◌++◌, ℕ, ℤ, List, length, get_or, sym, ap, subst, ◌∙◌}
+use Rattle.std.proofs.Common.{◌≡◌, ◌<◌, ◌++◌, ℕ, ℤ, List, length, sym, ap, subst, ◌∙◌}
 use mathlib.Core.List.{IsPrefix}
 use Rattle.graph_lang.specs.graph_base.Graphs.{task_at}
 use Rattle.stream_eval.specs.stream_lists.Jobs.{with_samples}
