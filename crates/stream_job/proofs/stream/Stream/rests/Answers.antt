@@ -1,0 +1,26 @@
+use Rattle.std.proofs.Common.{rules, ◌≡◌, ◌<◌, ◌+◌, ◌-◌, ◌&&◌, ℕ, ℤ, List, IfSome, None, length, nat_lt, not, true, ◌*◌, ◌≤◌, ◌/◌, ◌%◌, Bool, false, nat_eq, [], ◌∷◌, ◌++◌, slice_index_or, slice_set, bit_and, bit_or, Fits, w8, w32, w64, Bor, MutBor}
+use Rattle.std.specs.List.{find, list_all}
+use Rattle.stream_eval.specs.stream_lists.Jobs.{with_samples}
+use Rattle.stream_eval.specs.stream_lists.Lists.{is_sink_at}
+use Rattle.graph_lang.specs.graph_base.Graphs.{sources_of}
+use Rattle.graph_runs.specs.Feeds.{is_starved}
+use Rattle.graph_runs.specs.Moments.{Moment}
+use Rattle.graph_runs.specs.NextBlocks.{block_of}
+use Rattle.graph_runs.specs.Nexts.{next_of}
+use Rattle.stream_job.specs.Machines.{IsMachineAt, IsSome, MayHaveCome, next_by}
+use Rattle.stream_job.specs.Plans.{IsPlan}
+use Rattle.stream_job.specs.SinkLines.{kept_by}
+use Rattle.stream_job.specs.Streams.{AreInputs, AreKept, IsStreamAt, StopsAt, all_tasks, ended_at, first_full, first_hungry, is_full, is_hungry, line_room, rests}
+use Rattle.stream_job.proofs.stream.Stream.rests.Goals as goal
+
+-- src/stream_stops.rt:105:9
+pub is_still-requires-clause-came : goal.is_still-requires-clause-came
+is_still-requires-clause-came c = ?
+
+-- src/stream_stops.rt:98:5
+pub returns-then-is_hungry : goal.returns-then-is_hungry
+returns-then-is_hungry c = ?
+
+-- src/stream_stops.rt:98:5
+pub returns-else-is_hungry : goal.returns-else-is_hungry
+returns-else-is_hungry c = ?
