@@ -38,6 +38,7 @@ use Rattle.stream_job.specs.Machines.{IsMachineAt, HasCores, UsesFew, KeepsLines
 use Rattle.stream_job.specs.SinkLines.{begins_at}
 use Rattle.stream_job.specs.Turning.{HadTurn, Shows, phaser_of}
 use Rattle.stream_job.specs.Inside.{IsNextIn, add_refusal, add_event, begins_with, HasBegun}
+use Rattle.stream_eval.specs.declared.whole.Lines.{Lines}
 use Rattle.stream_job.specs.declared.machine.Machine.{Machine}
 use Rattle.stream_job.specs.declared.task_state.TaskState.{TaskState}
 use Rattle.stream_job.specs.declared.made.Made.TheVariants.{Event}

@@ -73,16 +73,7 @@ steps_left job m t k p n outcomes ready live few reached numbered =
     ap (λ b. cond b (further (m.begun t) outcomes) (m.begun t)) (eq-eqb t t refl) in
     omega (arith, further-length (m.begun t) outcomes)
 
--- where the lines keep all, and have room for all, there is room for what a turn gets
-pub sink_room : (job : Job) (old : Machine) (t : ℕ) → ((m : Moment) → IsMachineAt job m old
-    → KeepsLines job none_given m old.lines.items) → All (IsLineOf job) old.lines.items
-    → ((m : Moment) → IsMachineAt job m old
-    → IsReachable job (after_answer job (answer_of_turn job m t) m)) → HasRoomNext job old t
-sink_room job old t kept owns stays = λ m k p n outcomes state at next answer found sink.
-    room_at job old m t k p n outcomes state (kept m at) owns (stays m at) at next answer found
-    (sink_kind (task_at job.graph t).kind sink)
-
--- at one moment
+-- there is room for what a turn gets, at one moment
 room_at : (job : Job) (old : Machine) (m : Moment) (t k p n : ℕ) (outcomes : List Outcome)
     (state : TaskState) → KeepsLines job none_given m old.lines.items
     → All (IsLineOf job) old.lines.items
@@ -134,6 +125,29 @@ room_at job old m t k p n outcomes state kept owns stays at next answer found ki
         let same : (span_in (least job) line.task).steps ≡ (span_in (least job) t).steps =
         ap (λ u. (span_in (least job) u).steps) owner in
         omega (arith, line.values.ok.0)
+
+-- where the lines keep all, and have room for all, there is room for what a turn gets
+pub sink_room : (job : Job) (old : Machine) (t : ℕ) → ((m : Moment) → IsMachineAt job m old
+    → KeepsLines job none_given m old.lines.items) → All (IsLineOf job) old.lines.items
+    → ((m : Moment) → IsMachineAt job m old
+    → IsReachable job (after_answer job (answer_of_turn job m t) m)) → HasRoomNext job old t
+sink_room job old t kept owns stays = λ m k p n outcomes state at next answer found sink.
+    room_at job old m t k p n outcomes state (kept m at) owns (stays m at) at next answer found
+    (sink_kind (task_at job.graph t).kind sink)
+
+-- as the code has the place of the line
+pub room_of : (job : Job) (old : Machine) (t : ℕ) (outcomes : List Outcome) (state : TaskState)
+    (sink : Option ℕ) → sink ≡ cond (is_sink_at job t) (Some state.sink) None
+    → (is_sink_at job t ≡ true → HasRoomIn old.lines.items (length outcomes) state.sink)
+    → IfSome sink (HasRoomIn old.lines.items (length outcomes))
+room_of job old t outcomes state sink is room =
+    subst (λ o. IfSome o (HasRoomIn old.lines.items (length outcomes))) (sym is)
+    (by (is_sink_at job t) refl)
+  where
+    by : (b : Bool) → is_sink_at job t ≡ b
+        → IfSome (cond b (Some state.sink) None) (HasRoomIn old.lines.items (length outcomes))
+    by true e = room e
+    by false e = tt
 
 -- a line that has taken values has the room that it had
 pub line_kept : (needs : ℕ → ℕ) (lines : List Lines) (i : ℕ) (read kept : Lines)

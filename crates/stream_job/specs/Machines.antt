@@ -1,6 +1,5 @@
 -- The moments that a machine stands for, and what the lines of its sinks keep.
 use Rattle.std.specs.Prelude.{◌≡◌, ℕ, ℤ, zero, suc, ◌+◌, ◌<◌, ◌≤◌, List, [], ◌++◌, Bool, true, ◌||◌, Option, Some, None, is_some, if◌then◌else◌, length, map, slice_get, drop, vec_capacity}
-use Rattle.std.specs.List.{All}
 use Rattle.phase_any.specs.phase_history.Histories.{History, greatest_used}
 use Rattle.graph_lang.specs.graph_base.Graphs.{phaser_at, task_at}
 use Rattle.graph_lang.specs.graph_base.declared.line.Kind.TheVariants.{Source}

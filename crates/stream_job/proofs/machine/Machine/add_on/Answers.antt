@@ -4,8 +4,9 @@ use Rattle.std.proofs.lemmas.Option.{slice_get_read}
 use Rattle.std.specs.Vec.{vec_len}
 use Rattle.graph_lang.specs.graph_base.Graphs.{task_at}
 use Rattle.phase_any.specs.phase_history.Histories.{done_of}
+use Rattle.stream_eval.specs.stream_lists.Jobs.{with_samples}
 use Rattle.stream_job.specs.Inside.{HasBegun}
-use Rattle.stream_job.proofs.Setting.{on_ok}
+use Rattle.stream_job.proofs.Setting.{bare_cores, on_ok}
 use Rattle.stream_job.proofs.Begins.{now_line, lines_begin, lines_plain}
 use Rattle.stream_job.proofs.machine.Machine.add_on.Goals as goal
 
@@ -15,16 +16,16 @@ returns-then-not-task-clause-lines c =
     let line = c.task.ensures.task ∙ ap (λ g. task_at g c.args.c) c.graph.ensures.graph in
     let now : (task_at job.graph c.args.c).joins_now ≡ false =
     ap (λ t. t.joins_now) (sym line) ∙ c.if-not-task.true in
-    on_ok c.register_on.result (λ accepted m at.
-    lines_plain job m c.args.self.now c.args.c (done_of (m.history c.args.p))
-    c.register_on.new.self.lines.items at now (ap (λ l. l.items) c.register_on.ensures.lines))
+    on_ok c.register_on.result (λ accepted s m at.
+    lines_plain (with_samples s job) m c.args.self.now c.args.c (done_of (m.history c.args.p))
+    c.register_on.new.self.lines.items now (ap (λ l. l.items) c.register_on.ensures.lines))
     c.register_on.ensures.ok
 
 pub index_mut-requires : goal.index_mut-requires
 index_mut-requires c =
-    let job = c.args.job.now in
-    let m = c.requires.machine.0 in
-    let at = c.requires.machine.1 in
+    let job = with_samples c.requires.machine.0 c.args.job.now in
+    let m = c.requires.machine.1.0 in
+    let at = c.requires.machine.1.1 in
     let line = c.task.ensures.task ∙ ap (λ g. task_at g c.args.c) c.graph.ensures.graph in
     let now : (task_at job.graph c.args.c).joins_now ≡ true =
     ap (λ t. t.joins_now) (sym line) ∙ c.if-not-task.false in
@@ -40,8 +41,8 @@ index_mut-requires c =
     omega (arith, now_line job m c.args.self.now c.args.c c.index.result.now at there found now)
 
 pub returns-clause-lines : goal.returns-clause-lines
-returns-clause-lines c = λ m at.
-    (let job = c.args.job.now in
+returns-clause-lines c = λ s m at.
+    (let job = with_samples s c.args.job.now in
     let line = c.task.ensures.task ∙ ap (λ g. task_at g c.args.c) c.graph.ensures.graph in
     let now : (task_at job.graph c.args.c).joins_now ≡ true =
     ap (λ t. t.joins_now) (sym line) ∙ c.if-not-task.false in
@@ -51,7 +52,7 @@ returns-clause-lines c = λ m at.
     c.args.c c.index.result.now refl (omega arith)
     (c.index.ensures ∙ ap (λ v. get_or v.items c.args.c c.index.result.now) c.register_now_on.ensures.tasks) in
     let phase : c.in_ok-phase.phase ≡ done_of (m.history c.args.p) =
-    (c.in_ok-phase.ensures.ok m at).1 in
+    (c.in_ok-phase.ensures.ok m.history (bare_cores s at.cores)).1 in
     subst (λ d. HasBegun job m c.args.c d c.args.self.now.lines.items
     (set c.register_now_on.new.self.lines.items c.index.result.now.sink
     (record c.index_mut.result.now { start = Some c.in_ok-phase.phase }))) phase

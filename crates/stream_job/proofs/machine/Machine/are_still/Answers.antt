@@ -11,7 +11,8 @@ returns-then-not-is_still c = λ m at marked.
     c.tasks-t-end.ensures.count ∙ ap (λ g. length g.tasks) c.graph.ensures.graph in
     let lt : c.loop-t.t < c.tasks-t-end.result = c.loop-t-test.true in
     not_all_in_range (is_still c.args.job.now m) (length c.args.job.now.graph.tasks) c.loop-t.t
-    (omega arith) (c.is_still.ensures c.args.job.now.samples m c.awaits.ensures at ∙ c.if-not-is_still.true)
+    (omega arith)
+    (c.is_still.ensures c.args.job.now.samples m c.awaits.ensures at ∙ c.if-not-is_still.true)
 
 pub loop-t-preserved : goal.loop-t-preserved
 loop-t-preserved c = λ m at marked d lt.

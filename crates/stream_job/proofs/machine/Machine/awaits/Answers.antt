@@ -16,7 +16,8 @@ returns c =
           let many : length tasks ≡ length job.graph.tasks = at.tasks_many in
           let lt : t < length job.graph.tasks = there in
           let stands = (at.tasks t state
-          (slice_get_read tasks (length tasks) t state refl (omega arith) c.index.ensures)).stands in
+          (slice_get_read tasks (length tasks) t state refl (omega arith)
+          c.index.ensures)).stands in
           ap (λ n. drop n (samples_at job t)) stands.begun
           ∙ sym c.samples_from.ensures.value;
       sends = λ there. c.samples_from.ensures.sends;

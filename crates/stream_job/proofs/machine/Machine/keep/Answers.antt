@@ -1,5 +1,6 @@
 -- The values stand behind the others.
-use Rattle.std.proofs.Common.{refl, ap}
+use Rattle.std.proofs.Common.{◌++◌, refl, sym, ap, ◌∙◌}
+use Rattle.std.proofs.lemmas.List.{append-assoc}
 use Rattle.stream_job.specs.SinkLines.{kept_of}
 use Rattle.stream_job.proofs.Rooms.{line_kept}
 use Rattle.stream_job.proofs.SinkLines.{kept_line, line_stays, line_there, room_for}
@@ -11,11 +12,15 @@ keep_values-requires c =
     c.requires.there c.requires.room c.index_mut.ensures.value
 
 pub returns-in-Some-clause-lines : goal.returns-in-Some-clause-lines
-returns-in-Some-clause-lines c =
-    kept_line c.args.self.now.lines.items c.in-Some.i c.index_mut.result.now
+returns-in-Some-clause-lines c = λ given.
+    kept_line given c.args.self.now.lines.items c.in-Some.i c.index_mut.result.now
     (record c.index_mut.result.now { values = c.keep_values.new.values }) (kept_of c.args.outcomes.now)
     c.args.sink c.in-Some.is c.requires.there c.index_mut.ensures.value
-    (ap (λ vs. (c.index_mut.result.now.task, vs)) c.keep_values.ensures.values)
+    (ap (λ vs. (c.index_mut.result.now.task, given c.index_mut.result.now.task ++ vs))
+    c.keep_values.ensures.values
+    ∙ ap (λ vs. (c.index_mut.result.now.task, vs))
+    (sym (append-assoc (given c.index_mut.result.now.task) c.index_mut.result.now.values.items
+    (kept_of c.args.outcomes.now))))
 
 pub returns-in-Some-clause-starts : goal.returns-in-Some-clause-starts
 returns-in-Some-clause-starts c =
@@ -25,8 +30,8 @@ returns-in-Some-clause-starts c =
 
 -- Its line has the room that it had.
 pub returns-in-Some-clause-own : goal.returns-in-Some-clause-own
-returns-in-Some-clause-own c = λ job all.
-    line_kept job c.args.self.now.lines.items c.in-Some.i c.index_mut.result.now
+returns-in-Some-clause-own c = λ room all.
+    line_kept room c.args.self.now.lines.items c.in-Some.i c.index_mut.result.now
     (record c.index_mut.result.now { values = c.keep_values.new.values })
     (line_there c.args.self.now.lines.items c.in-Some.i c.args.sink c.in-Some.is c.requires.there)
     c.index_mut.ensures.value refl c.keep_values.ensures.room all

@@ -6,14 +6,16 @@ use Rattle.graph_lang.specs.graph_base.Registrations.{registrations_of, no_regis
 use Rattle.graph_runs.specs.Nexts.{registrations_at}
 use Rattle.graph_runs.specs.TaskPlaces.{registration_at}
 use Rattle.graph_runs.proofs.Signalling.{live-is}
+use Rattle.stream_eval.specs.stream_lists.Jobs.{with_samples}
 use Rattle.stream_job.proofs.Children.{number_is, no_number}
 use Rattle.stream_job.proofs.machine.Machine.number_on.Goals as goal
 
 pub bounds-deref-k : goal.bounds-deref-k
 bounds-deref-k c =
-    let job = c.args.job.now in
-    let at = c.requires.1 in
-    let there = (live-is job c.requires.0 c.args.t c.requires.2).there in
+    let job = with_samples c.requires.0 c.args.job.now in
+    let m = c.requires.1.0 in
+    let at = c.requires.1.1 in
+    let there = (live-is job m c.args.t c.requires.1.2).there in
     let many = at.tasks_many in
     let lt : c.args.t < length c.args.self.now.tasks.items = omega arith in
     let found = slice_get_read c.args.self.now.tasks.items (length c.args.self.now.tasks.items)
@@ -23,13 +25,13 @@ bounds-deref-k c =
     ∙ ap (λ g. length (registrations_of g (task_at g c.args.t))) c.graph.ensures.graph in
     let below = c.loop-k-test.true in
     let few : c.loop-k.k < length (registrations_at job c.args.t) = omega arith in
-    (number_is job c.args.self.now c.requires.0 c.args.t
+    (number_is job c.args.self.now m c.args.t
     (registration_at job c.args.t c.loop-k.k).phaser c.loop-k.k c.index.result.now
-    c.deref.result.now at c.requires.2 found c.deref.ensures few refl).0
+    c.deref.result.now at c.requires.1.2 found c.deref.ensures few refl).0
 
 pub returns-then-registration-p : goal.returns-then-registration-p
-returns-then-registration-p c = λ m at live.
-    let job = c.args.job.now in
+returns-then-registration-p c = λ s m at live.
+    let job = with_samples s c.args.job.now in
     let there = (live-is job m c.args.t live).there in
     let many = at.tasks_many in
     let lt : c.args.t < length c.args.self.now.tasks.items = omega arith in
@@ -48,8 +50,8 @@ returns-then-registration-p c = λ m at live.
     c.deref.result.now at live found c.deref.ensures few here).1
 
 pub returns : goal.returns
-returns c = λ m at live.
-    let job = c.args.job.now in
+returns c = λ s m at live.
+    let job = with_samples s c.args.job.now in
     let there = (live-is job m c.args.t live).there in
     let count : c.registrations-k-end.result ≡ length (registrations_at job c.args.t) =
     c.registrations-k-end.ensures.count

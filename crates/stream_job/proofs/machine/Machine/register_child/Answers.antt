@@ -100,7 +100,7 @@ unreachable-requires c =
     number_left job m c.args.self.now p c.next_number.result at
     (there s (goal.at.unreachable-requires c).After-registration-registration next)
     (c.next_number.ensures (phaser_at job.graph p).op (limits_at job p) (m.history p)
-    (c.core.ensures m at)) c.in_default.is
+    (c.core.ensures s m at)) c.in_default.is
 
 pub unreachable-requires-in_default-refusal : goal.unreachable-requires-in_default-refusal
 unreachable-requires-in_default-refusal c =
@@ -113,14 +113,15 @@ unreachable-requires-in_default-refusal c =
     c.registration-registration.result.phaser c.number_on-parent.result c.in-Some.number
     c.registration-registration.result.mode c.index.result.now c.in-Err.refusal next found
     (sym (ap (λ (r : Registration). r.phaser) reg)) (sym (ap (λ (r : Registration). r.mode) reg))
-    (λ m at. c.number_on-parent.ensures m at (live_next job m c.args.t (registers c.args.c)
+    (λ m at. c.number_on-parent.ensures s m at (live_next job m c.args.t (registers c.args.c)
     (next.is m at) (λ e. (cc))))
     (λ m at. next_is (greatest_used (m.history c.registration-registration.result.phaser))
     c.in-Some.number (sym (c.next_number.ensures
     (phaser_at job.graph c.registration-registration.result.phaser).op
     (limits_at job c.registration-registration.result.phaser)
-    (m.history c.registration-registration.result.phaser) (c.core.ensures m at)) ∙ c.in-Some.is))
-    ((λ m at. c.in-Err.ensures.refused m.history (bare_cores s at.cores)) c.in_default-refusal.not-OutOfMemory)
+    (m.history c.registration-registration.result.phaser) (c.core.ensures s m at)) ∙ c.in-Some.is))
+    (λ m at. c.in-Err.ensures.refused c.in_default-refusal.not-OutOfMemory m.history
+    (bare_cores s at.cores))
 
 pub returns-in-Ok-clause-made : goal.returns-in-Ok-clause-made
 returns-in-Ok-clause-made c = λ s next.
@@ -137,13 +138,13 @@ returns-in-Ok-clause-made c = λ s next.
     c.number_on-parent.result c.in-Some.number c.registration-registration.result.mode
     c.index.result.now c.push_reserved.new.self next found
     (sym (ap (λ (r : Registration). r.phaser) reg)) (sym (ap (λ (r : Registration). r.mode) reg))
-    (λ m at. c.number_on-parent.ensures m at (live_next job m c.args.t (registers c.args.c)
+    (λ m at. c.number_on-parent.ensures s m at (live_next job m c.args.t (registers c.args.c)
     (next.is m at) (λ e. (cc))))
     (λ m at. next_is (greatest_used (m.history c.registration-registration.result.phaser))
     c.in-Some.number (sym (c.next_number.ensures
     (phaser_at job.graph c.registration-registration.result.phaser).op
     (limits_at job c.registration-registration.result.phaser)
-    (m.history c.registration-registration.result.phaser) (c.core.ensures m at)) ∙ c.in-Some.is))
+    (m.history c.registration-registration.result.phaser) (c.core.ensures s m at)) ∙ c.in-Some.is))
     (λ m at. c.in-Ok.ensures.ok m.history (bare_cores s at.cores)) (λ m at. full_cores s (c.in-Ok.ensures.cores m.history (bare_cores s at.cores)))
     (c.push_reserved.ensures.items
     ∙ ap (λ (s : TaskState). s.numbers.items ++ c.in-Some.number ∷ []) it)
@@ -151,4 +152,4 @@ returns-in-Ok-clause-made c = λ s next.
     (set_read (λ s. with_numbers s c.push_reserved.new.self) c.args.self.now.tasks.items
     c.add_on.new.self.tasks.items c.args.c c.index.result.now c.index_mut.result.now tasks lt
     c.index.ensures c.index_mut.ensures.value)
-    c.in-Ok.ensures.lines
+    (c.in-Ok.ensures.lines s)

@@ -1,5 +1,5 @@
 -- The core of the phaser is set, and the others stay.
-use Rattle.std.proofs.Common.{◌∷◌, ◌≡◌, length, ap, ◌∙◌, arith}
+use Rattle.std.proofs.Common.{◌∷◌, ap, ◌∙◌, arith}
 use Rattle.std.specs.Vec.{with_item}
 use Rattle.phase_any.specs.phase_history.declared.event.Event.TheVariants.{RegisteredNow}
 use Rattle.graph_lang.specs.graph_base.Graphs.{phaser_at}

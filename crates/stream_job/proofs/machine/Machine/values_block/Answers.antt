@@ -45,7 +45,8 @@ returns c = λ s m makes at.
     let p = output_at job c.args.t c.args.j in
     value_blocks job m c.args.t c.args.j (owed_in state.owed state.made.items) at.graph
     makes.sends at.reached makes.there (makes.is m at)
-    (c.state-state.ensures s m at).stands.owes (c.are_in_range.ensures ∙ c.if-not-are_in_range.false)
+    (c.state-state.ensures s m at).stands.owes
+    (c.are_in_range.ensures ∙ c.if-not-are_in_range.false)
     ∙ ap (blocks_signal (limits_at job p) (m.history p) (number_on m c.args.t p))
     c.owed_many.ensures
     ∙ c.signal_blocks.ensures s m at (makes.live m at)

@@ -12,6 +12,7 @@ use Rattle.graph_lang.specs.graph_base.Graphs.{task_at}
 use Rattle.stream_eval.specs.Results.{sink_values}
 use Rattle.stream_eval.specs.stream_lists.Lists.{number}
 use Rattle.graph_runs.specs.Moments.{Moment, limits_at}
+use Rattle.graph_runs.specs.Nexts.{waits}
 use Rattle.graph_runs.specs.Steps.{HasFilter}
 use Rattle.graph_runs.specs.Turned.{with_at}
 use Rattle.stream_eval.specs.stream_lists.Jobs.{with_samples}
@@ -22,7 +23,7 @@ use Rattle.stream_job.specs.Turning.{HadTurn}
 use Rattle.stream_job.specs.Machines.{HasCores, IsMachineAt, IsLineOf}
 use Rattle.stream_job.proofs.Lively.{state_read, state_there}
 use Rattle.stream_job.proofs.Setting.{read_same, bare_cores, full_cores}
-use Rattle.stream_job.proofs.Rooms.{sink_room}
+use Rattle.stream_job.proofs.Rooms.{room_of}
 use Rattle.stream_job.proofs.Waits.{AsksFirst, asks_places, GotAll, got_answered, MayTake, may_take, done_few, had_as, first_waits_at, first_answer, first_turn, blocked_first, first_never_ended, sink_there}
 use Rattle.stream_job.proofs.machine.Machine.wait_first.Goals.{After-wait_block_on, In-Ok-Values, After-index_mut, in-Ok-Values, in-Err}
 use Rattle.stream_job.proofs.machine.Machine.wait_first.Goals as goal
@@ -237,10 +238,12 @@ keep-requires-clause-room c =
     let asked = asks s a.After-wait_block_on next in
     subst (λ l. IfSome c.sink_of-sink.result (HasRoomIn l.items (length got)))
     (sym c.wait_block_on.ensures.lines)
-    (sink_room job old m c.args.t c.args.k p n got c.index.result.now c.sink_of-sink.result
-    next at asked.found (c.sink_of-sink.ensures c.index.result.now asked.found)
+    (room_of job old c.args.t got c.index.result.now c.sink_of-sink.result
+    (c.sink_of-sink.ensures c.index.result.now asked.found)
+    (λ sink. c.requires.next.2 m c.args.k p n got c.index.result.now at (next.is m at)
     (first_answer job old m c.args.t c.args.k n p c.block-steps.result v.phase v.count got
-    c.index.result.now asked at (all s a.In-Ok-Values next (long a.After-wait_block_on) m at)))
+    c.index.result.now asked at (all s a.In-Ok-Values next (long s a.After-wait_block_on next) m at))
+    asked.found sink))
 
 pub told_got-requires : goal.told_got-requires
 told_got-requires c =
