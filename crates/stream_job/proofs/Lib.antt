@@ -6,6 +6,7 @@ pub mod Lively
 pub mod Makes
 pub mod OpeningPhasers
 pub mod OpeningTasks
+pub mod Awaiting
 pub mod Begins
 pub mod Begun
 pub mod ChildLists
@@ -18,6 +19,7 @@ pub mod Setting
 pub mod Signals
 pub mod SinkLines
 pub mod SinksKeep
+pub mod Stopping
 pub mod Taking
 pub mod TaskLists
 pub mod Tellings

@@ -102,9 +102,13 @@ impl Stream {
             → rests (with_samples s self.now.job) (ended_at self.now) m given t ≡ result }
     {
         let awaits = awaited(&self.job, &self.plan, &self.machine, &self.inputs, t);
-        self.machine.is_still(&self.job, &self.plan, t, awaits)
-            || self.is_hungry(t)
-            || self.is_full(t)
+        if self.machine.is_still(&self.job, &self.plan, t, awaits) {
+            return true;
+        }
+        if self.is_hungry(t) {
+            return true;
+        }
+        self.is_full(t)
     }
 
     /// What a task does next.

@@ -1,26 +1,50 @@
-use Rattle.std.proofs.Common.{rules, ◌≡◌, ◌<◌, ◌+◌, ◌-◌, ◌&&◌, ℕ, ℤ, List, IfSome, None, length, nat_lt, not, true, ◌*◌, ◌≤◌, ◌/◌, ◌%◌, Bool, false, nat_eq, [], ◌∷◌, ◌++◌, slice_index_or, slice_set, bit_and, bit_or, Fits, w8, w32, w64, Bor, MutBor}
-use Rattle.std.specs.List.{find, list_all}
+-- It rests where one of the three says so.
+use Rattle.std.proofs.Common.{◌≡◌, ℕ, ℤ, List, ◌||◌, Bool, true, false, sym, ap, subst, ◌∙◌}
 use Rattle.stream_eval.specs.stream_lists.Jobs.{with_samples}
-use Rattle.stream_eval.specs.stream_lists.Lists.{is_sink_at}
-use Rattle.graph_lang.specs.graph_base.Graphs.{sources_of}
-use Rattle.graph_runs.specs.Feeds.{is_starved}
+use Rattle.graph_runs.specs.Answers.{is_still}
 use Rattle.graph_runs.specs.Moments.{Moment}
-use Rattle.graph_runs.specs.NextBlocks.{block_of}
-use Rattle.graph_runs.specs.Nexts.{next_of}
-use Rattle.stream_job.specs.Machines.{IsMachineAt, IsSome, MayHaveCome, next_by}
-use Rattle.stream_job.specs.Plans.{IsPlan}
-use Rattle.stream_job.specs.SinkLines.{kept_by}
-use Rattle.stream_job.specs.Streams.{AreInputs, AreKept, IsStreamAt, StopsAt, all_tasks, ended_at, first_full, first_hungry, is_full, is_hungry, line_room, rests}
+use Rattle.stream_job.specs.Streams.{AreKept, IsStreamAt, StreamState, ended_at, is_full, is_hungry, rests}
 use Rattle.stream_job.proofs.stream.Stream.rests.Goals as goal
+use Rattle.stream_job.proofs.stream.Stream.rests.Goals.{After-is_still}
 
--- src/stream_stops.rt:105:9
 pub is_still-requires-clause-came : goal.is_still-requires-clause-came
-is_still-requires-clause-came c = ?
+is_still-requires-clause-came c =
+    let s = c.self.invariant.0.0 in
+    let m = c.self.invariant.0.1 in
+    let at = c.self.invariant.0.3 in
+    (
+      s,
+      c.awaited-awaits.ensures s m at.each at.machine
+          (subst (AreKept c.self.inside.job s m) (sym c.deref.ensures.value) at.kept),
+    )
 
--- src/stream_stops.rt:98:5
-pub returns-then-is_hungry : goal.returns-then-is_hungry
-returns-then-is_hungry c = ?
+-- whether it is still, as the machine says
+still : (c : After-is_still) (s : List (List ℤ)) (m : Moment) (given : ℕ → List ℤ)
+    → IsStreamAt c.args.self.now s m given
+    → is_still (with_samples s c.args.self.now.job) m c.args.t ≡ c.is_still.result
+still c =
+    let P : StreamState → Type 0 = λ w. (s : List (List ℤ)) (m : Moment) (given : ℕ → List ℤ)
+    → IsStreamAt w s m given
+    → is_still (with_samples s w.job) m c.args.t ≡ c.is_still.result in
+    subst P c.self.view_is (λ s m given at.
+    c.is_still.ensures s m
+    (c.awaited-awaits.ensures s m at.each at.machine
+    (subst (AreKept c.self.inside.job s m) (sym c.deref.ensures.value) at.kept))
+    at.machine)
 
--- src/stream_stops.rt:98:5
-pub returns-else-is_hungry : goal.returns-else-is_hungry
-returns-else-is_hungry c = ?
+pub returns-then-is_still : goal.returns-then-is_still
+returns-then-is_still c = λ s m given at.
+    let job = with_samples s c.args.self.now.job in
+    let ended = ended_at c.args.self.now in
+    ap (λ b. b || is_hungry job ended m c.args.t || is_full job m given c.args.t)
+    (still (goal.at.returns-then-is_still c).After-is_still s m given at ∙ c.if-is_still.true)
+
+pub returns : goal.returns
+returns c = λ s m given at.
+    let job = with_samples s c.args.self.now.job in
+    let ended = ended_at c.args.self.now in
+    ap (λ b. b || is_hungry job ended m c.args.t || is_full job m given c.args.t)
+    (still (goal.at.returns c).After-is_still s m given at ∙ c.if-is_still.false)
+    ∙ ap (λ b. b || is_full job m given c.args.t)
+    (c.is_hungry.ensures s m given at ∙ c.if-is_hungry.false)
+    ∙ c.is_full.ensures s m given at

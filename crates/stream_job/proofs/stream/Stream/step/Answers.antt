@@ -1,18 +1,18 @@
-use Rattle.std.proofs.Common.{rules, ◌≡◌, ◌<◌, ◌+◌, ◌-◌, ◌&&◌, ℕ, ℤ, List, IfSome, None, length, nat_lt, not, true, ◌*◌, ◌≤◌, ◌/◌, ◌%◌, Bool, false, nat_eq, [], ◌∷◌, ◌++◌, slice_index_or, slice_set, bit_and, bit_or, Fits, w8, w32, w64, Bor, MutBor}
-use Rattle.std.specs.List.{find, list_all}
+-- The machine says it of the samples that the source has still to signal.
+use Rattle.std.proofs.Common.{◌≡◌, ℕ, ℤ, List, sym, subst}
 use Rattle.stream_eval.specs.stream_lists.Jobs.{with_samples}
-use Rattle.stream_eval.specs.stream_lists.Lists.{is_sink_at}
-use Rattle.graph_lang.specs.graph_base.Graphs.{sources_of}
-use Rattle.graph_runs.specs.Feeds.{is_starved}
 use Rattle.graph_runs.specs.Moments.{Moment}
-use Rattle.graph_runs.specs.NextBlocks.{block_of}
 use Rattle.graph_runs.specs.Nexts.{next_of}
-use Rattle.stream_job.specs.Machines.{IsMachineAt, IsSome, MayHaveCome, next_by}
-use Rattle.stream_job.specs.Plans.{IsPlan}
-use Rattle.stream_job.specs.SinkLines.{kept_by}
-use Rattle.stream_job.specs.Streams.{AreInputs, AreKept, IsStreamAt, StopsAt, all_tasks, ended_at, first_full, first_hungry, is_full, is_hungry, line_room, rests}
+use Rattle.stream_job.specs.Machines.{next_by}
+use Rattle.stream_job.specs.Streams.{AreKept, IsStreamAt, StreamState}
 use Rattle.stream_job.proofs.stream.Stream.step.Goals as goal
 
--- src/stream_stops.rt:111:5
 pub returns : goal.returns
-returns c = ?
+returns c =
+    let P : StreamState → Type 0 = λ w. (s : List (List ℤ)) (m : Moment) (given : ℕ → List ℤ)
+    → IsStreamAt w s m given
+    → next_of (with_samples s w.job) m c.args.t ≡ next_by c.next.result in
+    subst P c.self.view_is (λ s m given at.
+    c.next.ensures s m at.machine
+    ((c.awaited-awaits.ensures s m at.each at.machine
+    (subst (AreKept c.self.inside.job s m) (sym c.deref.ensures.value) at.kept)).awaits m at.machine))
