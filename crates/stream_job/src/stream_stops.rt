@@ -1,5 +1,5 @@
 //! Where a run that is fed stops.
-ghost use Rattle.std.specs.Prelude.{◌≡◌, ◌<◌, ◌+◌, ◌-◌, ◌&&◌, ℕ, ℤ, List, IfSome, None, length, nat_lt, not, true};
+ghost use Rattle.std.specs.Prelude.{◌≡◌, ◌<◌, ◌+◌, ◌-◌, ◌&&◌, ℕ, ℤ, List, IfSome, None, false, length, nat_lt, not, true};
 ghost use Rattle.std.specs.List.{find, list_all};
 ghost use Rattle.stream_eval.specs.stream_lists.Jobs.{with_samples};
 ghost use Rattle.stream_eval.specs.stream_lists.Lists.{is_sink_at};
@@ -8,6 +8,7 @@ ghost use Rattle.graph_runs.specs.Feeds.{is_starved};
 ghost use Rattle.graph_runs.specs.Moments.{Moment};
 ghost use Rattle.graph_runs.specs.NextBlocks.{block_of};
 ghost use Rattle.graph_runs.specs.Nexts.{next_of};
+ghost use Rattle.stream_job.specs.Inside.{HasRoomNext};
 ghost use Rattle.stream_job.specs.Machines.{IsMachineAt, IsSome, MayHaveCome, next_by};
 ghost use Rattle.stream_job.specs.Plans.{IsPlan};
 ghost use Rattle.stream_job.specs.SinkLines.{kept_by};
@@ -114,9 +115,13 @@ impl Stream {
     /// What a task does next.
     fn step(&self, t: usize) -> Step
         requires { t < length self.now.job.graph.tasks }
-        ensures { (s : List (List ℤ)) (m : Moment) (given : ℕ → List ℤ)
+        ensures next { (s : List (List ℤ)) (m : Moment) (given : ℕ → List ℤ)
             → IsStreamAt self.now s m given
             → next_of (with_samples s self.now.job) m t ≡ next_by result }
+        ensures each { (s : List (List ℤ)) (m m' : Moment) (given : ℕ → List ℤ)
+            → IsStreamAt self.now s m given
+            → IsMachineAt (with_samples s self.now.job) m' self.now.machine
+            → next_of (with_samples s self.now.job) m' t ≡ next_by result }
     {
         let awaits = awaited(&self.job, &self.plan, &self.machine, &self.inputs, t);
         self.machine.next(&self.job, &self.plan, t, awaits)
@@ -159,9 +164,12 @@ impl Stream {
     /// Whether a task is a sink that waits next and has no room for what it may get.
     pub fn is_full(&self, t: usize) -> bool
         requires { t < length self.now.job.graph.tasks }
-        ensures { (s : List (List ℤ)) (m : Moment) (given : ℕ → List ℤ)
+        ensures full { (s : List (List ℤ)) (m : Moment) (given : ℕ → List ℤ)
             → IsStreamAt self.now s m given
             → is_full (with_samples s self.now.job) m given t ≡ result }
+        ensures room { result ≡ false → (s : List (List ℤ)) (m : Moment) (given : ℕ → List ℤ)
+            → IsStreamAt self.now s m given
+            → HasRoomNext (with_samples s self.now.job) self.now.machine t }
     {
         if !self.job.graph().is_sink(t) {
             return false;
@@ -176,11 +184,14 @@ impl Stream {
     fn lacks_room(&self, t: usize) -> bool
         requires task { t < length self.now.job.graph.tasks }
         requires sink { is_sink_at self.now.job t ≡ true }
-        ensures { (s : List (List ℤ)) (m : Moment) (given : ℕ → List ℤ)
+        ensures lacks { (s : List (List ℤ)) (m : Moment) (given : ℕ → List ℤ)
             → IsStreamAt self.now s m given
             → let job = with_samples s self.now.job in
             nat_lt (line_room job t)
             (length (kept_by job m t) - length (given t) + block_of job m t) ≡ result }
+        ensures room { result ≡ false → (s : List (List ℤ)) (m : Moment) (given : ℕ → List ℤ)
+            → IsStreamAt self.now s m given
+            → HasRoomNext (with_samples s self.now.job) self.now.machine t }
     {
         let state = &self.machine.tasks[t];
         let steps = self.plan.block(&self.job, t, state.begun);

@@ -1,14 +1,18 @@
 -- The line keeps as many values as the sink received and did not hand over.
-use Rattle.std.proofs.Common.{◌≡◌, ℕ, ℤ, List, ◌+◌, ◌-◌, ◌<◌, Bool, true, length, refl, sym, ap, subst, ◌∙◌, arith}
-use Rattle.std.specs.Prelude.{nat_lt, vec_len}
+use Rattle.std.proofs.Common.{◌≡◌, ℕ, ℤ, List, ◌+◌, ◌-◌, ◌<◌, ◌≤◌, Bool, true, false, length, refl, sym, ap, subst, ◌∙◌, arith}
+use Rattle.std.specs.Prelude.{nat_lt, vec_capacity, vec_len}
+use Rattle.std.proofs.lemmas.Bool.{lt-ltb, ltb-false}
+use Rattle.std.proofs.lemmas.List.Elements.{All-get_or}
 use Rattle.std.proofs.lemmas.Option.{slice_get_read}
 use Rattle.stream_eval.specs.stream_lists.Jobs.{with_samples}
 use Rattle.stream_eval.specs.stream_lists.Lists.{is_sink_at}
 use Rattle.graph_runs.specs.Moments.{Moment}
 use Rattle.graph_runs.specs.NextBlocks.{block_of}
-use Rattle.stream_job.specs.Machines.{KeepsLines}
+use Rattle.stream_job.specs.Inside.{HasRoomNext}
+use Rattle.stream_job.specs.Machines.{HasRoom}
 use Rattle.stream_job.specs.SinkLines.{kept_by}
 use Rattle.stream_job.specs.Streams.{IsStreamAt, StreamState, line_room}
+use Rattle.stream_job.proofs.FedTurns.{has_room_by}
 use Rattle.stream_job.proofs.Stopping.{line_holds, line_there, no_room_left, no_room_over, state_at, with_samples_lines}
 use Rattle.stream_job.proofs.stream.Stream.lacks_room.Goals as goal
 use Rattle.stream_job.proofs.stream.Stream.lacks_room.Goals.{After-block-steps}
@@ -37,9 +41,9 @@ index-requires c =
     (task_there b) c.index-state.ensures) (sink_is b) in
     omega arith
 
-pub returns-then-kept-room : goal.returns-then-kept-room
-returns-then-kept-room c =
-    let b = (goal.at.returns-then-kept-room c).After-block-steps in
+pub returns-then-kept-room-clause-lacks : goal.returns-then-kept-room-clause-lacks
+returns-then-kept-room-clause-lacks c =
+    let b = (goal.at.returns-then-kept-room-clause-lacks c).After-block-steps in
     let P : StreamState → Type 0 = λ w. (s : List (List ℤ)) (m : Moment) (given : ℕ → List ℤ)
     → IsStreamAt w s m given → let job = with_samples s w.job in
     nat_lt (line_room job c.args.t)
@@ -63,9 +67,9 @@ returns-then-kept-room c =
     ∙ no_room_over c.line_room-room.result c.len-kept.result (block_of job m c.args.t)
     c.if-kept-room.true))
 
-pub returns-else-kept-room : goal.returns-else-kept-room
-returns-else-kept-room c =
-    let b = (goal.at.returns-else-kept-room c).After-block-steps in
+pub returns-else-kept-room-clause-lacks : goal.returns-else-kept-room-clause-lacks
+returns-else-kept-room-clause-lacks c =
+    let b = (goal.at.returns-else-kept-room-clause-lacks c).After-block-steps in
     let P : StreamState → Type 0 = λ w. (s : List (List ℤ)) (m : Moment) (given : ℕ → List ℤ)
     → IsStreamAt w s m given → let job = with_samples s w.job in
     nat_lt (line_room job c.args.t)
@@ -90,3 +94,39 @@ returns-else-kept-room c =
     (c.block-steps.ensures m (at.machine.tasks c.args.t state found).stands.begun)
     ∙ no_room_left c.line_room-room.result c.len-kept.result c.block-steps.result
     c.if-kept-room.false))
+
+pub returns-then-kept-room-clause-room : goal.returns-then-kept-room-clause-room
+returns-then-kept-room-clause-room c = λ less.
+    absurd (let lt = lt-ltb c.line_room-room.result c.len-kept.result c.if-kept-room.true in
+    let wrong : true ≡ false = sym lt ∙ less in cc)
+
+pub returns-else-kept-room-clause-room : goal.returns-else-kept-room-clause-room
+returns-else-kept-room-clause-room c = λ enough.
+    let b = (goal.at.returns-else-kept-room-clause-room c).After-block-steps in
+    let P : StreamState → Type 0 = λ w. (s : List (List ℤ)) (m : Moment) (given : ℕ → List ℤ)
+    → IsStreamAt w s m given → HasRoomNext (with_samples s w.job) w.machine c.args.t in
+    subst P c.self.view_is (λ s m given at.
+    (let job = with_samples s c.self.inside.job in
+    let machine = c.self.inside.machine in
+    let state = c.index-state.result.now in
+    let line = c.index.result.now in
+    let found = state_at job machine m c.args.t state at.machine (task_there b)
+    c.index-state.ensures in
+    let there = line_there job machine m c.args.t state at.machine found (sink_is b) in
+    let read = slice_get_read machine.lines.items (length machine.lines.items) state.sink line refl
+    there c.index.ensures in
+    let held = line_holds job given machine m c.args.t state line at.machine found (sink_is b)
+    (with_samples_lines s c.self.inside.job given m machine.lines.items at.lines) read in
+    let left : c.block-steps.result ≤ c.line_room-room.result - c.len-kept.result =
+    ltb-false (c.line_room-room.result - c.len-kept.result) c.block-steps.result enough in
+    let fits : c.len-kept.result ≤ c.line_room-room.result = c.if-kept-room.false in
+    let own : line_room c.self.inside.job line.task ≤ vec_capacity line.values =
+    (subst (HasRoom (line_room c.self.inside.job)) (sym c.index.ensures)
+    (All-get_or (HasRoom (line_room c.self.inside.job)) machine.lines.items state.sink line there
+    c.self.invariant.5)).room in
+    let owner : line_room c.self.inside.job line.task ≡ line_room c.self.inside.job c.args.t =
+    ap (line_room c.self.inside.job) held.0 in
+    let most = c.line_room-room.ensures in
+    let long = c.len-kept.ensures in
+    has_room_by job machine c.args.t c.block-steps.result state line found read
+    (λ m' begun. c.block-steps.ensures m' begun) (omega arith)))
