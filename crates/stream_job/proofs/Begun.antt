@@ -21,13 +21,13 @@ use Rattle.stream_eval.specs.stream_lists.Spans.{signalled_by, takes_from, puts_
 use Rattle.graph_runs.specs.Moments.{one, Moment, HasRun, OnInput, OnOutput, PutOn, OnPhaser, TakenOn, input_at, limits_at, value_at}
 use Rattle.graph_runs.proofs.OnLines.{on_phaser}
 use Rattle.graph_runs.proofs.StepsLemmas.{has_inputs}
-use Rattle.graph_runs.specs.Nexts.{next_of, waits, number_on}
+use Rattle.graph_runs.specs.Nexts.{next_of, samples, waits, number_on}
 use Rattle.graph_runs.specs.Answers.{output_at}
 use Rattle.graph_runs.proofs.Boundaries.{all_put, made_many, all_taken}
 use Rattle.graph_runs.proofs.PlacesLemmas.{place_of_output}
 use Rattle.graph_runs.proofs.Signalling.{Live, live-is, number_there}
 use Rattle.stream_job.proofs.Lively.{live_next}
-use Rattle.stream_job.proofs.WhatNext.{Begins, waits_begins}
+use Rattle.stream_job.proofs.WhatNext.{Begins, samples_begins, waits_begins}
 
 -- ---- what one task has on one phaser
 
@@ -71,7 +71,7 @@ inputs_few job m t k is ran live lt =
     taken_few job m t k p n is ran there
     (subst (λ o. TakenOn job m t k p o) number ((ran.tasks t live.there).inputs k lt))
 
-outputs_few : (job : Job) (m : Moment) (t j : ℕ) → IsGraph job.graph → HasRun job m
+pub outputs_few : (job : Job) (m : Moment) (t j : ℕ) → IsGraph job.graph → HasRun job m
     → Live job m t → j < length (signalled_by (task_at job.graph t))
     → length (m.put t j) ≤ PHASES_MAX
 outputs_few job m t j is ran live lt =
@@ -129,3 +129,21 @@ begun_few job m t k is ran next =
     by Join e = joined e
     by Peer e = took (rw e refl)
     by Sink e = took (rw e refl)
+
+-- a source has put a value for each of its steps
+pub samples_few : (job : Job) (m : Moment) (t : ℕ) → IsGraph job.graph → HasRun job m
+    → next_of job m t ≡ samples → m.begun t ≤ PHASES_MAX
+samples_few job m t is ran next =
+    let live = live-is job m t (live_next job m t samples next (λ e. absurd (cc))) in
+    let s = samples_begins job m t next in
+    let ends = rw s.kind at (is.tasks t live.there).ends in
+    let one : length (task_at job.graph t).outputs ≡ 1 = ends.1 in
+    let out : signalled_by (task_at job.graph t) ≡ (task_at job.graph t).outputs = rw s.kind refl in
+    let many : length (signalled_by (task_at job.graph t)) ≡ length (task_at job.graph t).outputs =
+    ap length out in
+    let lt : 0 < length (signalled_by (task_at job.graph t)) = omega arith in
+    let plain : puts_on (task_at job.graph t) (m.begun t) 0 ≡ m.begun t = rw s.kind refl in
+    let put : length (m.put t 0) ≡ m.begun t =
+    ap length (all_put job m t (ran.tasks t live.there) live.there s.step.none 0 lt)
+    ∙ made_many job m t 0 is (ran.tasks t live.there) live.there lt ∙ plain in
+    omega (arith, outputs_few job m t 0 is ran live lt)

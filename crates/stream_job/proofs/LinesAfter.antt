@@ -1,18 +1,24 @@
 -- The lines of the sinks after a turn that writes none of them.
-use Rattle.std.proofs.Common.{◌≡◌, ℕ, ℤ, List, None, map, sym, ap, subst, ◌∙◌}
+use Rattle.std.proofs.Common.{◌≡◌, ℕ, ℤ, List, [], None, length, map, sym, ap, subst, ◌∙◌}
 use Rattle.std.specs.List.{All}
+use Rattle.std.proofs.lemmas.List.{length-map}
+use Rattle.graph_lang.specs.graph_base.TaskLines.{IsGraph}
+use Rattle.stream_eval.specs.Results.{sink_values}
+use Rattle.stream_eval.specs.declared.whole.Lines.{Lines}
 use Rattle.stream_eval.specs.stream_lists.Jobs.{Job}
 use Rattle.stream_eval.specs.stream_lists.Lists.{sinks_of}
+use Rattle.graph_runs.specs.Beginnings.{opening}
 use Rattle.graph_runs.specs.Moments.{Moment}
 use Rattle.graph_runs.specs.TaskEvents.{TaskEvent, after_turn}
 use Rattle.graph_runs.specs.TaskPlaces.{child_of}
 use Rattle.graph_runs.specs.Answers.{makes, answer_of_turn, after_answer}
-use Rattle.stream_job.specs.Machines.{HasRoom, IsMachineAt, KeepsLines, kept_behind}
-use Rattle.stream_job.specs.SinkLines.{begins_at}
+use Rattle.stream_job.specs.Machines.{HasRoom, IsMachineAt, KeepsLines, kept_behind, none_given}
+use Rattle.stream_job.specs.SinkLines.{begins_at, kept_by}
 use Rattle.stream_job.specs.declared.machine.Machine.{Machine}
+use Rattle.stream_job.proofs.Begins.{opened_begins}
 use Rattle.stream_job.proofs.Events.{begins_same}
 use Rattle.stream_job.proofs.SinkLines.{map_same}
-use Rattle.stream_job.proofs.SinksKeep.{NoSinkWaits, lines_stay}
+use Rattle.stream_job.proofs.SinksKeep.{NoSinkWaits, lines_stay, opened_kept}
 
 -- lines that are the same keep the same
 pub same_lines : (job : Job) (given : ℕ → List ℤ) (m : Moment) (old new : Machine)
@@ -47,3 +53,27 @@ quiet_lines job given m old new t event at answer none quiet lines kept =
       starts = ap (λ l. map (λ line. line.start) l.items) lines ∙ kept.starts
           ∙ starts_stay job m event none;
     }
+
+-- ---- the opening
+
+-- lines that have nothing are as many as the sinks
+pub opened_many : (job : Job) (lines : List Lines)
+    → map sink_values lines ≡ map (λ t. (t, [])) (sinks_of job)
+    → length lines ≡ length (sinks_of job)
+opened_many job lines none =
+    let f : ℕ → ℕ × List ℤ = λ t. (t, []) in
+    sym (length-map lines sink_values) ∙ ap length none ∙ length-map (sinks_of job) f
+
+-- they keep what the sinks have received at the opening
+pub opened_keep : (job : Job) (lines : List Lines) → IsGraph job.graph
+    → map sink_values lines ≡ map (λ t. (t, [])) (sinks_of job)
+    → map (λ line. line.start) lines ≡ map (λ t. None) (sinks_of job)
+    → KeepsLines job none_given (opening job) lines
+opened_keep job lines is none starts = record {
+  values = none
+      ∙ map_same (λ t. (t, [])) (λ t. (t, kept_by job (opening job) t)) (sinks_of job)
+      (λ t. ap (λ l. (t, l)) (sym (opened_kept job t)));
+  starts = starts
+      ∙ map_same (λ t. None) (begins_at job (opening job)) (sinks_of job)
+      (λ t. sym (opened_begins job t is));
+}

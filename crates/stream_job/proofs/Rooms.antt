@@ -27,7 +27,7 @@ use Rattle.graph_runs.specs.Reached.{IsReachable}
 use Rattle.graph_runs.specs.TaskEvents.{first_wait, after_turn}
 use Rattle.graph_runs.proofs.Boundaries.{all_taken}
 use Rattle.graph_runs.proofs.Signalling.{Live, live-is, number_there}
-use Rattle.stream_job.specs.Inside.{HasRoomIn, HasRoomNext}
+use Rattle.stream_job.specs.Inside.{HasRoomAt, HasRoomIn}
 use Rattle.stream_job.specs.Machines.{HasRoom, IsLineOf, IsMachineAt, KeepsLines, kept_behind, none_given}
 use Rattle.stream_job.specs.declared.machine.Machine.{Machine}
 use Rattle.stream_job.specs.declared.task_state.TaskState.{TaskState}
@@ -127,12 +127,12 @@ room_at job old m t k p n outcomes state kept owns stays at next answer found ki
         omega (arith, line.values.ok.0)
 
 -- where the lines keep all, and have room for all, there is room for what a turn gets
-pub sink_room : (job : Job) (old : Machine) (t : ℕ) → ((m : Moment) → IsMachineAt job m old
-    → KeepsLines job none_given m old.lines.items) → All (IsLineOf job) old.lines.items
-    → ((m : Moment) → IsMachineAt job m old
-    → IsReachable job (after_answer job (answer_of_turn job m t) m)) → HasRoomNext job old t
-sink_room job old t kept owns stays = λ m k p n outcomes state at next answer found sink.
-    room_at job old m t k p n outcomes state (kept m at) owns (stays m at) at next answer found
+pub sink_room : (job : Job) (old : Machine) (m : Moment) (t : ℕ)
+    → KeepsLines job none_given m old.lines.items → All (IsLineOf job) old.lines.items
+    → IsReachable job (after_answer job (answer_of_turn job m t) m) → IsMachineAt job m old
+    → HasRoomAt job old t m
+sink_room job old m t kept owns stays at = λ k p n outcomes state next answer found sink.
+    room_at job old m t k p n outcomes state kept owns stays at next answer found
     (sink_kind (task_at job.graph t).kind sink)
 
 -- as the code has the place of the line

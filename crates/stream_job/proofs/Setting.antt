@@ -171,3 +171,8 @@ same_item {X = X} v i x lt read =
 pub on_err : {A R : Type 0} {P Q : Type 0} (r : Result A R) → (P → Q) → OnErr r P → OnErr r Q
 on_err (Ok a) f p = p
 on_err (Err e) f p = f p
+
+-- what holds anyhow holds where a call was refused
+pub err_of : {A R : Type 0} {P : Type 0} (r : Result A R) → P → OnErr r P
+err_of (Ok a) p = tt
+err_of (Err e) p = p

@@ -1,5 +1,5 @@
 -- The turn of a task that signals.
-use Rattle.std.proofs.Common.{◌≡◌, ◌≢◌, ℕ, ℤ, List, zero, suc, ◌+◌, ◌-◌, ◌<◌, ◌≤◌, Bool, true, false, cond, not, eqb, [], ◌∷◌, Option, Some, None, length, get_or, slice_get, set, map, take, drop, refl, sym, ap, subst, ◌∙◌, arith}
+use Rattle.std.proofs.Common.{◌≡◌, ◌≢◌, ℕ, ℤ, List, zero, suc, ◌+◌, ◌-◌, ◌<◌, ◌≤◌, Bool, true, false, cond, not, eqb, [], ◌∷◌, Option, Some, None, length, get_or, slice_get, set, map, take, drop, refl, sym, ap, subst, ◌∙◌, arith, min}
 use Rattle.std.specs.Prelude.{Result, Ok, Err, nat_le, unsigned_abs}
 use Rattle.std.specs.List.{All, position_from}
 use Rattle.std.specs.declared.vec.Vec.{Vec}
@@ -924,32 +924,33 @@ pub record ReadSamples (job : Job) (machine : Machine) (t begun many : ℕ) (vs 
   pub long : length vs ≡ many
   pub are : NextSamplesAre job machine t vs
 
-pub read_samples : (job : Job) (machine : Machine) (t many : ℕ) (xs : List ℤ)
+pub read_samples : (job : Job) (machine : Machine) (t block many : ℕ) (rest : List ℤ)
     (state : TaskState) → IsNextIn job machine t turns.samples
-    → slice_get machine.tasks.items t ≡ Some state → xs ≡ samples_at job t
-    → ((m : Moment) → m.begun t ≡ state.begun → sample_block_of job m t ≡ many)
-    → ReadSamples job machine t state.begun many
-    (take (state.begun + many - state.begun) (drop state.begun xs))
-read_samples job machine t many xs state next found same block =
+    → slice_get machine.tasks.items t ≡ Some state → drop state.begun (samples_at job t) ≡ rest
+    → ((m : Moment) → m.begun t ≡ state.begun → block_of job m t ≡ block)
+    → many ≡ min block (length rest)
+    → ReadSamples job machine t state.begun many (take many rest)
+read_samples job machine t block many rest state next found same blocks is_many =
     let m = next.some.0 in
     let at = next.some.1 in
+    let xs = samples_at job t in
     let s = samples_at_place job machine m t state next at found in
     let begun : m.begun t ≡ state.begun = (at.tasks t state found).stands.begun in
-    let of = block_of_samples job machine m t many state next at found (block m begun) in
-    let least : sample_block_of job m t ≡ many = block m begun in
+    let least : (n : Moment) → n.begun t ≡ state.begun → sample_block_of job n t ≡ many =
+    λ n e. ap (λ b. min b (length xs - n.begun t)) (blocks n e)
+    ∙ ap (λ b. min block (length xs - b)) e
+    ∙ ap (min block) (sym (length-drop state.begun xs) ∙ ap length same) ∙ sym is_many in
+    let of = block_of_samples job machine m t many state next at found (least m begun) in
+    let one = least m begun in
     let most = block_few job m t in
-    let off : state.begun + many - state.begun ≡ many = omega arith in
-    let is : take (state.begun + many - state.begun) (drop state.begun xs)
-    ≡ take many (drop state.begun (samples_at job t)) =
-    ap (λ n. take n (drop state.begun xs)) off
-    ∙ ap (λ l. take many (drop state.begun l)) same in
+    let is : take many rest ≡ take many (drop state.begun xs) = ap (take many) (sym same) in
     record {
       there = s.there;
       some = of.some;
       few = of.few;
       block = omega arith;
       long = ap length is ∙ of.long;
-      are = λ n stands. next_samples_are job machine t many state found block n stands ∙ sym is;
+      are = λ n stands. next_samples_are job machine t many state found least n stands ∙ sym is;
     }
 
 -- whether a task has made values

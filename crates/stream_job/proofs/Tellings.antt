@@ -4,7 +4,8 @@ use Rattle.std.proofs.lemmas.List.{length-set}
 use Rattle.graph_lang.specs.graph_base.declared.limits.TheConstants.{TASKS_MAX}
 use Rattle.graph_lang.specs.graph_base.Graphs.{task_at}
 use Rattle.graph_lang.specs.graph_base.TaskLines.{IsGraph}
-use Rattle.stream_eval.specs.stream_lists.Jobs.{Job}
+use Rattle.stream_eval.specs.stream_lists.Jobs.{Job, least}
+use Rattle.stream_eval.specs.stream_lists.Spans.{span_in}
 use Rattle.stream_eval.specs.stream_lists.Ranges.{Where}
 use Rattle.graph_runs.specs.Moments.{Moment, HasRun, HasAnsweredNone, input_at, started}
 use Rattle.graph_runs.specs.Settled.{IsFaultAt}

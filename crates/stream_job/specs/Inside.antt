@@ -109,13 +109,17 @@ abbrev pub HasDone : Job → Machine → Machine → ℕ → Next → Made → T
 HasDone job old new t next it = (s : List (List ℤ))
     → IsNextIn (with_samples s job) old t next → HadTurn (with_samples s job) old new t it
 
--- the line of task t, where it is a sink, has room for what its turn gets
-abbrev pub HasRoomNext : Job → Machine → ℕ → Type 0
-HasRoomNext job machine t = (m : Moment) (k p n : ℕ) (outcomes : List Outcome)
-    (state : TaskState) → IsMachineAt job m machine → next_of job m t ≡ waits k
-    → answer_of_turn job m t ≡ makes (first_wait t k p n outcomes)
+-- the line of task t, where it is a sink, has room for what its turn gets at a moment
+abbrev pub HasRoomAt : Job → Machine → ℕ → Moment → Type 0
+HasRoomAt job machine t m = (k p n : ℕ) (outcomes : List Outcome) (state : TaskState)
+    → next_of job m t ≡ waits k → answer_of_turn job m t ≡ makes (first_wait t k p n outcomes)
     → slice_get machine.tasks.items t ≡ Some state → is_sink_at job t ≡ true
     → HasRoomIn machine.lines.items (length outcomes) state.sink
+
+-- it does at some moment of the machine
+abbrev pub HasRoomNext : Job → Machine → ℕ → Type 0
+HasRoomNext job machine t =
+    (m : Moment) × IsMachineAt job m machine × HasRoomAt job machine t m
 
 -- task t is a filter that has made values which it has not signalled
 abbrev pub OwesMade : Machine → ℕ → Type 0

@@ -64,7 +64,7 @@ impl Machine {
         ensures places { buffers.new ≡ buffers.old }
     {
         let step = self.next(job, plan, t, awaits);
-        if step == Step::NotLive {
+        if let Step::NotLive = step {
             return Ok(Made::Nothing);
         }
         laws::turns_stay_reached();
@@ -216,6 +216,7 @@ impl Machine {
         requires next { MayDo job.now self.old t (turns.signals output) }
         requires kind { (task_at job.now.graph t).kind ≢ filters }
         requires value { (s : List (List ℤ)) (m : Moment)
+            → IsNextIn (with_samples s job.now) self.old t (turns.signals output)
             → IsMachineAt (with_samples s job.now) m self.old
             → map ranged (next_values (with_samples s job.now) m t output) ≡ Ok x ∷ [] }
         ensures { HasDone job.now self.old self.new t (turns.signals output) result }

@@ -19,7 +19,7 @@ use crate::plan::Plan;
 use crate::step::Step;
 use crate::turned::Turned;
 use graph_lang::Place;
-use graph_runs::{moments, outcomes};
+use graph_runs::{moments, outcomes, turns};
 use phase_any::phase_base::Entry;
 use std::alloc::{AllocError, Global};
 use std::marker::Model;
@@ -204,6 +204,7 @@ impl<'a> World<'a> {
         if let Some((place, phase)) = self.met {
             return Ok(Turned::TooBig { place, phase });
         }
+        turns::turns_stay_reached();
         let awaits = self.machine.awaits(self.job, &self.plan, task);
         let (plan, buffers) = (&self.plan, &mut self.buffers);
         let made = self.machine.make(self.job, plan, buffers, task, awaits)?;

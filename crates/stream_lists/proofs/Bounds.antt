@@ -1,9 +1,8 @@
--- How far the lists of a graph can reach: the list of phaser number p has at most 2 ^ (33 + p)
+-- How far the lists of a graph can reach: the list of phaser number p has at most 2 ^ (60 + p)
 -- phases. A joiner of m inputs is m times as long as the shortest of them, of which one stands m
--- phasers above its output or further; sources that follow each other add 2 ^ 26 phases each.
-use Rattle.std.proofs.Common.{◌≡◌, ℕ, zero, suc, ◌+◌, ◌-◌, ◌*◌, ◌%◌, ◌<◌, ◌≤◌, Bool, true, false, ◌&&◌, List, [], ◌∷◌, length, map, get_or, Some, None, ℤ, refl, sym, ap, subst, ◌∙◌, arith, ◌⊎◌, inl, inr}
-use Rattle.std.specs.Prelude.{Option, min, max, nat_le, if◌then◌else◌, Vec}
-use Rattle.std.specs.Global.{Global}
+-- phasers above its output or further; sources that follow each other add 2 ^ 53 phases each.
+use Rattle.std.proofs.Common.{◌≡◌, ℕ, zero, suc, ◌+◌, ◌-◌, ◌*◌, ◌%◌, ◌<◌, ◌≤◌, Bool, true, false, ◌&&◌, List, [], ◌∷◌, length, map, get_or, Some, None, refl, sym, ap, subst, ◌∙◌, arith, ◌⊎◌, inl, inr}
+use Rattle.std.specs.Prelude.{Option, min, max, nat_le, if◌then◌else◌}
 use Rattle.std.specs.List.{All, range_with_len, fold}
 use Rattle.std.proofs.lemmas.Bool.{cases_lt, and_parts}
 use Rattle.std.proofs.lemmas.Bool.Decides.{nat_tests}
@@ -17,28 +16,27 @@ use Rattle.graph_base.specs.phase_base.Lists.{is_distinct}
 use Rattle.graph_base.specs.declared.line.Kind.{Kind}
 use Rattle.graph_base.specs.declared.line.Kind.TheVariants.{Source, Fir, Split, Join, Peer, Sink}
 use Rattle.graph_base.specs.declared.line.Parent.{Parent}
-use Rattle.stream_lists.specs.Jobs.{Job, samples_at, start_at}
+use Rattle.stream_lists.specs.Jobs.{Job, counted, samples_at, start_at}
 use Rattle.stream_lists.specs.Spans.{nowhere, turns_below, puts_on, run_out, first_run_out, enough_for, cut_at, offset_of, values_from, span_at, span_of, spans_up_to, spans_over, end_on, end_of, length_on, lengths_up_to}
 use Rattle.stream_lists.specs.declared.span.Span.{Span}
 use Rattle.stream_lists.specs.declared.span.TheConstants.{LENGTH_MAX}
-use Rattle.stream_lists.specs.Inside.{given, IsShort, IsStage}
+use Rattle.stream_lists.specs.Inside.{IsShort, IsStage}
+use Rattle.stream_lists.proofs.AsMany.{length-counted}
 use Rattle.stream_lists.proofs.Distances.{far_one, distinct_front}
 use Rattle.stream_lists.proofs.Growing.{grown-at, length-grown}
 use Rattle.stream_lists.proofs.SpansAbove.{parent-is}
 
--- a list among several is no longer than each of them
-short-one : {A : Type 0} (f : A → List ℤ) (xs : List A) (k most : ℕ)
-    → All (λ x. length (f x) ≤ most) xs → length (get_or (map f xs) k []) ≤ most
-short-one f [] k most all = omega arith
-short-one f (x ∷ xs) zero most all = all 0 x (omega arith)
-short-one f (x ∷ xs) (suc k) most all =
-    short-one f xs k most (λ n d lt. all (suc n) d (omega arith))
+-- a number of samples is no greater than each may be
+count-few : (counts : List ℕ) (k most : ℕ) → All (λ n. n ≤ most) counts → get_or counts k 0 ≤ most
+count-few [] k most all = omega arith
+count-few (n ∷ ns) zero most all = all 0 n (omega arith)
+count-few (n ∷ ns) (suc k) most all = count-few ns k most (λ i d lt. all (suc i) d (omega arith))
 
 -- ---- numbers that double
 
--- 2 ^ (33 + n)
+-- 2 ^ (60 + n)
 abbrev pub bound : ℕ → ℕ
-bound zero = 8589934592
+bound zero = 1152921504606846976
 bound (suc n) = bound n + bound n
 
 -- the bound of the last of n lists
@@ -46,7 +44,7 @@ abbrev top : ℕ → ℕ
 top zero = 0
 top (suc n) = bound n
 
-bound-least : (n : ℕ) → 8589934592 ≤ bound n
+bound-least : (n : ℕ) → 1152921504606846976 ≤ bound n
 bound-least zero = omega arith
 bound-least (suc n) = let rest = bound-least n in omega arith
 
@@ -189,12 +187,12 @@ cut-most (Some until) n = omega arith
 
 -- the reach of the first t tasks: their offset and their steps together
 abbrev reach : ℕ → ℕ → ℕ
-reach n t = top n + 7 + t * 67108864
+reach n t = top n + 7 + t * 9007199254740992
 
 -- from an offset within the reach of the tasks above, enough is within that of one more
 enough_reach : (task : Task) (samples offset n t : ℕ) (lengths : List ℕ) → AreBounded lengths n
     → HasEnds task.kind (length task.inputs) (length task.outputs)
-    → is_distinct task.inputs ≡ true → samples ≤ 67108864
+    → is_distinct task.inputs ≡ true → samples ≤ 9007199254740992
     → (task.kind ≡ Join → offset ≡ 0) → offset ≤ reach n t
     → offset + enough_for task samples (values_from task lengths offset) ≤ reach n (suc t)
 enough_reach task samples offset n t lengths are ends distinct few root at = by task.kind refl
@@ -202,7 +200,7 @@ enough_reach task samples offset n t lengths are ends distinct few root at = by 
     values : List ℕ
     values = values_from task lengths offset
 
-    next : reach n (suc t) ≡ reach n t + 67108864
+    next : reach n (suc t) ≡ reach n t + 9007199254740992
     next = omega arith
 
     first : enough_for task samples (values_from task lengths offset)
@@ -268,7 +266,7 @@ offset_reach above start (Some u) most first each offset e =
 -- what is known of a job's graph and samples
 pub record IsGiven (job : Job) : Type 0 where
   pub graph : IsGraph job.graph
-  pub few : (t : ℕ) → length (samples_at job t) ≤ 67108864
+  pub few : (t : ℕ) → length (samples_at job t) ≤ 9007199254740992
   pub least : (t : ℕ) → start_at job t ≡ 0
 
 span_reach : (job : Job) (lengths : List ℕ) (n : ℕ) → IsGiven job → AreBounded lengths n
@@ -452,67 +450,68 @@ span_bounded job n t is there =
 
 -- ---- as the code has it
 
--- the samples of each task are few where each list of samples is
-given_few : (graph : Graph) (samples : List (Vec ℤ Global))
-    → All (λ list. length list.items ≤ 67108864) samples
-    → (t : ℕ) → length (samples_at (given graph samples) t) ≤ 67108864
-given_few graph samples few t =
-    short-one (λ list. list.items) samples (source_number graph.tasks t) 67108864 few
+-- the samples of each task are few where each number of samples is
+counted_few : (graph : Graph) (counts : List ℕ) → All (λ n. n ≤ 9007199254740992) counts
+    → (t : ℕ) → length (samples_at (counted graph counts) t) ≤ 9007199254740992
+counted_few graph counts few t =
+    let is = length-counted graph counts t in
+    let short = count-few counts (source_number graph.tasks t) 9007199254740992 few in
+    omega (arith, is, short)
 
 -- the least starts
 pub no_start : (b : Bool) (n : ℕ) → n ≡ 0 → (if b then n else 0) ≡ 0
 no_start true n none = none
 no_start false n none = refl
 
-pub start_of_given : (graph : Graph) (samples : List (Vec ℤ Global)) (t : ℕ)
-    → start_at (given graph samples) t ≡ 0
-start_of_given graph samples t = no_start (task_at graph t).joins_now 0 refl
+pub start_of_counted : (graph : Graph) (counts : List ℕ) (t : ℕ)
+    → start_at (counted graph counts) t ≡ 0
+start_of_counted graph counts t = no_start (task_at graph t).joins_now 0 refl
 
-pub stage_given : (graph : Graph) (samples : List (Vec ℤ Global)) (lengths : List ℕ)
-    → IsStage graph samples lengths → IsGiven (given graph samples)
-stage_given graph samples lengths stage =
+pub stage_counted : (graph : Graph) (counts lengths : List ℕ)
+    → IsStage graph counts lengths → IsGiven (counted graph counts)
+stage_counted graph counts lengths stage =
     record {
       graph = stage.read;
-      few = given_few graph samples stage.few;
-      least = λ t. start_of_given graph samples t;
+      few = counted_few graph counts stage.few;
+      least = λ t. start_of_counted graph counts t;
     }
 
 -- the lengths at each stage are short
-pub stage_lengths : (graph : Graph) (samples : List (Vec ℤ Global)) (lengths : List ℕ)
-    → IsStage graph samples lengths → All (λ n. n ≤ LENGTH_MAX) lengths
-stage_lengths graph samples lengths stage =
+pub stage_lengths : (graph : Graph) (counts lengths : List ℕ)
+    → IsStage graph counts lengths → All (λ n. n ≤ LENGTH_MAX) lengths
+stage_lengths graph counts lengths stage =
     subst (λ ns. All (λ n. n ≤ LENGTH_MAX) ns) (sym stage.are)
     (λ p d lt. short p d lt)
   where
-    are : AreBounded (lengths_up_to (given graph samples) stage.count) stage.count
-    are = lengths_bounded (given graph samples) stage.count
-        (stage_given graph samples lengths stage)
+    are : AreBounded (lengths_up_to (counted graph counts) stage.count) stage.count
+    are = lengths_bounded (counted graph counts) stage.count
+        (stage_counted graph counts lengths stage)
 
-    short : (p d : ℕ) → p < length (lengths_up_to (given graph samples) stage.count)
-        → get_or (lengths_up_to (given graph samples) stage.count) p d ≤ LENGTH_MAX
+    short : (p d : ℕ) → p < length (lengths_up_to (counted graph counts) stage.count)
+        → get_or (lengths_up_to (counted graph counts) stage.count) p d ≤ LENGTH_MAX
     short p d lt =
         let below : p < stage.count = omega (arith, are.count) in
         let few : stage.count ≤ 64 = stage.count_few in
         let here = are.each p below in
-        let same : get_or (lengths_up_to (given graph samples) stage.count) p d
-        ≡ get_or (lengths_up_to (given graph samples) stage.count) p 0 =
-        get_or_default (lengths_up_to (given graph samples) stage.count) p d 0 lt in
+        let same : get_or (lengths_up_to (counted graph counts) stage.count) p d
+        ≡ get_or (lengths_up_to (counted graph counts) stage.count) p 0 =
+        get_or_default (lengths_up_to (counted graph counts) stage.count) p d 0 lt in
         let most : bound p ≤ bound 64 = bound-mono p 64 (omega arith) in
         let limit : bound 64 ≡ LENGTH_MAX = refl in
         omega arith
 
 -- the next span is
-pub stage_span : (graph : Graph) (samples : List (Vec ℤ Global)) (lengths : List ℕ)
+pub stage_span : (graph : Graph) (counts lengths : List ℕ)
     (above : List Span) (t : ℕ)
-    → IsStage graph samples lengths → t < length graph.tasks
-    → above ≡ spans_up_to (given graph samples) lengths t
-    → IsShort (span_of (given graph samples) lengths above t)
-stage_span graph samples lengths above t stage there above_is =
-    let job = given graph samples in
+    → IsStage graph counts lengths → t < length graph.tasks
+    → above ≡ spans_up_to (counted graph counts) lengths t
+    → IsShort (span_of (counted graph counts) lengths above t)
+stage_span graph counts lengths above t stage there above_is =
+    let job = counted graph counts in
     let few : stage.count ≤ 64 = stage.count_few in
     let most : bound stage.count ≤ bound 64 = bound-mono stage.count 64 (omega arith) in
     let limit : bound 64 ≡ LENGTH_MAX = refl in
-    let reaches = span_bounded job stage.count t (stage_given graph samples lengths stage) there in
+    let reaches = span_bounded job stage.count t (stage_counted graph counts lengths stage) there in
     let here : IsShort (span_of job (lengths_up_to job stage.count)
     (spans_up_to job (lengths_up_to job stage.count) t) t) = omega arith in
     subst (λ (a : List Span). IsShort (span_of job lengths a t)) (sym above_is)

@@ -8,7 +8,7 @@ use Rattle.graph_base.specs.declared.line.Kind.TheVariants.{Source, Fir, Split, 
 use Rattle.graph_base.specs.declared.place.Place.TheVariants as place
 use Rattle.graph_base.specs.declared.line.PhaserLine.{PhaserLine}
 use Rattle.graph_base.specs.Graphs.{Task, no_graph, no_task}
-use Rattle.stream_lists.specs.Jobs.{Job, with_starts}
+use Rattle.stream_lists.specs.Jobs.{Job, counted, with_starts}
 use Rattle.stream_lists.specs.Lists.{list_of_phaser}
 use Rattle.stream_lists.specs.Ranges.{answer_of}
 use Rattle.stream_lists.specs.Meetings.{meet_on, meeting_line}
@@ -791,3 +791,13 @@ hands_over_three-line = refl
 hands_over_four-line :
     meeting_line (hands_over (these (0 ∷ 1 ∷ 2 ∷ 3 ∷ []) ∷ these (9 ∷ []) ∷ [])) ≡ Some 3
 hands_over_four-line = refl
+
+-- the same by the numbers of the samples alone; who signals in no phase meets nobody
+hands_over_counted_three-line : meeting_line (counted (hands_over []).graph (3 ∷ 1 ∷ [])) ≡ None
+hands_over_counted_three-line = refl
+
+hands_over_counted_four-line : meeting_line (counted (hands_over []).graph (4 ∷ 1 ∷ [])) ≡ Some 3
+hands_over_counted_four-line = refl
+
+hands_over_counted_none-line : meeting_line (counted (hands_over []).graph (4 ∷ 0 ∷ [])) ≡ None
+hands_over_counted_none-line = refl

@@ -1,4 +1,5 @@
 pub mod Bounds
+pub mod AsMany
 pub mod Distances
 pub mod Firsts
 pub mod Given
@@ -7,6 +8,7 @@ pub mod InRange
 pub mod SpansAbove
 pub mod EachPhase
 pub mod Exacts
+pub mod FewerCounts
 pub mod Examples
 pub mod Fitting
 pub mod LawExamples

@@ -6,12 +6,12 @@ use Rattle.graph_base.specs.phase_accum.Sends.{AreSends}
 use Rattle.graph_base.specs.Graphs.{Graph, sources_of}
 use Rattle.graph_base.specs.TaskLines.{IsGraph}
 use Rattle.graph_base.specs.declared.limits.TheConstants.{PHASERS_MAX}
-use Rattle.stream_lists.specs.Jobs.{Job}
+use Rattle.stream_lists.specs.Jobs.{Job, counted}
 use Rattle.stream_lists.specs.Spans.{spans_of, lengths_of, lengths_up_to}
 use Rattle.stream_lists.specs.Meetings.{meeting_line}
 use Rattle.stream_lists.specs.declared.span.Span.{Span}
 use Rattle.stream_lists.specs.declared.span.TheConstants.{LENGTH_MAX}
-use Rattle.stream_lists.specs.declared.job.TheConstants.{SAMPLES_MAX}
+use Rattle.stream_lists.specs.declared.sample_counts.TheConstants.{COUNT_MAX}
 use Rattle.stream_lists.specs.declared.job.Job.TheInside.{Inside}
 
 -- what a job stands for
@@ -39,14 +39,14 @@ IsShort span = span.offset + span.steps ≤ LENGTH_MAX
 abbrev pub IsCounted : Span → Type 0
 IsCounted span = span.offset ≤ 18446744073709551615
 
--- a graph that was read and no more samples than a job may have, with the lengths of the lists of
--- its first phasers
-pub record IsStage (graph : Graph) (samples : List (Vec ℤ Global)) (lengths : List ℕ) : Type 0 where
+-- a graph that was read and no more samples of a source than there may be, with the lengths of the
+-- lists of its first phasers
+pub record IsStage (graph : Graph) (counts lengths : List ℕ) : Type 0 where
   pub read : IsGraph graph
-  pub few : All (λ list. length list.items ≤ SAMPLES_MAX) samples
+  pub few : All (λ n. n ≤ COUNT_MAX) counts
   pub count : ℕ
   pub count_few : count ≤ PHASERS_MAX
-  pub are : lengths ≡ lengths_up_to (given graph samples) count
+  pub are : lengths ≡ lengths_up_to (counted graph counts) count
 
 -- what holds of every job
 pub record IsJob (job : Inside) : Type 0 where

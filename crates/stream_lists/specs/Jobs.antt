@@ -1,5 +1,5 @@
 -- A graph with the samples of its sources.
-use Rattle.std.specs.Prelude.{ℕ, ℤ, List, [], ◌==◌, Option, get_or, if◌then◌else◌}
+use Rattle.std.specs.Prelude.{ℕ, ℤ, pos, List, [], ◌==◌, Option, get_or, map, replicate, if◌then◌else◌}
 use Rattle.std.specs.List.{position_from}
 use Rattle.graph_base.specs.Graphs.{Graph, source_number, task_at}
 
@@ -35,6 +35,19 @@ with_starts starts job = record job { starts = starts }
 -- the job whose sinks that join now begin at the least phase that they may
 abbrev pub least : Job → Job
 least job = with_starts [] job
+
+-- so many samples of each source, each of which is 0
+abbrev pub zeros : List ℕ → List (List ℤ)
+zeros counts = map (λ n. replicate n (pos 0)) counts
+
+-- the graph with so many samples of each source, of which nothing but their number matters
+abbrev pub counted : Graph → List ℕ → Job
+counted graph counts = record { graph = graph; samples = zeros counts; starts = [] }
+
+-- how many samples task t has, where it is a source and the sources have so many; of another task
+-- it is the number of the next source below it, if there is one, and no definition looks at it
+abbrev pub count_at : Graph → List ℕ → ℕ → ℕ
+count_at graph counts t = get_or counts (source_number graph.tasks t) 0
 
 -- the place of a phaser among those of a line
 abbrev pub index_in : List ℕ → ℕ → Option ℕ

@@ -14,6 +14,7 @@ ghost use Rattle.stream_lists.specs.Spans.{spans_of, lengths_of, nowhere};
 use crate::lengths::all_lengths;
 use crate::meetings::first_meeting;
 use crate::refusal::JobRefusal;
+use crate::sample_counts::counts_of;
 use crate::span::{LENGTH_MAX, Span};
 use crate::task_spans::{all_spans, are_counted};
 use graph_base::{Graph, PhaserLine, TASKS_MAX, TaskLine};
@@ -53,10 +54,10 @@ impl Job {
     ///
     /// Where two tasks signal in one phase of a phaser with `any`, the answer is `AnyMeets` with
     /// the least line of a task that meets a task of an earlier line, or `OutOfMemory`. It takes
-    /// memory for a span of each task and a length of each phaser, and no list is composed, so it
-    /// makes no difference how long the lists are. Where a task would begin in phase 2^64 or later,
-    /// of a list that no memory holds, it is `OutOfMemory` too. A refusal drops the graph and the
-    /// samples.
+    /// memory for a span of each task, a length of each phaser and a number of each source, and no
+    /// list is composed, so it makes no difference how long the lists are. Where a task would begin
+    /// in phase 2^64 or later, of a list that no memory holds, it is `OutOfMemory` too. A refusal
+    /// drops the graph and the samples.
     pub fn new(alloc: Global, graph: Graph, samples: Vec<Vec<i64>>) -> Result<Job, JobRefusal>
         requires each { length samples.items ≡ sources_of graph }
         requires sends { All (λ list. AreSends list.items) samples.items }
@@ -67,10 +68,13 @@ impl Job {
         ensures any_meets { (line : ℕ) → result ≡ Err (JobRefusal.AnyMeets line)
             → meeting_line (given graph samples.items) ≡ Some line }
     {
-        let Ok(lengths) = all_lengths(alloc, &graph, &samples) else {
+        let Ok(counts) = counts_of(alloc, &samples) else {
             return Err(JobRefusal::OutOfMemory);
         };
-        let Ok(spans) = all_spans(alloc, &graph, &samples, &lengths) else {
+        let Ok(lengths) = all_lengths(alloc, &graph, &counts) else {
+            return Err(JobRefusal::OutOfMemory);
+        };
+        let Ok(spans) = all_spans(alloc, &graph, &counts, &lengths) else {
             return Err(JobRefusal::OutOfMemory);
         };
         if let Some(line) = first_meeting(&graph, &spans) {

@@ -3,12 +3,13 @@ ghost use Rattle.std.specs.Prelude.{◌≡◌, ◌≤◌, ◌<◌, length, IfOk}
 ghost use Rattle.std.specs.List.{All};
 ghost use Rattle.graph_base.specs.Inside.{task_of};
 ghost use Rattle.graph_base.specs.TaskLines.{HasEnds};
-ghost use Rattle.stream_lists.specs.Inside.{given, IsShort, IsStage};
+ghost use Rattle.stream_lists.specs.Jobs.{counted};
+ghost use Rattle.stream_lists.specs.Inside.{IsShort, IsStage};
 ghost use Rattle.stream_lists.specs.Spans.{end_of, length_on, lengths_of, puts_on};
 
 use crate::counts::put_count;
-use crate::job::SAMPLES_MAX;
 use crate::places::output_number;
+use crate::sample_counts::COUNT_MAX;
 use crate::span::{LENGTH_MAX, Span};
 use crate::task_spans::all_spans;
 use graph_base::Graph;
@@ -46,22 +47,22 @@ fn longest(graph: &Graph, spans: &[Span], p: usize) -> u128
     end
 }
 
-/// The lengths of the lists of all phasers.
+/// The lengths of the lists of all phasers, where the sources have so many samples.
 pub(crate) fn all_lengths(
     alloc: Global,
     graph: &Graph,
-    samples: &[Vec<i64>],
+    counts: &[u64],
 ) -> Result<Vec<u128>, AllocError>
-    requires few { All (λ list. length list.items ≤ SAMPLES_MAX) samples.now }
+    requires few { All (λ n. n ≤ COUNT_MAX) counts.now }
     ensures lengths { IfOk result (λ lengths.
-        lengths.items ≡ lengths_of (given graph.now samples.now)) }
+        lengths.items ≡ lengths_of (counted graph.now counts.now)) }
     ensures short { IfOk result (λ lengths. All (λ n. n ≤ LENGTH_MAX) lengths.items) }
     ensures each { IfOk result (λ lengths. length lengths.items ≡ length graph.now.phasers) }
-    ensures stage { IfOk result (λ lengths. IsStage graph.now samples.now lengths.items) }
+    ensures stage { IfOk result (λ lengths. IsStage graph.now counts.now lengths.items) }
 {
     let mut lengths = Vec::with_capacity(alloc, graph.phasers())?;
     for p in 0..graph.phasers() {
-        let spans = all_spans(alloc, graph, samples, lengths.as_slice())?;
+        let spans = all_spans(alloc, graph, counts, lengths.as_slice())?;
         lengths.push(longest(graph, &spans, p))?;
     }
     Ok(lengths)

@@ -18,6 +18,7 @@ mod meetings;
 mod number;
 mod places;
 mod refusal;
+mod sample_counts;
 mod span;
 mod task_spans;
 
@@ -25,8 +26,9 @@ pub use counts::taken_count;
 pub use graph_base;
 pub use graph_base::{phase_accum, stream_filters};
 pub use job::{Job, SAMPLES_MAX};
-pub use meetings::meets_on;
+pub use meetings::{meeting_with, meets_on};
 pub use number::number_of;
 pub use places::{input_number, output_number};
 pub use refusal::JobRefusal;
+pub use sample_counts::COUNT_MAX;
 pub use span::{LENGTH_MAX, Span};

@@ -8,7 +8,7 @@ ghost use Rattle.graph_base.specs.phase_base.declared.operation.Op.TheVariants.{
 ghost use Rattle.graph_base.specs.TaskLines.{HasEnds, IsGraph};
 ghost use Rattle.stream_lists.specs.Entries.{AreInRange, HasEntry, output_values, sends_at, Takes};
 ghost use Rattle.stream_lists.specs.Exact.{exact_lines, exact_lists};
-ghost use Rattle.stream_lists.specs.Jobs.{Job, index_in, least, samples_at, samples_in, start_at, with_samples, with_starts};
+ghost use Rattle.stream_lists.specs.Jobs.{Job, count_at, counted, index_in, least, samples_at, samples_in, start_at, with_samples, with_starts};
 ghost use Rattle.stream_lists.specs.Lists.{ends_on, entry, lines_of, list_of_phaser, list_over, contributions_on, number, numbers_above, numbers_of, output_list, output_on};
 ghost use Rattle.stream_lists.specs.Meetings.{meet_on, meeting_line};
 ghost use Rattle.stream_lists.specs.Ranges.{Fits, answer_of};
@@ -172,4 +172,14 @@ pub fn meetings_come_with_more()
         → ((t : ℕ) → t < length job.graph.tasks → (task_at job.graph t).kind ≡ Source
         → length (samples_at job t) ≤ length (samples_in job more t))
         → meeting_line (with_samples more job) ≡ None → meeting_line job ≡ None }
+{}
+
+/// Where no two tasks meet in a job whose sources have so many samples, one number for each source,
+/// none do where each source has at most as many, whatever phases its sinks join from. So one look
+/// by `meeting_with`, at the most samples that may come, decides for all.
+pub fn none_meet_with_fewer()
+    ensures { (job : Job) (counts : List ℕ) → IsGraph job.graph
+        → ((t : ℕ) → t < length job.graph.tasks → (task_at job.graph t).kind ≡ Source
+        → length (samples_at job t) ≤ count_at job.graph counts t)
+        → meeting_line (counted job.graph counts) ≡ None → meeting_line job ≡ None }
 {}

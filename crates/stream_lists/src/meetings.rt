@@ -2,12 +2,14 @@
 ghost use Rattle.std.specs.Prelude.{◌≡◌, ◌<◌, ◌≤◌, length, get_or, IfOk};
 ghost use Rattle.std.specs.List.{All, list_any, range_with_len};
 ghost use Rattle.graph_base.specs.Graphs.{phaser_at};
+ghost use Rattle.stream_lists.specs.Jobs.{counted};
 ghost use Rattle.stream_lists.specs.Inside.{IsShort, given};
-ghost use Rattle.stream_lists.specs.Meetings.{is_any, meet_on, meeting_at, meets_above, meets_on};
+ghost use Rattle.stream_lists.specs.Meetings.{is_any, meet_on, meeting_at, meeting_line, meets_above, meets_on};
 ghost use Rattle.stream_lists.specs.Spans.{nowhere, spans_of};
 
 use crate::SAMPLES_MAX;
 use crate::lengths::{all_lengths, end_on};
+use crate::sample_counts::{COUNT_MAX, counts_of};
 use crate::span::Span;
 use crate::task_spans::all_spans;
 use graph_base::{Graph, Op};
@@ -96,12 +98,38 @@ pub(crate) fn first_meeting(graph: &Graph, spans: &[Span]) -> Option<u64>
     None
 }
 
+/// How far each task comes, where the sources have so many samples.
+fn spans_with(alloc: Global, graph: &Graph, counts: &[u64]) -> Result<Vec<Span>, AllocError>
+    requires few { All (λ n. n ≤ COUNT_MAX) counts.now }
+    ensures spans { IfOk result (λ spans.
+        spans.items ≡ spans_of (counted graph.now counts.now)) }
+    ensures short { IfOk result (λ spans. All IsShort spans.items) }
+{
+    let lengths = all_lengths(alloc, graph, counts)?;
+    all_spans(alloc, graph, counts, &lengths)
+}
+
+/// Returns the line of the first task that meets a task of an earlier line, in a graph whose
+/// sources have so many samples, one number for each in the order of their lines: both signal in
+/// one phase of a phaser with `any`. Where there is none, there is none with fewer samples either
+/// (`list_laws::none_meet_with_fewer`), so that one look decides for samples that come in pieces.
+///
+/// It takes memory for a span of each task and a length of each phaser. No list is composed.
+pub fn meeting_with(alloc: Global, graph: &Graph, counts: &[u64]) -> Result<Option<u64>, AllocError>
+    requires few { All (λ n. n ≤ COUNT_MAX) counts.now }
+    ensures { IfOk result (λ line. line ≡ meeting_line (counted graph.now counts.now)) }
+{
+    let spans = spans_with(alloc, graph, counts)?;
+    Ok(first_meeting(graph, &spans))
+}
+
 /// Returns whether task number `t` meets a task of an earlier line on phaser number `p`, in a graph
 /// with these samples of its sources, one list for each in the order of their lines: the phaser is
 /// one with `any`, and both signal in one of its phases. So it tells where a task meets one, of
 /// which `Job::new` told the line.
 ///
-/// It takes memory for a span of each task and a length of each phaser. No list is composed.
+/// It takes memory for a span of each task, a length of each phaser and a number of each source. No
+/// list is composed.
 pub fn meets_on(
     alloc: Global,
     graph: &Graph,
@@ -115,7 +143,7 @@ pub fn meets_on(
     ensures { IfOk result (λ is. is
         ≡ meets_on graph.now (spans_of (given graph.now samples.now)) t p) }
 {
-    let lengths = all_lengths(alloc, graph, samples)?;
-    let spans = all_spans(alloc, graph, samples, &lengths)?;
+    let counts = counts_of(alloc, samples)?;
+    let spans = spans_with(alloc, graph, &counts)?;
     Ok(meets(graph, &spans, t, p))
 }

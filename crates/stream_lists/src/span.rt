@@ -1,7 +1,7 @@
 //! How far a task comes.
 
-/// No list of a graph has more phases, whatever its lines are. It is 2^97.
-pub const LENGTH_MAX: u128 = 158456325028528675187087900672;
+/// No list of a graph has more phases, whatever its lines are. It is 2^124.
+pub const LENGTH_MAX: u128 = 21267647932558653966460912964485513216;
 
 /// How far a task comes: from which phase on it is a member, and how many steps it makes.
 #[derive(Clone, Copy, Debug, PartialEq, Eq)]

@@ -3,25 +3,14 @@ ghost use Rattle.std.specs.Prelude.{◌≡◌, ◌≤◌, ◌<◌, ◌-◌, ◌+
 ghost use Rattle.std.specs.List.{All};
 ghost use Rattle.graph_base.specs.Inside.{task_of};
 ghost use Rattle.graph_base.specs.TaskLines.{HasEnds};
-ghost use Rattle.stream_lists.specs.Jobs.{samples_at};
-ghost use Rattle.stream_lists.specs.Inside.{given, IsCounted, IsShort, IsStage};
+ghost use Rattle.stream_lists.specs.Jobs.{counted};
+ghost use Rattle.stream_lists.specs.Inside.{IsCounted, IsShort, IsStage};
 ghost use Rattle.stream_lists.specs.Spans.{cut_at, enough_for, first_run_out, nowhere, offset_of, run_out, span_of, spans_over, spans_up_to, values_from};
 
+use crate::sample_counts::count_of;
 use crate::span::{LENGTH_MAX, Span};
 use graph_base::{ENDS_MAX, Graph, Kind, Parent, TaskLine};
 use std::alloc::{AllocError, Global};
-
-/// How many samples task number `t` has, where it is a source. Of another task it is the number of
-/// the next source below it, or 0, and is not used.
-fn samples_count(graph: &Graph, samples: &[Vec<i64>], t: usize) -> usize
-    requires { t < length graph.now.tasks }
-    ensures { result ≡ length (samples_at (given graph.now samples.now) t) }
-{
-    match samples.get(graph.source_number(t)) {
-        Some(list) => list.len(),
-        None => 0,
-    }
-}
 
 /// How many values of the list of phaser number `p` there are from an offset on.
 fn length_from(lengths: &[u128], p: usize, offset: u128) -> u128
@@ -69,7 +58,7 @@ fn first_end(task: &TaskLine, lengths: &[u128], offset: u128) -> u128
 }
 
 /// How many steps a task's samples, or its inputs from an offset on, are enough for.
-fn steps_for(task: &TaskLine, samples: usize, lengths: &[u128], offset: u128) -> u128
+fn steps_for(task: &TaskLine, samples: u64, lengths: &[u128], offset: u128) -> u128
     requires ends { HasEnds task.now.kind (length task.now.inputs.items)
         (length task.now.outputs.items) }
     requires short { All (λ n. n ≤ LENGTH_MAX) lengths.now }
@@ -77,7 +66,7 @@ fn steps_for(task: &TaskLine, samples: usize, lengths: &[u128], offset: u128) ->
         (values_from (task_of task.now) lengths.now offset) }
 {
     if task.kind == Kind::Source {
-        return samples as u128;
+        return u128::from(samples);
     }
     if task.kind == Kind::Join {
         return first_end(task, lengths, offset);
@@ -138,19 +127,13 @@ fn offset_from(above: &[Span], parent: Option<Parent>) -> Option<u128>
 }
 
 /// The span of task number `t`, below those of the tasks above it.
-fn next_span(
-    graph: &Graph,
-    samples: &[Vec<i64>],
-    lengths: &[u128],
-    above: &[Span],
-    t: usize,
-) -> Span
+fn next_span(graph: &Graph, counts: &[u64], lengths: &[u128], above: &[Span], t: usize) -> Span
     requires task { t < length graph.now.tasks }
-    requires stage { IsStage graph.now samples.now lengths.now }
+    requires stage { IsStage graph.now counts.now lengths.now }
     requires above { above.now
-        ≡ spans_up_to (given graph.now samples.now) lengths.now t }
+        ≡ spans_up_to (counted graph.now counts.now) lengths.now t }
     requires short { All IsShort above.now }
-    ensures span { result ≡ span_of (given graph.now samples.now) lengths.now above.now t }
+    ensures span { result ≡ span_of (counted graph.now counts.now) lengths.now above.now t }
     ensures short { IsShort result }
 {
     let task = graph.task(t);
@@ -161,7 +144,7 @@ fn next_span(
             steps: 0,
         };
     };
-    let most = steps_for(task, samples_count(graph, samples, t), lengths, offset);
+    let most = steps_for(task, count_of(graph, counts, t), lengths, offset);
     Span {
         live: true,
         offset,
@@ -173,18 +156,18 @@ fn next_span(
 pub(crate) fn all_spans(
     alloc: Global,
     graph: &Graph,
-    samples: &[Vec<i64>],
+    counts: &[u64],
     lengths: &[u128],
 ) -> Result<Vec<Span>, AllocError>
-    requires stage { IsStage graph.now samples.now lengths.now }
+    requires stage { IsStage graph.now counts.now lengths.now }
     ensures spans { IfOk result (λ spans.
-        spans.items ≡ spans_over (given graph.now samples.now) lengths.now) }
+        spans.items ≡ spans_over (counted graph.now counts.now) lengths.now) }
     ensures short { IfOk result (λ spans. All IsShort spans.items) }
     ensures each { IfOk result (λ spans. length spans.items ≡ length graph.now.tasks) }
 {
     let mut spans = Vec::with_capacity(alloc, graph.tasks())?;
     for t in 0..graph.tasks() {
-        spans.push(next_span(graph, samples, lengths, spans.as_slice(), t))?;
+        spans.push(next_span(graph, counts, lengths, spans.as_slice(), t))?;
     }
     Ok(spans)
 }

@@ -1,7 +1,7 @@
 use Rattle.std.proofs.Common.{◌≤◌, ◌+◌, ◌++◌, ◌∷◌, [], ap, sym, ◌∙◌}
 use Rattle.std.proofs.lemmas.List.{length_push}
 use Rattle.std.proofs.lemmas.List.Elements.{All-push}
-use Rattle.stream_lists.specs.Inside.{given}
+use Rattle.stream_lists.specs.Jobs.{counted}
 use Rattle.stream_lists.specs.Spans.{length_on, lengths_up_to, spans_over}
 use Rattle.stream_lists.specs.declared.span.TheConstants.{LENGTH_MAX}
 use Rattle.stream_lists.proofs.Firsts.{fold-range_more}
@@ -10,7 +10,7 @@ use Rattle.stream_lists.proofs.lengths.all_lengths.Goals as goal
 -- this phaser's length stands behind those before it
 pub loop-p-preserved : goal.loop-p-preserved
 loop-p-preserved c =
-    let job = given c.args.graph.now c.args.samples.now in
+    let job = counted c.args.graph.now c.args.counts.now in
     let before = lengths_up_to job c.loop-p.p in
     let above = c.as_slice.ensures.value ∙ c.loop-p.invariant.0 in
     let spans = c.deref.ensures.value ∙ (c.in_ok-spans.ensures.spans ∙ ap (spans_over job) above) in

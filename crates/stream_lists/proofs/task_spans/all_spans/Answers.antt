@@ -1,7 +1,8 @@
 use Rattle.std.proofs.Common.{◌+◌, ◌++◌, ◌∷◌, [], ap, sym, ◌∙◌}
 use Rattle.std.proofs.lemmas.List.{length_push}
 use Rattle.std.proofs.lemmas.List.Elements.{All-push}
-use Rattle.stream_lists.specs.Inside.{given, IsShort}
+use Rattle.stream_lists.specs.Inside.{IsShort}
+use Rattle.stream_lists.specs.Jobs.{counted}
 use Rattle.stream_lists.specs.Spans.{span_of, spans_up_to}
 use Rattle.stream_lists.proofs.Firsts.{fold-range_more}
 use Rattle.stream_lists.proofs.task_spans.all_spans.Goals as goal
@@ -9,7 +10,7 @@ use Rattle.stream_lists.proofs.task_spans.all_spans.Goals as goal
 -- this task's span stands behind those before it
 pub loop-t-preserved : goal.loop-t-preserved
 loop-t-preserved c =
-    let job = given c.args.graph.now c.args.samples.now in
+    let job = counted c.args.graph.now c.args.counts.now in
     let lengths = c.args.lengths.now in
     let before = spans_up_to job lengths c.loop-t.t in
     let span_is = c.next_span.ensures.span

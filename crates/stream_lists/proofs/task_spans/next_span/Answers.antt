@@ -1,5 +1,6 @@
 use Rattle.std.proofs.Common.{◌≡◌, true, rules, subst, sym}
-use Rattle.stream_lists.specs.Inside.{given, IsShort}
+use Rattle.stream_lists.specs.Inside.{IsShort}
+use Rattle.stream_lists.specs.Jobs.{counted}
 use Rattle.stream_lists.specs.Spans.{span_of}
 use Rattle.stream_lists.specs.declared.span.Span.{Span}
 use Rattle.stream_lists.proofs.Bounds.{stage_lengths, stage_span}
@@ -13,7 +14,7 @@ steps_for-most-requires-clause-short c = stage_lengths _ _ _ c.requires.stage
 pub returns-clause-short : goal.returns-clause-short
 returns-clause-short c =
     let span : Span = record { live = true; offset = c.in-Some.offset; steps = c.cut.result } in
-    let is : span ≡ span_of (given c.args.graph.now c.args.samples.now) c.args.lengths.now
+    let is : span ≡ span_of (counted c.args.graph.now c.args.counts.now) c.args.lengths.now
     c.args.above.now c.args.t = search rules in
     subst (λ (s : Span). IsShort s) (sym is)
     (stage_span _ _ _ _ _ c.requires.stage c.requires.task c.requires.above)

@@ -1,6 +1,6 @@
 -- The values stand behind the others.
 use Rattle.std.proofs.Common.{◌++◌, refl, sym, ap, ◌∙◌}
-use Rattle.std.proofs.lemmas.List.{append-assoc}
+use Rattle.std.proofs.lemmas.List.{append_assoc}
 use Rattle.stream_job.specs.SinkLines.{kept_of}
 use Rattle.stream_job.proofs.Rooms.{line_kept}
 use Rattle.stream_job.proofs.SinkLines.{kept_line, line_stays, line_there, room_for}
@@ -19,7 +19,7 @@ returns-in-Some-clause-lines c = λ given.
     (ap (λ vs. (c.index_mut.result.now.task, given c.index_mut.result.now.task ++ vs))
     c.keep_values.ensures.values
     ∙ ap (λ vs. (c.index_mut.result.now.task, vs))
-    (sym (append-assoc (given c.index_mut.result.now.task) c.index_mut.result.now.values.items
+    (sym (append_assoc (given c.index_mut.result.now.task) c.index_mut.result.now.values.items
     (kept_of c.args.outcomes.now))))
 
 pub returns-in-Some-clause-starts : goal.returns-in-Some-clause-starts

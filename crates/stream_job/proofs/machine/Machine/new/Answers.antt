@@ -22,4 +22,5 @@ returns-clause-opening c =
       };
       tasks_many = c.in_ok-opened_tasks.ensures.many;
       tasks = c.in_ok-opened_tasks.ensures.tasks;
+      lines_many = c.requires;
     }

@@ -37,8 +37,18 @@ signal_made-requires-clause-next c =
     (sym c.is_empty.ensures ∙ c.if-not-is_empty.true) in
     let made = has_made job c.args.self.now next.some.0 c.args.t
     c.args.output c.index-state.result.now next next.some.1 found some in
-    subst (λ j. IsNextIn job c.args.self.now c.args.t (signals j)) (sym made.first)
-    next
+    (s, subst (λ j. IsNextIn job c.args.self.now c.args.t (signals j)) (sym made.first) next)
+
+pub returns-then-not-is_empty-clause-made : goal.returns-then-not-is_empty-clause-made
+returns-then-not-is_empty-clause-made c = λ s next.
+    let job = with_samples s c.args.job.now in
+    let found = state_read next (λ e. (cc)) c.index-state.ensures in
+    let some = some_items c.index-state.result.now.made
+    (sym c.is_empty.ensures ∙ c.if-not-is_empty.true) in
+    let made = has_made job c.args.self.now next.some.0 c.args.t
+    c.args.output c.index-state.result.now next next.some.1 found some in
+    c.signal_made.ensures.made s
+    (subst (λ j. IsNextIn job c.args.self.now c.args.t (signals j)) (sym made.first) next)
 
 pub signal_made-requires-clause-made : goal.signal_made-requires-clause-made
 signal_made-requires-clause-made c = λ state there none.
@@ -73,9 +83,7 @@ signal_value-requires-clause-kind c =
     (c.in-Value.is ∙ ap (code.Value c.in-Value.output) c.in-Ok.is)
 
 pub signal_value-requires-clause-value : goal.signal_value-requires-clause-value
-signal_value-requires-clause-value c = λ m at.
-    let s = c.requires.next.0 in
-    let next = c.requires.next.1 in
+signal_value-requires-clause-value c = λ s m next at.
     let job = with_samples s c.args.job.now in
     let found = state_read next (λ e. (cc)) c.index-state.ensures in
     let none = none_items c.index-state.result.now.made

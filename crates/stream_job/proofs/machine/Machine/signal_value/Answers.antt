@@ -49,7 +49,7 @@ signal_on-requires-clause-send c =
     let job = with_samples s c.args.job.now in
     subst IsSend (sym (to_z-of_z c.ranges.x))
     (values_sent job c.args.self.now c.args.t c.args.output (c.args.x ∷ [])
-    next (c.requires.value s)).0
+    next (λ m at. c.requires.value s m next at)).0
 
 pub returns-in_default : goal.returns-in_default
 returns-in_default c = λ s next.
@@ -64,8 +64,10 @@ returns-in_default c = λ s next.
     c.index.result.now next found c.output_of-k.ensures.phaser
     (ap (λ ns. get_or ns c.output_of-k.result.0 0) c.deref.ensures
     ∙ ap (λ k. get_or c.index.result.now.numbers.items k 0) c.output_of-k.ensures.registration)
-    (c.requires.value s))
-    (simp (to_z-of_z, c.ranges.x) at (λ m at. c.in_default.ensures.reply m.history (bare_cores s at.cores))) (λ m at. full_cores s (c.in_default.ensures.cores m.history (bare_cores s at.cores)))
+    (λ m at. c.requires.value s m next at))
+    (λ m at. (simp (to_z-of_z, c.ranges.x) at c.in_default.ensures.reply) m.history
+    (bare_cores s at.cores))
+    (λ m at. full_cores s (c.in_default.ensures.cores m.history (bare_cores s at.cores)))
     c.signal_on.ensures.tasks c.signal_on.ensures.lines
 
 pub returns : goal.returns
@@ -82,8 +84,10 @@ returns c = λ s next.
     c.output_of-k.ensures.phaser
     (ap (λ ns. get_or ns c.output_of-k.result.0 0) c.deref.ensures
     ∙ ap (λ k. get_or c.index.result.now.numbers.items k 0) c.output_of-k.ensures.registration)
-    (c.requires.value s) (simp (to_z-of_z, c.ranges.x) at (λ m at. c.in-Ok.ensures.reply m.history (bare_cores s at.cores)))
-    (simp (to_z-of_z, c.ranges.x) at (λ m at. full_cores s (c.in-Ok.ensures.cores m.history (bare_cores s at.cores))))
+    (λ m at. c.requires.value s m next at) (λ m at. (simp (to_z-of_z, c.ranges.x) at c.in-Ok.ensures.reply) m.history
+    (bare_cores s at.cores))
+    (λ m at. full_cores s ((simp (to_z-of_z, c.ranges.x) at c.in-Ok.ensures.cores) m.history
+    (bare_cores s at.cores)))
     (set_read (λ s. with_owing s c.owed_after_signal.result s.made) c.args.self.now.tasks.items
     c.signal_on.new.self.tasks.items c.args.t c.index.result.now c.index_mut.result.now
     (ap (λ v. v.items) c.signal_on.ensures.tasks) lt c.index.ensures c.index_mut.ensures.value)

@@ -9,7 +9,6 @@ use Rattle.phase_any.specs.phase_history.declared.got.GotBlock.TheVariants as bl
 use Rattle.phase_any.specs.phase_history.Histories.{done_of}
 use Rattle.phase_any.specs.phase_history.Replies.{wait_block_reply, after_wait_block}
 use Rattle.graph_lang.specs.graph_base.Graphs.{task_at}
-use Rattle.stream_eval.specs.Results.{sink_values}
 use Rattle.stream_eval.specs.stream_lists.Lists.{number}
 use Rattle.graph_runs.specs.Moments.{Moment, limits_at}
 use Rattle.graph_runs.specs.Nexts.{waits}
@@ -20,11 +19,11 @@ use Rattle.stream_job.specs.Inside.{with_line, HasRoomIn, IsNextIn}
 use Rattle.stream_job.specs.Places.{HasTaken}
 use Rattle.stream_job.specs.SinkLines.{kept_of}
 use Rattle.stream_job.specs.Turning.{HadTurn}
-use Rattle.stream_job.specs.Machines.{HasCores, IsMachineAt, IsLineOf}
+use Rattle.stream_job.specs.Machines.{HasCores, HasRoom, IsMachineAt, kept_behind}
 use Rattle.stream_job.proofs.Lively.{state_read, state_there}
 use Rattle.stream_job.proofs.Setting.{read_same, bare_cores, full_cores}
 use Rattle.stream_job.proofs.Rooms.{room_of}
-use Rattle.stream_job.proofs.Waits.{AsksFirst, asks_places, GotAll, got_answered, MayTake, may_take, done_few, had_as, first_waits_at, first_answer, first_turn, blocked_first, first_never_ended, sink_there}
+use Rattle.stream_job.proofs.Waits.{AsksFirst, asks_places, GotAll, got_answered, MayTake, may_take, done_few, had_as, first_waits_at, first_answer, first_few, first_turn, blocked_first, first_never_ended, sink_there}
 use Rattle.stream_job.proofs.machine.Machine.wait_first.Goals.{After-wait_block_on, In-Ok-Values, After-index_mut, in-Ok-Values, in-Err}
 use Rattle.stream_job.proofs.machine.Machine.wait_first.Goals as goal
 
@@ -48,13 +47,14 @@ asks s c next =
     }
 
 -- the places that it hands over
-long : (c : After-wait_block_on)
+long : (s : List (List ℤ)) (c : After-wait_block_on)
+    (next : IsNextIn (with_samples s c.args.job.now) c.args.self.now c.args.t (waits c.args.k))
     → length (take c.block-steps.result c.deref_mut.result.now) ≡ c.block-steps.result
-long c =
+long s c next =
     let items = ap length c.deref_mut.ensures.value in
     let as_many = c.buffers.invariant.0 in
     let view = c.buffers.view_is in
-    asks_places (asks c) c.args.buffers.now c.deref_mut.result.now c.requires.places (omega arith)
+    asks_places (asks s c next) c.args.buffers.now c.deref_mut.result.now c.requires.places (omega arith)
 
 -- all that it got stands in them
 all : (s : List (List ℤ)) (c : In-Ok-Values)
@@ -97,6 +97,12 @@ may s c next asks all =
     c.input_of-phaser.ensures.within)
 
 -- ---- the answers
+
+pub input_of-phaser-requires-clause-input : goal.input_of-phaser-requires-clause-input
+input_of-phaser-requires-clause-input c =
+    let next = c.requires.next.1 in
+    first_few (with_samples c.requires.next.0 c.args.job.now) c.args.self.now next.some.0 c.args.t
+    c.args.k next next.some.1
 
 pub offset_bounds-deref-k : goal.offset_bounds-deref-k
 offset_bounds-deref-k c =
@@ -148,7 +154,7 @@ slice_bounds-got-end c =
     let next = c.requires.next.1 in
     let job = with_samples s c.args.job.now in
     let a = goal.at.slice_bounds-got-end c in
-    sym (all s a.In-Ok-Values next (long a.After-wait_block_on) next.some.0
+    sym (all s a.In-Ok-Values next (long s a.After-wait_block_on next) next.some.0
     next.some.1).many
 
 pub take-requires-clause-begun : goal.take-requires-clause-begun
@@ -158,7 +164,7 @@ take-requires-clause-begun c =
     let job = with_samples s c.args.job.now in
     let a = goal.at.take-requires-clause-begun c in
     (may s a.After-index_mut next (asks s a.After-wait_block_on next)
-    (all s a.In-Ok-Values next (long a.After-wait_block_on))).begun
+    (all s a.In-Ok-Values next (long s a.After-wait_block_on next))).begun
 
 pub take-requires-clause-block : goal.take-requires-clause-block
 take-requires-clause-block c =
@@ -167,7 +173,7 @@ take-requires-clause-block c =
     let job = with_samples s c.args.job.now in
     let a = goal.at.take-requires-clause-block c in
     (may s a.After-index_mut next (asks s a.After-wait_block_on next)
-    (all s a.In-Ok-Values next (long a.After-wait_block_on))).block
+    (all s a.In-Ok-Values next (long s a.After-wait_block_on next))).block
 
 pub take-requires-clause-nothing : goal.take-requires-clause-nothing
 take-requires-clause-nothing c =
@@ -176,7 +182,7 @@ take-requires-clause-nothing c =
     let job = with_samples s c.args.job.now in
     let a = goal.at.take-requires-clause-nothing c in
     (may s a.After-index_mut next (asks s a.After-wait_block_on next)
-    (all s a.In-Ok-Values next (long a.After-wait_block_on))).nothing
+    (all s a.In-Ok-Values next (long s a.After-wait_block_on next))).nothing
 
 pub take-requires-clause-room : goal.take-requires-clause-room
 take-requires-clause-room c =
@@ -185,7 +191,7 @@ take-requires-clause-room c =
     let job = with_samples s c.args.job.now in
     let a = goal.at.take-requires-clause-room c in
     (may s a.After-index_mut next (asks s a.After-wait_block_on next)
-    (all s a.In-Ok-Values next (long a.After-wait_block_on))).room
+    (all s a.In-Ok-Values next (long s a.After-wait_block_on next))).room
 
 pub take-requires-clause-filter : goal.take-requires-clause-filter
 take-requires-clause-filter c =
@@ -208,7 +214,7 @@ take-requires-clause-some c =
     let next = c.requires.next.1 in
     let job = with_samples s c.args.job.now in
     let a = goal.at.take-requires-clause-some c in
-    (all s a.In-Ok-Values next (long a.After-wait_block_on) next.some.0
+    (all s a.In-Ok-Values next (long s a.After-wait_block_on next) next.some.0
     next.some.1).some
 
 pub keep-requires-clause-there : goal.keep-requires-clause-there
@@ -229,8 +235,8 @@ keep-requires-clause-room c =
     let job = with_samples s c.args.job.now in
     let a = goal.at.keep-requires-clause-room c in
     let old = c.args.self.now in
-    let m = next.some.0 in
-    let at = next.some.1 in
+    let m = c.requires.next.2.0 in
+    let at = c.requires.next.2.1 in
     let p = c.input_of-phaser.result in
     let n = get_or c.deref.result.now c.args.k 0 in
     let v = c.in-Ok-Values in
@@ -240,7 +246,7 @@ keep-requires-clause-room c =
     (sym c.wait_block_on.ensures.lines)
     (room_of job old c.args.t got c.index.result.now c.sink_of-sink.result
     (c.sink_of-sink.ensures c.index.result.now asked.found)
-    (λ sink. c.requires.next.2 m c.args.k p n got c.index.result.now at (next.is m at)
+    (λ sink. c.requires.next.2.2 c.args.k p n got c.index.result.now (next.is m at)
     (first_answer job old m c.args.t c.args.k n p c.block-steps.result v.phase v.count got
     c.index.result.now asked at (all s a.In-Ok-Values next (long s a.After-wait_block_on next) m at))
     asked.found sink))
@@ -254,7 +260,7 @@ told_got-requires c =
     let m = next.some.0 in
     let at = next.some.1 in
     let p = c.input_of-phaser.result in
-    let got = all s a.In-Ok-Values next (long a.After-wait_block_on) m at in
+    let got = all s a.In-Ok-Values next (long s a.After-wait_block_on next) m at in
     let complete : c.in-Ok-Values.phase + c.in-Ok-Values.count ≤ done_of (m.history p) =
     got.complete in
     let last : done_of (m.history p) ≤ PHASES_MAX =
@@ -273,7 +279,7 @@ unreachable-requires c =
     first_never_ended job c.args.self.now c.args.t c.args.k n p c.block-steps.result
     c.index.result.now (asks s a.After-wait_block_on next)
     (λ m at. subst (λ i. wait_block_reply (limits_at job p) (m.history p) n i ≡ Ok block.Ended)
-    (long a.After-wait_block_on)
+    (long s a.After-wait_block_on next)
     (c.in-Ok-Ended.ensures.reply m.history (bare_cores s at.cores) ∙ ap (λ g. Ok g) c.in-Ok-Ended.field-0-is))
 
 pub returns-clause-made : goal.returns-clause-made
@@ -295,7 +301,7 @@ returns-clause-made c = λ s next.
           let got = take v.count c.wait_block_on.new.out in
           let all : (m : Moment) → IsMachineAt job m old → GotAll job m p n steps v.phase v.count got =
           λ m at. got_answered job m p n steps v.phase v.count v.field-0 places c.wait_block_on.new.out
-          (long here) v.field-0-is (v.ensures.reply m.history (bare_cores s at.cores)) (v.ensures.out m.history (bare_cores s at.cores)) in
+          (long s here next) v.field-0-is (v.ensures.reply m.history (bare_cores s at.cores)) (v.ensures.out m.history (bare_cores s at.cores)) in
           let tasks = ap (λ v. v.items) c.wait_block_on.ensures.tasks in
           let it = read_same old.tasks.items t w.index_mut.result.now c.index.result.now
           (state_there next (λ e. (cc)))
@@ -311,18 +317,19 @@ returns-clause-made c = λ s next.
           (subst (λ g. HasCores job (with_at p (after_wait_block (Ok g) n (m.history p)) m.history)
           c.wait_block_on.new.self.cores.items) v.field-0-is (full_cores s (v.ensures.cores m.history (bare_cores s at.cores)))))
           (ap (λ v. v.items) w.keep.ensures.tasks ∙ ap (λ xs. set xs t w.take.new.self) tasks)
-          (w.keep.ensures.lines ∙ ap (λ l. with_line c.sink_of-sink.result (kept_of got)
-          (map sink_values l.items)) c.wait_block_on.ensures.lines)
+          (λ given. w.keep.ensures.lines given
+          ∙ ap (λ l. with_line c.sink_of-sink.result (kept_of got)
+          (map (kept_behind given) l.items)) c.wait_block_on.ensures.lines)
           (w.keep.ensures.starts
           ∙ ap (λ l. map (λ line. line.start) l.items) c.wait_block_on.ensures.lines)
-          (λ own. w.keep.ensures.own job
-          (subst (λ l. All (IsLineOf job) l.items) (sym c.wait_block_on.ensures.lines) own))
+          (λ room own. w.keep.ensures.own room
+          (subst (λ l. All (HasRoom room) l.items) (sym c.wait_block_on.ensures.lines) own))
           w.told_got.ensures)
       | in-Err w ↦
           had_as job old c.match-wait_block_on.self _ t c.match-wait_block_on.result _ w.self-is w.result-is
           (blocked_first job old c.wait_block_on.new.self t k n p steps c.index.result.now w.in-Err.field-0
           asked (λ m at. subst (λ i. wait_block_reply (limits_at job p) (m.history p) n i
-          ≡ Err w.in-Err.field-0) (long here) (w.in-Err.ensures.reply m.history (bare_cores s at.cores))) (λ m at. full_cores s (w.in-Err.ensures.cores m.history (bare_cores s at.cores)))
+          ≡ Err w.in-Err.field-0) (long s here next) (w.in-Err.ensures.reply m.history (bare_cores s at.cores))) (λ m at. full_cores s (w.in-Err.ensures.cores m.history (bare_cores s at.cores)))
           c.wait_block_on.ensures.tasks c.wait_block_on.ensures.lines)
     ]
 

@@ -15,6 +15,13 @@ use Rattle.stream_job.proofs.LinesBegin.{begins_further, met_begins}
 use Rattle.stream_job.proofs.SinksKeep.{lines_taken, sink_reads}
 use Rattle.stream_job.proofs.world.World.lines.Goals as goal
 
+pub returns-clause-kept : goal.returns-clause-kept
+returns-clause-kept c =
+    let P : WorldState → Type 0 = λ w. (m : Moment) → IsWorldAt w m
+    → map sink_values c.deref.result.now
+    ≡ map {B = ℕ × List ℤ} (λ t. (t, kept_by w.job m t)) (sinks_of w.job) in
+    subst P c.self.view_is (λ m at. ap (map sink_values) c.deref.ensures.value ∙ at.lines.values)
+
 pub returns-clause-taken : goal.returns-clause-taken
 returns-clause-taken c =
     let P : WorldState → Type 0 = λ w. (m : Moment) → IsWorldAt w m → w.met ≡ None
@@ -22,7 +29,7 @@ returns-clause-taken c =
     ≡ map {B = ℕ × List ℤ} (λ t. (t, m.taken t 0)) (sinks_of w.job) in
     subst P c.self.view_is (λ m at none.
     (let job = c.self.inside.job.now in
-    ap (map sink_values) c.deref.ensures.value ∙ at.machine.lines
+    ap (map sink_values) c.deref.ensures.value ∙ at.lines.values
     ∙ lines_taken job m at.machine.graph at.machine.reached.ran (subst (HasMet job m) none at.met)))
 
 pub returns-clause-begin : goal.returns-clause-begin
@@ -52,7 +59,7 @@ returns-clause-all c =
     c.all_gone.ensures.answer job m
     (record { graph = at.machine.graph; apart = at.machine.apart }) at.machine.reached dead met
     ∙ ap (λ l. Ok l)
-    (sym (ap (map sink_values) c.deref.ensures.value ∙ at.machine.lines
+    (sym (ap (map sink_values) c.deref.ensures.value ∙ at.lines.values
     ∙ lines_taken job m at.machine.graph at.machine.reached.ran met))))
 
 -- at each moment the lines have their starts
@@ -61,4 +68,4 @@ returns-clause-starts c =
     let P : WorldState → Type 0 = λ w. (m : Moment) → IsWorldAt w m
     → map (λ line. line.start) c.deref.result.now ≡ map (begins_at w.job m) (sinks_of w.job) in
     subst P c.self.view_is (λ m at.
-    ap (map (λ line. line.start)) c.deref.ensures.value ∙ at.machine.starts)
+    ap (map (λ line. line.start)) c.deref.ensures.value ∙ at.lines.starts)

@@ -1,39 +1,65 @@
 -- A turn tells, and keeps of blocked tasks, what its call did.
 use Rattle.std.proofs.Common.{◌≡◌, Some, None, length, refl, sym, ap, subst, ◌∙◌}
 use Rattle.graph_runs.specs.Moments.{Moment}
-use Rattle.graph_runs.specs.Answers.{turn_tells, answer_of_turn, after_answer}
+use Rattle.graph_runs.specs.Answers.{turn_tells}
+use Rattle.graph_runs.specs.Nexts.{next_of}
 use Rattle.stream_job.specs.Buffers.{HasPlaces}
 use Rattle.stream_job.specs.Tellings.{IsOnPhaser}
-use Rattle.stream_job.specs.Turning.{after_turn_of, told_of, parked_by}
+use Rattle.stream_job.specs.Turning.{HadTurn, IsRegistration, after_turn_of, told_of, parked_by}
 use Rattle.stream_job.specs.Worlds.{WorldState, HasMet, IsWorldAt}
 use Rattle.stream_job.proofs.Tellings.{made_there, turn_tells_so, turn_parks_so, turn_blocks_so, turn_met_so, turn_stands_so, parked_many}
+use Rattle.stream_job.proofs.Rooms.{sink_room}
+use Rattle.stream_job.proofs.Setting.{err_of}
+use Rattle.stream_job.proofs.world.World.turn.Goals.{In_ok-made}
 use Rattle.stream_job.proofs.world.World.turn.Goals as goal
+
+-- the machine had a turn with the job's samples
+had : (c : In_ok-made) → HadTurn c.self.inside.job.now c.self.inside.machine c.make.new.self
+    c.args.task c.in_ok-made.made
+had c = c.in_ok-made.ensures.made c.self.inside.job.now.samples c.awaits-awaits.ensures
+
+pub make-requires-clause-came : goal.make-requires-clause-came
+make-requires-clause-came c =
+    let job = c.self.inside.job.now in
+    let m = c.self.invariant.0.0 in
+    let at = c.self.invariant.0.1 in (
+      job.samples,
+      c.awaits-awaits.ensures,
+      (
+        m,
+        at.machine,
+        sink_room job c.self.inside.machine m c.args.task at.lines at.own
+            (c.turns_stay_reached.ensures.turn job m c.args.task at.machine.graph at.machine.reached)
+            at.machine,
+      ),
+    )
 
 pub note-requires : goal.note-requires
 note-requires c =
     let m = c.self.invariant.0.0 in
-    let at = c.self.invariant.0.1 in
+    let at = c.self.invariant.0.1.machine in
+    let had = had (goal.at.note-requires c).In_ok-made in
     subst (IsOnPhaser c.in_ok-made.made c.args.task) (sym c.self.invariant.1)
     (made_there c.self.inside.job.now m c.args.task c.in_ok-made.made at.graph at.reached
-    (c.in_ok-made.ensures.made.shows m at))
+    (had.shows m at))
 
 pub invariant_of-self-2 : goal.invariant_of-self-2
 invariant_of-self-2 c =
-    let m = c.self.invariant.0.0 in
     let job = c.self.inside.job.now in
+    let m = c.self.invariant.0.0 in
     let at = c.self.invariant.0.1 in
-    let had = c.in_ok-made.ensures.made in (
+    let here = (goal.at.invariant_of-self-2 c).In_ok-made in
+    let world : WorldState = record {
+      job = job;
+      machine = c.self.inside.machine;
+      met = c.self.inside.met;
+      parked = c.self.inside.parked;
+    } in (
       (
-        after_answer job (answer_of_turn job m c.args.task) m,
-        had.after m at (subst (HasMet job m) c.in_default.is c.self.invariant.0.3),
-        turn_blocks_so job c.self.inside.machine c.make.new.self m c.args.task c.in_ok-made.made
-            c.self.inside.parked c.note.new.self had c.note.ensures at c.self.invariant.0.2,
-        subst (HasMet job (after_answer job (answer_of_turn job m c.args.task) m))
-            (sym c.too_big-self-inside.ensures)
-            (turn_met_so job c.self.inside.machine c.make.new.self m c.args.task c.in_ok-made.made
-            c.told-told.result had at (subst (HasMet job m) c.in_default.is c.self.invariant.0.3)
-            (turn_tells_so job None m c.args.task c.in_ok-made.made c.told-told.result refl
-            (had.shows m at) c.told-told.ensures)),
+        after_turn_of world m c.args.task,
+        turn_stands_so world c.make.new.self c.note.new.self c.too_big-self-inside.result m
+            c.args.task c.in_ok-made.made c.told-told.result c.in_default.is (had here)
+            c.note.ensures c.told-told.ensures c.too_big-self-inside.ensures at,
       ),
       ap length c.note.ensures
           ∙ parked_many c.in_ok-made.made c.args.task c.self.inside.parked
@@ -48,7 +74,7 @@ returns-clause-table c =
     → turn_tells w.job w.met m c.args.task ≡ Some (told_of c.told-told.result) in
     subst P c.self.view_is (λ m at.
     turn_tells_so c.self.inside.job.now c.self.inside.met m c.args.task c.in_ok-made.made
-    c.told-told.result c.in_default.is (c.in_ok-made.ensures.made.shows m at.machine) c.told-told.ensures)
+    c.told-told.result c.in_default.is ((had (goal.at.returns-clause-table c).In_ok-made).shows m at.machine) c.told-told.ensures)
 
 pub returns-clause-parked : goal.returns-clause-parked
 returns-clause-parked c =
@@ -61,7 +87,7 @@ returns-clause-parked c =
       met = c.self.inside.met;
       parked = c.self.inside.parked;
     } m c.args.task c.in_ok-made.made c.note.new.self c.in_default.is
-    (c.in_ok-made.ensures.made.shows m at.machine) c.note.ensures)
+    ((had (goal.at.returns-clause-parked c).In_ok-made).shows m at.machine) c.note.ensures)
 
 pub returns-clause-after : goal.returns-clause-after
 returns-clause-after c =
@@ -79,5 +105,13 @@ returns-clause-after c =
       met = c.self.inside.met;
       parked = c.self.inside.parked;
     } c.make.new.self c.note.new.self c.too_big-self-inside.result m c.args.task c.in_ok-made.made
-    c.told-told.result c.in_default.is c.in_ok-made.ensures.made c.note.ensures c.told-told.ensures
+    c.told-told.result c.in_default.is (had (goal.at.returns-clause-after c).In_ok-made) c.note.ensures c.told-told.ensures
     c.too_big-self-inside.ensures at)
+
+-- What is next at one moment registers a child.
+pub returns-in_err-made-clause-memory : goal.returns-in_err-made-clause-memory
+returns-in_err-made-clause-memory c =
+    let P : WorldState → Type 0 = λ w. (m : Moment) → IsWorldAt w m
+    → IsRegistration (next_of w.job m c.args.task) in
+    err_of c.from_residual.result (subst P c.self.view_is (λ m at.
+    c.in_err-made.ensures.memory c.self.inside.job.now.samples m c.awaits-awaits.ensures at.machine))
