@@ -48,22 +48,22 @@ use Rattle.stream_job.proofs.Tellings.{turn_met_so, turn_tells_so}
 -- ---- room
 
 -- where the line has room for a block there is room for what the turn gets
-pub has_room_by : (job : Job) (machine : Machine) (t block : ℕ) (state : TaskState) (line : Lines)
-    → slice_get machine.tasks.items t ≡ Some state
+pub has_room_by : (job : Job) (machine : Machine) (m : Moment) (t block : ℕ) (state : TaskState)
+    (line : Lines) → IsMachineAt job m machine → slice_get machine.tasks.items t ≡ Some state
     → slice_get machine.lines.items state.sink ≡ Some line
-    → ((m : Moment) → m.begun t ≡ state.begun → block_of job m t ≡ block)
+    → (m.begun t ≡ state.begun → block_of job m t ≡ block)
     → vec_len line.values + block ≤ vec_capacity line.values → HasRoomNext job machine t
-has_room_by job machine t block state line found read steps room =
-    λ m k p n outcomes state' at next answer found' sink line' read'.
+has_room_by job machine m t block state line at found read steps room =
+    (m, at, λ k p n outcomes state' next answer found' sink line' read'.
     (let same : state ≡ state' = same_Some state state' (sym found ∙ found') in
     let there : slice_get machine.lines.items state.sink ≡ Some line' =
     ap (λ x. slice_get machine.lines.items x.sink) same ∙ read' in
     let one : line ≡ line' = same_Some line line' (sym read ∙ there) in
     let few : length outcomes ≤ block_of job m t =
     (makes_event job m t (events.first_wait t k p n outcomes) at.graph at.reached answer).owes.1 in
-    let most : block_of job m t ≡ block = steps m (at.tasks t state found).stands.begun in
+    let most : block_of job m t ≡ block = steps (at.tasks t state found).stands.begun in
     let P : Lines → Type 0 = λ l. vec_len l.values + length outcomes ≤ vec_capacity l.values in
-    subst P one (omega arith))
+    subst P one (omega arith)))
 
 -- ---- open sources
 

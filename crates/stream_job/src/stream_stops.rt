@@ -115,13 +115,9 @@ impl Stream {
     /// What a task does next.
     fn step(&self, t: usize) -> Step
         requires { t < length self.now.job.graph.tasks }
-        ensures next { (s : List (List ℤ)) (m : Moment) (given : ℕ → List ℤ)
+        ensures { (s : List (List ℤ)) (m : Moment) (given : ℕ → List ℤ)
             → IsStreamAt self.now s m given
             → next_of (with_samples s self.now.job) m t ≡ next_by result }
-        ensures each { (s : List (List ℤ)) (m m' : Moment) (given : ℕ → List ℤ)
-            → IsStreamAt self.now s m given
-            → IsMachineAt (with_samples s self.now.job) m' self.now.machine
-            → next_of (with_samples s self.now.job) m' t ≡ next_by result }
     {
         let awaits = awaited(&self.job, &self.plan, &self.machine, &self.inputs, t);
         self.machine.next(&self.job, &self.plan, t, awaits)

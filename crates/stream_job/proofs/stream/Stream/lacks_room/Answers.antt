@@ -128,5 +128,5 @@ returns-else-kept-room-clause-room c = λ enough.
     ap (line_room c.self.inside.job) held.0 in
     let most = c.line_room-room.ensures in
     let long = c.len-kept.ensures in
-    has_room_by job machine c.args.t c.block-steps.result state line found read
-    (λ m' begun. c.block-steps.ensures m' begun) (omega arith)))
+    has_room_by job machine m c.args.t c.block-steps.result state line at.machine found read
+    (c.block-steps.ensures m) (omega arith)))

@@ -3,12 +3,12 @@ use Rattle.std.proofs.Common.{◌≡◌, ℕ, ℤ, List, sym, subst}
 use Rattle.stream_eval.specs.stream_lists.Jobs.{with_samples}
 use Rattle.graph_runs.specs.Moments.{Moment}
 use Rattle.graph_runs.specs.Nexts.{next_of}
-use Rattle.stream_job.specs.Machines.{IsMachineAt, next_by}
+use Rattle.stream_job.specs.Machines.{next_by}
 use Rattle.stream_job.specs.Streams.{AreKept, IsStreamAt, StreamState}
 use Rattle.stream_job.proofs.stream.Stream.step.Goals as goal
 
-pub returns-clause-next : goal.returns-clause-next
-returns-clause-next c =
+pub returns : goal.returns
+returns c =
     let P : StreamState → Type 0 = λ w. (s : List (List ℤ)) (m : Moment) (given : ℕ → List ℤ)
     → IsStreamAt w s m given
     → next_of (with_samples s w.job) m c.args.t ≡ next_by c.next.result in
@@ -16,13 +16,3 @@ returns-clause-next c =
     c.next.ensures s m at.machine
     ((c.awaited-awaits.ensures s m at.each at.machine
     (subst (AreKept c.self.inside.job s m) (sym c.deref.ensures.value) at.kept)).awaits m at.machine))
-
-pub returns-clause-each : goal.returns-clause-each
-returns-clause-each c =
-    let P : StreamState → Type 0 = λ w. (s : List (List ℤ)) (m m' : Moment) (given : ℕ → List ℤ)
-    → IsStreamAt w s m given → IsMachineAt (with_samples s w.job) m' w.machine
-    → next_of (with_samples s w.job) m' c.args.t ≡ next_by c.next.result in
-    subst P c.self.view_is (λ s m m' given at other.
-    c.next.ensures s m' other
-    ((c.awaited-awaits.ensures s m at.each at.machine
-    (subst (AreKept c.self.inside.job s m) (sym c.deref.ensures.value) at.kept)).awaits m' other))
