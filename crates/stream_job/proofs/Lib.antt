@@ -6,6 +6,7 @@ pub mod Lively
 pub mod Makes
 pub mod OpeningPhasers
 pub mod OpeningTasks
+pub mod Awaiting
 pub mod Begins
 pub mod Begun
 pub mod ChildLists
@@ -18,6 +19,7 @@ pub mod Setting
 pub mod Signals
 pub mod SinkLines
 pub mod SinksKeep
+pub mod Stopping
 pub mod Taking
 pub mod TaskLists
 pub mod Tellings
@@ -28,6 +30,7 @@ pub mod Rooms
 pub mod Searching
 pub mod Stalling
 pub mod Stepping
+pub mod FedTurns
 pub mod LeftAlone
 pub mod Staying
 pub mod BlockedLists

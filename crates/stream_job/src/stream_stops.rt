@@ -1,11 +1,17 @@
 //! Where a run that is fed stops.
-ghost use Rattle.std.specs.Prelude.{◌≡◌, ◌<◌, ℕ, ℤ, List, IfSome, None, Some, is_some, length, true};
+ghost use Rattle.std.specs.Prelude.{◌≡◌, ◌<◌, ◌+◌, ◌-◌, ◌&&◌, ℕ, ℤ, List, IfSome, None, false, length, nat_lt, not, true};
 ghost use Rattle.std.specs.List.{find, list_all};
 ghost use Rattle.stream_eval.specs.stream_lists.Jobs.{with_samples};
+ghost use Rattle.stream_eval.specs.stream_lists.Lists.{is_sink_at};
+ghost use Rattle.graph_lang.specs.graph_base.Graphs.{sources_of};
+ghost use Rattle.graph_runs.specs.Feeds.{is_starved};
 ghost use Rattle.graph_runs.specs.Moments.{Moment};
+ghost use Rattle.graph_runs.specs.NextBlocks.{block_of};
 ghost use Rattle.graph_runs.specs.Nexts.{next_of};
+ghost use Rattle.stream_job.specs.Inside.{HasRoomNext};
 ghost use Rattle.stream_job.specs.Machines.{IsMachineAt, IsSome, MayHaveCome, next_by};
 ghost use Rattle.stream_job.specs.Plans.{IsPlan};
+ghost use Rattle.stream_job.specs.SinkLines.{kept_by};
 ghost use Rattle.stream_job.specs.Streams.{AreInputs, AreKept};
 
 use crate::input::Input;
@@ -19,7 +25,7 @@ use graph_runs::{is_cut, until_of};
 use stream_eval::stream_lists::Job;
 
 impl Stream {
-    ghost use Rattle.stream_job.specs.Streams.{IsStreamAt, StopsAt, all_tasks, ended_at, first_full, first_hungry, is_full, is_hungry, rests};
+    ghost use Rattle.stream_job.specs.Streams.{IsStreamAt, StopsAt, all_tasks, ended_at, first_full, first_hungry, is_full, is_hungry, line_room, rests};
 
     /// Why no task can move, where none can.
     pub fn stop(&self) -> Option<Stopped>
@@ -97,9 +103,13 @@ impl Stream {
             → rests (with_samples s self.now.job) (ended_at self.now) m given t ≡ result }
     {
         let awaits = awaited(&self.job, &self.plan, &self.machine, &self.inputs, t);
-        self.machine.is_still(&self.job, &self.plan, t, awaits)
-            || self.is_hungry(t)
-            || self.is_full(t)
+        if self.machine.is_still(&self.job, &self.plan, t, awaits) {
+            return true;
+        }
+        if self.is_hungry(t) {
+            return true;
+        }
+        self.is_full(t)
     }
 
     /// What a task does next.
@@ -120,29 +130,70 @@ impl Stream {
             → IsStreamAt self.now s m given
             → is_hungry (with_samples s self.now.job) (ended_at self.now) m t ≡ result }
     {
-        if !self.job.graph().is_source(t) || self.inputs[self.plan.tasks[t].source].ended {
+        if !self.is_starved(t) {
+            return false;
+        }
+        matches!(self.step(t), Step::Leave)
+    }
+
+    /// Whether a task is a source that has signalled all samples that came, has not ended, and is
+    /// not at its `until`.
+    fn is_starved(&self, t: usize) -> bool
+        requires { t < length self.now.job.graph.tasks }
+        ensures { (s : List (List ℤ)) (m : Moment) (given : ℕ → List ℤ)
+            → IsStreamAt self.now s m given → (is_starved (with_samples s self.now.job) m t
+            && not (ended_at self.now t)) ≡ result }
+    {
+        if !self.job.graph().is_source(t) {
+            return false;
+        }
+        if self.inputs[self.plan.tasks[t].source].ended {
             return false;
         }
         let begun = self.machine.tasks[t].begun;
-        let awaits = awaited(&self.job, &self.plan, &self.machine, &self.inputs, t);
-        awaits.is_empty() && !is_cut(until_of(&self.job, t), begun) && self.step(t) == Step::Leave
+        if is_cut(until_of(&self.job, t), begun) {
+            return false;
+        }
+        awaited(&self.job, &self.plan, &self.machine, &self.inputs, t).is_empty()
     }
 
     /// Whether a task is a sink that waits next and has no room for what it may get.
     pub fn is_full(&self, t: usize) -> bool
         requires { t < length self.now.job.graph.tasks }
-        ensures { (s : List (List ℤ)) (m : Moment) (given : ℕ → List ℤ)
+        ensures full { (s : List (List ℤ)) (m : Moment) (given : ℕ → List ℤ)
             → IsStreamAt self.now s m given
             → is_full (with_samples s self.now.job) m given t ≡ result }
+        ensures room { result ≡ false → (s : List (List ℤ)) (m : Moment) (given : ℕ → List ℤ)
+            → IsStreamAt self.now s m given
+            → HasRoomNext (with_samples s self.now.job) self.now.machine t }
     {
         if !self.job.graph().is_sink(t) {
             return false;
         }
+        if !self.lacks_room(t) {
+            return false;
+        }
+        matches!(self.step(t), Step::Wait { .. })
+    }
+
+    /// Whether a sink has no room for its next block.
+    fn lacks_room(&self, t: usize) -> bool
+        requires task { t < length self.now.job.graph.tasks }
+        requires sink { is_sink_at self.now.job t ≡ true }
+        ensures lacks { (s : List (List ℤ)) (m : Moment) (given : ℕ → List ℤ)
+            → IsStreamAt self.now s m given
+            → let job = with_samples s self.now.job in
+            nat_lt (line_room job t)
+            (length (kept_by job m t) - length (given t) + block_of job m t) ≡ result }
+        ensures room { result ≡ false → (s : List (List ℤ)) (m : Moment) (given : ℕ → List ℤ)
+            → IsStreamAt self.now s m given
+            → HasRoomNext (with_samples s self.now.job) self.now.machine t }
+    {
         let state = &self.machine.tasks[t];
         let steps = self.plan.block(&self.job, t, state.begun);
         let kept = self.machine.lines[state.sink].values.len() as u64;
-        line_room(&self.job, t).saturating_sub(kept) < steps
-            && matches!(self.step(t), Step::Wait { .. })
+        let room = line_room(&self.job, t);
+        kept > room || room - kept < steps
     }
 }
 
@@ -158,7 +209,8 @@ pub fn awaited<'a>(
     requires plan { IsPlan job.now plan.now }
     requires machine { IsSome job.now machine.now }
     requires inputs { AreInputs job.now inputs.now }
-    ensures { (s : List (List ℤ)) (m : Moment) → IsMachineAt (with_samples s job.now) m machine.now
+    ensures { (s : List (List ℤ)) (m : Moment) → length s ≡ sources_of job.now.graph
+        → IsMachineAt (with_samples s job.now) m machine.now
         → AreKept job.now s m inputs.now → MayHaveCome job.now machine.now t result.now s }
 {
     if !job.graph().is_source(t) {

@@ -1,0 +1,50 @@
+-- It rests where one of the three says so.
+use Rattle.std.proofs.Common.{◌≡◌, ℕ, ℤ, List, ◌||◌, Bool, true, false, sym, ap, subst, ◌∙◌}
+use Rattle.stream_eval.specs.stream_lists.Jobs.{with_samples}
+use Rattle.graph_runs.specs.Answers.{is_still}
+use Rattle.graph_runs.specs.Moments.{Moment}
+use Rattle.stream_job.specs.Streams.{AreKept, IsStreamAt, StreamState, ended_at, is_full, is_hungry, rests}
+use Rattle.stream_job.proofs.stream.Stream.rests.Goals as goal
+use Rattle.stream_job.proofs.stream.Stream.rests.Goals.{After-is_still}
+
+pub is_still-requires-clause-came : goal.is_still-requires-clause-came
+is_still-requires-clause-came c =
+    let s = c.self.invariant.0.0 in
+    let m = c.self.invariant.0.1 in
+    let at = c.self.invariant.0.3 in
+    (
+      s,
+      c.awaited-awaits.ensures s m at.each at.machine
+          (subst (AreKept c.self.inside.job s m) (sym c.deref.ensures.value) at.kept),
+    )
+
+-- whether it is still, as the machine says
+still : (c : After-is_still) (s : List (List ℤ)) (m : Moment) (given : ℕ → List ℤ)
+    → IsStreamAt c.args.self.now s m given
+    → is_still (with_samples s c.args.self.now.job) m c.args.t ≡ c.is_still.result
+still c =
+    let P : StreamState → Type 0 = λ w. (s : List (List ℤ)) (m : Moment) (given : ℕ → List ℤ)
+    → IsStreamAt w s m given
+    → is_still (with_samples s w.job) m c.args.t ≡ c.is_still.result in
+    subst P c.self.view_is (λ s m given at.
+    c.is_still.ensures s m
+    (c.awaited-awaits.ensures s m at.each at.machine
+    (subst (AreKept c.self.inside.job s m) (sym c.deref.ensures.value) at.kept))
+    at.machine)
+
+pub returns-then-is_still : goal.returns-then-is_still
+returns-then-is_still c = λ s m given at.
+    let job = with_samples s c.args.self.now.job in
+    let ended = ended_at c.args.self.now in
+    ap (λ b. b || is_hungry job ended m c.args.t || is_full job m given c.args.t)
+    (still (goal.at.returns-then-is_still c).After-is_still s m given at ∙ c.if-is_still.true)
+
+pub returns : goal.returns
+returns c = λ s m given at.
+    let job = with_samples s c.args.self.now.job in
+    let ended = ended_at c.args.self.now in
+    ap (λ b. b || is_hungry job ended m c.args.t || is_full job m given c.args.t)
+    (still (goal.at.returns c).After-is_still s m given at ∙ c.if-is_still.false)
+    ∙ ap (λ b. b || is_full job m given c.args.t)
+    (c.is_hungry.ensures s m given at ∙ c.if-is_hungry.false)
+    ∙ c.is_full.ensures.full s m given at
