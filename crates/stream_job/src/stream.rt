@@ -118,6 +118,13 @@ impl Stream {
         self.job.graph()
     }
 
+    /// Returns how many sinks there are. It takes no memory.
+    pub fn sinks(&self) -> usize
+        ensures { result ≡ length (sinks_of self.now.job) }
+    {
+        self.machine.lines.len()
+    }
+
     /// Feeds these samples to a source, as many of them as it has room for, and returns how many it
     /// took: none, where it has ended, and none after a value out of range. It takes no memory.
     pub fn feed(&mut self, source: usize, samples: &[i64]) -> usize
