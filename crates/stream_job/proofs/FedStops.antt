@@ -17,10 +17,10 @@ use Rattle.stream_job.specs.declared.stopped.Stopped.TheVariants as stopped
 use Rattle.stream_job.proofs.Searching.{any_in_range}
 
 -- the first that passes a test is one of those that were looked at, and passes
-pub found_in : (test : ℕ → Bool) (from n t : ℕ) → find test (range_with_len from n) ≡ Some t
+found_from : (test : ℕ → Bool) (from n t : ℕ) → find test (range_with_len from n) ≡ Some t
     → (t < from + n) × (test t ≡ true)
-found_in test from zero t e = absurd (none-some t e)
-found_in test from (suc n) t e = by (test from) refl e (found_in test (from + 1) n t)
+found_from test from zero t e = absurd (none-some t e)
+found_from test from (suc n) t e = by (test from) refl e (found_from test (from + 1) n t)
   where
     by : (b : Bool) → test from ≡ b
         → cond b (Some from) (find test (range_with_len (from + 1) n)) ≡ Some t
@@ -34,6 +34,13 @@ found_in test from (suc n) t e = by (test from) refl e (found_in test (from + 1)
         let r = rest e in
         let lt : t < from + 1 + n = r.0 in
         (omega arith, r.1)
+
+pub found_in : (test : ℕ → Bool) (n t : ℕ) → find test (range_with_len 0 n) ≡ Some t
+    → (t < n) × (test t ≡ true)
+found_in test n t e =
+    let r = found_from test 0 n t e in
+    let lt : t < 0 + n = r.0 in
+    (omega arith, r.1)
 
 -- a task that is full is a sink
 pub full_sink : (job : Job) (m : Moment) (given : ℕ → List ℤ) (t : ℕ)

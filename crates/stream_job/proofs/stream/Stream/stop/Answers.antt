@@ -26,7 +26,7 @@ full_there c =
     → IsStreamAt w s m given → first_full (with_samples s w.job) m given ≡ Some t in
     let found = subst P (sym c.self.view_is) (λ s m given at.
     c.first_full.ensures s m given at ∙ c.in-Some-first_full.is) in
-    (found_in (is_full (with_samples s c.self.inside.job) m given) 0
+    (found_in (is_full (with_samples s c.self.inside.job) m given)
     (length c.self.inside.job.graph.tasks) t (found s m given c.self.invariant.0.3)).0
 
 pub index-requires : goal.index-requires
@@ -56,7 +56,7 @@ returns-in-Some-first_full c =
     (let job = with_samples s c.args.self.now.job in
     let found : first_full job m given ≡ Some t =
     c.first_full.ensures s m given at ∙ c.in-Some-first_full.is in
-    let full = (found_in (is_full job m given) 0 (length job.graph.tasks) t found).1 in
+    let full = (found_in (is_full job m given) (length job.graph.tasks) t found).1 in
     let S : Option ℕ → Type 0 = λ o. stop_by job o (first_hungry job (ended_at c.args.self.now) m)
     (is_some_live job m) (stopped.Full state.sink) in
     (
@@ -79,7 +79,7 @@ hungry_there c =
     → IsStreamAt w s m given → first_hungry (with_samples s w.job) (ended_at w) m ≡ Some t in
     let found = subst P (sym c.self.view_is) (λ s m given at.
     c.first_hungry.ensures s m given at ∙ c.in-Some-first_hungry.is) in
-    (found_in (is_hungry (with_samples s c.self.inside.job) (ended_at (the_view c.self.inside)) m) 0
+    (found_in (is_hungry (with_samples s c.self.inside.job) (ended_at (the_view c.self.inside)) m)
     (length c.self.inside.job.graph.tasks) t (found s m given c.self.invariant.0.3)).0
 
 pub index-requires-in-Some-first_hungry : goal.index-requires-in-Some-first_hungry
