@@ -30,6 +30,7 @@ pub mod Rooms
 pub mod Searching
 pub mod Stalling
 pub mod Stepping
+pub mod FedStops
 pub mod FedTurns
 pub mod LeftAlone
 pub mod Staying

@@ -1,28 +1,42 @@
-use Rattle.std.proofs.Common.{rules, ◌≡◌, ◌≢◌, ◌<◌, ℕ, ℤ, List, Ok, IfOk, length, map, false, true, None, Some, ◌+◌, ◌-◌, ◌*◌, ◌≤◌, ◌/◌, ◌%◌, Bool, nat_eq, nat_lt, [], ◌∷◌, ◌++◌, slice_index_or, slice_set, bit_and, bit_or, Fits, w8, w32, w64, Bor, MutBor}
+-- One more round goes on from where the others led, and where nobody is live the sinks have all.
+use Rattle.std.proofs.Common.{◌≡◌, ℕ, ℤ, List, None, map, sym, ap, subst, ◌∙◌}
+use Rattle.std.specs.Prelude.{Ok}
 use Rattle.stream_eval.specs.stream_lists.Jobs.{with_samples}
-use Rattle.stream_eval.specs.stream_lists.Ranges.{answer_of}
-use Rattle.graph_runs.specs.Moments.{Moment, started}
-use Rattle.stream_job.specs.Machines.{kept_behind}
-use Rattle.stream_job.specs.Streams.{GoesOn, IsStreamAt, StopsAt}
-use Rattle.stream_job.specs.declared.stopped.Stopped.TheVariants.{Done}
+use Rattle.graph_runs.specs.Moments.{Moment}
+use Rattle.stream_job.specs.Streams.{IsStreamAt, StopsAt, ended_at, first_full, first_hungry, is_some_live}
+use Rattle.stream_job.specs.Worlds.{HasMet}
+use Rattle.stream_job.specs.declared.stopped.Stopped.TheVariants as stopped
+use Rattle.stream_job.proofs.FedStops.{done_dead, none_live}
+use Rattle.stream_job.proofs.FedTurns.{goes_on_twice}
+use Rattle.stream_job.proofs.SinksKeep.{lines_taken}
 use Rattle.stream_job.proofs.stream.Stream.run.Goals as goal
 
--- src/stream_turns.rt:42:16
 pub returns-in_err-round-clause-goes_on : goal.returns-in_err-round-clause-goes_on
-returns-in_err-round-clause-goes_on c = ?
+returns-in_err-round-clause-goes_on c =
+    goes_on_twice c.args.self.now c.loop.self c.round.new.self c.loop.invariant c.round.ensures
 
--- src/stream_turns.rt:41:9
 pub loop-preserved-then-branch : goal.loop-preserved-then-branch
-loop-preserved-then-branch c = ?
+loop-preserved-then-branch c =
+    goes_on_twice c.args.self.now c.loop.self c.round.new.self c.loop.invariant c.round.ensures
 
--- src/stream_turns.rt:47:17
 pub returns-in-Some-clause-goes_on : goal.returns-in-Some-clause-goes_on
-returns-in-Some-clause-goes_on c = ?
+returns-in-Some-clause-goes_on c =
+    goes_on_twice c.args.self.now c.loop.self c.round.new.self c.loop.invariant c.round.ensures
 
--- src/stream_turns.rt:47:17
 pub returns-in-Some-clause-done : goal.returns-in-Some-clause-done
-returns-in-Some-clause-done c = ?
+returns-in-Some-clause-done c = λ done s m given at.
+    let stream = c.round.new.self in
+    let job = with_samples s stream.job in
+    let stops : StopsAt stream s m given stopped.Done =
+    subst (StopsAt stream s m given) done (c.in-Some.ensures s m given at) in
+    let dead = none_live job m (done_dead job (first_full job m given)
+    (first_hungry job (ended_at stream) m) (is_some_live job m) stops.1) in
+    let met = subst (HasMet job m) stops.0.none at.met in
+    c.all_gone.ensures.answer job m
+    (record { graph = at.machine.graph; apart = at.machine.apart }) at.machine.reached dead met
+    ∙ ap (λ l. Ok l)
+    (sym (at.lines.values ∙ lines_taken job m at.machine.graph at.machine.reached.ran met))
 
--- src/stream_turns.rt:41:9
 pub loop-preserved : goal.loop-preserved
-loop-preserved c = ?
+loop-preserved c =
+    goes_on_twice c.args.self.now c.loop.self c.round.new.self c.loop.invariant c.round.ensures
