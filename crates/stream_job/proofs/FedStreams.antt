@@ -94,6 +94,7 @@ stream_fed stream s m given source xs input new at apart many none found opens s
           found same) ∙ over);
       met = subst (HasMet (with_samples more stream.job) m) (sym none)
           (subst (HasMet job m) none at.met);
+      faults = λ there others is. absurd (let wrong : None ≡ Some there = sym none ∙ is in cc);
     }
   where
     more : List (List ℤ)
@@ -269,4 +270,5 @@ stream_ends stream s m given source input at found = record {
       or_right (k == source) (has_ended stream.inputs k)
       (sym (ended_then stream.inputs source k input (that_ended input) found refl) ∙ over));
   met = at.met;
+  faults = at.faults;
 }

@@ -26,6 +26,8 @@ use Rattle.graph_runs.specs.Nexts as nexts
 use Rattle.graph_runs.specs.Nexts.{Next, first_kept, first_missing, is_live, next_of, number_on}
 use Rattle.graph_runs.specs.TaskEvents as events
 use Rattle.graph_runs.specs.TaskEvents.{TaskEvent, IsNext, after_turn}
+use Rattle.graph_runs.specs.Answers as answers
+use Rattle.graph_runs.proofs.FedFaults.{fault_fed}
 use Rattle.graph_runs.proofs.Calling.{accepted, answered, answered_all}
 use Rattle.graph_runs.proofs.Nexts.{further-length}
 use Rattle.graph_runs.proofs.Signalling.{signalled}
@@ -33,13 +35,14 @@ use Rattle.graph_runs.proofs.Turning.{turn_makes_next}
 use Rattle.stream_job.specs.Inside.{HasRoomIn, HasRoomNext}
 use Rattle.stream_job.specs.Machines.{IsMachineAt, KeepsLines}
 use Rattle.stream_job.specs.Streams.{AreKept, GoesOn, IsStreamAt, Keeps, StreamState, ended_at, is_hungry}
-use Rattle.stream_job.specs.Turning.{HadTurn, met_by}
+use Rattle.stream_job.specs.Turning.{HadTurn, met_by, told_of}
 use Rattle.stream_job.specs.Tellings.{told_by}
 use Rattle.stream_job.specs.Worlds.{HasMet}
 use Rattle.stream_job.specs.declared.input.Input.{Input}
 use Rattle.stream_job.specs.declared.machine.Machine.{Machine}
 use Rattle.stream_job.specs.declared.made.Made.{Made}
 use Rattle.stream_job.specs.declared.turned.Turned.{Turned}
+use Rattle.stream_job.specs.declared.turned.Turned.TheVariants as turned
 use Rattle.stream_job.specs.declared.task_state.TaskState.{TaskState}
 use Rattle.stream_job.proofs.Makes.{makes_event}
 use Rattle.stream_job.proofs.Stopping.{with_samples_lines, without_samples_lines}
@@ -230,6 +233,16 @@ pub none_met : {X : Type 0} (o : Option X) → is_some o ≡ false → o ≡ Non
 none_met None none = refl
 none_met (Some x) none = absurd (let wrong : true ≡ false = none in cc)
 
+-- what is met is what the turn told
+met_told : (word : Turned) (at : Where) → met_by None word ≡ Some at
+    → told_of word ≡ answers.TooBig at
+met_told turned.Moved at e = absurd (cc)
+met_told turned.Blocked at e = absurd (cc)
+met_told turned.Ended at e = absurd (cc)
+met_told turned.Gone at e = absurd (cc)
+met_told (turned.TooBig place phase) at e =
+    ap (λ there. answers.TooBig there) (same_Some (place, phase) at e)
+
 -- what a stream stands for after the turn of a task that is not hungry
 pub turn_stands : (old : StreamState) (new : Machine) (met : Option Where) (s : List (List ℤ))
     (m : Moment) (given : ℕ → List ℤ) (t : ℕ) (it : Made) (word : Turned)
@@ -257,6 +270,11 @@ turn_stands old new met s m given t it word law none fed had told is at =
       met = subst (HasMet job now) (sym is)
           (turn_met_so job old.machine new m t it word had at.machine answered
           (turn_tells_so job None m t it word refl (had.shows m at.machine) told));
+      faults = λ there more is_met goes ready. fault_fed job m t there more ready
+          at.machine.reached after.reached.ran
+          (turn_tells_so job None m t it word refl (had.shows m at.machine) told
+          ∙ ap (λ w. Some w) (met_told word there (sym is ∙ is_met)))
+          goes;
     }
 
 -- ---- turns one after the other

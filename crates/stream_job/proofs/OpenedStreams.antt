@@ -61,4 +61,5 @@ stream_opens job machine inputs none at values starts empty =
           ∙ none_dropped q.founder ((opening job).history p) n q.opening (q.apart t n number) in
           cc);
       met = opening_answers_none job;
+      faults = λ there more is. absurd (cc);
     }

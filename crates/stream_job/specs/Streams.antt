@@ -10,10 +10,11 @@ use Rattle.stream_eval.specs.stream_lists.Lists.{is_sink_at, sinks_of}
 use Rattle.stream_eval.specs.stream_lists.Meetings.{meeting_line}
 use Rattle.stream_eval.specs.stream_lists.Ranges.{Where}
 use Rattle.graph_runs.specs.Answers.{after_turns, is_still}
-use Rattle.graph_runs.specs.Feeds.{Call, IsOpenAt, call_of, hungers}
-use Rattle.graph_runs.specs.Moments.{Moment}
+use Rattle.graph_runs.specs.Feeds.{Call, Continues, IsOpenAt, call_of, hungers}
+use Rattle.graph_runs.specs.Moments.{Moment, started}
 use Rattle.graph_runs.specs.NextBlocks.{block_of}
 use Rattle.graph_runs.specs.Nexts as nexts
+use Rattle.graph_runs.specs.Settled.{IsFaultAt, IsReady}
 use Rattle.graph_runs.specs.Nexts.{Next, is_live, next_of}
 use Rattle.stream_job.specs.Machines.{IsMachineAt, KeepsLines}
 use Rattle.stream_job.specs.SinkLines.{kept_by}
@@ -108,6 +109,10 @@ pub record IsStreamAt (stream : StreamState) (s : List (List ℤ)) (m : Moment)
   pub kept : AreKept stream.job s m stream.inputs
   pub stays_open : IsOpenAt (with_samples s stream.job) (ended_at stream) m
   pub met : HasMet (with_samples s stream.job) m stream.met
+  -- a value out of range is so in every job that goes on so
+  pub faults : (at : Where) (more : List (List ℤ)) → stream.met ≡ Some at
+      → Continues (with_samples s stream.job) m more → IsReady (with_samples more stream.job)
+      → IsFaultAt (started (with_samples more stream.job) m) at
 
 -- ---- stops
 

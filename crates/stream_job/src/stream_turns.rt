@@ -2,7 +2,10 @@
 ghost use Rattle.std.specs.Prelude.{◌≡◌, ◌≢◌, ◌<◌, ℕ, ℤ, List, Ok, IfOk, length, map, false, true, None, Some};
 ghost use Rattle.stream_eval.specs.stream_lists.Jobs.{with_samples};
 ghost use Rattle.stream_eval.specs.stream_lists.Ranges.{answer_of};
+ghost use Rattle.graph_lang.specs.graph_base.declared.place.Place.{Place as PlaceValue};
+ghost use Rattle.graph_runs.specs.Feeds.{IsFed};
 ghost use Rattle.graph_runs.specs.Moments.{Moment, started};
+ghost use Rattle.graph_runs.specs.Settled.{IsFaultAt, IsReady};
 
 use crate::stopped::Stopped;
 use crate::stream::Stream;
@@ -16,8 +19,8 @@ const TURNS: usize = 64;
 
 impl Stream {
     ghost use Rattle.stream_job.specs.Machines.{kept_behind};
-    ghost use Rattle.stream_job.specs.Streams.{GoesOn, IsStreamAt, StopsAt};
-    ghost use Rattle.stream_job.specs.declared.stopped.Stopped.TheVariants.{Done};
+    ghost use Rattle.stream_job.specs.Streams.{GoesOn, IsStreamAt, StopsAt, ended_at};
+    ghost use Rattle.stream_job.specs.declared.stopped.Stopped.TheVariants.{Done, TooBig};
 
     /// Gives turns to the tasks until none can move, and returns why.
     ///
@@ -37,6 +40,12 @@ impl Stream {
             (given : ℕ → List ℤ) → IsStreamAt self.new s m given
             → answer_of (started (with_samples s self.new.job) m)
             ≡ Ok (map (kept_behind given) self.new.machine.lines.items)) }
+        ensures too_big { IfOk result (λ stop. (place : PlaceValue) (n : ℕ)
+            → stop ≡ TooBig place n → (s : List (List ℤ)) (m : Moment) (given : ℕ → List ℤ)
+            (more : List (List ℤ)) → IsStreamAt self.new s m given
+            → IsFed (with_samples s self.new.job) (ended_at self.new) more
+            → IsReady (with_samples more self.new.job)
+            → IsFaultAt (started (with_samples more self.new.job) m) (place, n)) }
     {
         for _ in 0..u32::MAX {
             if self.round()? {

@@ -59,6 +59,7 @@ stands c s m given at =
           c.clear.ensures.items;
       kept = at.kept;
       stays_open = at.stays_open;
+      faults = at.faults;
       met = at.met;
     }
 

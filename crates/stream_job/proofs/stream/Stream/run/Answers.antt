@@ -6,6 +6,7 @@ use Rattle.graph_runs.specs.Moments.{Moment}
 use Rattle.stream_job.specs.Streams.{IsStreamAt, StopsAt, ended_at, first_full, first_hungry, is_some_live}
 use Rattle.stream_job.specs.Worlds.{HasMet}
 use Rattle.stream_job.specs.declared.stopped.Stopped.TheVariants as stopped
+use Rattle.graph_runs.proofs.FedFeeds.{feed_continues}
 use Rattle.stream_job.proofs.FedStops.{done_dead, none_live}
 use Rattle.stream_job.proofs.FedTurns.{goes_on_twice}
 use Rattle.stream_job.proofs.SinksKeep.{lines_taken}
@@ -40,3 +41,13 @@ returns-in-Some-clause-done c = λ done s m given at.
 pub loop-preserved : goal.loop-preserved
 loop-preserved c =
     goes_on_twice c.args.self.now c.loop.self c.round.new.self c.loop.invariant c.round.ensures
+
+-- It was met, whatever comes.
+pub returns-in-Some-clause-too_big : goal.returns-in-Some-clause-too_big
+returns-in-Some-clause-too_big c = λ place n is s m given more at fed ready.
+    let stream = c.round.new.self in
+    let job = with_samples s stream.job in
+    let stops : StopsAt stream s m given (stopped.TooBig place n) =
+    subst (StopsAt stream s m given) is (c.in-Some.ensures s m given at) in
+    at.faults (place, n) more stops
+    (feed_continues job (ended_at stream) m more at.machine.reached.ran at.stays_open fed) ready
