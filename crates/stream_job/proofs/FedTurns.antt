@@ -1,24 +1,20 @@
 -- The turns of a run that is fed: what a stream stands for after one.
-use Rattle.std.proofs.Common.{◌≡◌, ◌≢◌, ℕ, ℤ, List, zero, suc, ◌+◌, ◌<◌, ◌≤◌, ◌&&◌, ◌++◌, ◌∷◌, [], Bool, true, false, cond, eqb, not, Option, Some, None, length, get_or, slice_get, refl, sym, ap, subst, ◌∙◌, arith}
+use Rattle.std.proofs.Common.{◌≡◌, ℕ, ℤ, List, ◌+◌, ◌≤◌, ◌&&◌, ◌++◌, ◌∷◌, [], Bool, true, false, cond, eqb, not, Option, Some, None, length, slice_get, refl, sym, ap, subst, ◌∙◌, arith}
 use Rattle.std.specs.Prelude.{is_some, slice_range, vec_capacity, vec_len}
-use Rattle.std.specs.List.{All}
 use Rattle.std.proofs.Math.Bool.{and-true}
 use Rattle.std.proofs.lemmas.Bool.{eqb-true}
 use Rattle.std.proofs.lemmas.Option.{same_Some}
-use Rattle.phase_any.specs.phase_accum.declared.outcome.Outcome.{Outcome}
 use Rattle.phase_any.specs.phase_history.Histories.{greatest_used}
 use Rattle.phase_any.specs.phase_history.Phases.{stream_of}
 use Rattle.phase_any.specs.phase_history.Refusals.{register_refusal, register_now_refusal, drop_refusal}
 use Rattle.graph_lang.specs.graph_base.declared.line.Kind.{Kind}
-use Rattle.graph_lang.specs.graph_base.declared.line.Kind.TheVariants.{Source}
 use Rattle.graph_lang.specs.graph_base.declared.registration.Registration.{Registration}
-use Rattle.graph_lang.specs.graph_base.Graphs.{source_number, task_at}
-use Rattle.graph_lang.specs.graph_base.TaskLines.{IsGraph}
-use Rattle.stream_eval.specs.stream_lists.Jobs.{Job, samples_at, samples_in, with_samples}
+use Rattle.graph_lang.specs.graph_base.Graphs.{task_at}
+use Rattle.stream_eval.specs.stream_lists.Jobs.{Job, samples_in, with_samples}
 use Rattle.stream_eval.specs.stream_lists.Ranges.{Where}
 use Rattle.stream_eval.specs.declared.whole.Lines.{Lines}
 use Rattle.graph_runs.specs.Answers.{Answer, makes, is_blocked, is_gone, has_made, is_refused, after_answer, after_turns, answer_of_turn, answer_to, call_leave, call_register, next_samples, next_values, output_at, register_answer}
-use Rattle.graph_runs.specs.Feeds.{Call, IsOpenAt, NotStarved, call_of, is_starved}
+use Rattle.graph_runs.specs.Feeds.{IsOpenAt, NotStarved, is_starved}
 use Rattle.graph_runs.specs.Moments.{Moment, HasAnsweredNone, HasRun, HasSamples, input_at, value_at}
 use Rattle.graph_runs.specs.Moves.{further}
 use Rattle.graph_runs.specs.NextBlocks.{block_of}
@@ -30,8 +26,8 @@ use Rattle.graph_runs.proofs.Calling.{accepted, answered, answered_all}
 use Rattle.graph_runs.proofs.Nexts.{further-length}
 use Rattle.graph_runs.proofs.Signalling.{signalled}
 use Rattle.graph_runs.proofs.Turning.{turn_makes_next}
-use Rattle.stream_job.specs.Inside.{HasRoomIn, HasRoomNext}
-use Rattle.stream_job.specs.Machines.{IsMachineAt, KeepsLines}
+use Rattle.stream_job.specs.Inside.{HasRoomNext}
+use Rattle.stream_job.specs.Machines.{IsMachineAt}
 use Rattle.stream_job.specs.Streams.{AreKept, GoesOn, IsStreamAt, Keeps, StreamState, ended_at, is_hungry}
 use Rattle.stream_job.specs.Turning.{HadTurn, met_by}
 use Rattle.stream_job.specs.Tellings.{told_by}
@@ -235,7 +231,8 @@ pub turn_stands : (old : StreamState) (new : Machine) (met : Option Where) (s : 
     (m : Moment) (given : ℕ → List ℤ) (t : ℕ) (it : Made) (word : Turned)
     → ((event : TaskEvent) → IsNext (with_samples s old.job) m event
     → NotStarved (with_samples s old.job) (ended_at old) m event
-    → IsOpenAt (with_samples s old.job) (ended_at old) (after_turn (with_samples s old.job) event m))
+    → IsOpenAt (with_samples s old.job) (ended_at old)
+    (after_turn (with_samples s old.job) event m))
     → old.met ≡ None → is_hungry (with_samples s old.job) (ended_at old) m t ≡ false
     → HadTurn (with_samples s old.job) old.machine new t it → word ≡ told_by it t
     → met ≡ met_by None word → IsStreamAt old s m given

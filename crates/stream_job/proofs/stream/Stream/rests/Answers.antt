@@ -1,9 +1,9 @@
 -- It rests where one of the three says so.
-use Rattle.std.proofs.Common.{◌≡◌, ℕ, ℤ, List, ◌||◌, Bool, true, false, sym, ap, subst, ◌∙◌}
+use Rattle.std.proofs.Common.{◌≡◌, ℕ, ℤ, List, ◌||◌, sym, ap, subst, ◌∙◌}
 use Rattle.stream_eval.specs.stream_lists.Jobs.{with_samples}
 use Rattle.graph_runs.specs.Answers.{is_still}
 use Rattle.graph_runs.specs.Moments.{Moment}
-use Rattle.stream_job.specs.Streams.{AreKept, IsStreamAt, StreamState, ended_at, is_full, is_hungry, rests}
+use Rattle.stream_job.specs.Streams.{AreKept, IsStreamAt, StreamState, ended_at, is_full, is_hungry}
 use Rattle.stream_job.proofs.stream.Stream.rests.Goals as goal
 use Rattle.stream_job.proofs.stream.Stream.rests.Goals.{After-is_still}
 

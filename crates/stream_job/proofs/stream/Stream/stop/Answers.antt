@@ -1,5 +1,5 @@
 -- The first sink that is full has its line, and the first source that is hungry its number.
-use Rattle.std.proofs.Common.{◌≡◌, ◌<◌, ℕ, ℤ, List, Bool, true, Option, Some, None, length, refl, sym, ap, subst, ◌∙◌, arith}
+use Rattle.std.proofs.Common.{◌≡◌, ◌<◌, ℕ, ℤ, List, true, Option, Some, None, length, sym, subst, ◌∙◌, arith}
 use Rattle.std.specs.Prelude.{slice_get, vec_len}
 use Rattle.graph_lang.specs.graph_base.Graphs.{source_number, task_at}
 use Rattle.stream_eval.specs.stream_lists.Jobs.{with_samples}
@@ -16,7 +16,8 @@ use Rattle.stream_job.proofs.stream.Stream.stop.Goals as goal
 use Rattle.stream_job.proofs.stream.Stream.stop.Goals.{In-Some-first_full, In-Some-first_hungry}
 
 -- the sink stands among the tasks
-full_there : (c : In-Some-first_full) → c.in-Some-first_full.t < length c.self.inside.job.graph.tasks
+full_there : (c : In-Some-first_full)
+    → c.in-Some-first_full.t < length c.self.inside.job.graph.tasks
 full_there c =
     let s = c.self.invariant.0.0 in
     let m = c.self.invariant.0.1 in

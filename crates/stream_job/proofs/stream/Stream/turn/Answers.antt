@@ -1,6 +1,5 @@
 -- A turn leads to a moment that the stream then stands for, of the same samples.
-use Rattle.std.proofs.Common.{◌≡◌, ◌<◌, ℕ, ℤ, List, [], ◌∷◌, Bool, true, false, Option, Some, None, length, refl, sym, ap, subst, ◌∙◌}
-use Rattle.std.specs.Prelude.{is_some}
+use Rattle.std.proofs.Common.{◌≡◌, ℕ, ℤ, List, [], ◌∷◌, false, refl, sym, subst, ◌∙◌}
 use Rattle.stream_eval.specs.stream_lists.Jobs.{with_samples}
 use Rattle.graph_runs.specs.Answers.{after_answer, answer_of_turn}
 use Rattle.graph_runs.specs.Moments.{Moment}
