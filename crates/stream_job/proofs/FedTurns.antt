@@ -49,17 +49,20 @@ pub has_room_by : (job : Job) (machine : Machine) (m : Moment) (t block : ℕ) (
     → slice_get machine.lines.items state.sink ≡ Some line
     → (m.begun t ≡ state.begun → block_of job m t ≡ block)
     → vec_len line.values + block ≤ vec_capacity line.values → HasRoomNext job machine t
-has_room_by job machine m t block state line at found read steps room =
-    (m, at, λ k p n outcomes state' next answer found' sink line' read'.
-    (let same : state ≡ state' = same_Some state state' (sym found ∙ found') in
-    let there : slice_get machine.lines.items state.sink ≡ Some line' =
-    ap (λ x. slice_get machine.lines.items x.sink) same ∙ read' in
-    let one : line ≡ line' = same_Some line line' (sym read ∙ there) in
-    let few : length outcomes ≤ block_of job m t =
-    (makes_event job m t (events.first_wait t k p n outcomes) at.graph at.reached answer).owes.1 in
-    let most : block_of job m t ≡ block = steps (at.tasks t state found).stands.begun in
-    let P : Lines → Type 0 = λ l. vec_len l.values + length outcomes ≤ vec_capacity l.values in
-    subst P one (omega arith)))
+has_room_by job machine m t block state line at found read steps room = (
+  m,
+  at,
+  λ k p n outcomes state' next answer found' sink line' read'.
+      (let same : state ≡ state' = same_Some state state' (sym found ∙ found') in
+      let there : slice_get machine.lines.items state.sink ≡ Some line' =
+      ap (λ x. slice_get machine.lines.items x.sink) same ∙ read' in
+      let one : line ≡ line' = same_Some line line' (sym read ∙ there) in
+      let few : length outcomes ≤ block_of job m t =
+      (makes_event job m t (events.first_wait t k p n outcomes) at.graph at.reached answer).owes.1 in
+      let most : block_of job m t ≡ block = steps (at.tasks t state found).stands.begun in
+      let P : Lines → Type 0 = λ l. vec_len l.values + length outcomes ≤ vec_capacity l.values in
+      subst P one (omega arith)),
+)
 
 -- ---- open sources
 
@@ -278,8 +281,7 @@ goes_on_twice a b c first then = record {
       let two = then.later s (after_turns (with_samples s a.job) m one.0) given one.1 in
       let P : Job → Type 0 = λ j.
       IsStreamAt c s (after_turns (with_samples s j) (after_turns (with_samples s a.job) m one.0)
-      two.0) given in
-      (
+      two.0) given in (
         one.0 ++ two.0,
         subst (λ now. IsStreamAt c s now given)
             (sym (turns_twice (with_samples s a.job) m one.0 two.0))

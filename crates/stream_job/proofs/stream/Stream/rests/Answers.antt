@@ -11,8 +11,7 @@ pub is_still-requires-clause-came : goal.is_still-requires-clause-came
 is_still-requires-clause-came c =
     let s = c.self.invariant.0.0 in
     let m = c.self.invariant.0.1 in
-    let at = c.self.invariant.0.3 in
-    (
+    let at = c.self.invariant.0.3 in (
       s,
       c.awaited-awaits.ensures s m at.each at.machine
           (subst (AreKept c.self.inside.job s m) (sym c.deref.ensures.value) at.kept),

@@ -59,8 +59,7 @@ returns-in-Some-first_full c =
     c.first_full.ensures s m given at ∙ c.in-Some-first_full.is in
     let full = (found_in (is_full job m given) (length job.graph.tasks) t found).1 in
     let S : Option ℕ → Type 0 = λ o. stop_by job o (first_hungry job (ended_at c.args.self.now) m)
-    (is_some_live job m) (stopped.Full state.sink) in
-    (
+    (is_some_live job m) (stopped.Full state.sink) in (
       record {
         none = none;
         rest = c.all_rest.ensures s m given at ∙ c.if-not-all_rest.false;
@@ -110,8 +109,7 @@ returns-in-Some-first_hungry c =
     let full : first_full job m given ≡ None =
     c.first_full.ensures s m given at ∙ c.in_default-first_full.is in
     let S : Option ℕ → Option ℕ → Type 0 = λ o u. stop_by job o u (is_some_live job m)
-    (stopped.Hungry one.source) in
-    (
+    (stopped.Hungry one.source) in (
       record {
         none = none;
         rest = c.all_rest.ensures s m given at ∙ c.if-not-all_rest.false;

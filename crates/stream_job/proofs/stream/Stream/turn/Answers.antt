@@ -29,8 +29,7 @@ make-requires-clause-came c =
     let P : StreamState → Type 0 = λ w. (s : List (List ℤ)) (m : Moment) (given : ℕ → List ℤ)
     → IsStreamAt w s m given → HasRoomNext (with_samples s w.job) w.machine c.args.t in
     let room = subst P (sym c.self.view_is) (λ s m given at.
-    c.is_full.ensures.room c.if-is_full.false s m given at) in
-    (
+    c.is_full.ensures.room c.if-is_full.false s m given at) in (
       s,
       came (goal.at.make-requires-clause-came c).After-awaited-awaits s m given at,
       room s m given at,
