@@ -8,6 +8,7 @@ pub mod Entries
 pub mod Faults
 pub mod FedFeeds
 pub mod FedNexts
+pub mod FedFaults
 pub mod FedOpen
 pub mod FedRuns
 pub mod Numbers

@@ -206,7 +206,7 @@ made_fault job m t j i ready ran live owes first made few out =
 
 -- ---- only a signal is answered so
 
-not_wait : (event : Outcome → TaskEvent) (r : Result Got WaitRefusal) (at : Where)
+pub not_wait : (event : Outcome → TaskEvent) (r : Result Got WaitRefusal) (at : Where)
     → wait_answer event r ≡ has_made at → ⊥
 not_wait event (Ok (got.Value phase outcome)) at e = (cc)
 not_wait event (Ok got.Ended) at e = (cc)
@@ -216,7 +216,7 @@ not_wait event (Err waits_refused.BadBlock) at e = (cc)
 not_wait event (Err waits_refused.SignalFirst) at e = (cc)
 not_wait event (Err waits_refused.NotYet) at e = (cc)
 
-not_block : (event : ℕ → ℕ → TaskEvent) (r : Result GotBlock WaitRefusal) (at : Where)
+pub not_block : (event : ℕ → ℕ → TaskEvent) (r : Result GotBlock WaitRefusal) (at : Where)
     → block_answer event r ≡ has_made at → ⊥
 not_block event (Ok (block.Values phase count)) at e = (cc)
 not_block event (Ok block.Ended) at e = (cc)
@@ -244,7 +244,7 @@ not_accepted : {R : Type 0} (event : TaskEvent) (o : Option R) (at : Where)
 not_accepted event None at e = (cc)
 not_accepted event (Some r) at e = (cc)
 
-not_register : (job : Job) (m : Moment) (t c : ℕ) (o : Option Registration) (at : Where)
+pub not_register : (job : Job) (m : Moment) (t c : ℕ) (o : Option Registration) (at : Where)
     → call_register job m t c o ≡ has_made at → ⊥
 not_register job m t c None at e = (cc)
 not_register job m t c (Some r) at e = by (task_at job.graph c).joins_now e
@@ -253,7 +253,7 @@ not_register job m t c (Some r) at e = by (task_at job.graph c).joins_now e
     by true e = not_accepted _ _ at e
     by false e = not_accepted _ _ at e
 
-not_leave : (m : Moment) (t : ℕ) (o : Option Registration) (at : Where)
+pub not_leave : (m : Moment) (t : ℕ) (o : Option Registration) (at : Where)
     → call_leave m t o ≡ has_made at → ⊥
 not_leave m t None at e = (cc)
 not_leave m t (Some r) at e = not_accepted _ _ at e
@@ -263,13 +263,13 @@ abbrev place_or : Where → Answer → Where
 place_or other (has_made at) = at
 place_or other answer = other
 
-record IsOut (job : Job) (m : Moment) (t j : ℕ) (vs : List ℤ) (at : Where) : Type 0 where
-  step : ℕ
-  found : position_from is_out_of_range (length (m.put t j)) vs ≡ Some step
-  made : are_made (task_at job.graph t).kind j ≡ true
-  place_is : (place.Task t, step) ≡ at
+pub record IsOut (job : Job) (m : Moment) (t j : ℕ) (vs : List ℤ) (at : Where) : Type 0 where
+  pub step : ℕ
+  pub found : position_from is_out_of_range (length (m.put t j)) vs ≡ Some step
+  pub made : are_made (task_at job.graph t).kind j ≡ true
+  pub place_is : (place.Task t, step) ≡ at
 
-is_out : (job : Job) (m : Moment) (t j : ℕ) (vs : List ℤ) (event : TaskEvent) (at : Where)
+pub is_out : (job : Job) (m : Moment) (t j : ℕ) (vs : List ℤ) (event : TaskEvent) (at : Where)
     → signal_turn job m t j vs event ≡ has_made at → IsOut job m t j vs at
 is_out job m t j vs event at e =
     by (position_from is_out_of_range (length (m.put t j)) vs) refl

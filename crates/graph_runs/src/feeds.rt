@@ -1,5 +1,5 @@
 //! What samples that come later leave as it is. The contract of each function is the law.
-ghost use Rattle.std.specs.Prelude.{◌≡◌, ◌<◌, ◌≤◌, None, ℕ, ℤ, List, length, Bool, nat_le};
+ghost use Rattle.std.specs.Prelude.{◌≡◌, ◌<◌, ◌≤◌, Some, None, ℕ, ℤ, List, length, Bool, nat_le};
 ghost use Rattle.stream_lists.specs.graph_base.declared.line.Kind.TheVariants.{Source};
 ghost use Rattle.graph_runs.specs.Nexts.{next_of};
 ghost use Rattle.graph_runs.specs.TaskPlaces.{TaskPlace, StandsUpTo};
@@ -11,11 +11,13 @@ ghost use Rattle.stream_lists.specs.Lists.{numbers_of, taken_from};
 ghost use Rattle.stream_lists.specs.Spans.{span_in};
 ghost use Rattle.graph_runs.specs.Moments.{Moment, HasRun, started};
 ghost use Rattle.graph_runs.specs.Reached.{IsReachable};
-ghost use Rattle.graph_runs.specs.Settled.{IsReady};
+ghost use Rattle.graph_runs.specs.Settled.{IsFaultAt, IsReady};
+ghost use Rattle.graph_runs.specs.Answers.{TooBig, after_answer, answer_of_turn, turn_tells};
+ghost use Rattle.stream_lists.specs.Ranges.{Where};
 ghost use Rattle.graph_runs.specs.TaskEvents.{TaskEvent, IsNext, after_turn};
 ghost use Rattle.graph_runs.specs.Feeds.{Continues, IsFed, IsOpenAt, NotStarved};
 
-use crate::moments;
+use crate::{moments, turns};
 
 /// A run of a job up to a moment is one of the job with other samples, too, as long as they begin
 /// with those that the sources have signalled, and no source has left that would now have more.
@@ -66,3 +68,17 @@ pub fn places_go_on()
         ≡ nat_le (length (samples_at job t)) (m.begun t))
         → next_of (with_samples more job) m t ≡ next_of job m t }
 {}
+
+/// What a turn tells as out of range is so with any samples that continue the run behind the turn:
+/// so who is fed, and stops at the first that a turn tells, has named a value that counts, whatever
+/// comes.
+pub fn faults_go_on()
+    ensures { (job : Job) (m : Moment) (t : ℕ) (at : Where) (samples : List (List ℤ))
+        → IsReady (with_samples samples job) → IsReachable job m
+        → turn_tells job None m t ≡ Some (TooBig at)
+        → Continues job (after_answer job (answer_of_turn job m t) m) samples
+        → IsFaultAt (started (with_samples samples job)
+        (after_answer job (answer_of_turn job m t) m)) at }
+{
+    turns::turns_stay_reached();
+}

@@ -36,5 +36,13 @@ pub mod LeftAlone
 pub mod Staying
 pub mod BlockedLists
 pub mod Blocks
+pub mod StreamLines
+pub mod GivenLines
+pub mod Feeding
+pub mod FedMachines
+pub mod FedStreams
+pub mod BareLists
+pub mod OpenedInputs
+pub mod OpenedStreams
 pub use Rattle.graph_runs.proofs as graph_runs_lemmas
 pub use Rattle.stream_eval.proofs.stream_lists_lemmas as stream_lists_lemmas

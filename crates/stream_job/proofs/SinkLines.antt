@@ -80,6 +80,18 @@ above from zero t (x ∷ xs) up found =
 above from (suc i) t (x ∷ xs) up found =
     omega (arith, up.0, above (suc x) i t xs up.1 found)
 
+-- no number stands at two places
+pub one_place : (from i j t : ℕ) (xs : List ℕ) → Ascends from xs → slice_get xs i ≡ Some t
+    → slice_get xs j ≡ Some t → i ≡ j
+one_place from i j t [] up found also = absurd (cc)
+one_place from zero zero t (x ∷ xs) up found also = refl
+one_place from zero (suc j) t (x ∷ xs) up found also =
+    omega (arith, same_Some x t found, above (suc x) j t xs up.1 also)
+one_place from (suc i) zero t (x ∷ xs) up found also =
+    omega (arith, same_Some x t also, above (suc x) i t xs up.1 found)
+one_place from (suc i) (suc j) t (x ∷ xs) up found also =
+    ap suc (one_place (suc x) i j t xs up.1 found also)
+
 others_same : {Y : Type 0} (f g : ℕ → Y) (t from : ℕ) (xs : List ℕ) → t < from → Ascends from xs
     → ((u : ℕ) → u ≢ t → f u ≡ g u) → map f xs ≡ map g xs
 others_same f g t from [] lt up same = refl

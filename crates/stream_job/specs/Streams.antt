@@ -1,9 +1,9 @@
 -- What a run that is fed stands for: all samples that came so far, which nobody keeps, a moment of
 -- their run, and what each sink has handed over; and when it stops.
-use Rattle.std.specs.Prelude.{◌≡◌, ℕ, ℤ, ◌+◌, ◌-◌, ◌<◌, ◌≤◌, ◌||◌, ◌&&◌, ◌==◌, ◌++◌, Bool, true, false, nat_lt, List, [], Option, Some, None, length, drop, get_or, set, slice_get, min, max, map, is_some, vec_capacity, if◌then◌else◌}
+use Rattle.std.specs.Prelude.{◌≡◌, ℕ, ℤ, ◌+◌, ◌-◌, ◌<◌, ◌≤◌, ◌||◌, ◌&&◌, ◌==◌, ◌++◌, Bool, true, false, nat_lt, List, [], Option, Some, None, length, drop, get_or, set, slice_get, min, max, map, replicate, is_some, vec_capacity, if◌then◌else◌}
 use Rattle.std.specs.List.{find, list_all, list_any, range_with_len}
 use Rattle.phase_any.specs.phase_accum.Sends.{AreSends}
-use Rattle.graph_lang.specs.graph_base.Graphs.{source_number, sources_of, task_at}
+use Rattle.graph_lang.specs.graph_base.Graphs.{Graph, source_number, sources_of, task_at}
 use Rattle.graph_lang.specs.graph_base.declared.line.Kind.TheVariants.{Source}
 use Rattle.stream_eval.specs.stream_lists.Jobs.{Job, samples_in, with_samples}
 use Rattle.stream_eval.specs.stream_lists.Lists.{is_sink_at, sinks_of}
@@ -19,7 +19,8 @@ use Rattle.stream_job.specs.Machines.{IsMachineAt, KeepsLines}
 use Rattle.stream_job.specs.SinkLines.{kept_by}
 use Rattle.stream_job.specs.Worlds.{HasMet}
 use Rattle.stream_job.specs.declared.input.Input.{Input}
-use Rattle.stream_job.specs.declared.input.TheConstants.{COUNT_MAX, INPUT_ROOM}
+use Rattle.stream_eval.specs.stream_lists.declared.sample_counts.TheConstants.{COUNT_MAX}
+use Rattle.stream_job.specs.declared.input.TheConstants.{INPUT_ROOM}
 use Rattle.stream_job.specs.declared.machine.Machine.{Machine}
 use Rattle.stream_job.specs.declared.sink_lines.TheConstants.{LINE_ROOM}
 use Rattle.stream_job.specs.declared.stopped.Stopped.{Stopped}
@@ -199,6 +200,10 @@ abbrev pub IsApart : Job → Type 0
 IsApart job = (s : List (List ℤ)) → ((t : ℕ) → t < length job.graph.tasks
     → (task_at job.graph t).kind ≡ Source → length (samples_in job s t) ≤ COUNT_MAX)
     → meeting_line (with_samples s job) ≡ None
+
+-- as many samples of each source as there may be
+abbrev pub most_of : Graph → List ℕ
+most_of graph = replicate (sources_of graph) COUNT_MAX
 
 -- an input has room for all samples that may wait, and for as many that were signalled
 abbrev pub HasInputRoom : Input → Type 0

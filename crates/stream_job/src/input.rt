@@ -4,12 +4,10 @@ ghost use Rattle.phase_any.specs.phase_accum.Sends.{AreSends};
 ghost use Rattle.stream_job.specs.Streams.{Keeps, feed_takes};
 
 use std::alloc::{AllocError, Global};
+use stream_eval::stream_lists::COUNT_MAX;
 
 /// How many samples of a source may wait to be signalled.
 pub const INPUT_ROOM: usize = 4096;
-
-/// The most samples of a source.
-pub const COUNT_MAX: u64 = 36_028_797_018_963_968;
 
 /// Of all samples that a source was fed so far, the last ones: those from number `from` on.
 #[derive(Drop)]
@@ -68,8 +66,11 @@ impl Input {
         self.forget(begun);
         let came = self.from + self.values.len() as u64;
         let waits = (came - begun) as usize;
-        let left = usize::try_from(COUNT_MAX - came).unwrap_or(usize::MAX);
-        let many = samples.len().min(INPUT_ROOM.saturating_sub(waits)).min(left);
+        let left = (COUNT_MAX - came) as usize;
+        let many = samples
+            .len()
+            .min(INPUT_ROOM.saturating_sub(waits))
+            .min(left);
         for sample in &samples[..many] {
             self.values.push_reserved(*sample);
         }

@@ -1,10 +1,11 @@
 //! A run of a graph whose samples come in pieces.
-ghost use Rattle.std.specs.Prelude.{◌≡◌, ◌<◌, ◌++◌, ℕ, ℤ, List, None, [], length, map, get_or, take, IfOk, false};
+ghost use Rattle.std.specs.Prelude.{◌≡◌, ◌<◌, ◌++◌, ℕ, ℤ, List, None, Some, Err, [], length, map, get_or, take, IfOk, false};
 ghost use Rattle.std.specs.List.{All, range_with_len};
 ghost use mathlib.Core.List.{IsPrefix};
 ghost use Rattle.phase_any.specs.phase_accum.Sends.{AreSends};
 ghost use Rattle.graph_lang.specs.graph_base.Graphs.{sources_of, task_at};
-ghost use Rattle.stream_eval.specs.stream_lists.Jobs.{with_samples};
+ghost use Rattle.stream_eval.specs.stream_lists.Jobs.{counted, with_samples};
+ghost use Rattle.stream_eval.specs.stream_lists.Meetings.{meeting_line};
 ghost use Rattle.stream_eval.specs.stream_lists.Lists.{numbers_of, sinks_of, taken_from};
 ghost use Rattle.stream_eval.specs.stream_lists.Spans.{span_in};
 ghost use Rattle.graph_runs.specs.Beginnings.{opening};
@@ -14,7 +15,7 @@ ghost use Rattle.graph_runs.specs.Settled.{IsReady};
 ghost use Rattle.graph_runs.specs.Turned.{with_at};
 ghost use Rattle.stream_eval.specs.stream_lists.Inside.{items_of};
 ghost use Rattle.stream_job.specs.Machines.{none_given};
-ghost use Rattle.stream_job.specs.Streams.{AreInputs, IsApart, IsStreamAt, Keeps, has_ended, none_came};
+ghost use Rattle.stream_job.specs.Streams.{AreInputs, IsApart, IsStreamAt, Keeps, has_ended, most_of, none_came};
 
 use crate::buffers::Buffers;
 use crate::input::Input;
@@ -26,7 +27,9 @@ use graph_lang::graph_base::Graph;
 use graph_runs::feeds;
 use std::alloc::{AllocError, Global};
 use std::marker::Model;
-use stream_eval::stream_lists::{Job, JobRefusal};
+use stream_eval::stream_lists::{
+    COUNT_MAX, Job, JobRefusal, list_laws, meeting_with,
+};
 
 /// A run of a graph whose samples come in pieces, on one thread: it is fed, goes on until no task
 /// can move, and is read.
@@ -72,11 +75,11 @@ impl Model for Stream {
 
     ghost invariant = { λ x. ((s : List (List ℤ)) × (m : Moment) × (given : ℕ → List ℤ)
         × IsStreamAt (record {
-        job = x.job;
-        machine = x.machine;
-        inputs = x.inputs.items;
-        met = x.met;
-    }) s m given) × IsPlan x.job x.plan × HasPlaces x.job x.buffers × IsApart x.job
+          job = x.job;
+          machine = x.machine;
+          inputs = x.inputs.items;
+          met = x.met;
+        }) s m given) × IsPlan x.job x.plan × HasPlaces x.job x.buffers × IsApart x.job
         × AreInputs x.job x.inputs.items
         × All (HasRoom (line_room x.job)) x.machine.lines.items };
 }
@@ -93,6 +96,8 @@ impl Stream {
     /// of sources and sinks; a refusal drops the graph.
     pub fn new(alloc: Global, graph: Graph) -> Result<Stream, JobRefusal>
         ensures graph { IfOk result (λ stream. stream.job.graph ≡ graph) }
+        ensures any_meets { (line : ℕ) → result ≡ Err (JobRefusal.AnyMeets line)
+            → meeting_line (counted graph (most_of graph)) ≡ Some line }
         ensures opening { IfOk result (λ stream.
             IsStreamAt stream (none_came stream.job) (opening stream.job) none_given) }
         ensures met { IfOk result (λ stream. stream.met ≡ None) }
@@ -113,6 +118,13 @@ impl Stream {
         self.job.graph()
     }
 
+    /// Returns how many sinks there are. It takes no memory.
+    pub fn sinks(&self) -> usize
+        ensures { result ≡ length (sinks_of self.now.job) }
+    {
+        self.machine.lines.len()
+    }
+
     /// Feeds these samples to a source, as many of them as it has room for, and returns how many it
     /// took: none, where it has ended, and none after a value out of range. It takes no memory.
     pub fn feed(&mut self, source: usize, samples: &[i64]) -> usize
@@ -127,10 +139,10 @@ impl Stream {
         ensures others { IsSameBut self.old self.new }
         ensures ended { (k : ℕ) → has_ended self.new.inputs k ≡ has_ended self.old.inputs k }
     {
-        let input = &mut self.inputs[source];
-        if input.ended || self.met.is_some() {
+        if self.inputs[source].ended || self.met.is_some() {
             return 0;
         }
+        let input = &mut self.inputs[source];
         let begun = self.machine.tasks[input.task].begun;
         input.take(begun, samples)
     }
@@ -227,11 +239,30 @@ fn bare_job(alloc: Global, graph: Graph) -> Result<Job, JobRefusal>
     ensures graph { IfOk result (λ job. job.graph ≡ graph) }
     ensures samples { IfOk result (λ job. job.samples ≡ none_came job) }
     ensures apart { IfOk result IsApart }
+    ensures any_meets { (line : ℕ) → result ≡ Err (JobRefusal.AnyMeets line)
+        → meeting_line (counted graph (most_of graph)) ≡ Some line }
 {
+    let _tasks = graph.tasks();
+    list_laws::none_meet_with_fewer();
+    let Ok(meeting) = meeting_of(alloc, &graph) else {
+        return Err(JobRefusal::OutOfMemory);
+    };
+    if let Some(line) = meeting {
+        return Err(JobRefusal::AnyMeets { line });
+    }
     match bare_lists(alloc, graph.sources()) {
         Ok(samples) => Job::new(alloc, graph, samples),
         Err(_) => Err(JobRefusal::OutOfMemory),
     }
+}
+
+/// The line of the first task that would meet one of an earlier line, were there as many samples of
+/// each source as there may be.
+fn meeting_of(alloc: Global, graph: &Graph) -> Result<Option<u64>, AllocError>
+    ensures { IfOk result (λ line. line ≡ meeting_line (counted graph.now (most_of graph.now))) }
+{
+    let counts = vec![in alloc; COUNT_MAX; graph.sources()]?;
+    meeting_with(alloc, graph, &counts)
 }
 
 /// So many empty lists.

@@ -242,7 +242,8 @@ impl Machine {
         t: usize,
         k: usize,
     ) -> Made
-        requires next { (s : List (List ℤ)) × IsNextIn (with_samples s job.now) self.old t (turns.waits k)
+        requires next { (s : List (List ℤ))
+            × IsNextIn (with_samples s job.now) self.old t (turns.waits k)
             × HasRoomNext (with_samples s job.now) self.old t }
         requires plan { IsPlan job.now plan.now }
         requires places { HasPlaces job.now buffers.old }
