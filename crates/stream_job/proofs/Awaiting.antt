@@ -12,7 +12,7 @@ use Rattle.graph_lang.specs.graph_base.declared.line.Kind.{Kind}
 use Rattle.graph_lang.specs.graph_base.declared.line.Kind.TheVariants.{Source, Fir, Split, Join, Peer, Sink}
 use Rattle.stream_eval.specs.stream_lists.Jobs.{Job, samples_in, with_samples}
 use Rattle.graph_runs.specs.Moments.{Moment}
-use Rattle.stream_job.specs.Machines.{IsMachineAt, IsSome, MayHaveCome}
+use Rattle.stream_job.specs.Machines.{IsMachineAt, MayHaveCome}
 use Rattle.stream_job.specs.Plans.{IsPlan}
 use Rattle.stream_job.specs.Streams.{AreInputs, AreKept, Keeps}
 use Rattle.stream_job.specs.declared.input.Input.{Input}
@@ -64,7 +64,8 @@ pub planned : (job : Job) (plan : Plan) (t : ℕ) (one : TaskPlan) → IsPlan jo
 planned job plan t one is there read =
     let many = is.many in
     (is.each t one
-    (slice_get_read plan.tasks.items (length plan.tasks.items) t one refl (omega arith) read)).source
+    (slice_get_read plan.tasks.items (length plan.tasks.items) t one refl (omega arith)
+    read)).source
 
 -- there is an input of the number
 pub input_there : (job : Job) (plan : Plan) (inputs : List Input) (t : ℕ) (one : TaskPlan)
@@ -123,7 +124,8 @@ pub no_source : (job : Job) (machine : Machine) (inputs : List Input) (s : List 
     → AreKept job s m inputs → MayHaveCome job machine t [] s
 no_source job machine inputs s m t none are each at kept = record {
   stands = (m, at);
-  awaits = λ m' at' there source. absurd (let wrong : true ≡ false = sym (ap is_source source) ∙ none in cc);
+  awaits = λ m' at' there source.
+      absurd (let wrong : true ≡ false = sym (ap is_source source) ∙ none in cc);
   sends = λ there. some_sends job inputs s m t are kept each;
 }
 

@@ -1,24 +1,20 @@
 -- The turns of a run that is fed: what a stream stands for after one.
-use Rattle.std.proofs.Common.{◌≡◌, ◌≢◌, ℕ, ℤ, List, zero, suc, ◌+◌, ◌<◌, ◌≤◌, ◌&&◌, ◌++◌, ◌∷◌, [], Bool, true, false, cond, eqb, not, Option, Some, None, length, get_or, slice_get, refl, sym, ap, subst, ◌∙◌, arith}
+use Rattle.std.proofs.Common.{◌≡◌, ℕ, ℤ, List, ◌+◌, ◌≤◌, ◌&&◌, ◌++◌, ◌∷◌, [], Bool, true, false, cond, eqb, not, Option, Some, None, length, slice_get, refl, sym, ap, subst, ◌∙◌, arith}
 use Rattle.std.specs.Prelude.{is_some, slice_range, vec_capacity, vec_len}
-use Rattle.std.specs.List.{All}
 use Rattle.std.proofs.Math.Bool.{and-true}
 use Rattle.std.proofs.lemmas.Bool.{eqb-true}
 use Rattle.std.proofs.lemmas.Option.{same_Some}
-use Rattle.phase_any.specs.phase_accum.declared.outcome.Outcome.{Outcome}
 use Rattle.phase_any.specs.phase_history.Histories.{greatest_used}
 use Rattle.phase_any.specs.phase_history.Phases.{stream_of}
 use Rattle.phase_any.specs.phase_history.Refusals.{register_refusal, register_now_refusal, drop_refusal}
 use Rattle.graph_lang.specs.graph_base.declared.line.Kind.{Kind}
-use Rattle.graph_lang.specs.graph_base.declared.line.Kind.TheVariants.{Source}
 use Rattle.graph_lang.specs.graph_base.declared.registration.Registration.{Registration}
-use Rattle.graph_lang.specs.graph_base.Graphs.{source_number, task_at}
-use Rattle.graph_lang.specs.graph_base.TaskLines.{IsGraph}
-use Rattle.stream_eval.specs.stream_lists.Jobs.{Job, samples_at, samples_in, with_samples}
+use Rattle.graph_lang.specs.graph_base.Graphs.{task_at}
+use Rattle.stream_eval.specs.stream_lists.Jobs.{Job, samples_in, with_samples}
 use Rattle.stream_eval.specs.stream_lists.Ranges.{Where}
 use Rattle.stream_eval.specs.declared.whole.Lines.{Lines}
 use Rattle.graph_runs.specs.Answers.{Answer, makes, is_blocked, is_gone, has_made, is_refused, after_answer, after_turns, answer_of_turn, answer_to, call_leave, call_register, next_samples, next_values, output_at, register_answer}
-use Rattle.graph_runs.specs.Feeds.{Call, IsOpenAt, NotStarved, call_of, is_starved}
+use Rattle.graph_runs.specs.Feeds.{IsOpenAt, NotStarved, is_starved}
 use Rattle.graph_runs.specs.Moments.{Moment, HasAnsweredNone, HasRun, HasSamples, input_at, value_at}
 use Rattle.graph_runs.specs.Moves.{further}
 use Rattle.graph_runs.specs.NextBlocks.{block_of}
@@ -32,8 +28,8 @@ use Rattle.graph_runs.proofs.Calling.{accepted, answered, answered_all}
 use Rattle.graph_runs.proofs.Nexts.{further-length}
 use Rattle.graph_runs.proofs.Signalling.{signalled}
 use Rattle.graph_runs.proofs.Turning.{turn_makes_next}
-use Rattle.stream_job.specs.Inside.{HasRoomIn, HasRoomNext}
-use Rattle.stream_job.specs.Machines.{IsMachineAt, KeepsLines}
+use Rattle.stream_job.specs.Inside.{HasRoomNext}
+use Rattle.stream_job.specs.Machines.{IsMachineAt}
 use Rattle.stream_job.specs.Streams.{AreKept, GoesOn, IsStreamAt, Keeps, StreamState, ended_at, is_hungry}
 use Rattle.stream_job.specs.Turning.{HadTurn, met_by, told_of}
 use Rattle.stream_job.specs.Tellings.{told_by}
@@ -56,17 +52,20 @@ pub has_room_by : (job : Job) (machine : Machine) (m : Moment) (t block : ℕ) (
     → slice_get machine.lines.items state.sink ≡ Some line
     → (m.begun t ≡ state.begun → block_of job m t ≡ block)
     → vec_len line.values + block ≤ vec_capacity line.values → HasRoomNext job machine t
-has_room_by job machine m t block state line at found read steps room =
-    (m, at, λ k p n outcomes state' next answer found' sink line' read'.
-    (let same : state ≡ state' = same_Some state state' (sym found ∙ found') in
-    let there : slice_get machine.lines.items state.sink ≡ Some line' =
-    ap (λ x. slice_get machine.lines.items x.sink) same ∙ read' in
-    let one : line ≡ line' = same_Some line line' (sym read ∙ there) in
-    let few : length outcomes ≤ block_of job m t =
-    (makes_event job m t (events.first_wait t k p n outcomes) at.graph at.reached answer).owes.1 in
-    let most : block_of job m t ≡ block = steps (at.tasks t state found).stands.begun in
-    let P : Lines → Type 0 = λ l. vec_len l.values + length outcomes ≤ vec_capacity l.values in
-    subst P one (omega arith)))
+has_room_by job machine m t block state line at found read steps room = (
+  m,
+  at,
+  λ k p n outcomes state' next answer found' sink line' read'.
+      (let same : state ≡ state' = same_Some state state' (sym found ∙ found') in
+      let there : slice_get machine.lines.items state.sink ≡ Some line' =
+      ap (λ x. slice_get machine.lines.items x.sink) same ∙ read' in
+      let one : line ≡ line' = same_Some line line' (sym read ∙ there) in
+      let few : length outcomes ≤ block_of job m t =
+      (makes_event job m t (events.first_wait t k p n outcomes) at.graph at.reached answer).owes.1 in
+      let most : block_of job m t ≡ block = steps (at.tasks t state found).stands.begun in
+      let P : Lines → Type 0 = λ l. vec_len l.values + length outcomes ≤ vec_capacity l.values in
+      subst P one (omega arith)),
+)
 
 -- ---- open sources
 
@@ -248,7 +247,8 @@ pub turn_stands : (old : StreamState) (new : Machine) (met : Option Where) (s : 
     (m : Moment) (given : ℕ → List ℤ) (t : ℕ) (it : Made) (word : Turned)
     → ((event : TaskEvent) → IsNext (with_samples s old.job) m event
     → NotStarved (with_samples s old.job) (ended_at old) m event
-    → IsOpenAt (with_samples s old.job) (ended_at old) (after_turn (with_samples s old.job) event m))
+    → IsOpenAt (with_samples s old.job) (ended_at old)
+    (after_turn (with_samples s old.job) event m))
     → old.met ≡ None → is_hungry (with_samples s old.job) (ended_at old) m t ≡ false
     → HadTurn (with_samples s old.job) old.machine new t it → word ≡ told_by it t
     → met ≡ met_by None word → IsStreamAt old s m given
@@ -299,8 +299,7 @@ goes_on_twice a b c first then = record {
       let two = then.later s (after_turns (with_samples s a.job) m one.0) given one.1 in
       let P : Job → Type 0 = λ j.
       IsStreamAt c s (after_turns (with_samples s j) (after_turns (with_samples s a.job) m one.0)
-      two.0) given in
-      (
+      two.0) given in (
         one.0 ++ two.0,
         subst (λ now. IsStreamAt c s now given)
             (sym (turns_twice (with_samples s a.job) m one.0 two.0))

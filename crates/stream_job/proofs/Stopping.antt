@@ -1,22 +1,18 @@
 -- Where a run that is fed stops: what is told of a task by its state, its input and its line.
-use Rattle.std.proofs.Common.{◌≡◌, ◌≢◌, ℕ, ℤ, List, ◌+◌, ◌-◌, ◌++◌, ◌<◌, ◌≤◌, ◌&&◌, ◌||◌, ◌⊎◌, inl, inr, Bool, true, false, eqb, not, Option, Some, None, length, drop, get_or, slice_get, refl, sym, ap, subst, ◌∙◌, arith, length-append}
+use Rattle.std.proofs.Common.{◌≡◌, ◌≢◌, ℕ, ℤ, List, ◌+◌, ◌-◌, ◌++◌, ◌<◌, ◌≤◌, ◌&&◌, ◌⊎◌, inl, inr, Bool, true, false, eqb, not, Some, length, drop, get_or, slice_get, refl, sym, ap, ◌∙◌, arith, length-append}
 use Rattle.std.specs.Prelude.{nat_le, nat_lt}
 use Rattle.std.proofs.Math.Bool.{and-true, and-false}
 use Rattle.std.proofs.lemmas.Bool.{cases_lt, eq-eqb, le-leb, le-ltb, lt-leb, lt-ltb, ne_eqb}
 use Rattle.std.proofs.lemmas.List.{length-drop}
 use Rattle.std.proofs.lemmas.Option.{slice_get_read, slice_get_within}
-use Rattle.graph_lang.specs.graph_base.Graphs.{is_source, source_number, task_at}
-use Rattle.graph_lang.specs.graph_base.declared.line.Kind.TheVariants.{Sink}
-use Rattle.stream_eval.specs.stream_lists.Jobs.{Job, samples_at, with_samples}
+use Rattle.graph_lang.specs.graph_base.Graphs.{source_number, task_at}
+use Rattle.stream_eval.specs.stream_lists.Jobs.{Job, with_samples}
 use Rattle.stream_eval.specs.stream_lists.Lists.{is_sink_at, sinks_of}
 use Rattle.stream_eval.specs.declared.whole.Lines.{Lines}
-use Rattle.graph_runs.specs.Feeds.{is_starved}
 use Rattle.graph_runs.specs.Moments.{Moment}
-use Rattle.graph_runs.specs.NextBlocks.{block_of}
-use Rattle.graph_runs.specs.Nexts.{is_cut}
 use Rattle.stream_job.specs.Machines.{IsMachineAt, KeepsLines, kept_behind}
 use Rattle.stream_job.specs.SinkLines.{kept_by}
-use Rattle.stream_job.specs.Streams.{StreamState, ended_at, line_room}
+use Rattle.stream_job.specs.Streams.{StreamState, ended_at}
 use Rattle.stream_job.specs.declared.input.Input.{Input}
 use Rattle.stream_job.specs.declared.machine.Machine.{Machine}
 use Rattle.stream_job.specs.declared.task_state.TaskState.{TaskState}

@@ -1,5 +1,5 @@
 -- The loop stops at the first task that does not rest.
-use Rattle.std.proofs.Common.{◌≡◌, ℕ, ◌<◌, length, ap, ◌∙◌, arith, sym, subst, true, false}
+use Rattle.std.proofs.Common.{◌≡◌, ◌<◌, length, ap, ◌∙◌, arith, subst, true}
 use Rattle.stream_eval.specs.stream_lists.Jobs.{with_samples}
 use Rattle.graph_lang.specs.graph_base.Graphs.{Graph}
 use Rattle.stream_job.specs.Streams.{StreamState, ended_at, rests}
@@ -20,7 +20,9 @@ returns-then-not-rests c = λ s m given at.
 
 pub loop-t-preserved : goal.loop-t-preserved
 loop-t-preserved c = λ s m given at d lt.
-    one_more (λ x. rests (with_samples s c.args.self.now.job) (ended_at c.args.self.now) m given x ≡ true) c.loop-t.t
+    one_more
+    (λ x. rests (with_samples s c.args.self.now.job) (ended_at c.args.self.now) m given x ≡ true)
+    c.loop-t.t
     (c.loop-t.invariant s m given at) (c.rests.ensures s m given at ∙ c.if-not-rests.false) d lt
 
 pub returns : goal.returns

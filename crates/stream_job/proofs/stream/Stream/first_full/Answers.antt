@@ -1,5 +1,5 @@
 -- The loop stops at the first sink that is full.
-use Rattle.std.proofs.Common.{◌≡◌, ℕ, ◌<◌, length, ap, ◌∙◌, arith, sym, subst, true, false}
+use Rattle.std.proofs.Common.{◌≡◌, ◌<◌, length, ap, ◌∙◌, arith, subst, false}
 use Rattle.stream_eval.specs.stream_lists.Jobs.{with_samples}
 use Rattle.graph_lang.specs.graph_base.Graphs.{Graph}
 use Rattle.stream_job.specs.Streams.{StreamState, is_full}
@@ -21,7 +21,8 @@ returns-then-is_full c = λ s m given at.
 pub loop-t-preserved : goal.loop-t-preserved
 loop-t-preserved c = λ s m given at d lt.
     one_more (λ x. is_full (with_samples s c.args.self.now.job) m given x ≡ false) c.loop-t.t
-    (c.loop-t.invariant s m given at) (c.is_full.ensures.full s m given at ∙ c.if-is_full.false) d lt
+    (c.loop-t.invariant s m given at)
+    (c.is_full.ensures.full s m given at ∙ c.if-is_full.false) d lt
 
 pub returns : goal.returns
 returns c = λ s m given at.

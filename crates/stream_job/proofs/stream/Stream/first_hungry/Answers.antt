@@ -1,5 +1,5 @@
 -- The loop stops at the first source that is hungry.
-use Rattle.std.proofs.Common.{◌≡◌, ℕ, ◌<◌, length, ap, ◌∙◌, arith, sym, subst, true, false}
+use Rattle.std.proofs.Common.{◌≡◌, ◌<◌, length, ap, ◌∙◌, arith, subst, false}
 use Rattle.stream_eval.specs.stream_lists.Jobs.{with_samples}
 use Rattle.graph_lang.specs.graph_base.Graphs.{Graph}
 use Rattle.stream_job.specs.Streams.{StreamState, ended_at, is_hungry}
@@ -20,7 +20,9 @@ returns-then-is_hungry c = λ s m given at.
 
 pub loop-t-preserved : goal.loop-t-preserved
 loop-t-preserved c = λ s m given at d lt.
-    one_more (λ x. is_hungry (with_samples s c.args.self.now.job) (ended_at c.args.self.now) m x ≡ false) c.loop-t.t
+    one_more
+    (λ x. is_hungry (with_samples s c.args.self.now.job) (ended_at c.args.self.now) m x ≡ false)
+    c.loop-t.t
     (c.loop-t.invariant s m given at) (c.is_hungry.ensures s m given at ∙ c.if-is_hungry.false) d lt
 
 pub returns : goal.returns

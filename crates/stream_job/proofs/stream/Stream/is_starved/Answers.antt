@@ -1,5 +1,5 @@
 -- The input of the source keeps what it has still to signal, and whether it has ended.
-use Rattle.std.proofs.Common.{◌≡◌, ℕ, ℤ, List, ◌<◌, ◌&&◌, Bool, true, false, not, length, sym, ap, subst, ◌∙◌, arith}
+use Rattle.std.proofs.Common.{◌≡◌, ℕ, ℤ, List, ◌<◌, ◌&&◌, true, false, not, length, sym, ap, subst, ◌∙◌, arith}
 use Rattle.std.specs.Prelude.{nat_le, vec_len}
 use Rattle.graph_lang.specs.graph_base.Graphs.{is_source, task_at}
 use Rattle.stream_eval.specs.stream_lists.Jobs.{samples_at, with_samples}

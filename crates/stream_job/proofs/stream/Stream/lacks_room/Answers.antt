@@ -1,5 +1,5 @@
 -- The line keeps as many values as the sink received and did not hand over.
-use Rattle.std.proofs.Common.{◌≡◌, ℕ, ℤ, List, ◌+◌, ◌-◌, ◌<◌, ◌≤◌, Bool, true, false, length, refl, sym, ap, subst, ◌∙◌, arith}
+use Rattle.std.proofs.Common.{◌≡◌, ℕ, ℤ, List, ◌+◌, ◌-◌, ◌<◌, ◌≤◌, true, false, length, refl, sym, ap, subst, ◌∙◌, arith}
 use Rattle.std.specs.Prelude.{nat_lt, vec_capacity, vec_len}
 use Rattle.std.proofs.lemmas.Bool.{lt-ltb, ltb-false}
 use Rattle.std.proofs.lemmas.List.Elements.{All-get_or}
@@ -62,7 +62,9 @@ returns-then-kept-room-clause-lacks c =
     (line_there job machine m c.args.t state at.machine found (sink_is b)) c.index.ensures) in
     let many : c.len-kept.result ≡ length (kept_by job m c.args.t) - length (given c.args.t) =
     c.len-kept.ensures ∙ line.values.ok.0 ∙ held.1 in
-    ap (λ n. nat_lt n (length (kept_by job m c.args.t) - length (given c.args.t) + block_of job m c.args.t)) (sym c.line_room-room.ensures)
+    ap (λ n. nat_lt n
+    (length (kept_by job m c.args.t) - length (given c.args.t) + block_of job m c.args.t))
+    (sym c.line_room-room.ensures)
     ∙ ap (λ n. nat_lt c.line_room-room.result (n + block_of job m c.args.t)) (sym many)
     ∙ no_room_over c.line_room-room.result c.len-kept.result (block_of job m c.args.t)
     c.if-kept-room.true))
@@ -88,7 +90,9 @@ returns-else-kept-room-clause-lacks c =
     (line_there job machine m c.args.t state at.machine found (sink_is b)) c.index.ensures) in
     let many : c.len-kept.result ≡ length (kept_by job m c.args.t) - length (given c.args.t) =
     c.len-kept.ensures ∙ line.values.ok.0 ∙ held.1 in
-    ap (λ n. nat_lt n (length (kept_by job m c.args.t) - length (given c.args.t) + block_of job m c.args.t)) (sym c.line_room-room.ensures)
+    ap (λ n. nat_lt n
+    (length (kept_by job m c.args.t) - length (given c.args.t) + block_of job m c.args.t))
+    (sym c.line_room-room.ensures)
     ∙ ap (λ n. nat_lt c.line_room-room.result (n + block_of job m c.args.t)) (sym many)
     ∙ ap (λ n. nat_lt c.line_room-room.result (c.len-kept.result + n))
     (c.block-steps.ensures m (at.machine.tasks c.args.t state found).stands.begun)

@@ -1,9 +1,9 @@
 -- It rests where one of the three says so.
-use Rattle.std.proofs.Common.{◌≡◌, ℕ, ℤ, List, ◌||◌, Bool, true, false, sym, ap, subst, ◌∙◌}
+use Rattle.std.proofs.Common.{◌≡◌, ℕ, ℤ, List, ◌||◌, sym, ap, subst, ◌∙◌}
 use Rattle.stream_eval.specs.stream_lists.Jobs.{with_samples}
 use Rattle.graph_runs.specs.Answers.{is_still}
 use Rattle.graph_runs.specs.Moments.{Moment}
-use Rattle.stream_job.specs.Streams.{AreKept, IsStreamAt, StreamState, ended_at, is_full, is_hungry, rests}
+use Rattle.stream_job.specs.Streams.{AreKept, IsStreamAt, StreamState, ended_at, is_full, is_hungry}
 use Rattle.stream_job.proofs.stream.Stream.rests.Goals as goal
 use Rattle.stream_job.proofs.stream.Stream.rests.Goals.{After-is_still}
 
@@ -11,8 +11,7 @@ pub is_still-requires-clause-came : goal.is_still-requires-clause-came
 is_still-requires-clause-came c =
     let s = c.self.invariant.0.0 in
     let m = c.self.invariant.0.1 in
-    let at = c.self.invariant.0.3 in
-    (
+    let at = c.self.invariant.0.3 in (
       s,
       c.awaited-awaits.ensures s m at.each at.machine
           (subst (AreKept c.self.inside.job s m) (sym c.deref.ensures.value) at.kept),

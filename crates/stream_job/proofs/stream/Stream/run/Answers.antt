@@ -1,9 +1,8 @@
 -- One more round goes on from where the others led, and where nobody is live the sinks have all.
-use Rattle.std.proofs.Common.{◌≡◌, ℕ, ℤ, List, None, map, sym, ap, subst, ◌∙◌}
+use Rattle.std.proofs.Common.{sym, ap, subst, ◌∙◌}
 use Rattle.std.specs.Prelude.{Ok}
 use Rattle.stream_eval.specs.stream_lists.Jobs.{with_samples}
-use Rattle.graph_runs.specs.Moments.{Moment}
-use Rattle.stream_job.specs.Streams.{IsStreamAt, StopsAt, ended_at, first_full, first_hungry, is_some_live}
+use Rattle.stream_job.specs.Streams.{StopsAt, ended_at, first_full, first_hungry, is_some_live}
 use Rattle.stream_job.specs.Worlds.{HasMet}
 use Rattle.stream_job.specs.declared.stopped.Stopped.TheVariants as stopped
 use Rattle.graph_runs.proofs.FedFeeds.{feed_continues}

@@ -15,4 +15,5 @@ returns c =
     subst P c.self.view_is (λ s m given at.
     c.next.ensures s m at.machine
     ((c.awaited-awaits.ensures s m at.each at.machine
-    (subst (AreKept c.self.inside.job s m) (sym c.deref.ensures.value) at.kept)).awaits m at.machine))
+    (subst (AreKept c.self.inside.job s m) (sym c.deref.ensures.value) at.kept)).awaits m
+    at.machine))

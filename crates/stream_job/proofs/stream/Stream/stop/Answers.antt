@@ -1,5 +1,5 @@
 -- The first sink that is full has its line, and the first source that is hungry its number.
-use Rattle.std.proofs.Common.{◌≡◌, ◌<◌, ℕ, ℤ, List, Bool, true, Option, Some, None, length, refl, sym, ap, subst, ◌∙◌, arith}
+use Rattle.std.proofs.Common.{◌≡◌, ◌<◌, ℕ, ℤ, List, true, Option, Some, None, length, sym, subst, ◌∙◌, arith}
 use Rattle.std.specs.Prelude.{slice_get, vec_len}
 use Rattle.graph_lang.specs.graph_base.Graphs.{source_number, task_at}
 use Rattle.stream_eval.specs.stream_lists.Jobs.{with_samples}
@@ -16,7 +16,8 @@ use Rattle.stream_job.proofs.stream.Stream.stop.Goals as goal
 use Rattle.stream_job.proofs.stream.Stream.stop.Goals.{In-Some-first_full, In-Some-first_hungry}
 
 -- the sink stands among the tasks
-full_there : (c : In-Some-first_full) → c.in-Some-first_full.t < length c.self.inside.job.graph.tasks
+full_there : (c : In-Some-first_full)
+    → c.in-Some-first_full.t < length c.self.inside.job.graph.tasks
 full_there c =
     let s = c.self.invariant.0.0 in
     let m = c.self.invariant.0.1 in
@@ -58,8 +59,7 @@ returns-in-Some-first_full c =
     c.first_full.ensures s m given at ∙ c.in-Some-first_full.is in
     let full = (found_in (is_full job m given) (length job.graph.tasks) t found).1 in
     let S : Option ℕ → Type 0 = λ o. stop_by job o (first_hungry job (ended_at c.args.self.now) m)
-    (is_some_live job m) (stopped.Full state.sink) in
-    (
+    (is_some_live job m) (stopped.Full state.sink) in (
       record {
         none = none;
         rest = c.all_rest.ensures s m given at ∙ c.if-not-all_rest.false;
@@ -109,8 +109,7 @@ returns-in-Some-first_hungry c =
     let full : first_full job m given ≡ None =
     c.first_full.ensures s m given at ∙ c.in_default-first_full.is in
     let S : Option ℕ → Option ℕ → Type 0 = λ o u. stop_by job o u (is_some_live job m)
-    (stopped.Hungry one.source) in
-    (
+    (stopped.Hungry one.source) in (
       record {
         none = none;
         rest = c.all_rest.ensures s m given at ∙ c.if-not-all_rest.false;

@@ -1,6 +1,5 @@
 -- A turn leads to a moment that the stream then stands for, of the same samples.
-use Rattle.std.proofs.Common.{◌≡◌, ◌<◌, ℕ, ℤ, List, [], ◌∷◌, Bool, true, false, Option, Some, None, length, refl, sym, ap, subst, ◌∙◌}
-use Rattle.std.specs.Prelude.{is_some}
+use Rattle.std.proofs.Common.{◌≡◌, ℕ, ℤ, List, [], ◌∷◌, false, refl, sym, subst, ◌∙◌}
 use Rattle.stream_eval.specs.stream_lists.Jobs.{with_samples}
 use Rattle.graph_runs.specs.Answers.{after_answer, answer_of_turn}
 use Rattle.graph_runs.specs.Moments.{Moment}
@@ -30,8 +29,7 @@ make-requires-clause-came c =
     let P : StreamState → Type 0 = λ w. (s : List (List ℤ)) (m : Moment) (given : ℕ → List ℤ)
     → IsStreamAt w s m given → HasRoomNext (with_samples s w.job) w.machine c.args.t in
     let room = subst P (sym c.self.view_is) (λ s m given at.
-    c.is_full.ensures.room c.if-is_full.false s m given at) in
-    (
+    c.is_full.ensures.room c.if-is_full.false s m given at) in (
       s,
       came (goal.at.make-requires-clause-came c).After-awaited-awaits s m given at,
       room s m given at,
