@@ -180,8 +180,8 @@ fn heads(alloc: Global, job: &Job) -> Result<Vec<String>, Fail> {
     Ok(lines)
 }
 
-/// What the sinks of a run gave in all, a line each, by pieces of so many samples. Or why it stopped
-/// before its end.
+/// What the sinks of a run gave in all, a line each, by pieces of so many samples. Or why it
+/// stopped before its end.
 fn lines_of(alloc: Global, stream: &mut Stream, job: &Job, piece: usize) -> Result<String, Fail> {
     let mut lines = heads(alloc, job)?;
     let stop = ran_by(alloc, stream, job, &mut lines, piece)?;

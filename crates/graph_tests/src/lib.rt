@@ -1,6 +1,6 @@
 //! Tests of runs of graphs, by their public calls: whole runs on one thread, turn by turn and by
-//! pieces of samples, and the phasers of a graph. What is expected was worked out by hand. They stand in a crate of their own,
-//! since a crate is proved anew with its tests.
+//! pieces of samples, and the phasers of a graph. What is expected was worked out by hand. They
+//! stand in a crate of their own, since a crate is proved anew with its tests.
 #![tactic(auto)]
 
 #[cfg(test)]

@@ -13,7 +13,7 @@ struct Case {
     told: &'static str,
 }
 
-const CASES: [Case; 9] = [
+const CASES: [Case; 10] = [
     Case {
         name: "a sum waits for the source that has no sample, and then goes on without it",
         graph: "phaser X sum 2\nsource a a.csv -> X\nsource b b.csv -> X\nsink out X\n",
@@ -83,6 +83,13 @@ const CASES: [Case; 9] = [
         ],
         told: "2 1 Hungry { source: 0 } 0: 1 1 Hungry { source: 0 } 0: 12 \
             Hungry { source: 1 } 0: 20 ",
+    },
+    Case {
+        name: "a child that never comes waits for no sample",
+        graph: "phaser X sum 4\nsource s s.csv -> X\nsource c c.csv -> X by s at 2\nsink out X\n",
+        samples: &["1\n2\n", "10\n"],
+        acts: &[Feed(0, 1), Finish(0), Run, Take],
+        told: "1 Done 0: 1 ",
     },
     Case {
         name: "a source leaves at its until, and waits for no sample",
