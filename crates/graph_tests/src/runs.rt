@@ -1,4 +1,5 @@
 //! Runs to their end, in rotation and by given turns, and what whole lists have for them.
+use crate::feeds::fed;
 use crate::jobs::at_bound;
 use crate::rounds::{at_end, evaluated, given, ran};
 use std::alloc::Global;
@@ -235,6 +236,28 @@ fn sinks_have_their_values_at_the_end(rt: HostRuntime) -> Result<(), Fail> {
                     lines.as_str(),
                     case.lines,
                     "{}: {way:?}, bound {bound}",
+                    case.name
+                );
+            }
+        }
+    }
+    Ok(())
+}
+
+const PIECES: [usize; 5] = [1, 2, 3, 7, 100];
+
+// Two tasks of a phaser with `any` would meet, had the first more samples.
+#[test]
+fn sinks_have_their_values_by_pieces(rt: HostRuntime) -> Result<(), Fail> {
+    for case in CASES.iter().filter(|case| !case.graph.contains(" any ")) {
+        for bound in &BOUNDS {
+            let graph = at_bound(rt.alloc(), case.graph, *bound)?;
+            for piece in &PIECES {
+                let lines = fed(rt.alloc(), &graph, case.samples, *piece)?;
+                assert_eq!(rt;
+                    lines.as_str(),
+                    case.lines,
+                    "{}: pieces of {piece}, bound {bound}",
                     case.name
                 );
             }
