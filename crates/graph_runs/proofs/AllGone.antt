@@ -1,5 +1,5 @@
 -- Where no task is live at a reached moment, the run is over.
-use Rattle.std.proofs.Common.{◌≡◌, ℕ, zero, suc, ◌<◌, ◌≤◌, Bool, true, false, not, ◌&&◌, ◌++◌, Option, Some, None, is_some, length, get_or, refl, sym, ap, subst, ◌∙◌, arith, inl, inr}
+use Rattle.std.proofs.Common.{◌≡◌, ℕ, zero, suc, ◌<◌, ◌≤◌, Bool, true, false, not, ◌&&◌, ◌++◌, Option, Some, None, is_some, length, get_or, refl, sym, ap, ◌∙◌, arith, inl, inr}
 use Rattle.std.specs.Prelude.{unwrap_or}
 use Rattle.std.proofs.lemmas.Bool.{lt-ltb, not-true}
 use Rattle.std.proofs.lemmas.Option.{same_Some}
@@ -15,7 +15,7 @@ use Rattle.stream_lists.specs.graph_base.TaskLines.{IsGraph, IsParent}
 use Rattle.stream_lists.proofs.graph_base_lemmas.Registered.{registrations-phasers}
 use Rattle.stream_lists.specs.Jobs.{Job}
 use Rattle.stream_lists.proofs.SpansAbove.{parent-is}
-use Rattle.graph_runs.specs.Moments.{Moment, HasRun, HasNotPassed, IsChild, IsOver, IsRegistered, Joined, OnLine, OnPhaser, PutOn, TakenOn, limits_at}
+use Rattle.graph_runs.specs.Moments.{Moment, HasRun, HasNotPassed, IsChild, IsOver, IsRegistered, Joined, OnLine, limits_at}
 use Rattle.graph_runs.proofs.OnLines.{on_phaser}
 use Rattle.graph_runs.specs.Nexts.{first_kept, first_missing, has_left, has_registered, is_live, number_on, registrations_at}
 use Rattle.graph_runs.specs.Reached.{IsReachable}

@@ -1,5 +1,5 @@
 -- Where no wait was answered a value that is too big, no task has got one.
-use Rattle.std.proofs.Common.{◌≡◌, ℕ, ◌<◌, All, true, false, eqb, List, [], ◌∷◌, ℤ, length, take, drop, refl, subst}
+use Rattle.std.proofs.Common.{◌≡◌, ℕ, ◌<◌, All, true, false, eqb, List, [], ◌∷◌, ℤ, length, take, drop, refl}
 use Rattle.std.proofs.lemmas.Bool.{eqb-true}
 use Rattle.std.proofs.lemmas.List.Elements.{All-nil, All-append}
 use Rattle.phase_history.specs.phase_accum.declared.outcome.Outcome.{Outcome}

@@ -1,5 +1,5 @@
 -- Turns that tell no value out of range leave no wait that was answered one.
-use Rattle.std.proofs.Common.{◌≡◌, ◌≢◌, ℕ, zero, suc, ◌<◌, All, Bool, true, false, cond, eqb, List, [], ◌∷◌, ◌++◌, ℤ, Option, Some, None, length, take, drop, refl, sym, ap, subst, ◌∙◌}
+use Rattle.std.proofs.Common.{◌≡◌, ◌≢◌, ℕ, zero, suc, ◌<◌, All, Bool, true, false, cond, eqb, List, [], ◌∷◌, ◌++◌, ℤ, Option, Some, None, length, take, drop, refl, sym, ap, ◌∙◌}
 use Rattle.std.specs.List.{position_from}
 use Rattle.std.proofs.lemmas.Bool.{eqb-true, eq-eqb}
 use Rattle.phase_history.specs.phase_base.declared.mode.Mode.{Mode}

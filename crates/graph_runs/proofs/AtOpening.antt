@@ -30,7 +30,7 @@ use Rattle.graph_runs.proofs.OnLines.{on_phaser}
 use Rattle.graph_runs.specs.Openings.{PhaserOpened, TaskOpened}
 use Rattle.graph_runs.specs.Nexts.{registrations_at}
 use Rattle.graph_runs.specs.Beginnings.{mode_on, root_mode, root_number, number_after, with_root, roots_joined, offset_below, opening_offsets, opening}
-use Rattle.graph_runs.specs.Reached.{HasMode, HasModes, HasTaskMembers, IsOfTask, HasBegun}
+use Rattle.graph_runs.specs.Reached.{HasModes, HasTaskMembers, IsOfTask, HasBegun}
 use Rattle.graph_runs.proofs.Beginning.{Rooted, rooted, roots-later, opening_legal, only_roots, IsRoot, is_root}
 use Rattle.graph_runs.proofs.PlacesLemmas.{find-none, find-some, on_ends}
 use Rattle.graph_runs.proofs.Reaching.{one_registration, get_or-any}

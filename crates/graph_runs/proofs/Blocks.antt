@@ -28,7 +28,6 @@ use Rattle.phase_history.proofs.BlockAnswers.{block_answers_law}
 use Rattle.stream_lists.specs.graph_base.declared.line.Parent.{Parent}
 use Rattle.stream_lists.specs.graph_base.Graphs.{task_at, phaser_at}
 use Rattle.stream_lists.specs.graph_base.TaskLines.{IsGraph}
-use Rattle.stream_lists.specs.graph_base.declared.limits.TheConstants.{TASKS_MAX}
 use Rattle.stream_lists.specs.Jobs.{Job, samples_at}
 use Rattle.graph_runs.specs.Moments.{one, Moment, HasRun, TaskRan, AtMost, HasSamples, limits_at, value_at}
 use Rattle.graph_runs.specs.Moves.{MayBeginTo}

@@ -7,12 +7,12 @@ use Rattle.phase_history.specs.Histories.{members_of, done_of}
 use Rattle.stream_lists.specs.graph_base.declared.line.Kind.{Kind}
 use Rattle.stream_lists.specs.graph_base.declared.line.Kind.TheVariants.{Source, Fir, Split, Join, Peer, Sink}
 use Rattle.stream_lists.specs.graph_base.Graphs.{task_at}
-use Rattle.stream_lists.specs.graph_base.TaskLines.{IsGraph, HasEnds}
+use Rattle.stream_lists.specs.graph_base.TaskLines.{IsGraph}
 use Rattle.stream_lists.proofs.graph_base_lemmas.Registered.{registrations-phasers}
 use Rattle.stream_lists.specs.Jobs.{Job, samples_at}
 use Rattle.stream_lists.specs.Spans.{signalled_by, takes_from, puts_on, LooksAt}
 use Rattle.stream_lists.proofs.EachPhase.{find_none}
-use Rattle.graph_runs.specs.Moments.{Moment, TaskRan, HasEnded, HasTaken, HasExchanged, HasSamples, AtMost, MayStop, at_until, no_sample, no_input, RanOut, made_now, taken_now, first_input, input_at}
+use Rattle.graph_runs.specs.Moments.{Moment, TaskRan, HasEnded, HasTaken, HasSamples, AtMost, MayStop, at_until, no_sample, no_input, RanOut, made_now, taken_now, first_input, input_at}
 use Rattle.graph_runs.proofs.Entries.{prefix_whole}
 use Rattle.graph_runs.proofs.OutputLists.{length_made}
 use Rattle.graph_runs.proofs.StepsLemmas.{taken_count}

@@ -22,7 +22,7 @@ use Rattle.stream_lists.specs.graph_base.declared.line.Kind.TheVariants.{Source,
 use Rattle.stream_lists.specs.graph_base.declared.registration.Registration.{Registration}
 use Rattle.stream_lists.specs.graph_base.Graphs.{task_at}
 use Rattle.stream_lists.specs.graph_base.Registrations.{no_registration}
-use Rattle.stream_lists.specs.graph_base.TaskLines.{IsGraph, HasEnds, has_blocks}
+use Rattle.stream_lists.specs.graph_base.TaskLines.{IsGraph, has_blocks}
 use Rattle.stream_lists.specs.Jobs.{Job, samples_at, index_in}
 use Rattle.stream_lists.specs.Spans.{signalled_by, puts_on}
 use Rattle.graph_runs.specs.Moments.{Moment, HasRun, HasEnded, HasSamples, MayStop, at_until, no_sample, no_input, OnLine, limits_at, value_at, input_at, first_input, made_now}

@@ -17,7 +17,7 @@ use Rattle.stream_lists.specs.Jobs.{Job, index_in}
 use Rattle.stream_lists.specs.Spans.{signalled_by}
 use Rattle.stream_lists.proofs.graph_base_lemmas.Registered.{registrations-phasers}
 use Rattle.stream_lists.proofs.Ordered.{place-at}
-use Rattle.graph_runs.specs.Moments.{Moment, TaskRan, OnLine, OnPhaser, PutOn, TakenOn, SilentOn, IsChild, input_at, limits_at}
+use Rattle.graph_runs.specs.Moments.{Moment, TaskRan, OnLine, OnPhaser, IsChild, input_at, limits_at}
 use Rattle.graph_runs.proofs.OutputLists.{puts-few}
 use Rattle.graph_runs.proofs.Whole.{parent_of}
 use Rattle.graph_runs.specs.Moves.{SameTask, HasGrown, PartStays, Registers, RegistersNow}

@@ -8,7 +8,7 @@ use Rattle.stream_lists.specs.graph_base.declared.line.Kind.TheVariants.{Source,
 use Rattle.stream_lists.specs.graph_base.declared.registration.Registration.{Registration}
 use Rattle.stream_lists.specs.graph_base.Graphs.{task_at, phaser_at}
 use Rattle.stream_lists.specs.graph_base.Registrations.{as_input, as_output, as_exchange, exchange_mode, no_registration}
-use Rattle.stream_lists.specs.graph_base.TaskLines.{IsGraph, HasEnds}
+use Rattle.stream_lists.specs.graph_base.TaskLines.{IsGraph}
 use Rattle.stream_lists.proofs.graph_base_lemmas.Registered.{registrations-plain, length-registrations, end-input, end-output}
 use Rattle.stream_lists.specs.Jobs.{Job}
 use Rattle.stream_lists.specs.Spans.{signalled_by}

@@ -1,5 +1,5 @@
 -- The place of a peer after its wait on E.
-use Rattle.std.proofs.Common.{◌≡◌, ℕ, zero, suc, ◌+◌, ◌-◌, ◌<◌, ◌≤◌, true, false, cond, eqb, [], ◌∷◌, ◌++◌, Some, None, length, get_or, map, ℤ, pos, refl, sym, ap, subst, ◌∙◌, arith}
+use Rattle.std.proofs.Common.{◌≡◌, ℕ, zero, suc, ◌+◌, ◌-◌, ◌<◌, ◌≤◌, true, false, cond, eqb, [], ◌∷◌, ◌++◌, Some, None, length, get_or, map, ℤ, pos, refl, sym, ap, ◌∙◌, arith}
 use Rattle.std.specs.Prelude.{Result, ◌*ℤ◌, ◌-ℤ◌}
 use Rattle.std.proofs.lemmas.Bool.{leb-true, lt-leb, eq-eqb}
 use Rattle.std.proofs.lemmas.Option.{same_Some}
@@ -9,14 +9,13 @@ use Rattle.stream_lists.specs.stream_filters.Range.{ranged}
 use Rattle.stream_lists.specs.stream_filters.declared.fault.TooBigValue.{TooBigValue}
 use Rattle.phase_history.specs.declared.event.Event.TheVariants.{Waited}
 use Rattle.phase_history.specs.phase_accum.declared.outcome.Outcome.{Outcome}
-use Rattle.stream_lists.specs.graph_base.declared.line.Kind.{Kind}
 use Rattle.stream_lists.specs.graph_base.declared.line.Kind.TheVariants.{Peer}
 use Rattle.stream_lists.specs.graph_base.Graphs.{task_at}
 use Rattle.stream_lists.specs.graph_base.TaskLines.{IsGraph}
 use Rattle.stream_lists.specs.Jobs.{Job}
 use Rattle.stream_lists.specs.Spans.{signalled_by, puts_on}
 use Rattle.stream_lists.specs.Lists.{number, entry, mixed, mixed_at}
-use Rattle.graph_runs.specs.Moments.{Moment, HasRun, TaskRan, HasExchanged, made_now, taken_now}
+use Rattle.graph_runs.specs.Moments.{Moment, HasRun, TaskRan, made_now, taken_now}
 use Rattle.graph_runs.proofs.Tasks.{now_at}
 use Rattle.graph_runs.proofs.Turned.{exchange_wait_is}
 use Rattle.graph_runs.specs.TaskEvents.{IsNext, exchange_wait, after_turn}

@@ -1,5 +1,5 @@
 -- A value that a turn tells as out of range is so with all samples that continue the run.
-use Rattle.std.proofs.Common.{◌≡◌, ◌≢◌, ℕ, ℤ, ◌+◌, ◌<◌, ◌≤◌, ◌∷◌, [], ◌||◌, Bool, true, false, cond, List, Option, Some, None, length, take, drop, refl, sym, ap, subst, ◌∙◌, ◌⊎◌, inl, inr, arith}
+use Rattle.std.proofs.Common.{◌≡◌, ◌≢◌, ℕ, ℤ, ◌<◌, ◌≤◌, ◌∷◌, [], ◌||◌, Bool, true, false, cond, List, Option, Some, None, length, take, drop, refl, sym, ap, subst, ◌∙◌, ◌⊎◌, inl, inr, arith}
 use Rattle.phase_history.specs.phase_accum.declared.outcome.Outcome.{Outcome}
 use Rattle.phase_history.specs.declared.event.Event.TheVariants.{Waited}
 use Rattle.phase_history.specs.Histories.{has_dropped}
@@ -18,7 +18,7 @@ use Rattle.graph_runs.specs.Moves.{further}
 use Rattle.graph_runs.specs.Reached.{IsReachable}
 use Rattle.graph_runs.specs.Settled.{IsFaultAt, IsReady}
 use Rattle.graph_runs.specs.TaskEvents.{IsNext, TaskEvent, after_turn, child, child_now, exchange_wait, first_wait, leave, sample, signal}
-use Rattle.graph_runs.specs.Turned.{after_waits, with_at}
+use Rattle.graph_runs.specs.Turned.{after_waits}
 use Rattle.graph_runs.proofs.FedNexts.{MayBe, next_fed}
 use Rattle.graph_runs.proofs.FedRuns.{made_fed, reachable_fed, run_fed}
 use Rattle.graph_runs.proofs.OwnEvents.{eq_case}

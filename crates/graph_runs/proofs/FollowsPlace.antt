@@ -12,16 +12,15 @@ use Rattle.stream_lists.specs.graph_base.Graphs.{task_at}
 use Rattle.stream_lists.specs.graph_base.TaskLines.{IsGraph}
 use Rattle.stream_lists.specs.Jobs.{Job}
 use Rattle.stream_lists.specs.Lists.{number}
-use Rattle.stream_lists.specs.Spans.{signalled_by}
 use Rattle.graph_runs.specs.Moments.{Moment, TakenOn, OnLine, input_at}
-use Rattle.graph_runs.specs.Moves.{IsStaying, IsBlock}
+use Rattle.graph_runs.specs.Moves.{IsStaying}
 use Rattle.graph_runs.specs.Answers.{output_at}
 use Rattle.graph_runs.specs.Nexts.{waits_first}
 use Rattle.graph_runs.specs.TaskPlaces.{Owed, nothing, values, exchange, TaskPlace, StandsUpTo, registration_at, owed_after_wait, owed_after_signal, owed_after_exchange}
 use Rattle.graph_runs.proofs.Boundaries.{peer_ends}
 use Rattle.graph_runs.proofs.Calling.{waits_as_peer}
 use Rattle.graph_runs.proofs.Exchanging.{exchange_lacks, exchange_owes}
-use Rattle.graph_runs.proofs.FirstWaits.{FirstWait, LeavesOwed, wait_leaves}
+use Rattle.graph_runs.proofs.FirstWaits.{FirstWait, wait_leaves}
 use Rattle.graph_runs.proofs.Following.{Lacks, next_up_to, KeepsPlaces, PutsAll, GetsAll, stays_at, stays_same}
 use Rattle.graph_runs.proofs.Lacking.{first_none}
 use Rattle.graph_runs.proofs.PlacesLemmas.{place_of_output}

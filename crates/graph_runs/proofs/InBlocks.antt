@@ -1,5 +1,5 @@
 -- The moment after an event of several phases has what every moment has.
-use Rattle.std.proofs.Common.{◌≡◌, ◌≢◌, ℕ, ◌+◌, ◌<◌, ◌≤◌, List, [], ◌∷◌, ◌++◌, ℤ, length, map, take, drop, refl, sym, ap, subst, ◌∙◌, arith, inl, inr}
+use Rattle.std.proofs.Common.{◌≡◌, ◌≢◌, ℕ, ◌+◌, ◌<◌, ◌≤◌, List, [], ◌∷◌, ◌++◌, ℤ, length, map, take, drop, refl, sym, ap, ◌∙◌, arith, inl, inr}
 use mathlib.Core.List.{IsPrefix}
 use Rattle.std.proofs.lemmas.List.{append-nil, length-append, take-append-drop, take-take, drop-take}
 use Rattle.phase_history.specs.phase_accum.declared.outcome.Outcome.{Outcome}
@@ -12,7 +12,7 @@ use Rattle.stream_lists.specs.Jobs.{Job, samples_at}
 use Rattle.stream_lists.specs.Spans.{signalled_by}
 use Rattle.stream_lists.specs.Lists.{output_list, number}
 use Rattle.stream_lists.proofs.Ordered.{place-at}
-use Rattle.graph_runs.specs.Moments.{one, Moment, HasRun, TaskRan, HasExchanged, HasSamples, made_now, taken_now}
+use Rattle.graph_runs.specs.Moments.{one, Moment, HasRun, TaskRan, made_now, taken_now}
 use Rattle.graph_runs.specs.Moves.{further, SignalsAll, WaitsAll, HasMoved}
 use Rattle.graph_runs.specs.Turned.{with_at, after_signals, after_waits, IsAcceptedSignals, IsNextSignals, IsNextSamples, IsAnsweredWaits, IsFirstWaits}
 use Rattle.graph_runs.proofs.Entries.{take_full, prefix_whole}

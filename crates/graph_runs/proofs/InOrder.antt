@@ -1,5 +1,5 @@
 -- What a task owes where its turn makes an event.
-use Rattle.std.proofs.Common.{◌≡◌, ℕ, ◌+◌, ◌≤◌, Bool, true, false, ◌||◌, cond, Option, Some, None, length, refl, subst}
+use Rattle.std.proofs.Common.{◌≡◌, ℕ, ◌+◌, ◌≤◌, Bool, true, false, ◌||◌, cond, Option, Some, None, length, refl}
 use Rattle.std.specs.Prelude.{slice_range}
 use Rattle.phase_history.specs.Histories.{greatest_used}
 use Rattle.phase_history.specs.Phases.{stream_of}

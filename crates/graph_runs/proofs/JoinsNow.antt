@@ -18,16 +18,15 @@ use Rattle.phase_history.proofs.LawProofs.{above_law}
 use Rattle.phase_history.proofs.Left.{received_law}
 use Rattle.phase_history.proofs.Refused.{registers_from}
 use Rattle.phase_history.proofs.Used.{start_used, start_from, start_of-longer}
-use Rattle.stream_lists.specs.graph_base.declared.line.Kind.{Kind}
 use Rattle.stream_lists.specs.graph_base.declared.line.Kind.TheVariants.{Sink}
 use Rattle.stream_lists.specs.graph_base.declared.line.Parent.{Parent}
 use Rattle.stream_lists.specs.graph_base.Graphs.{task_at, phaser_at}
-use Rattle.stream_lists.specs.graph_base.TaskLines.{IsGraph, IsParent, HasEnds, has_children}
+use Rattle.stream_lists.specs.graph_base.TaskLines.{IsGraph, IsParent, has_children}
 use Rattle.stream_lists.specs.Jobs.{Job, index_in}
 use Rattle.stream_lists.specs.Spans.{signalled_by, takes_from}
 use Rattle.stream_lists.specs.Lists.{number}
 use Rattle.stream_lists.proofs.Ordered.{parent_waits}
-use Rattle.graph_runs.specs.Moments.{Moment, HasRun, PhaserRan, TaskRan, input_at, limits_at, value_at, numbers_on, IsRegistered, OnInput, OnPhaser, TakenOn, SilentOn, OnLine, Joined, AtMost, HasTaken}
+use Rattle.graph_runs.specs.Moments.{Moment, HasRun, PhaserRan, TaskRan, input_at, limits_at, value_at, numbers_on, IsRegistered, OnInput, OnPhaser, TakenOn, SilentOn, OnLine, Joined, AtMost}
 use Rattle.graph_runs.proofs.Numbers.{in_numbers, from_numbers}
 use Rattle.graph_runs.proofs.OnLines.{on_phaser}
 use Rattle.graph_runs.proofs.Whole.{parent_of}

@@ -14,7 +14,6 @@ use Rattle.phase_history.proofs.OthersEvents.{IsBeginning-others}
 use Rattle.phase_history.proofs.Sendings.{IsSilent-unused}
 use Rattle.phase_history.proofs.Signallers.{quiet_from}
 use Rattle.phase_history.proofs.Used.{IsUsed-longer, events_of-unused}
-use Rattle.phase_history.specs.Legal.{IsLegal}
 use Rattle.stream_lists.specs.graph_base.Graphs.{phaser_at}
 use Rattle.stream_lists.specs.graph_base.TaskLines.{IsGraph}
 use Rattle.stream_lists.specs.Jobs.{Job}

@@ -1,7 +1,6 @@
 -- At the opening a moment has what every moment has.
-use Rattle.std.proofs.Common.{◌≡◌, ◌≢◌, ℕ, zero, suc, ◌+◌, ◌-◌, ◌*◌, ◌/◌, ◌<◌, ◌≤◌, Bool, true, false, cond, eqb, List, [], ◌∷◌, Option, Some, None, ℤ, length, map, refl, sym, ap, subst, ◌∙◌, arith, inl, inr}
+use Rattle.std.proofs.Common.{◌≡◌, ◌≢◌, ℕ, zero, suc, ◌+◌, ◌-◌, ◌*◌, ◌/◌, ◌<◌, ◌≤◌, Bool, true, false, cond, eqb, List, [], ◌∷◌, Option, Some, None, ℤ, length, map, refl, sym, ap, ◌∙◌, arith, inl, inr}
 use Rattle.std.specs.Prelude.{is_some}
-use mathlib.Core.List.{IsPrefix}
 use Rattle.std.proofs.lemmas.Bool.{ne_eqb}
 use Rattle.std.proofs.lemmas.Option.{same_Some}
 use Rattle.std.proofs.lemmas.Nat.{div_below}
@@ -27,7 +26,7 @@ use Rattle.stream_lists.specs.graph_base.TaskLines.{IsGraph}
 use Rattle.stream_lists.specs.Jobs.{Job, samples_at, index_in}
 use Rattle.stream_lists.specs.Spans.{signalled_by, turns_below}
 use Rattle.stream_lists.specs.Lists.{number}
-use Rattle.graph_runs.specs.Moments.{one, Moment, HasRun, PhaserRan, TaskRan, made_now, input_at, limits_at, value_at, OnPhaser, PutOn, TakenOn, SilentOn, OnLine, IsChild, Joined, AtMost, HasTaken, HasSamples, HasExchanged}
+use Rattle.graph_runs.specs.Moments.{one, Moment, HasRun, PhaserRan, TaskRan, made_now, input_at, limits_at, value_at, OnPhaser, TakenOn, OnLine, IsChild, AtMost, HasTaken, HasSamples, HasExchanged}
 use Rattle.graph_runs.specs.Openings.{IsOpening, PhaserOpened, TaskOpened, HasOpened}
 use Rattle.graph_runs.proofs.OnLines.{on_phaser}
 use Rattle.graph_runs.proofs.Framed.{ListsRan}

@@ -1,5 +1,5 @@
 -- What a task's own calls were stays under others' events, and goes on by its own.
-use Rattle.std.proofs.Common.{◌≡◌, ◌≢◌, ℕ, Bool, true, false, cond, eqb, ◌||◌, List, [], ◌∷◌, Option, Some, length, ℤ, refl, sym, ap, subst, ◌∙◌, ◌⊎◌, inl, inr, All}
+use Rattle.std.proofs.Common.{◌≡◌, ◌≢◌, ℕ, Bool, true, false, cond, eqb, ◌||◌, List, [], ◌∷◌, Option, Some, length, ℤ, refl, sym, ap, ◌∙◌, ◌⊎◌, inl, inr, All}
 use Rattle.std.proofs.lemmas.Bool.{eq-eqb, eqb-true}
 use Rattle.std.proofs.lemmas.List.{append-nil}
 use Rattle.std.proofs.lemmas.List.Elements.{All-nil, All-append}

@@ -15,7 +15,7 @@ use Rattle.phase_history.specs.declared.event.Event.TheVariants.{Signalled, Wait
 use Rattle.phase_history.specs.phase_accum.declared.outcome.Outcome.{Outcome}
 use Rattle.stream_lists.specs.graph_base.declared.line.Parent.{Parent}
 use Rattle.stream_lists.specs.graph_base.Graphs.{task_at, Task, phaser_at}
-use Rattle.stream_lists.specs.graph_base.TaskLines.{IsGraph, IsTaskLine, HasEnds}
+use Rattle.stream_lists.specs.graph_base.TaskLines.{IsGraph, IsTaskLine}
 use Rattle.stream_lists.specs.Jobs.{Job, samples_at, index_in}
 use Rattle.stream_lists.specs.Lists.{output_list, number}
 use Rattle.stream_lists.specs.Spans.{signalled_by}
@@ -24,7 +24,7 @@ use Rattle.stream_lists.specs.graph_base.declared.line.Kind.TheVariants.{Source,
 use Rattle.stream_lists.proofs.Growing.{map-same}
 use Rattle.stream_lists.proofs.SpansAbove.{parent-is}
 use Rattle.stream_lists.proofs.Ordered.{place-at, place_of_input}
-use Rattle.graph_runs.specs.Moments.{Moment, BeginsBy, taken_now, made_now, IsRegistered, Joined, one, input_at, value_at, TaskRan, OnOutput, OnInput, OnPhaser, TakenOn, IsChild, HasEnded, PutOn, SilentOn, OnLine, HasNotPassed, AtMost, HasTaken, HasSamples, HasExchanged, first_input}
+use Rattle.graph_runs.specs.Moments.{Moment, BeginsBy, taken_now, made_now, IsRegistered, Joined, one, input_at, value_at, TaskRan, OnOutput, OnInput, OnPhaser, TakenOn, IsChild, HasEnded, OnLine, HasNotPassed, AtMost, HasTaken, HasSamples, HasExchanged, first_input}
 use Rattle.graph_runs.specs.Moves.{HasMoved, further, MayBeginTo, SignalsAll, Signals, IsBlock, WaitsAll, Waits}
 use Rattle.graph_runs.proofs.StepsLemmas.{no_inputs}
 use Rattle.graph_runs.proofs.Entries.{IsPrefix-refl, prefix_length}

@@ -1,17 +1,15 @@
 -- A task's own leaving keeps what a moment has of it.
-use Rattle.std.proofs.Common.{◌≡◌, ◌≢◌, ℕ, ◌<◌, ◌≤◌, Option, Some, None, length, map, refl, sym, ap, subst, ◌∙◌, arith, ◌⊎◌, inl, inr}
-use Rattle.phase_history.specs.declared.event.Event.{Event}
+use Rattle.std.proofs.Common.{◌≡◌, ◌≢◌, ℕ, ◌<◌, ◌≤◌, Some, None, length, map, refl, sym, ap, ◌∙◌, arith, ◌⊎◌, inl, inr}
 use Rattle.phase_history.specs.declared.event.Event.TheVariants.{Dropped}
-use Rattle.phase_history.specs.Histories.{has_dropped, start_of}
+use Rattle.phase_history.specs.Histories.{has_dropped}
 use Rattle.phase_history.specs.Phases.{received_by}
 use Rattle.phase_history.specs.Sent.{sent_by, IsSilent}
 use Rattle.stream_lists.specs.graph_base.declared.line.Parent.{Parent}
 use Rattle.stream_lists.specs.graph_base.Graphs.{task_at}
 use Rattle.stream_lists.specs.graph_base.TaskLines.{IsGraph}
-use Rattle.stream_lists.specs.Jobs.{Job, index_in}
-use Rattle.stream_lists.specs.Spans.{signalled_by}
+use Rattle.stream_lists.specs.Jobs.{Job}
 use Rattle.stream_lists.specs.Lists.{number}
-use Rattle.graph_runs.specs.Moments.{one, Moment, input_at, value_at, TaskRan, HasEnded, OnOutput, OnInput, OnPhaser, PutOn, TakenOn, SilentOn, OnLine, HasNotPassed}
+use Rattle.graph_runs.specs.Moments.{one, Moment, input_at, value_at, TaskRan, HasEnded, OnLine, HasNotPassed}
 use Rattle.graph_runs.specs.Moves.{HasGrown, Leaves}
 use Rattle.graph_runs.proofs.Framed.{ListsRan, lists_later, ended_later}
 use Rattle.graph_runs.proofs.OwnEvents.{outputs_later, inputs_later, eq_case, history_by, joined_later}

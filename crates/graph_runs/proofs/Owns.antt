@@ -13,7 +13,7 @@ use Rattle.stream_lists.specs.graph_base.Registrations.{no_registration}
 use Rattle.stream_lists.specs.graph_base.TaskLines.{IsGraph, HasEnds}
 use Rattle.stream_lists.proofs.graph_base_lemmas.Registered.{registrations-phasers}
 use Rattle.stream_lists.specs.Jobs.{Job}
-use Rattle.graph_runs.specs.Moments.{Moment, TaskRan, OnLine, OnPhaser, PutOn, TakenOn, OnOutput, OnInput}
+use Rattle.graph_runs.specs.Moments.{Moment, TaskRan, OnLine, PutOn, TakenOn, OnOutput, OnInput}
 use Rattle.graph_runs.proofs.OnLines.{on_phaser}
 use Rattle.graph_runs.specs.Parts.{HasPart}
 use Rattle.graph_runs.specs.Nexts.{registrations_at}

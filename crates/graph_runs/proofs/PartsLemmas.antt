@@ -1,5 +1,5 @@
 -- A part stays one under others' events, and goes on by the task's own.
-use Rattle.std.proofs.Common.{◌≡◌, ◌≢◌, ℕ, ◌+◌, ◌<◌, ◌≤◌, true, false, eqb, List, [], ◌∷◌, ◌++◌, Option, Some, Ok, ℤ, length, refl, sym, ap, subst, ◌∙◌, arith, ◌⊎◌, inl, inr}
+use Rattle.std.proofs.Common.{◌≡◌, ◌≢◌, ℕ, ◌+◌, ◌<◌, true, false, eqb, List, [], ◌∷◌, ◌++◌, Some, Ok, ℤ, length, refl, sym, ap, subst, ◌∙◌, arith, ◌⊎◌, inl, inr}
 use Rattle.std.specs.Prelude.{is_some}
 use Rattle.std.proofs.lemmas.Bool.{ne_eqb, eq-eqb}
 use Rattle.std.proofs.lemmas.List.{length-map}
@@ -9,7 +9,7 @@ use Rattle.phase_history.specs.declared.event.Event.TheVariants.{Waited, Dropped
 use Rattle.phase_history.specs.phase_base.declared.entry.Entry.{Entry}
 use Rattle.phase_history.specs.phase_base.Members.{entry_of}
 use Rattle.phase_history.specs.declared.got.Got.TheVariants.{Ended}
-use Rattle.phase_history.specs.Histories.{History, IsBeginning, HasNoSignaller, has_dropped, start_of, members_of, done_of, wait_phase, phases_waited}
+use Rattle.phase_history.specs.Histories.{History, IsBeginning, HasNoSignaller, has_dropped, start_of, members_of, wait_phase, phases_waited}
 use Rattle.phase_history.specs.Replies.{wait_reply}
 use Rattle.phase_history.specs.Laws.{HasCounted}
 use Rattle.phase_history.proofs.Alive.{alive_law}
@@ -24,7 +24,7 @@ use Rattle.phase_history.specs.Legal.{IsLegal, IsAccepted}
 use Rattle.stream_lists.specs.graph_base.Graphs.{task_at}
 use Rattle.stream_lists.specs.graph_base.TaskLines.{IsGraph}
 use Rattle.stream_lists.specs.Jobs.{Job}
-use Rattle.graph_runs.specs.Moments.{Moment, TaskRan, OnLine, OnInput, TakenOn, RanOut, HasEnded, limits_at, value_at, input_at}
+use Rattle.graph_runs.specs.Moments.{Moment, TaskRan, OnLine, OnInput, RanOut, HasEnded, limits_at, value_at, input_at}
 use Rattle.graph_runs.specs.Moves.{further, SameTask, HasGrown, OthersMoved, PartStays, IsStaying, MayBeginTo, HasMoved, SignalsAll, WaitsAll, NoneDue}
 use Rattle.graph_runs.specs.Turned.{with_at, after_signals, after_waits, after_leave}
 use Rattle.graph_runs.proofs.Framed.{part_came, task_later, ended_later}

@@ -1,5 +1,5 @@
 -- A phaser whose members are settled composes its list.
-use Rattle.std.proofs.Common.{◌≡◌, ℕ, ◌<◌, ◌≤◌, Bool, true, false, ◌||◌, cond, eqb, List, [], ◌∷◌, Option, Some, None, ℤ, length, get_or, refl, sym, ap, subst, ◌∙◌, arith}
+use Rattle.std.proofs.Common.{◌≡◌, ℕ, ◌<◌, ◌≤◌, Bool, true, false, ◌||◌, cond, eqb, List, [], ◌∷◌, Option, Some, None, ℤ, length, refl, sym, ap, ◌∙◌, arith}
 use Rattle.std.specs.List.{range_with_len}
 use Rattle.std.proofs.lemmas.Bool.{eq-eqb}
 use Rattle.phase_history.specs.phase_accum.Values.{applied}
@@ -12,7 +12,7 @@ use Rattle.phase_history.proofs.Sendings.{single_of_phase-all}
 use Rattle.stream_lists.specs.graph_base.Graphs.{task_at, phaser_at}
 use Rattle.stream_lists.specs.graph_base.TaskLines.{IsGraph}
 use Rattle.stream_lists.specs.Jobs.{Job, index_in}
-use Rattle.stream_lists.specs.Spans.{signalled_by, lengths_of, greatest, span_in, schedule_of}
+use Rattle.stream_lists.specs.Spans.{signalled_by, greatest, span_in, schedule_of}
 use Rattle.stream_lists.specs.Lists.{Contribution, contributions_on, contribution_at, contribution_by, phase_in, numbers_of, output_on, ends_on}
 use Rattle.stream_lists.proofs.ListLengths.{lengths_end}
 use Rattle.graph_runs.specs.Moments.{Moment, numbers_on, limits_at, value_at, PhaserRan, OnOutput}

@@ -1,5 +1,5 @@
 -- The places of the tasks after a turn's event.
-use Rattle.std.proofs.Common.{◌≡◌, ◌≢◌, ℕ, suc, ◌+◌, ◌<◌, ◌≤◌, true, eqb, ◌∷◌, Some, None, length, map, slice_get, refl, sym, ap, subst, ◌∙◌, arith, ◌⊎◌, inl, inr}
+use Rattle.std.proofs.Common.{◌≡◌, ◌≢◌, ℕ, suc, ◌+◌, ◌<◌, ◌≤◌, true, eqb, ◌∷◌, Some, None, length, map, slice_get, refl, sym, ap, ◌∙◌, arith, ◌⊎◌, inl, inr}
 use Rattle.std.specs.Prelude.{nat_lt, unwrap_or}
 use Rattle.std.proofs.lemmas.Bool.{eq-eqb, cases_lt, le-ltb, lt-ltb}
 use Rattle.std.proofs.lemmas.Option.{same_Some, slice_get-get_or, slice_get_past}

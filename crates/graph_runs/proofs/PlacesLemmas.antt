@@ -1,12 +1,12 @@
 -- Where the phasers of a line stand among its outputs and among its registrations.
-use Rattle.std.proofs.Common.{◌≡◌, ℕ, zero, suc, ◌+◌, ◌-◌, ◌<◌, ◌≤◌, Bool, true, false, not, cond, List, [], ◌∷◌, ◌++◌, Option, Some, None, is_some, length, map, get_or, refl, sym, ap, subst, ◌∙◌, arith, inl, inr, eqb}
+use Rattle.std.proofs.Common.{◌≡◌, ℕ, zero, suc, ◌+◌, ◌-◌, ◌<◌, ◌≤◌, Bool, true, false, not, cond, List, [], ◌∷◌, ◌++◌, Option, Some, None, is_some, length, map, get_or, refl, sym, ap, ◌∙◌, arith, inl, inr, eqb}
 use Rattle.std.specs.Prelude.{unwrap_or}
 use Rattle.std.specs.List.{find, list_any}
 use Rattle.std.proofs.lemmas.Bool.{and_parts}
 use Rattle.std.proofs.lemmas.Option.{same_Some}
 use Rattle.std.proofs.lemmas.List.{append-nil, length-map, get_or-map, length-append, get_or-append_right, get_or_append_left}
 use Rattle.stream_lists.specs.graph_base.Graphs.{Graph, Task, task_at}
-use Rattle.stream_lists.specs.graph_base.TaskLines.{IsTaskLine, HasEnds}
+use Rattle.stream_lists.specs.graph_base.TaskLines.{IsTaskLine}
 use Rattle.phase_history.specs.phase_base.Lists.{is_distinct}
 use Rattle.stream_lists.specs.graph_base.Registrations.{no_registration}
 use Rattle.stream_lists.specs.graph_base.declared.line.Kind.{Kind}

@@ -25,7 +25,6 @@ use Rattle.phase_history.specs.Sent.{NamesAll}
 use Rattle.phase_history.proofs.Steps.{member_entry_is}
 use Rattle.stream_lists.specs.graph_base.Graphs.{phaser_at}
 use Rattle.stream_lists.specs.graph_base.TaskLines.{IsGraph}
-use Rattle.stream_lists.specs.graph_base.declared.limits.TheConstants.{TASKS_MAX}
 use Rattle.stream_lists.specs.Jobs.{Job}
 use Rattle.graph_runs.specs.Moments.{Moment, HasRun, limits_at}
 use Rattle.graph_runs.specs.Nexts.{has_signaller}

@@ -13,7 +13,7 @@ use Rattle.phase_history.specs.Histories.{members_of, member_entry, signal_phase
 use Rattle.phase_history.specs.Phases.{stream_of, received_by, value_of_phase}
 use Rattle.phase_history.specs.Laws.{HasCounted, HasReceivedFrom}
 use Rattle.phase_history.specs.Legal.{IsLegal}
-use Rattle.phase_history.specs.Sent.{sent_by, IsSilent}
+use Rattle.phase_history.specs.Sent.{IsSilent}
 use Rattle.phase_history.proofs.LawProofs.{counted_of}
 use Rattle.phase_history.proofs.Left.{received_law}
 use Rattle.phase_history.proofs.Refused.{Registers as MayRegister, registers_from}

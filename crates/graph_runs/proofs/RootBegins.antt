@@ -21,7 +21,6 @@ use Rattle.phase_history.proofs.Refused.{Registers as MayRegister, registers_fro
 use Rattle.phase_history.proofs.Sendings.{length-sent_by}
 use Rattle.phase_history.proofs.Steps.{member_entry_is}
 use Rattle.phase_history.proofs.Used.{start_of-longer}
-use Rattle.stream_lists.specs.graph_base.declared.line.Parent.{Parent}
 use Rattle.stream_lists.specs.graph_base.Graphs.{task_at}
 use Rattle.stream_lists.specs.graph_base.Registrations.{no_registration}
 use Rattle.stream_lists.specs.graph_base.TaskLines.{IsGraph}
@@ -29,7 +28,7 @@ use Rattle.stream_lists.specs.Jobs.{Job, index_in}
 use Rattle.stream_lists.specs.Spans.{signalled_by}
 use Rattle.stream_lists.specs.Lists.{number}
 use Rattle.stream_lists.proofs.Ordered.{place-at}
-use Rattle.graph_runs.specs.Moments.{Moment, TaskRan, OnLine, OnOutput, OnInput, OnPhaser, PutOn, TakenOn, SilentOn, HasNotPassed, Joined, input_at, limits_at, value_at}
+use Rattle.graph_runs.specs.Moments.{Moment, TaskRan, OnLine, OnOutput, OnInput, OnPhaser, TakenOn, HasNotPassed, input_at, limits_at, value_at}
 use Rattle.graph_runs.proofs.Framed.{ListsRan}
 use Rattle.graph_runs.proofs.Opened.{nothing_ran}
 use Rattle.graph_runs.specs.Beginnings.{opening}

@@ -22,7 +22,7 @@ use Rattle.stream_lists.proofs.graph_base_lemmas.Registered.{registrations-phase
 use Rattle.stream_lists.specs.Jobs.{Job, index_in}
 use Rattle.stream_lists.specs.Spans.{signalled_by}
 use Rattle.stream_lists.specs.Ranges.{are_made, is_out_of_range}
-use Rattle.graph_runs.specs.Moments.{one, Moment, HasRun, TaskRan, HasEnded, HasExchanged, OnLine, OnPhaser, PutOn, TakenOn, OnOutput, OnInput, limits_at, made_now}
+use Rattle.graph_runs.specs.Moments.{one, Moment, HasRun, TaskRan, HasEnded, HasExchanged, OnLine, PutOn, TakenOn, OnOutput, OnInput, limits_at, made_now}
 use Rattle.graph_runs.proofs.OnLines.{on_phaser}
 use Rattle.graph_runs.specs.Moves.{IsStaying}
 use Rattle.graph_runs.specs.TaskEvents.{TaskEvent, IsNext, signal}

@@ -1,9 +1,8 @@
 -- The phases at which the spans of sinks that join now begin, over a job that starts them where
 -- they do at a moment at which the run is over.
-use Rattle.std.proofs.Common.{◌≡◌, ℕ, suc, ◌+◌, ◌<◌, ◌≤◌, Bool, true, false, Option, Some, None, length, get_or, refl, sym, ap, subst, ◌∙◌, arith}
+use Rattle.std.proofs.Common.{◌≡◌, ℕ, suc, ◌<◌, ◌≤◌, Bool, true, false, Option, Some, None, length, get_or, refl, sym, ap, subst, ◌∙◌, arith}
 use Rattle.std.proofs.lemmas.Option.{same_Some}
 use Rattle.phase_history.specs.Laws.{HasReceivedFrom}
-use Rattle.phase_history.specs.Histories.{done_of, phases_waited}
 use Rattle.phase_history.proofs.Left.{received_law}
 use Rattle.stream_lists.specs.graph_base.declared.line.Kind.{Kind}
 use Rattle.stream_lists.specs.graph_base.Graphs.{task_at}
@@ -11,7 +10,7 @@ use Rattle.stream_lists.specs.graph_base.TaskLines.{IsGraph, HasEnds}
 use Rattle.stream_lists.specs.Jobs.{Job}
 use Rattle.stream_lists.specs.Spans.{lengths_of, span_in}
 use Rattle.stream_lists.specs.Lists.{start_in}
-use Rattle.graph_runs.specs.Moments.{Moment, HasRun, IsOver, OnInput, TakenOn, input_at, limits_at, value_at}
+use Rattle.graph_runs.specs.Moments.{Moment, HasRun, IsOver, OnInput, input_at, limits_at, value_at}
 use Rattle.graph_runs.specs.Settled.{Stands}
 use Rattle.graph_runs.proofs.Results.{came_in}
 use Rattle.graph_runs.proofs.Started.{IsReadyAt}

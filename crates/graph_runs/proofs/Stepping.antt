@@ -25,7 +25,6 @@ use Rattle.graph_runs.specs.TaskPlaces.{Owed, nothing, values, exchange, Owes, O
 use Rattle.stream_lists.specs.stream_filters.Range.{ranged}
 use Rattle.stream_lists.specs.stream_filters.declared.fault.TooBigValue.{TooBigValue}
 use Rattle.phase_history.specs.phase_base.Modes.{mode_signals, mode_waits}
-use Rattle.phase_history.specs.phase_base.declared.mode.Mode.{Mode}
 use Rattle.phase_history.specs.phase_base.declared.entry.Entry.{Entry}
 use Rattle.phase_history.specs.phase_base.Members.{entry_of}
 use Rattle.phase_history.specs.Histories.{members_of, IsAlive}

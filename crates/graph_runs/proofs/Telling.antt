@@ -1,5 +1,5 @@
 -- Each row of the table of turns, and so each turn, has an answer of the table.
-use Rattle.std.proofs.Common.{◌≡◌, ℕ, zero, suc, ◌+◌, ◌-◌, ◌<◌, ◌≤◌, Bool, true, false, not, ◌&&◌, ◌||◌, cond, Option, Some, None, is_some, length, drop, get_or, pos, refl, sym, ap, subst, ◌∙◌, arith, ◌⊎◌, inl, inr}
+use Rattle.std.proofs.Common.{◌≡◌, ℕ, zero, suc, ◌+◌, ◌-◌, ◌<◌, ◌≤◌, Bool, true, false, not, ◌&&◌, ◌||◌, cond, Option, Some, None, is_some, length, drop, get_or, pos, refl, sym, ap, ◌∙◌, arith, ◌⊎◌, inl, inr}
 use Rattle.std.specs.Prelude.{nat_le, nat_lt, min, slice_range}
 use Rattle.std.proofs.lemmas.List.{length-take, length-take-le, length-drop}
 use Rattle.std.specs.List.{find, range_with_len}
@@ -17,7 +17,7 @@ use Rattle.stream_lists.specs.graph_base.TaskLines.{IsGraph}
 use Rattle.stream_lists.specs.Jobs.{Job, samples_at, index_in}
 use Rattle.stream_lists.specs.Spans.{signalled_by, puts_on}
 use Rattle.stream_lists.specs.Ranges.{is_out_of_range}
-use Rattle.graph_runs.specs.Moments.{Moment, TaskRan, HasTaken, OnLine, limits_at, value_at, input_at, first_input, made_now}
+use Rattle.graph_runs.specs.Moments.{Moment, TaskRan, OnLine, limits_at, value_at, input_at, first_input, made_now}
 use Rattle.graph_runs.proofs.OnLines.{on_phaser}
 use Rattle.graph_runs.proofs.Tasks.{first_looks}
 use Rattle.graph_runs.specs.TaskEvents.{sample, signal, first_wait, exchange_wait}

@@ -1,6 +1,6 @@
 -- What is too big: a value that a task met, or a value that it made, is one that the definitions
 -- have out of range. Where none was met at the end, all fit.
-use Rattle.std.proofs.Common.{◌≡◌, ◌≢◌, ℕ, zero, suc, ◌+◌, ◌-◌, ◌<◌, ◌≤◌, true, false, ◌&&◌, leb, List, [], ◌∷◌, Option, Some, None, ℤ, pos, length, map, get_or, take, drop, refl, sym, ap, subst, ◌∙◌, arith}
+use Rattle.std.proofs.Common.{◌≡◌, ◌≢◌, ℕ, zero, suc, ◌+◌, ◌-◌, ◌<◌, ◌≤◌, true, false, ◌&&◌, leb, List, [], ◌∷◌, Option, Some, None, ℤ, pos, length, map, get_or, take, drop, refl, sym, ap, ◌∙◌, arith}
 use Rattle.std.specs.Prelude.{slice_range, Ok}
 use Rattle.std.specs.List.{range_with_len}
 use mathlib.Core.List.{IsPrefix}
@@ -21,13 +21,13 @@ use Rattle.phase_history.proofs.Sendable.{sent_are_lists}
 use Rattle.stream_lists.specs.graph_base.declared.line.Kind.{Kind}
 use Rattle.stream_lists.specs.graph_base.declared.line.Kind.TheVariants.{Source, Fir, Split, Join, Peer, Sink}
 use Rattle.stream_lists.specs.graph_base.Graphs.{task_at, phaser_at}
-use Rattle.stream_lists.specs.graph_base.TaskLines.{IsGraph, IsTaskLine, HasEnds}
+use Rattle.stream_lists.specs.graph_base.TaskLines.{IsGraph, IsTaskLine}
 use Rattle.stream_lists.specs.Jobs.{Job, samples_at, index_in}
-use Rattle.stream_lists.specs.Spans.{lengths_of, span_in, takes_from, signalled_by, puts_on, LooksAt, schedule_of}
+use Rattle.stream_lists.specs.Spans.{span_in, takes_from, signalled_by, puts_on, LooksAt, schedule_of}
 use Rattle.stream_lists.specs.Lists.{contributions_on, sends_in, numbers_of, output_on, phase_in, sinks_of, number}
 use Rattle.stream_lists.specs.Ranges.{Where, is_out_of_range, are_made, takes_phase, task_takes, is_taken, is_too_big, first_too_big, Fits, answer_of}
 use Rattle.stream_lists.proofs.Ordered.{place-at, place_of_input}
-use Rattle.graph_runs.specs.Moments.{one, Moment, HasRun, TaskRan, HasEnded, IsRegistered, IsOver, OnOutput, OnInput, OnPhaser, PutOn, TakenOn, HasMetNone, input_at, taken_now, made_now, limits_at, value_at, HasExchanged}
+use Rattle.graph_runs.specs.Moments.{one, Moment, HasRun, TaskRan, HasEnded, IsRegistered, IsOver, OnOutput, OnInput, HasMetNone, input_at, taken_now, made_now, limits_at, value_at, HasExchanged}
 use Rattle.stream_lists.specs.graph_base.declared.place.Place.TheVariants as place
 use Rattle.graph_runs.specs.Settled.{Stands, PutsOut, IsFaultAt, IsThere}
 use Rattle.graph_runs.proofs.Composed.{Composes}

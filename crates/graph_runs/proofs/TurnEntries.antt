@@ -23,7 +23,7 @@ use Rattle.stream_lists.specs.graph_base.Registrations.{no_registration}
 use Rattle.stream_lists.specs.Jobs.{Job, index_in}
 use Rattle.stream_lists.specs.Spans.{signalled_by}
 use Rattle.stream_lists.specs.Lists.{number}
-use Rattle.graph_runs.specs.Moments.{one, Moment, HasRun, TaskRan, OnPhaser, PutOn, TakenOn, OnOutput, OnInput, SilentOn, limits_at, value_at, input_at, numbers_on}
+use Rattle.graph_runs.specs.Moments.{one, Moment, HasRun, TaskRan, PutOn, TakenOn, OnOutput, OnInput, SilentOn, limits_at, value_at, input_at, numbers_on}
 use Rattle.graph_runs.proofs.Numbers.{from_numbers, numbers_distinct}
 use Rattle.graph_runs.specs.Nexts.{registrations_at}
 use Rattle.graph_runs.specs.Reached.{IsReachable}

@@ -1,5 +1,5 @@
 -- The moment after one event has what every moment has.
-use Rattle.std.proofs.Common.{◌≡◌, ◌≢◌, ℕ, suc, ◌+◌, ◌<◌, ◌≤◌, true, false, eqb, List, [], ◌∷◌, ◌++◌, Some, ℤ, pos, length, get_or, take, refl, sym, ap, subst, ◌∙◌, arith, ◌⊎◌, inl, inr}
+use Rattle.std.proofs.Common.{◌≡◌, ◌≢◌, ℕ, suc, ◌+◌, ◌<◌, ◌≤◌, true, false, eqb, List, [], ◌∷◌, ◌++◌, Some, ℤ, pos, length, get_or, take, refl, sym, ap, ◌∙◌, arith, ◌⊎◌, inl, inr}
 use mathlib.Core.List.{IsPrefix}
 use Rattle.std.proofs.lemmas.Bool.{ne_eqb, eq-eqb}
 use Rattle.std.proofs.lemmas.List.{length-append, append_assoc}
@@ -15,7 +15,7 @@ use Rattle.stream_lists.specs.Jobs.{Job, samples_at}
 use Rattle.stream_lists.specs.Spans.{signalled_by}
 use Rattle.stream_lists.specs.Lists.{output_list, number}
 use Rattle.stream_lists.proofs.Ordered.{place-at}
-use Rattle.graph_runs.specs.Moments.{Moment, HasRun, TaskRan, HasExchanged, HasSamples, made_now, taken_now}
+use Rattle.graph_runs.specs.Moments.{Moment, HasRun, TaskRan, made_now, taken_now}
 use Rattle.graph_runs.specs.Moves.{IsBlock, Signals, Waits, Leaves, Registers, SameTask, HasMoved}
 use Rattle.graph_runs.specs.Turned.{with_at, after_signal, after_wait, after_leave, after_register, IsAcceptedSignal, IsNextSignal, IsNextSample, IsAnsweredWait, IsFirstWait, IsExchangeWait, IsNextLeave, IsNextChild}
 use Rattle.graph_runs.proofs.Entries.{IsPrefix-trans, take_prefix, take_full, get_or-take}

@@ -18,7 +18,7 @@ use Rattle.stream_lists.specs.Spans.{signalled_by, spans_of, lengths_of, span_at
 use Rattle.stream_lists.specs.Lists.{numbers_of, output_on}
 use Rattle.stream_lists.proofs.Ordered.{looks-first, looked_above, place-at, parent_signals}
 use Rattle.stream_lists.proofs.SpansAbove.{parent-is, spans_all}
-use Rattle.graph_runs.specs.Moments.{one, Moment, input_at, made_now, taken_now, limits_at, TaskRan, HasEnded, OnOutput, PutOn, SilentOn, OnPhaser, IsChild, OnLine, HasNotPassed, Joined, IsRegistered, HasRun, IsOver, OnInput, TakenOn}
+use Rattle.graph_runs.specs.Moments.{one, Moment, input_at, made_now, taken_now, limits_at, TaskRan, HasEnded, OnOutput, PutOn, OnPhaser, IsChild, OnLine, HasNotPassed, Joined, IsRegistered, HasRun, IsOver, OnInput}
 use Rattle.graph_runs.specs.Settled.{Stands, PutsOut}
 use Rattle.graph_runs.proofs.Composed.{IsAwaited, Composes, HasRead}
 use Rattle.graph_runs.proofs.Entries.{prefix_length}

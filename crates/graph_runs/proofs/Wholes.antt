@@ -1,9 +1,8 @@
 -- The moment of the whole run has run and is over, and so its sinks have taken the job's answer,
 -- for the starts that came about.
-use Rattle.std.proofs.Common.{◌≡◌, ℕ, ◌<◌, ◌≤◌, Bool, true, false, List, [], ◌∷◌, Option, Some, None, Ok, length, map, get_or, slice_get, refl, sym, ap, subst, ◌∙◌, arith}
-use Rattle.std.specs.List.{All, range_with_len}
+use Rattle.std.proofs.Common.{◌≡◌, ℕ, ◌<◌, ◌≤◌, Bool, true, false, List, [], ◌∷◌, Option, Some, None, Ok, length, map, slice_get, refl, sym, ap, ◌∙◌, arith}
+use Rattle.std.specs.List.{range_with_len}
 use Rattle.std.proofs.lemmas.Option.{same_Some}
-use Rattle.phase_history.specs.phase_accum.declared.outcome.Outcome.{Outcome}
 use Rattle.phase_history.specs.Others.{OthersCame}
 use Rattle.phase_history.proofs.Beginnings.{IsBeginning-refl}
 use Rattle.phase_history.proofs.OthersEvents.{IsBeginning-others}
@@ -13,7 +12,6 @@ use Rattle.stream_lists.specs.graph_base.declared.line.Kind.TheVariants.{Sink}
 use Rattle.stream_lists.specs.graph_base.declared.line.Parent.{Parent}
 use Rattle.stream_lists.specs.Jobs.{Job}
 use Rattle.stream_lists.specs.Lists.{is_sink_at, start_in}
-use Rattle.stream_lists.specs.Ranges.{is_too_big}
 use Rattle.stream_lists.proofs.Starts.{lengths_stay}
 use Rattle.graph_runs.proofs.Started.{ready_as, run_started}
 use Rattle.graph_runs.proofs.StartsAtEnd.{start_of_others, start_registered, start_absent, start_in_time}

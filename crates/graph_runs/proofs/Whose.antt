@@ -1,5 +1,5 @@
 -- Whose event a turn makes, and what a child's registration is for.
-use Rattle.std.proofs.Common.{◌≡◌, ℕ, ◌+◌, Bool, true, false, cond, Option, Some, None, refl, subst}
+use Rattle.std.proofs.Common.{◌≡◌, ℕ, ◌+◌, Bool, true, false, cond, Option, Some, None, refl}
 use Rattle.std.specs.Prelude.{slice_range}
 use Rattle.phase_history.specs.Histories.{greatest_used}
 use Rattle.phase_history.specs.Phases.{stream_of}

@@ -10,7 +10,7 @@ use Rattle.graph_runs.specs.Nexts as nexts
 use Rattle.graph_runs.specs.Nexts.{Next, is_cut, next_of}
 use Rattle.graph_runs.specs.TaskEvents as events
 use Rattle.graph_runs.specs.TaskEvents.{TaskEvent}
-use Rattle.stream_lists.specs.Jobs.{Job, samples_at, samples_in, with_samples}
+use Rattle.stream_lists.specs.Jobs.{Job, samples_at, samples_in}
 
 -- ---- what a run has of other samples
 

@@ -1,11 +1,8 @@
 //! Runs of graphs whose samples come in pieces.
-ghost use Rattle.std.specs.Prelude.{◌≡◌, length};
-ghost use Rattle.stream_job.specs.stream_lists.Lists.{sinks_of};
-
 use crate::jobs::job_of;
-use graph_lang::read_graph;
 use std::alloc::{AllocError, Global};
 use std::test::Fail;
+use stream_job::graph_lang::read_graph;
 use stream_job::{Job, Stopped, Stream};
 
 /// What is done with a run that is fed.
@@ -23,19 +20,6 @@ pub enum Act {
 
 /// How many samples each source of a job was fed.
 pub type Fed = [usize; 3];
-
-/// How many sinks a run has.
-fn sinks(stream: &Stream) -> usize
-    ensures { result ≡ length (sinks_of stream.now.job) }
-{
-    let mut count = 0;
-    for t in 0..stream.graph().tasks() {
-        if stream.graph().is_sink(t) {
-            count += 1;
-        }
-    }
-    count
-}
 
 /// Feeds a source so many of the job's samples, behind so many, and tells how many it took.
 fn feed(stream: &mut Stream, job: &Job, source: usize, from: usize, many: usize) -> usize {
@@ -70,7 +54,7 @@ fn finish(stream: &mut Stream, source: usize) {
 /// What a sink has, which is then forgotten.
 fn taken(alloc: Global, stream: &mut Stream, sink: usize) -> Result<String, Fail> {
     let mut text = String::new(alloc);
-    if sink >= sinks(stream) {
+    if sink >= stream.sinks() {
         return Ok(text);
     }
     for value in stream.values(sink) {
@@ -83,7 +67,7 @@ fn taken(alloc: Global, stream: &mut Stream, sink: usize) -> Result<String, Fail
 /// What all sinks have, which is then forgotten, with the start of one that joined now.
 fn all_taken(alloc: Global, stream: &mut Stream) -> Result<String, Fail> {
     let mut text = String::new(alloc);
-    for sink in 0..sinks(stream) {
+    for sink in 0..stream.sinks() {
         text.push_str(&format!(in alloc; "{sink}:{} ", taken(alloc, stream, sink)?.as_str())?)?;
     }
     Ok(text)

@@ -2,7 +2,7 @@
 use Rattle.std.proofs.Common.{◌≡◌, ℕ, ◌+◌, ◌<◌, ◌≤◌, Some, length, refl, ap, subst, ◌∙◌, arith, inl, inr}
 use Rattle.std.proofs.lemmas.List.{length-map}
 use Rattle.phase_any.specs.phase_base.declared.limits.TheConstants.{PHASES_MAX}
-use Rattle.phase_any.specs.phase_history.Histories.{done_of, top_of, phases_signalled, phases_waited}
+use Rattle.phase_any.specs.phase_history.Histories.{done_of, top_of, phases_signalled}
 use Rattle.phase_any.specs.phase_history.Phases.{received_by}
 use Rattle.phase_any.specs.phase_history.Laws.{HasReceivedFrom}
 use Rattle.phase_any.specs.phase_history.Sent.{sent_by}
@@ -14,7 +14,7 @@ use Rattle.phase_any.proofs.phase_history_lemmas.Tops.{top_within}
 use Rattle.graph_lang.specs.graph_base.declared.line.Kind.{Kind}
 use Rattle.graph_lang.specs.graph_base.declared.line.Kind.TheVariants.{Source, Fir, Split, Join, Peer, Sink}
 use Rattle.graph_lang.specs.graph_base.Graphs.{task_at}
-use Rattle.graph_lang.specs.graph_base.TaskLines.{IsGraph, HasEnds}
+use Rattle.graph_lang.specs.graph_base.TaskLines.{IsGraph}
 use Rattle.stream_eval.specs.stream_lists.Jobs.{Job, index_in}
 use Rattle.stream_eval.specs.stream_lists.Lists.{number}
 use Rattle.stream_eval.specs.stream_lists.Spans.{signalled_by, takes_from, puts_on}

@@ -3,7 +3,6 @@ use Rattle.std.proofs.Common.{◌≡◌, ◌≢◌, ℕ, List, ◌+◌, ◌-◌,
 use Rattle.std.specs.Prelude.{unwrap_or, nat_lt, option_map}
 use Rattle.smallvec.specs.SmallVec.{SmallVec}
 use Rattle.phase_any.specs.phase_core.phase_registry.Rosters.{next_after}
-use Rattle.graph_lang.specs.graph_base.declared.line.Kind.{Kind}
 use Rattle.graph_lang.specs.graph_base.declared.line.Kind.TheVariants.{Source}
 use Rattle.graph_lang.specs.graph_base.declared.registration.Registration.{Registration}
 use Rattle.graph_lang.proofs.graph_base_lemmas.Registered.{registrations-phasers}
@@ -17,7 +16,7 @@ use Rattle.phase_any.specs.phase_history.Histories.{greatest_used, done_of}
 use Rattle.phase_any.specs.phase_history.Refusals.{register_refusal, register_now_refusal}
 use Rattle.graph_lang.specs.graph_base.Graphs.{task_at}
 use Rattle.graph_lang.specs.graph_base.Registrations.{no_registration}
-use Rattle.graph_lang.specs.graph_base.TaskLines.{IsGraph, HasEnds}
+use Rattle.graph_lang.specs.graph_base.TaskLines.{IsGraph}
 use Rattle.stream_eval.specs.stream_lists.Jobs.{Job}
 use Rattle.stream_eval.specs.stream_lists.Lists.{sinks_of}
 use Rattle.graph_runs.specs.Moments.{Moment, HasRun, input_at, first_input}

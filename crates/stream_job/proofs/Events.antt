@@ -1,15 +1,12 @@
 -- A machine after one event of a turn: the phaser has the event's history, one task has its new
 -- state, and all others are as they were.
-use Rattle.std.proofs.Common.{◌≡◌, ◌≢◌, ℕ, ◌<◌, Bool, true, false, eqb, List, Some, None, length, slice_get, set, map, refl, sym, ap, subst, ◌∙◌, arith}
-use Rattle.std.specs.List.{All}
+use Rattle.std.proofs.Common.{◌≡◌, ◌≢◌, ℕ, ◌<◌, Bool, true, false, eqb, List, Some, None, length, slice_get, set, refl, sym, ap, subst, ◌∙◌, arith}
 use Rattle.std.proofs.lemmas.Bool.{eqb-true, ne_eqb, eq-eqb}
 use Rattle.std.proofs.lemmas.List.{length-set}
 use Rattle.std.proofs.lemmas.Option.{slice_get_within}
 use Rattle.graph_lang.specs.graph_base.Graphs.{task_at}
 use Rattle.graph_lang.specs.graph_base.TaskLines.{IsGraph}
 use Rattle.stream_eval.specs.stream_lists.Jobs.{Job}
-use Rattle.stream_eval.specs.stream_lists.Lists.{sinks_of}
-use Rattle.stream_eval.specs.Results.{sink_values}
 use Rattle.graph_runs.specs.Moments.{Moment}
 use Rattle.graph_runs.specs.TaskEvents.{TaskEvent, sample, signal, first_wait, exchange_wait, leave, child, child_now, after_turn}
 use Rattle.graph_runs.specs.Answers.{makes, answer_of_turn, after_answer}
@@ -19,12 +16,11 @@ use Rattle.graph_runs.proofs.Whose.{task_of}
 use Rattle.stream_job.proofs.Makes.{makes_event}
 use Rattle.graph_runs.proofs.PlacesFollow.{others_follow}
 use Rattle.graph_runs.specs.Steps.{HasFilter}
-use Rattle.stream_job.specs.SinkLines.{kept_by, begins_at}
+use Rattle.stream_job.specs.SinkLines.{begins_at}
 use Rattle.stream_job.specs.Places.{IsTaskAt, place_of}
-use Rattle.stream_job.specs.Machines.{IsMachineAt, HasCores, IsLineOf, UsesFew}
+use Rattle.stream_job.specs.Machines.{IsMachineAt, HasCores, UsesFew}
 use Rattle.stream_job.specs.declared.machine.Machine.{Machine}
 use Rattle.stream_job.specs.declared.task_state.TaskState.{TaskState}
-use Rattle.stream_job.proofs.SinkLines.{map_same}
 use Rattle.stream_job.proofs.Setting.{slice_get-set_same, slice_get-set_other, same_cores}
 use Rattle.graph_runs.specs.Turned.{with_at}
 

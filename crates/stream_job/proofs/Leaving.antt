@@ -1,10 +1,8 @@
 -- The turn of a task that leaves.
-use Rattle.std.proofs.Common.{◌≡◌, ℕ, List, suc, ◌+◌, ◌<◌, cond, Some, None, ◌∷◌, length, get_or, slice_get, nat_lt, set, map, refl, sym, ap, subst, ◌∙◌, arith}
-use Rattle.std.specs.List.{All}
+use Rattle.std.proofs.Common.{◌≡◌, ℕ, List, suc, ◌+◌, ◌<◌, cond, Some, None, ◌∷◌, length, get_or, slice_get, nat_lt, set, refl, sym, ap, subst, ◌∙◌, arith}
 use Rattle.phase_any.specs.phase_history.declared.event.Event.TheVariants.{Dropped}
 use Rattle.phase_any.specs.phase_history.Refusals.{drop_refusal}
 use Rattle.stream_eval.specs.stream_lists.Jobs.{Job}
-use Rattle.stream_eval.specs.Results.{sink_values}
 use Rattle.graph_runs.specs.Moments.{Moment}
 use Rattle.graph_runs.specs.Turned.{with_at}
 use Rattle.graph_runs.specs.Nexts as turns
@@ -15,7 +13,7 @@ use Rattle.graph_runs.specs.Answers.{makes, answer_of_turn, after_answer, accept
 use Rattle.graph_runs.specs.TaskPlaces.{StandsAt, registration_at}
 use Rattle.graph_runs.proofs.PlacesFollow.{leave_follows}
 use Rattle.stream_job.specs.Places.{IsTaskAt, place_of}
-use Rattle.stream_job.specs.Machines.{IsMachineAt, HasCores, IsLineOf}
+use Rattle.stream_job.specs.Machines.{IsMachineAt, HasCores}
 use Rattle.stream_job.specs.Turning.{HadTurn, Shows, told_of}
 use Rattle.stream_job.specs.Inside.{IsNextIn}
 use Rattle.stream_job.specs.declared.machine.Machine.{Machine}

@@ -1,5 +1,5 @@
 -- What a task does next, by the state in which it stands.
-use Rattle.std.proofs.Common.{◌≡◌, ◌≢◌, ℕ, ◌<◌, ◌≤◌, ◌&&◌, List, [], ◌∷◌, true, false, not, cond, is_some, length, get_or, refl, sym, ap, ◌∙◌, arith}
+use Rattle.std.proofs.Common.{◌≡◌, ◌≢◌, ℕ, ◌<◌, ◌≤◌, ◌&&◌, List, [], ◌∷◌, true, false, not, cond, is_some, length, get_or, refl, ap, ◌∙◌, arith}
 use Rattle.std.specs.Prelude.{Result, ℤ}
 use Rattle.std.proofs.lemmas.Bool.{le-ltb}
 use Rattle.std.proofs.lemmas.Option.{slice_get_read}

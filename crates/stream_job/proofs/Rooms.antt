@@ -1,6 +1,6 @@
 -- The line of a sink has room for the values of its next wait.
 use Rattle.std.proofs.Common.{◌≡◌, ℕ, ◌+◌, ◌<◌, ◌≤◌, Bool, true, false, cond, List, [], Option, Some, None, length, get_or, slice_get, set, ℤ, refl, sym, ap, subst, ◌∙◌, arith, inr, map}
-use Rattle.std.specs.Prelude.{IfSome, vec_len, vec_capacity}
+use Rattle.std.specs.Prelude.{IfSome, vec_capacity}
 use Rattle.std.specs.List.{All, range_with_len}
 use Rattle.std.proofs.lemmas.List.{get_or-map}
 use Rattle.std.proofs.lemmas.List.Elements.{All-get_or, All-set}

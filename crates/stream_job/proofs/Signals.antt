@@ -1,7 +1,7 @@
 -- The turn of a task that signals.
 use Rattle.std.proofs.Common.{◌≡◌, ◌≢◌, ℕ, ℤ, List, zero, suc, ◌+◌, ◌-◌, ◌<◌, ◌≤◌, Bool, true, false, cond, not, eqb, [], ◌∷◌, Option, Some, None, length, get_or, slice_get, set, map, take, drop, refl, sym, ap, subst, ◌∙◌, arith, min}
 use Rattle.std.specs.Prelude.{Result, Ok, Err, nat_le, unsigned_abs}
-use Rattle.std.specs.List.{All, position_from}
+use Rattle.std.specs.List.{position_from}
 use Rattle.std.specs.declared.vec.Vec.{Vec}
 use Rattle.std.specs.Global.{Global}
 use Rattle.std.proofs.lemmas.Bool.{leb-false, eq-eqb, eqb-true}
@@ -26,7 +26,6 @@ use Rattle.graph_lang.specs.graph_base.Registrations.{signalled_by}
 use Rattle.stream_eval.specs.stream_lists.Jobs.{Job, samples_at}
 use Rattle.stream_eval.specs.stream_lists.Ranges.{is_out_of_range, are_made}
 use Rattle.stream_eval.specs.stream_lists.Spans.{puts_on}
-use Rattle.stream_eval.specs.Results.{sink_values}
 use Rattle.graph_runs.specs.Moments.{one, Moment, limits_at, made_now}
 use Rattle.graph_runs.specs.Moves.{further}
 use Rattle.graph_runs.specs.Turned.{with_at}
@@ -52,7 +51,7 @@ use Rattle.graph_runs.proofs.Stepping.{signal_follows, sample_follows}
 use Rattle.stream_job.specs.Blocking.{called_on}
 use Rattle.stream_job.specs.Inside as inside
 use Rattle.stream_job.specs.Inside.{IsNextIn, OwesMade, is_over}
-use Rattle.stream_job.specs.Machines.{IsMachineAt, HasCores, IsLineOf, KeepsLines}
+use Rattle.stream_job.specs.Machines.{IsMachineAt, HasCores, KeepsLines}
 use Rattle.stream_job.specs.Places.{IsTaskAt, owed_in, place_of}
 use Rattle.stream_job.specs.Turning.{HadTurn, Shows, phaser_of}
 use Rattle.stream_job.specs.declared.machine.Machine.{Machine}

@@ -1,5 +1,5 @@
 -- What a task's next step tells of the task.
-use Rattle.std.proofs.Common.{◌≡◌, ◌≢◌, ℕ, ◌<◌, Bool, true, false, ◌||◌, cond, Option, Some, None, length, refl, sym, subst, ◌∙◌, arith}
+use Rattle.std.proofs.Common.{◌≡◌, ◌≢◌, ℕ, ◌<◌, Bool, true, false, ◌||◌, cond, Option, Some, None, length, refl, sym, ◌∙◌, arith}
 use Rattle.graph_lang.specs.graph_base.declared.line.Kind.{Kind}
 use Rattle.graph_lang.specs.graph_base.declared.line.Kind.TheVariants.{Source, Fir, Split, Join, Peer, Sink}
 use Rattle.graph_lang.specs.graph_base.Graphs.{task_at}

@@ -32,7 +32,6 @@ use Rattle.graph_lang.specs.graph_base.Graphs.{Task, task_at, is_sink}
 use Rattle.graph_lang.specs.graph_base.TaskLines.{IsGraph}
 use Rattle.stream_eval.specs.stream_lists.Jobs.{Job}
 use Rattle.stream_eval.specs.stream_lists.Lists.{number, sinks_of, is_sink_at}
-use Rattle.stream_eval.specs.Results.{sink_values}
 use Rattle.graph_runs.specs.Moments.{Moment, HasRun, HasAnsweredNone, limits_at, value_at, input_at, first_input}
 use Rattle.graph_runs.specs.Moves.{further, IsBlock}
 use Rattle.graph_runs.proofs.Blocks.{block_few}
@@ -62,7 +61,7 @@ use Rattle.graph_runs.specs.declared.owed.Owed.TheVariants as code
 use Rattle.stream_job.specs.Buffers.{HasPlaces}
 use Rattle.stream_job.specs.Inside.{with_line, IsNextIn}
 use Rattle.stream_job.specs.Places.{place_of, owed_in, HasTaken}
-use Rattle.stream_job.specs.Machines.{IsMachineAt, HasCores, IsLineOf, KeepsLines, HasRoom, kept_behind}
+use Rattle.stream_job.specs.Machines.{IsMachineAt, HasCores, KeepsLines, HasRoom, kept_behind}
 use Rattle.stream_job.specs.Turning.{HadTurn, Shows, told_of}
 use Rattle.stream_job.specs.declared.machine.Machine.{Machine}
 use Rattle.stream_job.specs.declared.task_state.TaskState.{TaskState}

@@ -98,9 +98,9 @@ none_given t = []
 
 -- the sinks keep what they have received, but for what they have handed over, and where they begin
 pub record KeepsLines (job : Job) (given : ℕ → List ℤ) (m : Moment) (lines : List Lines) : Type 0
-    where
-  pub values : map (kept_behind given) lines ≡ map (λ t. (t, kept_by job m t)) (sinks_of job)
-  pub starts : map (λ line. line.start) lines ≡ map (begins_at job m) (sinks_of job)
+  where
+    pub values : map (kept_behind given) lines ≡ map (λ t. (t, kept_by job m t)) (sinks_of job)
+    pub starts : map (λ line. line.start) lines ≡ map (begins_at job m) (sinks_of job)
 
 -- a sink's line has so much room
 pub record HasRoom (needs : ℕ → ℕ) (line : Lines) : Type 0 where

@@ -1,9 +1,11 @@
 //! Jobs, their lists and their runs on one thread, under one name: a graph with the samples of its
 //! sources (`stream_lists`), what its sinks get, or the first value out of range (`stream_eval`),
-//! and here runs by turns of the tasks, one event at a time.
+//! and here runs by turns of the tasks, one event at a time, of a job or of samples that come in
+//! pieces.
 //!
-//! The first calls are `job_of`, of texts, `World::new`, `World::turn` and `run_turns`. `AnyPhaser`
-//! is one phaser of a graph, whatever its operation.
+//! The first calls are `job_of`, of texts, `World::new`, `World::turn` and `run_turns`, and
+//! `Stream::new`, `Stream::feed` and `Stream::run`. `AnyPhaser` is one phaser of a graph, whatever
+//! its operation.
 #![tactic(auto)]
 
 mod buffers;
@@ -35,6 +37,7 @@ mod turned;
 mod turns;
 mod world;
 
+pub use graph_lang;
 pub use graph_lang::{graph_base, stream_filters};
 pub use graph_runs;
 pub use phase_any;

@@ -26,7 +26,7 @@ pub enum Stopped {
         /// The phase or the step, from 0 on.
         phase: u64,
     },
-    /// So many rounds of turns were made as one call makes at most, 2^32 - 1, and there is more to do:
-    /// some task can move. Call again.
+    /// As many rounds of turns were made as one call makes at most, 2^32 - 1, and there may be more
+    /// to do. Call again.
     Paused,
 }

@@ -27,9 +27,7 @@ use graph_lang::graph_base::Graph;
 use graph_runs::feeds;
 use std::alloc::{AllocError, Global};
 use std::marker::Model;
-use stream_eval::stream_lists::{
-    COUNT_MAX, Job, JobRefusal, list_laws, meeting_with,
-};
+use stream_eval::stream_lists::{COUNT_MAX, Job, JobRefusal, list_laws, meeting_with};
 
 /// A run of a graph whose samples come in pieces, on one thread: it is fed, goes on until no task
 /// can move, and is read.

@@ -61,10 +61,10 @@ impl<'a> Model for World<'a> {
     } };
 
     ghost invariant = { λ w. ((m : Moment) × IsWorldAt (record {
-        job = w.job.now;
-        machine = w.machine;
-        met = w.met;
-        parked = w.parked;
+      job = w.job.now;
+      machine = w.machine;
+      met = w.met;
+      parked = w.parked;
     }) m) × (length w.parked ≡ length w.job.now.graph.phasers) × IsPlan w.job.now w.plan
         × HasPlaces w.job.now w.buffers };
 }

@@ -1,11 +1,7 @@
 -- Every phaser composes its list.
-use Rattle.std.proofs.Common.{◌∙◌, sym, subst}
-use Rattle.std.specs.Prelude.{List}
-use mathlib.Core.List.{IsPrefix}
-use Rattle.phase_history.specs.phase_accum.declared.outcome.Outcome.{Outcome}
-use Rattle.phase_history.specs.Phases.{stream_of}
+use Rattle.std.proofs.Common.{◌∙◌, sym}
 use Rattle.stream_lists.proofs.ListsAbove.{lists_above}
-use Rattle.graph_runs.specs.Moments.{value_at, started}
+use Rattle.graph_runs.specs.Moments.{started}
 use Rattle.graph_runs.proofs.Started.{ready_as, run_started}
 use Rattle.graph_runs.proofs.Results.{streams_begin, streams_whole}
 use Rattle.graph_runs.proofs.moments.streams.Goals as goal

@@ -1,10 +1,8 @@
 -- By the kind of the step.
-use Rattle.std.proofs.Common.{ap, sym, subst}
+use Rattle.std.proofs.Common.{ap, subst}
 use Rattle.stream_eval.specs.stream_lists.Jobs.{with_samples}
-use Rattle.graph_runs.specs.Nexts.{Next}
 use Rattle.stream_job.specs.Inside.{IsNextIn}
 use Rattle.stream_job.specs.Machines.{next_by}
-use Rattle.stream_job.specs.Turning.{IsRegistration}
 use Rattle.stream_job.proofs.Setting.{if_ok, on_err}
 use Rattle.stream_job.proofs.machine.Machine.make_step.Goals as goal
 

@@ -1,5 +1,5 @@
 -- The child takes the next number on the phaser of its first registration that is missing.
-use Rattle.std.proofs.Common.{◌≡◌, ◌<◌, ◌≤◌, ◌+◌, [], ◌∷◌, ◌++◌, length, get_or, refl, sym, ap, subst, ◌∙◌, arith, List, ℤ}
+use Rattle.std.proofs.Common.{◌≡◌, ◌<◌, ◌≤◌, ◌+◌, [], ◌∷◌, ◌++◌, length, get_or, sym, ap, subst, ◌∙◌, arith, List, ℤ}
 use Rattle.graph_lang.specs.graph_base.Graphs.{task_at, phaser_at}
 use Rattle.graph_lang.specs.graph_base.Registrations.{registrations_of, no_registration}
 use Rattle.graph_lang.specs.graph_base.declared.registration.Registration.{Registration}

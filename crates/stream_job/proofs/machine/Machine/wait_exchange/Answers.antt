@@ -1,9 +1,8 @@
 -- A peer waits as the number that stands at its second registration.
-use Rattle.std.proofs.Common.{rules, SFits, w64, to_z, of_z, ◌≡◌, ◌<◌, length, get_or, refl, ap, subst, ◌∙◌, arith, to_z-of_z}
+use Rattle.std.proofs.Common.{rules, SFits, w64, to_z, of_z, ◌<◌, length, get_or, ap, subst, ◌∙◌, arith, to_z-of_z}
 use Rattle.std.specs.Prelude.{Ok}
 use Rattle.phase_any.specs.phase_base.declared.limits.TheConstants.{PHASES_MAX}
 use Rattle.phase_any.specs.phase_history.Replies.{after_wait}
-use Rattle.graph_runs.specs.Nexts.{exchanges}
 use Rattle.graph_lang.specs.graph_base.Graphs.{task_at}
 use Rattle.graph_runs.specs.TaskPlaces.{owed_after_exchange, exchange}
 use Rattle.graph_runs.specs.Turned.{with_at}

@@ -1,13 +1,13 @@
 -- A turn tells, and keeps of blocked tasks, what its call did.
-use Rattle.std.proofs.Common.{◌≡◌, Some, None, length, refl, sym, ap, subst, ◌∙◌}
+use Rattle.std.proofs.Common.{◌≡◌, Some, length, sym, ap, subst, ◌∙◌}
 use Rattle.graph_runs.specs.Moments.{Moment}
 use Rattle.graph_runs.specs.Answers.{turn_tells}
 use Rattle.graph_runs.specs.Nexts.{next_of}
 use Rattle.stream_job.specs.Buffers.{HasPlaces}
 use Rattle.stream_job.specs.Tellings.{IsOnPhaser}
 use Rattle.stream_job.specs.Turning.{HadTurn, IsRegistration, after_turn_of, told_of, parked_by}
-use Rattle.stream_job.specs.Worlds.{WorldState, HasMet, IsWorldAt}
-use Rattle.stream_job.proofs.Tellings.{made_there, turn_tells_so, turn_parks_so, turn_blocks_so, turn_met_so, turn_stands_so, parked_many}
+use Rattle.stream_job.specs.Worlds.{WorldState, IsWorldAt}
+use Rattle.stream_job.proofs.Tellings.{made_there, turn_tells_so, turn_parks_so, turn_stands_so, parked_many}
 use Rattle.stream_job.proofs.Rooms.{sink_room}
 use Rattle.stream_job.proofs.Setting.{err_of}
 use Rattle.stream_job.proofs.world.World.turn.Goals.{In_ok-made}
