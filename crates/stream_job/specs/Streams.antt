@@ -177,11 +177,18 @@ pub record Rests (stream : StreamState) (s : List (List ℤ)) (m : Moment) (give
   pub rest : let job = with_samples s stream.job in
       list_all (rests job (ended_at stream) m given) (all_tasks job) ≡ true
 
+-- none was, and some task makes one
+pub record MayMove (stream : StreamState) (s : List (List ℤ)) (m : Moment) (given : ℕ → List ℤ)
+    : Type 0 where
+  pub none : stream.met ≡ None
+  pub moves : let job = with_samples s stream.job in
+      list_all (rests job (ended_at stream) m given) (all_tasks job) ≡ false
+
 -- it stops so at a moment: a sink without room is told first, and then a source that waits for a
 -- sample
 abbrev pub StopsAt : StreamState → List (List ℤ) → Moment → (ℕ → List ℤ) → Stopped → Type 0
 StopsAt stream s m given (stopped.TooBig place phase) = stream.met ≡ Some (place, phase)
-StopsAt stream s m given stopped.Paused = Unit {0}
+StopsAt stream s m given stopped.Paused = MayMove stream s m given
 StopsAt stream s m given stop =
     let job = with_samples s stream.job in
     Rests stream s m given

@@ -27,29 +27,29 @@ use stream_eval::stream_lists::Job;
 impl Stream {
     ghost use Rattle.stream_job.specs.Streams.{IsStreamAt, StopsAt, all_tasks, ended_at, first_full, first_hungry, is_full, is_hungry, line_room, rests};
 
-    /// Why no task can move, where none can.
-    pub fn stop(&self) -> Option<Stopped>
-        ensures { IfSome result (λ stop. (s : List (List ℤ)) (m : Moment) (given : ℕ → List ℤ)
-            → IsStreamAt self.now s m given → StopsAt self.now s m given stop) }
+    /// Why no task can move, or that one can.
+    pub fn stop(&self) -> Stopped
+        ensures { (s : List (List ℤ)) (m : Moment) (given : ℕ → List ℤ)
+            → IsStreamAt self.now s m given → StopsAt self.now s m given result }
     {
         if let Some((place, phase)) = self.met {
-            return Some(Stopped::TooBig { place, phase });
+            return Stopped::TooBig { place, phase };
         }
         if !self.all_rest() {
-            return None;
+            return Stopped::Paused;
         }
         if let Some(t) = self.first_full() {
             let sink = self.machine.tasks[t].sink;
-            return Some(Stopped::Full { sink });
+            return Stopped::Full { sink };
         }
         if let Some(t) = self.first_hungry() {
             let source = self.plan.tasks[t].source;
-            return Some(Stopped::Hungry { source });
+            return Stopped::Hungry { source };
         }
         if self.machine.has_live(&self.job) {
-            return Some(Stopped::Stalled);
+            return Stopped::Stalled;
         }
-        Some(Stopped::Done)
+        Stopped::Done
     }
 
     /// Whether no task makes an event now.

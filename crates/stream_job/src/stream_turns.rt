@@ -47,16 +47,21 @@ impl Stream {
             → IsReady (with_samples more self.new.job)
             → IsFaultAt (started (with_samples more self.new.job) m) (place, n)) }
     {
+        self.rounds()?;
+        outcomes::all_gone();
+        Ok(self.stop())
+    }
+
+    /// Gives rounds of turns until no task moves in one, or so many as one call makes at most.
+    fn rounds(&mut self) -> Result<(), AllocError>
+        ensures { GoesOn self.old self.new }
+    {
         for _ in 0..u32::MAX {
-            if self.round()? {
-                continue;
-            }
-            if let Some(stop) = self.stop() {
-                outcomes::all_gone();
-                return Ok(stop);
+            if !self.round()? {
+                break;
             }
         }
-        Ok(Stopped::Paused)
+        Ok(())
     }
 
     /// Gives turns to each task, in the order of their lines, and to each of them while it moves.

@@ -1,4 +1,4 @@
--- One more round goes on from where the others led, and where nobody is live the sinks have all.
+-- Where nobody is live the sinks have all.
 use Rattle.std.proofs.Common.{sym, ap, subst, ◌∙◌}
 use Rattle.std.specs.Prelude.{Ok}
 use Rattle.stream_eval.specs.stream_lists.Jobs.{with_samples}
@@ -7,28 +7,15 @@ use Rattle.stream_job.specs.Worlds.{HasMet}
 use Rattle.stream_job.specs.declared.stopped.Stopped.TheVariants as stopped
 use Rattle.graph_runs.proofs.FedFeeds.{feed_continues}
 use Rattle.stream_job.proofs.FedStops.{done_dead, none_live}
-use Rattle.stream_job.proofs.FedTurns.{goes_on_twice}
 use Rattle.stream_job.proofs.SinksKeep.{lines_taken}
 use Rattle.stream_job.proofs.stream.Stream.run.Goals as goal
 
-pub returns-in_err-round-clause-goes_on : goal.returns-in_err-round-clause-goes_on
-returns-in_err-round-clause-goes_on c =
-    goes_on_twice c.args.self.now c.loop.self c.round.new.self c.loop.invariant c.round.ensures
-
-pub loop-preserved-then-branch : goal.loop-preserved-then-branch
-loop-preserved-then-branch c =
-    goes_on_twice c.args.self.now c.loop.self c.round.new.self c.loop.invariant c.round.ensures
-
-pub returns-in-Some-clause-goes_on : goal.returns-in-Some-clause-goes_on
-returns-in-Some-clause-goes_on c =
-    goes_on_twice c.args.self.now c.loop.self c.round.new.self c.loop.invariant c.round.ensures
-
-pub returns-in-Some-clause-done : goal.returns-in-Some-clause-done
-returns-in-Some-clause-done c = λ done s m given at.
-    let stream = c.round.new.self in
+pub returns-clause-done : goal.returns-clause-done
+returns-clause-done c = λ done s m given at.
+    let stream = c.rounds.new.self in
     let job = with_samples s stream.job in
     let stops : StopsAt stream s m given stopped.Done =
-    subst (StopsAt stream s m given) done (c.in-Some.ensures s m given at) in
+    subst (StopsAt stream s m given) done (c.stop.ensures s m given at) in
     let dead = none_live job m (done_dead job (first_full job m given)
     (first_hungry job (ended_at stream) m) (is_some_live job m) stops.1) in
     let met = subst (HasMet job m) stops.0.none at.met in
@@ -37,16 +24,12 @@ returns-in-Some-clause-done c = λ done s m given at.
     ∙ ap (λ l. Ok l)
     (sym (at.lines.values ∙ lines_taken job m at.machine.graph at.machine.reached.ran met))
 
-pub loop-preserved : goal.loop-preserved
-loop-preserved c =
-    goes_on_twice c.args.self.now c.loop.self c.round.new.self c.loop.invariant c.round.ensures
-
 -- It was met, whatever comes.
-pub returns-in-Some-clause-too_big : goal.returns-in-Some-clause-too_big
-returns-in-Some-clause-too_big c = λ place n is s m given more at fed ready.
-    let stream = c.round.new.self in
+pub returns-clause-too_big : goal.returns-clause-too_big
+returns-clause-too_big c = λ place n is s m given more at fed ready.
+    let stream = c.rounds.new.self in
     let job = with_samples s stream.job in
     let stops : StopsAt stream s m given (stopped.TooBig place n) =
-    subst (StopsAt stream s m given) is (c.in-Some.ensures s m given at) in
+    subst (StopsAt stream s m given) is (c.stop.ensures s m given at) in
     at.faults (place, n) more stops
     (feed_continues job (ended_at stream) m more at.machine.reached.ran at.stays_open fed) ready

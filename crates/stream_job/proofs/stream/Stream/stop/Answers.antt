@@ -117,3 +117,13 @@ returns-in-Some-first_hungry c =
       subst (λ o. S o (first_hungry job (ended_at c.args.self.now) m)) (sym full)
           (subst (S None) (sym hungry) number),
     ))
+
+-- some task moves
+pub returns-then-not-all_rest : goal.returns-then-not-all_rest
+returns-then-not-all_rest c =
+    let N : StreamState → Type 0 = λ w. w.met ≡ None in
+    let none = subst N c.self.view_is c.in_default.is in
+    λ s m given at. record {
+      none = none;
+      moves = c.all_rest.ensures s m given at ∙ c.if-not-all_rest.true;
+    }
