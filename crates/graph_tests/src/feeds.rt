@@ -22,6 +22,7 @@ pub enum Act {
 pub type Fed = [usize; 3];
 
 /// Feeds a source so many of the job's samples, behind so many, and tells how many it took.
+#[tactic(auto, using(crate::proofs::Pieces::sends_between))]
 fn feed(stream: &mut Stream, job: &Job, source: usize, from: usize, many: usize) -> usize {
     let samples = job.samples(source);
     if source >= stream.graph().sources() || from >= samples.len() {
