@@ -1,5 +1,5 @@
-// Phases a second of Java's Phaser with a sum: what scripts/bench-shared sync sum is measured beside.
-// usage: java scripts/PlainPhaser.java THREADS COUNT
+// Phases a second of Java's Phaser with a sum: what scripts/bench/shared sync sum is measured beside.
+// usage: java scripts/bench/PlainPhaser.java THREADS COUNT
 
 import java.util.concurrent.Phaser;
 import java.util.concurrent.atomic.AtomicLong;

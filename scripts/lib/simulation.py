@@ -1,21 +1,10 @@
-#!/usr/bin/env python3
-"""Runs a graph event by event, and writes the values of its sinks.
+"""A graph that is run event by event, and the values of its sinks.
 
-usage: scripts/simulate-graph [--bounds] [--why] GRAPH [OUTPUT] (the files of its sources lie beside it)
-
-The stored outputs of examples/graphs were made by this program, which composes no lists: it moves
-tasks event by event, as they would run, and checks no range. It reads graphs that are right. Without
---bounds a signal never waits for room; with it a graph that stands still has the one line `stalled`.
-With --why it says what `run --explain` tells of a graph that stands still.
-Blocks are made step by step, and a sink that joins now begins where the output of a run, if one is
-given, tells that it did, or else at the least phase that it may.
+It composes no lists: it moves tasks event by event, as they would run, and checks no range. It reads
+graphs that are right. Blocks are made step by step.
 """
 import os
-import sys
 from functools import reduce
-
-if {"-h", "--help"} & set(sys.argv[1:2]):
-    sys.exit(print(__doc__.strip()))
 
 OPERATIONS = {
     "sum": sum,
@@ -257,13 +246,3 @@ def simulate(file, with_bounds, starts={}):
         return ["stalled"]
     sinks = [task for task in graph.tasks if task.kind == "sink"]
     return [line for task in sinks for line in [heading(task), *map(str, task.values)]]
-
-
-if __name__ == "__main__":
-    options = [word for word in sys.argv[1:] if word.startswith("--")]
-    file, *outputs = [word for word in sys.argv[1:] if not word.startswith("--")]
-    if "--why" in options:
-        print("\n".join(f"  {line}" for line in stalls(file) or []))
-        sys.exit()
-    for line in simulate(file, "--bounds" in options, starts_told(outputs[0]) if outputs else {}):
-        print(line)

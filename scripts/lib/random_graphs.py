@@ -1,0 +1,169 @@
+"""Graphs at random, how programs end on them, and what is wrong with how a run ended."""
+import os
+import random
+import subprocess
+
+import project
+import simulation
+
+MOST = 9223372036854775807
+
+
+class Maker:
+    """A graph at random: its lines, and the samples of its files."""
+
+    def __init__(self, seed, with_children):
+        self.random, self.phasers, self.tasks, self.files = random.Random(seed), [], [], {}
+        self.singles, self.bounds = set(), []
+        self.is_second = with_children and self.random.random() < 0.5
+        for _ in range(self.random.randint(1, 3)):
+            self.sources(self.phaser())
+        for _ in range(self.random.randint(0, 4)):
+            self.random.choice([self.filter, self.filter, self.splitter, self.joiner, self.peers])()
+        self.sinks()
+        self.random.shuffle(self.tasks)
+        if with_children:
+            for _ in range(self.random.choice([0, 0, 1, 2, 3])):
+                self.child()
+
+    def phaser(self, single=""):
+        roll = self.random
+        operation = roll.choice(["sum"] * 5 + ["least", "greatest", "product"] + ["any"] * (roll.random() < 0.3))
+        name = f"X{len(self.phasers)}"
+        self.bounds.append(roll.choice([1, 1, 2, 2, 3, 4, 8, 64]))
+        self.phasers.append(f"phaser {name} {operation} {self.bounds[-1]}{single}")
+        if single:
+            self.singles.add(len(self.phasers) - 1)
+        return len(self.phasers) - 1
+
+    def output(self, behind):
+        """A phaser that stands behind these and has no single."""
+        others = [p for p in range(max(behind) + 1, len(self.phasers)) if p not in self.singles]
+        return self.random.choice(others) if others and self.random.random() < 0.4 else self.phaser()
+
+    def input(self):
+        return self.random.randrange(len(self.phasers))
+
+    def task(self, kind, waits, signals, text):
+        name = f"t{len(self.tasks)}"
+        until = f" until {self.random.randint(0, 8)}" if self.random.random() < 0.12 else ""
+        self.tasks.append([kind, name, waits, signals, text, "", until + self.block(kind, waits + signals)])
+
+    def block(self, kind, phasers):
+        """In a graph of text 2, the block of a task on these phasers."""
+        if not self.is_second or kind not in ("source", "fir", "sink") or self.random.random() < 0.4:
+            return ""
+        return f" block={self.random.randint(1, min(self.bounds[p] for p in phasers))}"
+
+    def taps(self):
+        taps = [self.random.randint(-3, 3) for _ in range(self.random.randint(1, 4))]
+        return f"shift {self.random.choice([0, 0, 1, 2])} taps {' '.join(map(str, taps))}"
+
+    def file(self):
+        name = f"s{len(self.files)}.csv"
+        values = [self.random.randint(-9, 9) for _ in range(self.random.choice([0, 1, 2, 3, 5, 8, 13, 21]))]
+        if values and self.random.random() < 0.05:
+            values[self.random.randrange(len(values))] = self.random.choice([MOST, -MOST])
+        self.files[name] = values
+        return name
+
+    def sources(self, phaser):
+        for _ in range(self.random.choice([1, 1, 1, 2, 3])):
+            self.task("source", [], [phaser], f"{self.file()} -> X{phaser}")
+
+    def filter(self):
+        x = self.input()
+        y = self.output([x])
+        self.task("fir", [x], [y], f"X{x} -> X{y} {self.taps()}")
+
+    def splitter(self):
+        x = self.input()
+        ends = [self.output([x])]
+        ends += [self.phaser() for _ in range(self.random.randint(1, 2))]
+        self.task("split", [x], ends, f"X{x} -> {' '.join(f'X{y}' for y in ends)}")
+
+    def joiner(self):
+        begins = list({self.input() for _ in range(3)})
+        if len(begins) < 2:
+            return
+        y = self.output(begins)
+        self.task("join", begins, [y], f"{' '.join(f'X{x}' for x in begins)} -> X{y}")
+
+    def peers(self):
+        inputs = [self.input() for _ in range(self.random.choice([1, 2, 2, 3]))]
+        single = self.random.choice(["", "", " single neg", " single abs", " single halve", " single clamp -5 5"])
+        e = self.phaser(single)
+        for x in inputs:
+            y = self.output([e])
+            self.task("peer", [x, e], [e, y], f"X{x} <-> X{e} -> X{y} mul {self.random.randint(-2, 3)}")
+
+    def sinks(self):
+        for p in range(len(self.phasers)):
+            for _ in range(self.random.choice([0, 1, 1, 1, 2])):
+                self.task("sink", [p], [], f"X{p}")
+
+    def child(self):
+        parents = [task for task in self.tasks if task[0] in ("source", "fir", "sink") and not task[5].endswith(" now")]
+        if not parents:
+            return
+        kind, parent, waits, signals, *_ = self.random.choice(parents)
+        kinds = {"source": ["source"], "fir": ["fir", "source", "sink"], "sink": ["sink"]}[kind]
+        kind = self.random.choice(kinds)
+        text = {"source": lambda: f"{self.file()} -> X{signals[0]}", "sink": lambda: f"X{waits[0]}"}
+        text = text.get(kind, lambda: f"X{waits[0]} -> X{signals[0]} {self.taps()}")()
+        self.task(kind, waits if kind != "source" else [], signals if kind != "sink" else [], text)
+        now = " now" if self.is_second and kind == "sink" and self.random.random() < 0.6 else ""
+        self.tasks[-1][5] = f" by {parent} at {self.random.randint(0, 6)}{now}"
+
+    def text(self):
+        lines = ["graph 2"] * self.is_second + self.phasers + [f"{kind} {name} {text}{by}{until}" for kind, name, _, _, text, by, until in self.tasks]
+        return "\n".join(lines) + "\n"
+
+    def write(self, folder):
+        for name, values in {**self.files, "graph": None}.items():
+            with open(os.path.join(folder, name), "w") as file:
+                file.write(self.text() if values is None else "".join(f"{value}\n" for value in values))
+
+
+def ended(folder, *words):
+    """The status and both streams of the program of these words; the status is None where it took too long."""
+    is_run = words[0] == "run"
+    own = [project.built("phase_run" if is_run else "phase_cli"), *words[is_run:]]
+    try:
+        done = subprocess.run(own, cwd=folder, capture_output=True, timeout=60, stdin=subprocess.DEVNULL)
+    except subprocess.TimeoutExpired:
+        return None, b"", b""
+    return done.returncode, done.stdout, done.stderr
+
+
+STALLED = (4, b"", b"phase: stalled\n")
+
+
+def simulated(lines):
+    return STALLED if lines == ["stalled"] else (0, "".join(f"{line}\n" for line in lines).encode(), b"")
+
+
+def starts_told(text):
+    """Where the sinks that join now began, as a run wrote it."""
+    heads = [line.split() for line in text.decode().splitlines() if " from " in line]
+    return {words[0]: int(words[2]) for words in heads}
+
+
+def fault_of(run, whole, text, graph):
+    """What is wrong with how a run ended, where `eval` ended with `whole`."""
+    if run == STALLED:
+        # A block that has to fit whole may stand still where single steps do not.
+        may = whole[0] == 3 or " block=" in text or simulation.simulate(graph, True) == ["stalled"]
+        return None if may else "a run stands still that need not"
+    if run[0] != 0:
+        return None if run == whole else "a run and eval tell different faults"
+    if whole[0] != 0 and " now" not in text:
+        return "a run ended that has no lists"
+    starts, least = starts_told(run[1]), starts_told(whole[1])
+    if any(start < least.get(name, start) for name, start in starts.items()):
+        return "a sink began before it may"
+    if simulated(simulation.simulate(graph, False, starts)) != run:
+        return "the lines are not the lists at their starts"
+    if " block=" not in text and simulation.simulate(graph, True) == ["stalled"]:
+        return "a run ended that stands still"
+    return None
