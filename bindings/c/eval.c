@@ -1,4 +1,5 @@
-/* eval GRAPH: writes what `phase eval GRAPH` does, by phase.h. A file of samples has a number a line. */
+/* eval GRAPH: writes what `phase eval GRAPH` does, by phase.h. A file of samples has a number a
+ * line. */
 #define _POSIX_C_SOURCE 200809L
 #include "phase.h"
 #include <errno.h>
@@ -74,7 +75,8 @@ static size_t put_numbers(const char *name, struct samples *samples)
         if (end == at || errno)
             break;
         if (samples->used == samples->room)
-            samples->values = or_stop(realloc(samples->values, sizeof(int64_t) * (samples->room *= 2)));
+            samples->values =
+                or_stop(realloc(samples->values, sizeof(int64_t) * (samples->room *= 2)));
         samples->values[samples->used++] = value;
     }
     free(text);
@@ -95,7 +97,8 @@ static char *place_of(const struct graph *graph, const phase_fault *fault)
     uint8_t *names = or_stop(malloc(graph->length + 1));
     size_t needed, above = fault->number + (fault->place == PHASE_AT_TASK ? graph->all.phasers : 0);
     phase_fault none;
-    if (phase_all_names(graph->text, graph->length, names, graph->length + 1, &needed, &none) != PHASE_OK)
+    if (phase_all_names(graph->text, graph->length, names, graph->length + 1, &needed, &none)
+        != PHASE_OK)
         or_stop(NULL);
     uint8_t *name = names, *end = memchr(names, '\n', needed);
     for (; above; above--) {
@@ -110,7 +113,8 @@ static char *place_of(const struct graph *graph, const phase_fault *fault)
 static int stop(int32_t status, const struct graph *graph, const phase_fault *fault)
 {
     if (status == PHASE_E_GRAPH) {
-        fprintf(stderr, "phase: graph line %" PRIu64 ": %s\n", fault->line, phase_kind_text(fault->kind));
+        fprintf(stderr, "phase: graph line %" PRIu64 ": %s\n", fault->line,
+                phase_kind_text(fault->kind));
     } else if (status == PHASE_E_TOO_BIG) {
         char *place = place_of(graph, fault);
         fprintf(stderr, "phase: too big at %s %" PRIu64 "\n", place, fault->at);
@@ -147,14 +151,16 @@ int main(int argc, char **argv)
         counts[source] = put_numbers(named.files[source], &samples);
 
     /* The first call has no room, and tells how much it takes. */
-    status = phase_eval(graph.text, graph.length, samples.values, samples.used, counts, all->sources, NULL, 0,
-                        sink_counts, all->sinks, sink_starts, all->sinks, &fault);
+    status =
+        phase_eval(graph.text, graph.length, samples.values, samples.used, counts, all->sources,
+                   NULL, 0, sink_counts, all->sinks, sink_starts, all->sinks, &fault);
     if (status == PHASE_E_ROOM) {
         for (size_t sink = 0; sink < all->sinks; sink++)
             total += sink_counts[sink];
         out = or_stop(malloc(sizeof(int64_t) * total));
-        status = phase_eval(graph.text, graph.length, samples.values, samples.used, counts, all->sources, out,
-                            total, sink_counts, all->sinks, sink_starts, all->sinks, &fault);
+        status =
+            phase_eval(graph.text, graph.length, samples.values, samples.used, counts, all->sources,
+                       out, total, sink_counts, all->sinks, sink_starts, all->sinks, &fault);
     }
     if (status != PHASE_OK)
         return stop(status, &graph, &fault);

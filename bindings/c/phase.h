@@ -1,16 +1,20 @@
-/* phase.h: graphs of whole-number filters, evaluated exactly, and phasers for one thread at a time, from C and C++.
+/* phase.h: graphs of whole-number filters, evaluated exactly, and phasers for one thread at a time,
+ * from C and C++.
  *
- * Link libphase.a or libphase.so, which scripts/bind makes. docs/BINDINGS.md begins with an example.
+ * Link libphase.a or libphase.so, which scripts/bind makes. docs/BINDINGS.md begins with an
+ * example.
  *
- * A call answers PHASE_OK, or a negative status that tells why not, of which phase_status_text has the words; and
- * then it has left what it says. A call on a graph has then written the fault. A length is behind its pointer, and
- * counts values, bytes of a text. A pointer may be NULL where its length is 0.
+ * A call answers PHASE_OK, or a negative status that tells why not, of which phase_status_text has
+ * the words; and then it has left what it says. A call on a graph has then written the fault. A
+ * length is behind its pointer, and counts values, bytes of a text. A pointer may be NULL where its
+ * length is 0.
  *
- * A caller owes: pointers to as many values as their lengths say; what a call writes overlaps nothing
- * else that it is given; and a pointer with no length behind it, as counts, fault or a phaser, is not NULL. A call
- * keeps no pointer. It takes memory by malloc and realloc, whose blocks begin at a multiple of 16, and gives back all
- * but what a phaser keeps. Calls may run side by side, also on the same values where these are only read; none is made
- * from a signal handler, or, before it calls exec, from the child that fork made of a process with several threads.
+ * A caller owes: pointers to as many values as their lengths say; what a call writes overlaps
+ * nothing else that it is given; and a pointer with no length behind it, as counts, fault or a
+ * phaser, is not NULL. A call keeps no pointer. It takes memory by malloc and realloc, whose blocks
+ * begin at a multiple of 16, and gives back all but what a phaser keeps. Calls may run side by
+ * side, also on the same values where these are only read; none is made from a signal handler, or,
+ * before it calls exec, from the child that fork made of a process with several threads.
  *
  * The library is for Linux on x86-64 with SSE4.2, which is x86-64-v2. */
 #ifndef PHASE_H
@@ -35,7 +39,8 @@ enum {
     PHASE_E_COUNTS = -2,
     /* The sample at samples[fault->at] is INT64_MIN, which is none. */
     PHASE_E_SAMPLE = -3,
-    /* A value is out of range: value fault->at of the phaser or task fault->number, by fault->place. */
+    /* A value is out of range: value fault->at of the phaser or task fault->number, by
+       fault->place. */
     PHASE_E_TOO_BIG = -4,
     /* out is too short; sink_counts and sink_starts, or needed, are those of the answer. */
     PHASE_E_ROOM = -5,
@@ -94,33 +99,38 @@ typedef struct phase_counts {
     size_t sinks;
 } phase_counts;
 
-/* The version of the library that is linked, which may be another than the PHASE_VERSION of this header. */
+/* The version of the library that is linked, which may be another than the PHASE_VERSION of this
+ * header. */
 uint32_t phase_version(void);
 
 /* How many phasers, tasks, sources and sinks a graph has. A refusal leaves counts as it was. */
 int32_t phase_check(const uint8_t *text, size_t text_len, phase_counts *counts, phase_fault *fault);
 
-/* The names of the sources and then of the sinks, each in the order of their lines and followed by '\n', as
- * phase_eval has their samples and values. What stands behind them stays; no '\0' is written.
+/* The names of the sources and then of the sinks, each in the order of their lines and followed by
+ * '\n', as phase_eval has their samples and values. What stands behind them stays; no '\0' is
+ * written.
  *
- * needed is how many bytes they are. With out too short the answer is PHASE_E_ROOM, out is as it was, and needed is
- * right: so a first call with NULL, 0 asks. Any other refusal leaves out and needed as they were. */
+ * needed is how many bytes they are. With out too short the answer is PHASE_E_ROOM, out is as it
+ * was, and needed is right: so a first call with NULL, 0 asks. Any other refusal leaves out and
+ * needed as they were. */
 int32_t phase_names(const uint8_t *text, size_t text_len, uint8_t *out, size_t out_len,
                     size_t *needed, phase_fault *fault);
 
-/* The names of all phasers and then of all tasks, else as phase_names. At PHASE_E_TOO_BIG the name of a phaser is line
- * fault->number of them, counted from 0 on; and that of a task is so many lines behind those of the phasers. */
+/* The names of all phasers and then of all tasks, else as phase_names. At PHASE_E_TOO_BIG the name
+ * of a phaser is line fault->number of them, counted from 0 on; and that of a task is so many lines
+ * behind those of the phasers. */
 int32_t phase_all_names(const uint8_t *text, size_t text_len, uint8_t *out, size_t out_len,
                         size_t *needed, phase_fault *fault);
 
-/* The values of each sink, one sink behind the other in the order of the lines; how many each has; and
- * where each begins that joins now, at the least start. What stands behind the values stays.
+/* The values of each sink, one sink behind the other in the order of the lines; how many each has;
+ * and where each begins that joins now, at the least start. What stands behind the values stays.
  *
  * The samples are those of each source, one source behind the other in the order of the lines, and
- * counts says how many each has. A refusal leaves out as it was, and sink_counts and sink_starts but at
- * PHASE_E_ROOM and PHASE_E_TOO_BIG, where they are those of the answer, and at PHASE_E_MEMORY, where they may be
- * anything. With out too short the answer is PHASE_E_ROOM, and sink_counts tells
- * how many values there are: so a first call with NULL, 0 asks, and composes no list. */
+ * counts says how many each has. A refusal leaves out as it was, and sink_counts and sink_starts
+ * but at PHASE_E_ROOM and PHASE_E_TOO_BIG, where they are those of the answer, and at
+ * PHASE_E_MEMORY, where they may be anything. With out too short the answer is PHASE_E_ROOM, and
+ * sink_counts tells how many values there are: so a first call with NULL, 0 asks, and composes no
+ * list. */
 int32_t phase_eval(const uint8_t *text, size_t text_len,
                    const int64_t *samples, size_t samples_len,
                    const size_t *counts, size_t counts_len,
@@ -129,42 +139,46 @@ int32_t phase_eval(const uint8_t *text, size_t text_len,
                    int64_t *sink_starts, size_t sink_starts_len,
                    phase_fault *fault);
 
-/* A filter over a block of samples, as the line `fir` of a graph has it, which goes on where the block before it
- * ended: state has the last taps_len - 1 samples before the block, the oldest first, and zeros where there were
- * none. At PHASE_OK out has a value for each sample, and state has the last samples. What stands behind the values
- * stays. out may not overlap block: phase_fir_in_place writes the values over the samples.
+/* A filter over a block of samples, as the line `fir` of a graph has it, which goes on where the
+ * block before it ended: state has the last taps_len - 1 samples before the block, the oldest
+ * first, and zeros where there were none. At PHASE_OK out has a value for each sample, and state
+ * has the last samples. What stands behind the values stays. out may not overlap block:
+ * phase_fir_in_place writes the values over the samples.
  *
- * done tells how many values of out are right: all, or at PHASE_E_TOO_BIG those before the first that is out of
- * range, and else none. A refusal leaves state as it was. Taps have a magnitude of at most 2^31 - 1, and shift is
- * at most 62; a sample may be any number. PHASE_E_COUNTS says that state is not one shorter than taps. Of two
- * refusals the first of these is told: PHASE_E_TAPS, PHASE_E_COUNTS, PHASE_E_ROOM, PHASE_E_MEMORY, PHASE_E_TOO_BIG. */
+ * done tells how many values of out are right: all, or at PHASE_E_TOO_BIG those before the first
+ * that is out of range, and else none. A refusal leaves state as it was. Taps have a magnitude of
+ * at most 2^31 - 1, and shift is at most 62; a sample may be any number. PHASE_E_COUNTS says that
+ * state is not one shorter than taps. Of two refusals the first of these is told: PHASE_E_TAPS,
+ * PHASE_E_COUNTS, PHASE_E_ROOM, PHASE_E_MEMORY, PHASE_E_TOO_BIG. */
 int32_t phase_fir(const int64_t *taps, size_t taps_len, uint32_t shift,
                   int64_t *state, size_t state_len,
                   const int64_t *block, size_t block_len,
                   int64_t *out, size_t out_len, size_t *done);
 
-/* The same, but each value is written over its sample, so that there is no PHASE_E_ROOM. At PHASE_E_TOO_BIG the first
- * done places of block have values, and those behind them still have samples. */
+/* The same, but each value is written over its sample, so that there is no PHASE_E_ROOM. At
+ * PHASE_E_TOO_BIG the first done places of block have values, and those behind them still have
+ * samples. */
 int32_t phase_fir_in_place(const int64_t *taps, size_t taps_len, uint32_t shift,
                            int64_t *state, size_t state_len,
                            int64_t *block, size_t block_len, size_t *done);
 
 /* ---- A phaser for one thread at a time.
  *
- * Tasks meet at a phaser, phase by phase. A signaller is a registered task whose mode signals, a waiter one whose
- * mode waits. A phase is complete when each signaller has signalled it, and its value is what the sends of its
- * signals come to. docs/DEFINITIONS.md says what each word means.
+ * Tasks meet at a phaser, phase by phase. A signaller is a registered task whose mode signals, a
+ * waiter one whose mode waits. A phase is complete when each signaller has signalled it, and its
+ * value is what the sends of its signals come to. docs/DEFINITIONS.md says what each word means.
  *
- * A phaser stands in a struct of the caller's, which has none while it is PHASE_PHASER_INIT, or all zero.
- * Any thread may make a call on it, also the one that frees it, but one at a time: a lock, or the end or start of a
- * thread, puts each call behind the one before it. Beside what is said above a caller owes: nobody else writes into
- * the struct, and it is not copied; and a phaser that was made is freed once, for its memory. Any number may be given
- * for a task, an operation, a mode, a single, or a limit.
+ * A phaser stands in a struct of the caller's, which has none while it is PHASE_PHASER_INIT, or all
+ * zero. Any thread may make a call on it, also the one that frees it, but one at a time: a lock, or
+ * the end or start of a thread, puts each call behind the one before it. Beside what is said above
+ * a caller owes: nobody else writes into the struct, and it is not copied; and a phaser that was
+ * made is freed once, for its memory. Any number may be given for a task, an operation, a mode, a
+ * single, or a limit.
  *
  * Where a call answers a negative status, the phaser and what the call writes are as they were. */
 
-/* The statuses of a phaser, beside PHASE_OK, and PHASE_E_MEMORY from calls that make and register, and from those
- * of blocks. A signal and a wait of one phase take no memory. */
+/* The statuses of a phaser, beside PHASE_OK, and PHASE_E_MEMORY from calls that make and register,
+ * and from those of blocks. A signal and a wait of one phase take no memory. */
 enum {
     /* A wait: no signaller is registered, and the task has got every phase. */
     PHASE_ENDED = 1,
@@ -180,7 +194,8 @@ enum {
     PHASE_E_BAD_PHASES = -24,
     /* The number is none of a mode. */
     PHASE_E_BAD_MODE = -25,
-    /* The number is none of a single; or a clamp's low end is above its high end, or an end is INT64_MIN. */
+    /* The number is none of a single; or a clamp's low end is above its high end, or an end is
+     * INT64_MIN. */
     PHASE_E_BAD_SINGLE = -26,
     /* A value to be sent is INT64_MIN. */
     PHASE_E_BAD_VALUE = -27,
@@ -227,7 +242,8 @@ enum {
     PHASE_ANY = 5 /* the first of them */
 };
 
-/* The modes of a task. A mode holds itself and those above it, but PHASE_WAIT does not hold PHASE_SIG. */
+/* The modes of a task. A mode holds itself and those above it, but PHASE_WAIT does not hold
+ * PHASE_SIG. */
 enum {
     PHASE_SIG = 1,
     PHASE_WAIT = 2,
@@ -244,7 +260,8 @@ enum {
     PHASE_CLAMP = 4  /* the nearest value from low to high */
 };
 
-/* The greatest bound, the greatest number of phases, the most tasks at a time, and the most sends of a phase. */
+/* The greatest bound, the greatest number of phases, the most tasks at a time, and the most sends
+ * of a phase. */
 #define PHASE_BOUND_MAX 65536
 #define PHASE_PHASES_MAX 4611686018427387904
 #define PHASE_MEMBERS_MAX 1024
@@ -259,57 +276,61 @@ typedef struct phase_phaser {
 /* A place with no phaser. */
 #define PHASE_PHASER_INIT {NULL, false}
 
-/* What a registered task stands at: the phases that it signals and waits for next, counted from 0, and its mode. */
+/* What a registered task stands at: the phases that it signals and waits for next, counted from 0,
+ * and its mode. */
 typedef struct phase_standing {
     uint64_t signal_phase;
     uint64_t wait_phase;
     uint32_t mode;
 } phase_standing;
 
-/* Makes a phaser of at most this many phases, whose signallers may be `bound` phases ahead of its slowest waiter.
- * Its one task is number 0, in the mode PHASE_SINGLE at phase 0. */
+/* Makes a phaser of at most this many phases, whose signallers may be `bound` phases ahead of its
+ * slowest waiter. Its one task is number 0, in the mode PHASE_SINGLE at phase 0. */
 int32_t phase_phaser_new(uint32_t operation, uint64_t bound, uint64_t phases, phase_phaser *phaser);
 
-/* Ends the phaser and gives its memory back. There is none then. Where there is none it does nothing. */
+/* Ends the phaser and gives its memory back. There is none then. Where there is none it does
+ * nothing. */
 void phase_phaser_free(phase_phaser *phaser);
 
-/* Registers a task in a mode that the mode of parent holds, at both phases of parent, and writes its number: 1 more
- * than the greatest before. */
+/* Registers a task in a mode that the mode of parent holds, at both phases of parent, and writes
+ * its number: 1 more than the greatest before. */
 int32_t phase_phaser_register(phase_phaser *phaser, uint64_t parent, uint32_t mode, uint64_t *task);
 
-/* Registers a task in the mode PHASE_WAIT at the first phase that is not complete, and writes its number and that
- * phase. The mode of parent waits. */
-int32_t phase_phaser_register_now(phase_phaser *phaser, uint64_t parent, uint64_t *task, uint64_t *phase);
+/* Registers a task in the mode PHASE_WAIT at the first phase that is not complete, and writes its
+ * number and that phase. The mode of parent waits. */
+int32_t phase_phaser_register_now(phase_phaser *phaser, uint64_t parent, uint64_t *task,
+                                  uint64_t *phase);
 
 /* Ends a task's registration. */
 int32_t phase_phaser_drop(phase_phaser *phaser, uint64_t task);
 
-/* Signals the task's phase with these sends and a single or PHASE_NO_SINGLE, and writes that phase. low and high
- * are the ends of a PHASE_CLAMP, and else not read. */
+/* Signals the task's phase with these sends and a single or PHASE_NO_SINGLE, and writes that phase.
+ * low and high are the ends of a PHASE_CLAMP, and else not read. */
 int32_t phase_phaser_signal(phase_phaser *phaser, uint64_t task,
                             const int64_t *values, size_t values_len,
                             uint32_t single, int64_t low, int64_t high, uint64_t *phase);
 
-/* Gets the task's phase and its value; or answers PHASE_ENDED, and writes neither. It does not block: where the phase
- * is not complete the answer is PHASE_E_NOT_YET. The value is INT64_MIN where the phase has none: a sum or a product
- * that is out of range, and under the other operations a phase without a send. */
+/* Gets the task's phase and its value; or answers PHASE_ENDED, and writes neither. It does not
+ * block: where the phase is not complete the answer is PHASE_E_NOT_YET. The value is INT64_MIN
+ * where the phase has none: a sum or a product that is out of range, and under the other operations
+ * a phase without a send. */
 int32_t phase_phaser_wait(phase_phaser *phaser, uint64_t task, uint64_t *phase, int64_t *value);
 
-/* Signals as many phases in a row as there are values, the first the task's, with one send each and the single, or
- * PHASE_NO_SINGLE, for all of them; and writes the first phase. It is refused where one of the signals would be, made
- * one by one, or where it is a PHASE_E_BAD_BLOCK; then no phase is signalled. It takes memory for the sends, and gives
- * it back. */
+/* Signals as many phases in a row as there are values, the first the task's, with one send each and
+ * the single, or PHASE_NO_SINGLE, for all of them; and writes the first phase. It is refused where
+ * one of the signals would be, made one by one, or where it is a PHASE_E_BAD_BLOCK; then no phase
+ * is signalled. It takes memory for the sends, and gives it back. */
 int32_t phase_phaser_signal_block(phase_phaser *phaser, uint64_t task,
                                   const int64_t *values, size_t values_len,
                                   uint32_t single, int64_t low, int64_t high, uint64_t *phase);
 
-/* Gets the task's phase and those behind it that are complete, at most values_len of them, which may be no more than
- * the bound; writes the first phase, how many there are, and the value of each, as phase_phaser_wait has it, into the
- * first places of values; or answers PHASE_ENDED, and writes nothing. What stands behind the values stays. It does not
- * block. It takes memory for as many values as there are places, where these are at most PHASE_BOUND_MAX, and gives it
- * back. */
-int32_t phase_phaser_wait_block(phase_phaser *phaser, uint64_t task, int64_t *values, size_t values_len,
-                                uint64_t *phase, size_t *count);
+/* Gets the task's phase and those behind it that are complete, at most values_len of them, which
+ * may be no more than the bound; writes the first phase, how many there are, and the value of each,
+ * as phase_phaser_wait has it, into the first places of values; or answers PHASE_ENDED, and writes
+ * nothing. What stands behind the values stays. It does not block. It takes memory for as many
+ * values as there are places, where these are at most PHASE_BOUND_MAX, and gives it back. */
+int32_t phase_phaser_wait_block(phase_phaser *phaser, uint64_t task, int64_t *values,
+                                size_t values_len, uint64_t *phase, size_t *count);
 
 /* Writes what a task stands at. */
 int32_t phase_phaser_view(phase_phaser *phaser, uint64_t task, phase_standing *standing);
@@ -348,7 +369,8 @@ static inline const char *phase_status_text(int32_t status)
     case PHASE_E_SIGNAL_TWICE: return "the task has signalled since its last wait";
     case PHASE_E_SPENT: return "the phaser was made for fewer phases";
     case PHASE_E_AHEAD: return "the phase is the bound or more ahead of the slowest waiter";
-    case PHASE_E_SINGLE_DIFFERS: return "the first signal of the phase named another single, or none";
+    case PHASE_E_SINGLE_DIFFERS:
+        return "the first signal of the phase named another single, or none";
     case PHASE_E_PHASE_FULL: return "more than 65,536 sends of a phase";
     case PHASE_E_NO_WAIT: return "the task's mode does not wait";
     case PHASE_E_SIGNAL_FIRST: return "the task has not signalled since its last wait";

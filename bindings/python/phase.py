@@ -35,17 +35,15 @@ import numpy
 from numpy.typing import ArrayLike, NDArray
 
 __all__ = [
-    "check", "names", "eval", "Counts", "Names", "Values",
-    "Fir",
-    "Phaser", "Operation", "Mode", "Single", "Clamp", "Got", "GotBlock", "Standing",
-    "SUM", "PRODUCT", "LEAST", "GREATEST", "ANY",
-    "SIG", "WAIT", "SIG_WAIT", "SINGLE",
-    "NO_SINGLE", "NEG", "ABS", "HALVE",
-    "PHASERS_MAX", "TASKS_MAX", "TAPS_MAX", "SAMPLES_MAX", "BOUND_MAX", "PHASES_MAX", "MEMBERS_MAX", "SENDS_MAX",
+    "check", "names", "eval", "Counts", "Names", "Values", "Fir", "Phaser", "Operation", "Mode",
+    "Single", "Clamp", "Got", "GotBlock", "Standing", "SUM", "PRODUCT", "LEAST", "GREATEST", "ANY",
+    "SIG", "WAIT", "SIG_WAIT", "SINGLE", "NO_SINGLE", "NEG", "ABS", "HALVE", "PHASERS_MAX",
+    "TASKS_MAX", "TAPS_MAX", "SAMPLES_MAX", "BOUND_MAX", "PHASES_MAX", "MEMBERS_MAX", "SENDS_MAX",
     "Error", "GraphError", "SamplesError", "TooBig", "TapsError", "PhaserError",
 ]
 
-# The version of this file, as 10,000 * major + 100 * minor + patch. The library has to have it, too.
+# The version of this file, as 10,000 * major + 100 * minor + patch. The library has to have it,
+# too.
 VERSION = 100
 __version__ = f"{VERSION // 10000}.{VERSION // 100 % 100}.{VERSION % 100}"
 
@@ -122,9 +120,9 @@ KINDS = {
 }
 
 
-
 class Operation(enum.IntEnum):
-    """What the sends of a phase come to: their sum, product, least, greatest, or the first of them."""
+    """What the sends of a phase come to: their sum, product, least, greatest, or the first of
+    them."""
 
     SUM = 1
     PRODUCT = 2
@@ -134,8 +132,8 @@ class Operation(enum.IntEnum):
 
 
 class Mode(enum.IntEnum):
-    """What a task does at a phaser. SIG_WAIT and SINGLE signal and wait in turn; SINGLE may name a single.
-    A mode holds itself and those before it, but WAIT does not hold SIG."""
+    """What a task does at a phaser. SIG_WAIT and SINGLE signal and wait in turn; SINGLE may name a
+    single. A mode holds itself and those before it, but WAIT does not hold SIG."""
 
     SIG = 1
     WAIT = 2
@@ -190,13 +188,14 @@ class GraphError(Error, ValueError):
 
 
 class SamplesError(Error, ValueError):
-    """The samples are not those of the graph's sources: a list too few or too many, a name that is none, a
-    list that is too long, or a sample that is none."""
+    """The samples are not those of the graph's sources: a list too few or too many, a name that is
+    none, a list that is too long, or a sample that is none."""
 
 
 class TooBig(Error, OverflowError):
-    """A value is out of range: that of phase `at` of the phaser `name`, or of step `at` of the task; or of
-    sample `at` of a block of a `Fir`, where `values` has the values before it, which are right."""
+    """A value is out of range: that of phase `at` of the phaser `name`, or of step `at` of the
+    task; or of sample `at` of a block of a `Fir`, where `values` has the values before it, which
+    are right."""
 
     values: Optional[NDArray[numpy.int64]] = None
 
@@ -371,7 +370,6 @@ class NotYet(PhaserError):
 _REFUSALS = {it.status: it for it in PhaserError.__subclasses__()}
 
 
-
 class Got(NamedTuple):
     """A phase that is complete, and its value, or None where it has none."""
 
@@ -496,11 +494,12 @@ def names(graph: Text) -> Names:
 
 
 def eval(
-    graph: Text, samples: Union[Sequence[ArrayLike], Mapping[str, ArrayLike], NDArray[Any]] = (), /, **named: ArrayLike
+    graph: Text, samples: Union[Sequence[ArrayLike], Mapping[str, ArrayLike], NDArray[Any]] = (), /,
+    **named: ArrayLike,
 ) -> Values:
-    """The values of each sink by its name, over the samples of each source: a list for each in the order
-    of their lines, or by their names; of one source also its array alone. A sink that joins now begins at
-    the least phase that it may, which `starts` of the answer tells.
+    """The values of each sink by its name, over the samples of each source: a list for each in the
+    order of their lines, or by their names; of one source also its array alone. A sink that joins
+    now begins at the least phase that it may, which `starts` of the answer tells.
 
     Samples are whole numbers, in arrays or lists. Values are arrays of int64. It raises GraphError,
     SamplesError, TooBig, OverflowError for a number that is no int64, TypeError or MemoryError.
@@ -530,12 +529,12 @@ def eval(
 
 
 class Fir:
-    """A filter that goes on where the block before ended: the sum of each tap times the sample so far back,
-    divided by 2 to the power of the shift and rounded down. Calls may come from any thread, and go one by
-    one.
+    """A filter that goes on where the block before ended: the sum of each tap times the sample so
+    far back, divided by 2 to the power of the shift and rounded down. Calls may come from any
+    thread, and go one by one.
 
-    It raises TapsError where there is no such filter. A block raises TooBig, whose `values` are right, and
-    the filter then stands where it stood.
+    It raises TapsError where there is no such filter. A block raises TooBig, whose `values` are
+    right, and the filter then stands where it stood.
 
     >>> import phase
     >>> sums = phase.Fir([1, 1])
@@ -563,8 +562,8 @@ class Fir:
         return out
 
     def in_place(self, block: NDArray[numpy.int64]) -> None:
-        """Filters a row of int64 without gaps, and writes the values over its samples. At TooBig the values
-        before it are written, and the samples behind them stay."""
+        """Filters a row of int64 without gaps, and writes the values over its samples. At TooBig
+        the values before it are written, and the samples behind them stay."""
         self._filter(_lib.phase_fir_in_place, _row(block))
 
     def _filter(self, call, *rows):
@@ -637,8 +636,8 @@ class Phaser:
         return task.value
 
     def register_now(self, parent: int) -> tuple[int, int]:
-        """Registers a task in the mode WAIT at the first phase that is not complete, and returns its
-        number and that phase. It raises what `register` does."""
+        """Registers a task in the mode WAIT at the first phase that is not complete, and returns
+        its number and that phase. It raises what `register` does."""
         task, phase = ctypes.c_uint64(), ctypes.c_uint64()
         _done(self._call(_lib.phase_phaser_register_now, _task(parent), task, phase))
         return task.value, phase.value
@@ -648,12 +647,12 @@ class Phaser:
         _done(self._call(_lib.phase_phaser_drop, _task(task)))
 
     def signal(self, task: int, values: ArrayLike, single: Union[int, Clamp, None] = None) -> int:
-        """Signals the task's phase with these sends, a row of whole numbers as of `eval`, and returns
-        that phase. A single is done once with the value of the phase: NEG, ABS, HALVE, which rounds
-        down, or Clamp(low, high).
+        """Signals the task's phase with these sends, a row of whole numbers as of `eval`, and
+        returns that phase. A single is done once with the value of the phase: NEG, ABS, HALVE,
+        which rounds down, or Clamp(low, high).
 
-        It raises BadSingle, TooManySends, BadValue, NoTask, NoSignal, NotSingle, SignalTwice, Spent,
-        Ahead, SingleDiffers or PhaseFull.
+        It raises BadSingle, TooManySends, BadValue, NoTask, NoSignal, NotSingle, SignalTwice,
+        Spent, Ahead, SingleDiffers or PhaseFull.
 
         >>> import phase
         >>> phaser = phase.Phaser(phase.SUM, 2, 100)
@@ -666,8 +665,9 @@ class Phaser:
         return phase.value
 
     def wait(self, task: int) -> Optional[Got]:
-        """The task's phase and its value, or None where no more will come. The value is None where a
-        sum or a product is out of range, and under the other operations where the phase has no send.
+        """The task's phase and its value, or None where no more will come. The value is None where
+        a sum or a product is out of range, and under the other operations where the phase has no
+        send.
 
         It raises NoTask, NoWait, SignalFirst, or NotYet where it would have to block.
         """
@@ -678,25 +678,30 @@ class Phaser:
         _done(status)
         return Got(phase.value, value.value if value.value != _NO_VALUE else None)
 
-    def signal_block(self, task: int, values: ArrayLike, single: Union[int, Clamp, None] = None) -> int:
+    def signal_block(
+        self, task: int, values: ArrayLike, single: Union[int, Clamp, None] = None
+    ) -> int:
         """Signals as many phases in a row as there are values, the first the task's, with one send
         each and the single or none for all of them, and returns the first phase.
 
-        It raises what `signal` does where one of the signals would, made one by one, and BadBlock or
-        MemoryError; then no phase is signalled.
+        It raises what `signal` does where one of the signals would, made one by one, and BadBlock
+        or MemoryError; then no phase is signalled.
         """
         sends, phase = _whole(values), ctypes.c_uint64()
         row = sends.ctypes.data, len(sends)
-        _done(self._call(_lib.phase_phaser_signal_block, _task(task), *row, *_single(single), phase))
+        _done(
+            self._call(_lib.phase_phaser_signal_block, _task(task), *row, *_single(single), phase)
+        )
         return phase.value
 
     def wait_block(self, task: int, out: Union[int, NDArray[numpy.int64]]) -> Optional[GotBlock]:
-        """The first of the task's phases that are complete, in a row, and their values; or None where
-        no more will come. Where a phase has no value, -2**63 stands.
+        """The first of the task's phases that are complete, in a row, and their values; or None
+        where no more will come. Where a phase has no value, -2**63 stands.
 
         `out` says how many phases there may be; or it is a row of int64 without gaps, as long as
         that, into whose first places the values are written, and of which they are a view. What
-        stands behind them stays. It raises what `wait` does, and BadBlock, TypeError or MemoryError.
+        stands behind them stays. It raises what `wait` does, and BadBlock, TypeError or
+        MemoryError.
 
         >>> import phase
         >>> phaser = phase.Phaser(phase.SUM, 3, 100)
@@ -773,7 +778,12 @@ def _places(out):
 
 def _row(out):
     """A row into which C may write."""
-    if not isinstance(out, numpy.ndarray) or out.ndim != 1 or out.dtype != numpy.int64 or not out.flags.carray:
+    if (
+        not isinstance(out, numpy.ndarray)
+        or out.ndim != 1
+        or out.dtype != numpy.int64
+        or not out.flags.carray
+    ):
         raise TypeError("values are written into one row of int64 without gaps")
     return out
 
@@ -812,7 +822,9 @@ def _bytes(graph):
         with open(graph, "rb") as file:
             return file.read()
     if not isinstance(graph, (bytes, bytearray, memoryview)):
-        raise TypeError(f"a graph is a text, bytes or the path of its file, and not {type(graph).__name__}")
+        raise TypeError(
+            f"a graph is a text, bytes or the path of its file, and not {type(graph).__name__}"
+        )
     return bytes(graph)
 
 
@@ -828,7 +840,11 @@ def _check(text):
 
 def _eval(text, samples, counts, out, sinks, starts):
     fault = _Fault()
-    arrays = (it for array in (samples, counts, out, sinks, starts) for it in (array.ctypes.data, len(array)))
+    arrays = (
+        it
+        for array in (samples, counts, out, sinks, starts)
+        for it in (array.ctypes.data, len(array))
+    )
     return _lib.phase_eval(text, len(text), *arrays, fault), fault
 
 
@@ -858,14 +874,17 @@ def _named(call, text):
 
 
 def _in_order(names, samples, named):
-    """The samples of each source in the order of the lines: from a list of them, by name, or one array of one source."""
+    """The samples of each source in the order of the lines: from a list of them, by name, or one
+    array of one source."""
     if isinstance(samples, Mapping):
         samples, named = (), {**samples, **named}
     if named and len(samples):
         raise TypeError("samples are given in order or by name, and not both")
     if named:
         if set(names) != set(named):
-            raise SamplesError(f"the sources are {' '.join(names) or 'none'}, and not {' '.join(map(str, named))}")
+            raise SamplesError(
+                f"the sources are {' '.join(names) or 'none'}, and not {' '.join(map(str, named))}"
+            )
         samples = [named[it] for it in names]
     elif isinstance(samples, numpy.ndarray) and samples.ndim == 1 and samples.dtype != object:
         samples = [samples]
@@ -891,7 +910,9 @@ def _whole(values):
     """Whole numbers as one row of int64 without gaps, where C may read it."""
     given = numpy.asarray(values)
     if given.ndim != 1 or given.size and given.dtype.kind not in "iu":
-        raise TypeError(f"one row of whole numbers is wanted, and not {given.dtype} of {given.ndim} dimensions")
+        raise TypeError(
+            f"one row of whole numbers is wanted, and not {given.dtype} of {given.ndim} dimensions"
+        )
     # numpy compares a uint64 with a number of Python as floats.
     if given.dtype.kind == "u" and given.size and int(given.max()) > 2**63 - 1:
         raise OverflowError("a sample is above 2**63 - 1")

@@ -1,5 +1,6 @@
-"""What phase.py answers at its edges: widths and gaps of arrays, floats, numbers past 64 bits, names, paths, faults that
-are pickled; and filters that are copied, shared between threads, and filter in place."""
+"""What phase.py answers at its edges: widths and gaps of arrays, floats, numbers past 64 bits,
+names, paths, faults that are pickled; and filters that are copied, shared between threads, and
+filter in place."""
 import copy
 import pathlib
 import pickle
@@ -11,9 +12,15 @@ import numpy
 
 import phase
 
-SUMS = "phaser x sum 4\nphaser y sum 4\nsource s s.csv -> x\nfir f x -> y shift 0 taps 1 1\nsink out y\n"
+SUMS = (
+    "phaser x sum 4\nphaser y sum 4\nsource s s.csv -> x\nfir f x -> y shift 0 taps 1 1\n"
+    "sink out y\n"
+)
 BOTH = "phaser x sum 4\nsource s s.csv -> x\nsource t t.csv -> x\nsink out x\n"
-LATE = "graph 2\nphaser x sum 4\nsource s s.csv -> x\nsink all x\nsink late x by all at 2 now\nsink never x by all at 9 now\n"
+LATE = (
+    "graph 2\nphaser x sum 4\nsource s s.csv -> x\nsink all x\nsink late x by all at 2 now\n"
+    "sink never x by all at 9 now\n"
+)
 MOST = 2**63 - 1
 
 failed = 0
@@ -46,19 +53,33 @@ look("64 bits without a sign", sums(numpy.array([1, 2], numpy.uint64)) == [1, 3]
 look("every second one", sums(numpy.arange(6)[::2]) == [0, 2, 6])
 look("backwards", sums(numpy.arange(3)[::-1]) == [2, 3, 1])
 look("a big end first", sums(numpy.array([1, 2], ">i8")) == [1, 3])
-look("a place where no int64 stands", sums(numpy.frombuffer(bytes([0, 5] + [0] * 15), numpy.int64, 2, 1)) == [5, 5])
+look(
+    "a place where no int64 stands",
+    sums(numpy.frombuffer(bytes([0, 5] + [0] * 15), numpy.int64, 2, 1)) == [5, 5],
+)
 look("the greatest and the least", sums([MOST, -MOST]) == [MOST, 0])
 look("floats are refused", refused(TypeError, sums, [1.0, 2.0]))
 look("two rows are refused", refused(TypeError, sums, [[1, 2], [3, 4]]))
 look("a number past 64 bits", refused(OverflowError, sums, numpy.array([2**63], numpy.uint64)))
 why = refused(phase.SamplesError, phase.eval, BOTH, [[1], [2, -(2**63)]])
 look("-2**63", str(why) == "sample 1 of t is -2**63, which is none")
-look("by order and by name",
-     phase.eval(BOTH, [[1], [20, 30]])["out"].tolist() == phase.eval(BOTH, t=[20, 30], s=[1])["out"].tolist() == [21, 30])
+look(
+    "by order and by name",
+    phase.eval(BOTH, [[1], [20, 30]])["out"].tolist()
+    == phase.eval(BOTH, t=[20, 30], s=[1])["out"].tolist()
+    == [21, 30],
+)
 look("by a table of names", phase.eval(BOTH, {"t": [20, 30], "s": [1]})["out"].tolist() == [21, 30])
-look("an array of one source", phase.eval(SUMS, numpy.array([1, 2, 3]))["out"].tolist() == [1, 3, 5])
-look("an array with a row for each source", phase.eval(BOTH, numpy.array([[1, 2], [20, 30]]))["out"].tolist() == [21, 32])
-look("an array of two sources", refused(phase.SamplesError, phase.eval, BOTH, numpy.array([1, 2, 3])))
+look(
+    "an array of one source", phase.eval(SUMS, numpy.array([1, 2, 3]))["out"].tolist() == [1, 3, 5]
+)
+look(
+    "an array with a row for each source",
+    phase.eval(BOTH, numpy.array([[1, 2], [20, 30]]))["out"].tolist() == [21, 32],
+)
+look(
+    "an array of two sources", refused(phase.SamplesError, phase.eval, BOTH, numpy.array([1, 2, 3]))
+)
 look("one number for a source", refused(TypeError, phase.eval, SUMS, [1]))
 look("a source too few", refused(phase.SamplesError, phase.eval, BOTH, [[1]]))
 look("a source too many", refused(phase.SamplesError, phase.eval, SUMS, [[1], [2]]))
@@ -77,29 +98,47 @@ with tempfile.TemporaryDirectory() as folder:
 for text in (5, 10**10, None, [112]):
     look(f"a graph that is {text}", refused(TypeError, phase.check, text))
 why = refused(phase.GraphError, phase.check, "phaser x sum 4\nphaser y mean 4\n")
-look("a fault of the graph", why and (why.line, why.kind, str(why)) == (2, "syntax", "graph line 2: syntax"))
+look(
+    "a fault of the graph",
+    why and (why.line, why.kind, str(why)) == (2, "syntax", "graph line 2: syntax"),
+)
 why = refused(phase.TooBig, phase.eval, BOTH, [[1, MOST], [2, 1]])
 look("a phaser's value out of range", why and (why.name, why.at) == ("x", 1))
 why = refused(phase.TooBig, phase.eval, SUMS, s=[MOST, MOST])
 look("a filter's value out of range", why and (why.name, why.at) == ("f", 1))
-TWO = "phaser a sum 4\nphaser b sum 4\nsource s s.csv -> a\nsource t t.csv -> b\nsource u u.csv -> b\nsink o a\nsink p b\n"
+TWO = (
+    "phaser a sum 4\nphaser b sum 4\nsource s s.csv -> a\nsource t t.csv -> b\n"
+    "source u u.csv -> b\nsink o a\nsink p b\n"
+)
 why = refused(phase.TooBig, phase.eval, TWO, [[1], [2, MOST], [3, 1]])
 look("a value out of range at the second phaser", why and (why.name, why.at) == ("b", 1))
-DOWN = "phaser a sum 4\nphaser b sum 4\nphaser c sum 4\nsource s s.csv -> a\nfir f a -> b shift 0 taps 1\nfir g b -> c shift 0 taps 2\n"
+DOWN = (
+    "phaser a sum 4\nphaser b sum 4\nphaser c sum 4\nsource s s.csv -> a\n"
+    "fir f a -> b shift 0 taps 1\nfir g b -> c shift 0 taps 2\n"
+)
 why = refused(phase.TooBig, phase.eval, DOWN, s=[1, 1, MOST])
 look("a value out of range of the third task", why and (why.name, why.at) == ("g", 2))
 found = phase.eval(LATE, s=[5, 6, 7, 8])
-look("starts of sinks that join now",
-     {name: it.tolist() for name, it in found.items()} == {"all": [5, 6, 7, 8], "late": [7, 8], "never": []}
-     and found.starts == {"late": 2})
+look(
+    "starts of sinks that join now",
+    {name: it.tolist() for name, it in found.items()}
+    == {"all": [5, 6, 7, 8], "late": [7, 8], "never": []}
+    and found.starts == {"late": 2},
+)
 look("counts", phase.check(LATE) == (1, 4, 1, 3))
 look("bytes", phase.check(LATE.encode()).sinks == 3 and phase.check(b"").tasks == 0)
-for why in (phase.GraphError(2, "syntax"), phase.TooBig("x", 1), phase.SamplesError("none"), phase.TapsError(), phase.NotYet()):
+for why in (
+    phase.GraphError(2, "syntax"), phase.TooBig("x", 1), phase.SamplesError("none"),
+    phase.TapsError(), phase.NotYet(),
+):
     again = pickle.loads(pickle.dumps(why))
     look(f"{why!r} from another process", (type(again), str(again)) == (type(why), str(why)))
     look(f"{why!r} is an error", isinstance(why, phase.Error))
 sums = phase.Fir([1, 1])
-look("blocks go on", [sums(it).tolist() for it in ([1, 2, 3], [], [4], [5, 6])] == [[1, 3, 5], [], [7], [9, 11]])
+look(
+    "blocks go on",
+    [sums(it).tolist() for it in ([1, 2, 3], [], [4], [5, 6])] == [[1, 3, 5], [], [7], [9, 11]],
+)
 why = refused(phase.TooBig, sums, [0, MOST, 1])
 look("a block's value out of range", why and why.at == 2 and why.values.tolist() == [6, MOST])
 look("after which the filter stands where it stood", sums([1]).tolist() == [7])
@@ -116,7 +155,10 @@ taps = numpy.array([1, 1])
 sums = phase.Fir(taps)
 taps[0] = 9
 look("a caller's taps that change", sums([5]).tolist() == [5])
-for name, other in (("copy", copy.copy(sums)), ("deep copy", copy.deepcopy(sums)), ("pickle", pickle.loads(pickle.dumps(sums)))):
+for name, other in (
+    ("copy", copy.copy(sums)), ("deep copy", copy.deepcopy(sums)),
+    ("pickle", pickle.loads(pickle.dumps(sums))),
+):
     look(f"a {name} goes on", other([1]).tolist() == [6])
 look("a filter beside its copies", sums([2]).tolist() == [7])
 
@@ -127,13 +169,16 @@ for block in (numpy.arange(7), numpy.array([-4]), numpy.arange(3)):
     look("in place as beside", block.tolist() == wanted.tolist())
 block = numpy.array([1, MOST, 1, 1])
 why = refused(phase.TooBig, phase.Fir([2, 1]).in_place, block)
-look("in place up to a value out of range", why and why.values.tolist() == [2] and block.tolist() == [2, MOST, 1, 1])
+look(
+    "in place up to a value out of range",
+    why and why.values.tolist() == [2] and block.tolist() == [2, MOST, 1, 1],
+)
 look("in place of a list", refused(TypeError, phase.Fir([1]).in_place, [1, 2]))
 
 
 def by_threads():
-    """The blocks behind which blocks of four threads were filtered. Each block is of one number, its own, so its first
-    value tells the number of the one before it."""
+    """The blocks behind which blocks of four threads were filtered. Each block is of one number,
+    its own, so its first value tells the number of the one before it."""
     sums, before = phase.Fir([1] * 64), []
 
     def blocks(first):

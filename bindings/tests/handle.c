@@ -1,6 +1,6 @@
-/* What the calls of a phaser answer and write, beside values worked out by hand and the replies that examples/replay
- * keeps of the scripts members, late, singles and ending; each refusal, which leaves all as it was; and a phaser that
- * goes from thread to thread. */
+/* What the calls of a phaser answer and write, beside values worked out by hand and the replies
+ * that examples/replay keeps of the scripts members, late, singles and ending; each refusal, which
+ * leaves all as it was; and a phaser that goes from thread to thread. */
 #include "phase.h"
 #include <pthread.h>
 #include <sched.h>
@@ -16,34 +16,36 @@ static int passed, failed;
 static void is(int line, const char *name, int64_t found, int64_t wanted)
 {
     if (found != wanted)
-        printf("handle: line %d: %s is %lld, and not %lld\n", line, name, (long long)found, (long long)wanted);
+        printf("handle: line %d: %s is %lld, and not %lld\n", line, name, (long long)found,
+               (long long)wanted);
     *(found == wanted ? &passed : &failed) += 1;
 }
 
 /* A signal with no single. */
-static int32_t signals(phase_phaser *phaser, uint64_t task, const int64_t *values, size_t count, uint64_t *phase)
+static int32_t signals(phase_phaser *phaser, uint64_t task, const int64_t *values, size_t count,
+                       uint64_t *phase)
 {
     return phase_phaser_signal(phaser, task, values, count, PHASE_NO_SINGLE, 0, 0, phase);
 }
 
 /* A wait that is answered with this phase and this value. */
-#define GETS(phaser, task, wanted_phase, wanted)                                                                  \
-    do {                                                                                                          \
-        uint64_t phase_ = 77;                                                                                     \
-        int64_t value_ = 77;                                                                                      \
-        IS(phase_phaser_wait(phaser, task, &phase_, &value_), PHASE_OK);                                          \
-        IS(phase_, wanted_phase);                                                                                 \
-        IS(value_, wanted);                                                                                       \
+#define GETS(phaser, task, wanted_phase, wanted)                                                   \
+    do {                                                                                           \
+        uint64_t phase_ = 77;                                                                      \
+        int64_t value_ = 77;                                                                       \
+        IS(phase_phaser_wait(phaser, task, &phase_, &value_), PHASE_OK);                           \
+        IS(phase_, wanted_phase);                                                                  \
+        IS(value_, wanted);                                                                        \
     } while (0)
 
 /* A wait that is answered so, and writes nothing. */
-#define GETS_NONE(phaser, task, status)                                                                           \
-    do {                                                                                                          \
-        uint64_t phase_ = 77;                                                                                     \
-        int64_t value_ = 77;                                                                                      \
-        IS(phase_phaser_wait(phaser, task, &phase_, &value_), status);                                            \
-        IS(phase_, 77);                                                                                           \
-        IS(value_, 77);                                                                                           \
+#define GETS_NONE(phaser, task, status)                                                            \
+    do {                                                                                           \
+        uint64_t phase_ = 77;                                                                      \
+        int64_t value_ = 77;                                                                       \
+        IS(phase_phaser_wait(phaser, task, &phase_, &value_), status);                             \
+        IS(phase_, 77);                                                                            \
+        IS(value_, 77);                                                                            \
     } while (0)
 
 /* What 4, 9, -3 come to, what no send comes to, and what the greatest value twice. */
@@ -258,7 +260,8 @@ static void refused(void)
     IS(signals(&phaser, 0, zeros, PHASE_SENDS_MAX + 1, &phase), PHASE_E_TOO_MANY_SENDS);
     IS(phase_phaser_signal(&phaser, 0, &one, 1, PHASE_CLAMP + 1, 0, 0, &phase), PHASE_E_BAD_SINGLE);
     IS(phase_phaser_signal(&phaser, 0, &one, 1, PHASE_CLAMP, 1, 0, &phase), PHASE_E_BAD_SINGLE);
-    IS(phase_phaser_signal(&phaser, 0, &one, 1, PHASE_CLAMP, INT64_MIN, 0, &phase), PHASE_E_BAD_SINGLE);
+    IS(phase_phaser_signal(&phaser, 0, &one, 1, PHASE_CLAMP, INT64_MIN, 0, &phase),
+       PHASE_E_BAD_SINGLE);
     IS(signals(&phaser, 5, &one, 1, &phase), PHASE_E_NO_TASK);
     IS(phase_phaser_drop(&phaser, UINT64_MAX), PHASE_E_NO_TASK);
     GETS_NONE(&phaser, 0, PHASE_E_SIGNAL_FIRST);
@@ -296,21 +299,22 @@ static void refused(void)
 }
 
 /* A signal of a block with no single. */
-static int32_t signals_block(phase_phaser *phaser, uint64_t task, const int64_t *values, size_t count,
-                             uint64_t *phase)
+static int32_t signals_block(phase_phaser *phaser, uint64_t task, const int64_t *values,
+                             size_t count, uint64_t *phase)
 {
     return phase_phaser_signal_block(phaser, task, values, count, PHASE_NO_SINGLE, 0, 0, phase);
 }
 
-/* A wait for at most `places` phases that is answered with the first and with these values, and leaves what stands
- * behind them. */
-static void gets_block(int line, phase_phaser *phaser, uint64_t task, size_t places, uint64_t first, size_t wanted,
-                       const int64_t *values)
+/* A wait for at most `places` phases that is answered with the first and with these values, and
+ * leaves what stands behind them. */
+static void gets_block(int line, phase_phaser *phaser, uint64_t task, size_t places, uint64_t first,
+                       size_t wanted, const int64_t *values)
 {
     int64_t got[8] = {77, 77, 77, 77, 77, 77, 77, 77};
     uint64_t phase = 77;
     size_t count = 77;
-    is(line, "the status of a block", phase_phaser_wait_block(phaser, task, got, places, &phase, &count), PHASE_OK);
+    is(line, "the status of a block",
+       phase_phaser_wait_block(phaser, task, got, places, &phase, &count), PHASE_OK);
     is(line, "the first phase", (int64_t)phase, (int64_t)first);
     is(line, "the number of phases", (int64_t)count, (int64_t)wanted);
     for (size_t at = 0; at < 8; at++)
@@ -318,19 +322,22 @@ static void gets_block(int line, phase_phaser *phaser, uint64_t task, size_t pla
 }
 
 /* A wait for at most `places` phases that is answered so, and writes nothing. */
-static void gets_no_block(int line, phase_phaser *phaser, uint64_t task, size_t places, int32_t status)
+static void gets_no_block(int line, phase_phaser *phaser, uint64_t task, size_t places,
+                          int32_t status)
 {
     int64_t got[8] = {77, 77, 77, 77, 77, 77, 77, 77};
     uint64_t phase = 77;
     size_t count = 77;
-    is(line, "the status of no block", phase_phaser_wait_block(phaser, task, got, places, &phase, &count), status);
+    is(line, "the status of no block",
+       phase_phaser_wait_block(phaser, task, got, places, &phase, &count), status);
     is(line, "the phase of no block", (int64_t)phase, 77);
     is(line, "the number of no block", (int64_t)count, 77);
     for (size_t at = 0; at < 8; at++)
         is(line, "a place of no block", got[at], 77);
 }
 
-/* Blocks under bound 4: the waiter at phase 2 lets phases up to 5 be signalled, and gets them in order. */
+/* Blocks under bound 4: the waiter at phase 2 lets phases up to 5 be signalled, and gets them in
+ * order. */
 static void blocks(void)
 {
     phase_phaser phaser = {0};
@@ -408,8 +415,10 @@ static void refused_blocks(void)
     IS(signals_block(&phaser, 0, values, 2, &phase), PHASE_E_NO_PHASER);
     gets_no_block(__LINE__, &phaser, 0, 2, PHASE_E_NO_PHASER);
     IS(phase_phaser_new(PHASE_SUM, 2, 3, &phaser), PHASE_OK);
-    IS(phase_phaser_signal_block(&phaser, 0, values, 3, PHASE_CLAMP + 1, 0, 0, &phase), PHASE_E_BAD_SINGLE);
-    IS(phase_phaser_signal_block(&phaser, 0, values, 1, PHASE_CLAMP, 1, 0, &phase), PHASE_E_BAD_SINGLE);
+    IS(phase_phaser_signal_block(&phaser, 0, values, 3, PHASE_CLAMP + 1, 0, 0, &phase),
+       PHASE_E_BAD_SINGLE);
+    IS(phase_phaser_signal_block(&phaser, 0, values, 1, PHASE_CLAMP, 1, 0, &phase),
+       PHASE_E_BAD_SINGLE);
     IS(signals_block(&phaser, 9, values, 3, &phase), PHASE_E_BAD_VALUE);
     IS(signals_block(&phaser, 9, values, 2, &phase), PHASE_E_NO_TASK);
     IS(signals_block(&phaser, 0, NULL, 0, &phase), PHASE_E_BAD_BLOCK);
@@ -419,10 +428,12 @@ static void refused_blocks(void)
     IS(signals_block(&phaser, 0, values, 2, &phase), PHASE_E_SIGNAL_TWICE);
     gets_no_block(__LINE__, &phaser, 0, 1, PHASE_E_SIGNAL_FIRST);
     gets_no_block(__LINE__, &phaser, 9, 1, PHASE_E_NO_TASK);
-    IS(phase_phaser_wait_block(&phaser, 0, zeros, PHASE_BOUND_MAX + 1, &phase, &count), PHASE_E_BAD_BLOCK);
+    IS(phase_phaser_wait_block(&phaser, 0, zeros, PHASE_BOUND_MAX + 1, &phase, &count),
+       PHASE_E_BAD_BLOCK);
     IS(phase_phaser_register(&phaser, 0, PHASE_SIG, &task), PHASE_OK);
     IS(phase_phaser_register(&phaser, 0, PHASE_WAIT, &task), PHASE_OK);
-    IS(phase_phaser_signal_block(&phaser, 1, values, 1, PHASE_NEG, 0, 0, &phase), PHASE_E_NOT_SINGLE);
+    IS(phase_phaser_signal_block(&phaser, 1, values, 1, PHASE_NEG, 0, 0, &phase),
+       PHASE_E_NOT_SINGLE);
     IS(signals_block(&phaser, 2, values, 1, &phase), PHASE_E_NO_SIGNAL);
     gets_no_block(__LINE__, &phaser, 1, 1, PHASE_E_NO_WAIT);
     IS(phase_phaser_signal_block(&phaser, 0, values, 1, PHASE_NEG, 0, 0, &phase), PHASE_OK);
@@ -442,8 +453,9 @@ static void refused_blocks(void)
     phase_phaser_free(&phaser);
 }
 
-/* What a thread of its own makes of a phaser: the first makes it and signals, the second gets the phase, registers a
- * waiter and signals again, the third gets that phase by the waiter and frees the phaser. */
+/* What a thread of its own makes of a phaser: the first makes it and signals, the second gets the
+ * phase, registers a waiter and signals again, the third gets that phase by the waiter and frees
+ * the phaser. */
 static void *makes(void *phaser)
 {
     const int64_t values[2] = {4, 5};
@@ -488,7 +500,8 @@ static void three_threads(void)
     }
 }
 
-/* Two threads that take turns on one phaser by a lock: each signals, and gets the sum of one send of either. */
+/* Two threads that take turns on one phaser by a lock: each signals, and gets the sum of one send
+ * of either. */
 static struct turns {
     phase_phaser phaser;
     pthread_mutex_t lock;

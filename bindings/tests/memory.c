@@ -1,6 +1,6 @@
-/* Each request for memory of an evaluation, of names, of a filter and of a phaser refused in turn: the answer is
- * PHASE_E_MEMORY with the output as it was, or right all the same, and all memory is given back. Linked with --wrap of
- * malloc, realloc and free. */
+/* Each request for memory of an evaluation, of names, of a filter and of a phaser refused in turn:
+ * the answer is PHASE_E_MEMORY with the output as it was, or right all the same, and all memory is
+ * given back. Linked with --wrap of malloc, realloc and free. */
 #include "phase.h"
 #include <stdio.h>
 #include <string.h>
@@ -9,7 +9,8 @@ void *__real_malloc(size_t);
 void *__real_realloc(void *, size_t);
 void __real_free(void *);
 
-/* How many requests are still granted, or -1 where all are; how many blocks are held; how many requests came. */
+/* How many requests are still granted, or -1 where all are; how many blocks are held; how many
+ * requests came. */
 static long granted = -1, held, asked;
 
 static int is_refused(void)
@@ -42,8 +43,8 @@ static const char *graph = "graph 2\nphaser x sum 4\nphaser y greatest 4\nsource
                            "source t t.csv -> x by s at 1\nfir f x -> y shift 0 taps 1 1\n"
                            "sink out y\nsink all x\nsink late x by all at 1 now\n";
 
-/* Whether the answer is that of the graph: s is 1 2 3, and t is 4 5 6 from phase 1 on, so that x is 1 6 8 6, and y
- * is 1 7 14 14; late has x from phase 1 on. */
+/* Whether the answer is that of the graph: s is 1 2 3, and t is 4 5 6 from phase 1 on, so that x is
+ * 1 6 8 6, and y is 1 7 14 14; late has x from phase 1 on. */
 static int is_right(const int64_t *out, const size_t *counts, const int64_t *starts)
 {
     static const int64_t wanted[11] = {1, 7, 14, 14, 1, 6, 8, 6, 6, 8, 6};
@@ -64,8 +65,8 @@ static int evaluates(long request)
     memset(out, 0x55, sizeof out);
     memcpy(was, out, sizeof was);
     granted = request;
-    int32_t status = phase_eval((const uint8_t *)graph, strlen(graph), samples, 6, counts, 2, out, 12, found, 3,
-                                starts, 3, &fault);
+    int32_t status = phase_eval((const uint8_t *)graph, strlen(graph), samples, 6, counts, 2, out,
+                                12, found, 3, starts, 3, &fault);
     int is_done = granted >= 0;
     granted = -1;
     if (status == PHASE_E_MEMORY && !is_done && !memcmp(out, was, sizeof was))
@@ -96,7 +97,8 @@ static int writes_names(long request, names_of *call, const char *wanted)
     else if (status == PHASE_OK && needed == strlen(wanted) && !memcmp(out, wanted, needed))
         right++;
     else
-        wrong++, printf("memory: status %d of names after request %ld was refused\n", (int)status, request);
+        wrong++, printf("memory: status %d of names after request %ld was refused\n", (int)status,
+                        request);
     return is_done;
 }
 
@@ -125,7 +127,8 @@ static int filters(long request)
     else if (status == PHASE_OK && done == 2 && state[0] == 2 && out[0] == 5 && out[1] == 3)
         right++;
     else
-        wrong++, printf("memory: status %d of a block after request %ld was refused\n", (int)status, request);
+        wrong++, printf("memory: status %d of a block after request %ld was refused\n", (int)status,
+                        request);
     return is_done;
 }
 
@@ -139,16 +142,19 @@ static int filters_in_place(long request)
     int32_t status = phase_fir_in_place(taps, 2, 0, state, 1, block, 2, &done);
     int is_done = granted >= 0;
     granted = -1;
-    if (status == PHASE_E_MEMORY && !is_done && done == 0 && state[0] == 4 && block[0] == 1 && block[1] == 2)
+    if (status == PHASE_E_MEMORY && !is_done && done == 0 && state[0] == 4 && block[0] == 1
+        && block[1] == 2)
         refused++;
     else if (status == PHASE_OK && done == 2 && state[0] == 2 && block[0] == 5 && block[1] == 3)
         right++;
     else
-        wrong++, printf("memory: status %d in place after request %ld was refused\n", (int)status, request);
+        wrong++, printf("memory: status %d in place after request %ld was refused\n", (int)status,
+                        request);
     return is_done;
 }
 
-/* With no memory at all a filter tells of its taps, its state and its room all the same, and of memory behind them. */
+/* With no memory at all a filter tells of its taps, its state and its room all the same, and of
+ * memory behind them. */
 static void without_memory(void)
 {
     const int64_t taps[2] = {1, 1};
@@ -177,8 +183,8 @@ static void without_memory(void)
         wrong++, printf("memory: a filter wrote with no memory\n");
 }
 
-/* Each request of a phaser with 40 waiters: what was refused is done when it is asked for again, and neither signals
- * nor waits ask for memory. */
+/* Each request of a phaser with 40 waiters: what was refused is done when it is asked for again,
+ * and neither signals nor waits ask for memory. */
 static int phasers(long request)
 {
     phase_phaser phaser = {0};
@@ -207,10 +213,12 @@ static int phasers(long request)
     int is_done = granted >= 0;
     long asked_so_far = asked;
     for (uint64_t at = 0; at < 10; at++) {
-        is_good = is_good && phase_phaser_signal(&phaser, 0, &one, 1, PHASE_NO_SINGLE, 0, 0, &phase) == PHASE_OK;
+        is_good =
+            is_good
+            && phase_phaser_signal(&phaser, 0, &one, 1, PHASE_NO_SINGLE, 0, 0, &phase) == PHASE_OK;
         for (uint64_t waiter = 0; waiter <= 40; waiter++)
-            is_good = is_good && phase_phaser_wait(&phaser, waiter, &phase, &value) == PHASE_OK && phase == at
-                      && value == 1;
+            is_good = is_good && phase_phaser_wait(&phaser, waiter, &phase, &value) == PHASE_OK
+                      && phase == at && value == 1;
     }
     is_good = is_good && asked == asked_so_far;
     granted = -1;
@@ -220,12 +228,13 @@ static int phasers(long request)
     else if (is_good && told == 0 && !phaser.live)
         right++;
     else
-        wrong++, printf("memory: status %d of a phaser after request %ld was refused\n", (int)status, request);
+        wrong++, printf("memory: status %d of a phaser after request %ld was refused\n",
+                        (int)status, request);
     return is_done;
 }
 
-/* The same of a block of three phases that is signalled and got: what was refused left all as it was, and is done
- * when it is asked for again. */
+/* The same of a block of three phases that is signalled and got: what was refused left all as it
+ * was, and is done when it is asked for again. */
 static int blocks(long request)
 {
     phase_phaser phaser = {0};
@@ -239,7 +248,8 @@ static int blocks(long request)
                   && phase_phaser_register(&phaser, 0, PHASE_WAIT, &task) == PHASE_OK
                   && phase_phaser_drop(&phaser, 0) == PHASE_OK;
     granted = request;
-    int32_t status = phase_phaser_signal_block(&phaser, 1, values, 3, PHASE_NO_SINGLE, 0, 0, &phase);
+    int32_t status =
+        phase_phaser_signal_block(&phaser, 1, values, 3, PHASE_NO_SINGLE, 0, 0, &phase);
     if (status == PHASE_E_MEMORY) {
         told++;
         is_good = is_good && phase == 77 && phaser.live;
@@ -252,8 +262,8 @@ static int blocks(long request)
         is_good = is_good && count == 77 && got[0] == 77 && phaser.live;
         status = phase_phaser_wait_block(&phaser, 2, got, 4, &phase, &count);
     }
-    is_good = is_good && status == PHASE_OK && phase == 0 && count == 3 && !memcmp(got, values, sizeof values)
-              && got[3] == 77;
+    is_good = is_good && status == PHASE_OK && phase == 0 && count == 3
+              && !memcmp(got, values, sizeof values) && got[3] == 77;
     int is_done = granted >= 0;
     granted = -1;
     phase_phaser_free(&phaser);
@@ -262,7 +272,8 @@ static int blocks(long request)
     else if (is_good && told == 0)
         right++;
     else
-        wrong++, printf("memory: status %d of blocks of phases after request %ld was refused\n", (int)status, request);
+        wrong++, printf("memory: status %d of blocks of phases after request %ld was refused\n",
+                        (int)status, request);
     return is_done;
 }
 
@@ -274,7 +285,8 @@ static void all_refused(int (*call)(long))
         is_done = call(request);
         requests += !is_done;
         if (held != 0)
-            wrong++, printf("memory: %ld blocks are held after request %ld was refused\n", held, request);
+            wrong++, printf("memory: %ld blocks are held after request %ld was refused\n", held,
+                            request);
     }
 }
 
@@ -289,7 +301,8 @@ int main(void)
     all_refused(blocks);
     without_memory();
     /* With no request refused each has answered once. */
-    printf("memory: %ld requests, each refused in turn: %ld told, %ld answered all the same, %ld wrong\n", requests,
-           refused, right - 7, wrong);
+    printf("memory: %ld requests, each refused in turn: %ld told, %ld answered all the same, %ld "
+           "wrong\n",
+           requests, refused, right - 7, wrong);
     return wrong != 0 || refused == 0 || right < 7;
 }

@@ -1,5 +1,6 @@
-"""What a phaser of phase.py answers at its edges: each refusal, which leaves it as it was; each operation and single;
-numbers past 64 bits; a phaser that was closed or copied; and phasers that go from thread to thread, and are let go of there."""
+"""What a phaser of phase.py answers at its edges: each refusal, which leaves it as it was; each
+operation and single; numbers past 64 bits; a phaser that was closed or copied; and phasers that go
+from thread to thread, and are let go of there."""
 import copy
 import gc
 import pickle
@@ -40,14 +41,20 @@ def sums(bound=2, phases=100):
 def made():
     look("no operation", refused(phase.BadOperation, phase.Phaser, 0, 0, 0))
     look("a sixth operation", refused(phase.BadOperation, phase.Phaser, phase.ANY + 1, 2, 100))
-    look("one whose lowest bits are one", refused(phase.BadOperation, phase.Phaser, 2**32 + phase.SUM, 2, 100))
+    look(
+        "one whose lowest bits are one",
+        refused(phase.BadOperation, phase.Phaser, 2**32 + phase.SUM, 2, 100),
+    )
     for bound in (-1, 0, phase.BOUND_MAX + 1, 2**64 + 1):
         look(f"a bound of {bound}", refused(phase.BadBound, sums, bound))
     for phases in (-1, 0, phase.PHASES_MAX + 1, 2**64 + 1):
         look(f"{phases} phases", refused(phase.BadPhases, sums, 2, phases))
     look("a bound that is no whole number", refused(TypeError, sums, 2.0))
     look("the greatest phaser", sums(phase.BOUND_MAX, phase.PHASES_MAX).signal(0, []) == 0)
-    look("numbers of numpy", sums(numpy.int8(2), numpy.uint64(100)).register(numpy.int64(0), phase.SIG) == 1)
+    look(
+        "numbers of numpy",
+        sums(numpy.int8(2), numpy.uint64(100)).register(numpy.int64(0), phase.SIG) == 1,
+    )
 
 
 def operations():
@@ -77,7 +84,9 @@ def singles():
     for at, (send, single, wanted) in enumerate(rows):
         look(f"a signal with {single}", phaser.signal(0, [send], single) == at)
         look(f"the value under {single}", phaser.wait(0) == (at, wanted))
-    clamps = [phase.Clamp(*ends) for ends in ((1, 0), (LOWEST, 0), (0, 2**63), (2**64, 2**64))]
+    clamps = [
+        phase.Clamp(*ends) for ends in ((1, 0), (LOWEST, 0), (0, 2**63), (2**64, 2**64))
+    ]
     for single in (phase.CLAMP + 1, -1, 2**32, *clamps):
         look(f"{single} is none", refused(phase.BadSingle, phaser.signal, 0, [1], single))
     look("a clamp without ends", refused(TypeError, phaser.signal, 0, [1], phase.CLAMP))
@@ -102,7 +111,10 @@ def sends():
     look("floats", refused(TypeError, phaser.signal, 0, [1.0]))
     look("two rows", refused(TypeError, phaser.signal, 0, [[1], [2]]))
     look("no row", refused(TypeError, phaser.signal, 0, 1))
-    look("a number past 64 bits", refused(OverflowError, phaser.signal, 0, numpy.array([2**63], numpy.uint64)))
+    look(
+        "a number past 64 bits",
+        refused(OverflowError, phaser.signal, 0, numpy.array([2**63], numpy.uint64)),
+    )
     look("a value that is none", refused(phase.BadValue, phaser.signal, 0, [1, LOWEST]))
     many = numpy.zeros(phase.SENDS_MAX + 1, numpy.int64)
     look("a send too many", refused(phase.TooManySends, phaser.signal, 0, many))
@@ -139,9 +151,14 @@ def phases():
     signaller, waiter = phaser.register(0, phase.SIG), phaser.register(0, phase.WAIT)
     look("a wait before a signal", refused(phase.SignalFirst, phaser.wait, 0))
     look("a waiter that signals", refused(phase.NoSignal, phaser.signal, waiter, []))
-    look("a single of a signaller", refused(phase.NotSingle, phaser.signal, signaller, [], phase.NEG))
+    look(
+        "a single of a signaller", refused(phase.NotSingle, phaser.signal, signaller, [], phase.NEG)
+    )
     look("a signal", phaser.signal(0, [1] * phase.SENDS_MAX) == 0)
-    look("where it stands then", phaser.view(0) == phase.Standing(signal_phase=1, wait_phase=0, mode=phase.SINGLE))
+    look(
+        "where it stands then",
+        phaser.view(0) == phase.Standing(signal_phase=1, wait_phase=0, mode=phase.SINGLE),
+    )
     look("a second one", refused(phase.SignalTwice, phaser.signal, 0, []))
     look("a full phase", refused(phase.PhaseFull, phaser.signal, signaller, [1]))
     phaser.drop(0)
@@ -164,8 +181,14 @@ def phases():
     look("another single", refused(phase.SingleDiffers, phaser.signal, other, [], phase.NEG))
     look("none", refused(phase.SingleDiffers, phaser.signal, other, []))
     why = phase.NotYet()
-    look("a refusal has its number", why.status == phase.E_NOT_YET and isinstance(why, phase.PhaserError))
-    look("a refusal says why", str(why) == "The phase is not complete, and a signaller is registered.")
+    look(
+        "a refusal has its number",
+        why.status == phase.E_NOT_YET and isinstance(why, phase.PhaserError),
+    )
+    look(
+        "a refusal says why",
+        str(why) == "The phase is not complete, and a signaller is registered.",
+    )
 
 
 def blocks():
@@ -174,23 +197,44 @@ def blocks():
         return
     phaser = sums(3, 7)
     signaller, waiter = phaser.register(0, phase.SIG), phaser.register(0, phase.WAIT)
-    look("a block of a task that waits too", refused(phase.SignalTwice, phaser.signal_block, 0, [1, 2]))
+    look(
+        "a block of a task that waits too",
+        refused(phase.SignalTwice, phaser.signal_block, 0, [1, 2]),
+    )
     phaser.drop(0)
     look("a block of none", refused(phase.BadBlock, phaser.signal_block, signaller, []))
-    look("a block past the bound", refused(phase.BadBlock, phaser.signal_block, signaller, [1, 2, 3, 4]))
-    look("a value that is none", refused(phase.BadValue, phaser.signal_block, signaller, [1, LOWEST]))
+    look(
+        "a block past the bound",
+        refused(phase.BadBlock, phaser.signal_block, signaller, [1, 2, 3, 4]),
+    )
+    look(
+        "a value that is none", refused(phase.BadValue, phaser.signal_block, signaller, [1, LOWEST])
+    )
     look("floats", refused(TypeError, phaser.signal_block, signaller, [1.0]))
     look("a task that is none", refused(phase.NoTask, phaser.signal_block, 9, [1]))
-    look("a task past 64 bits", refused(phase.NoTask, phaser.signal_block, 2**64 + signaller, [1]))
+    look(
+        "a task past 64 bits", refused(phase.NoTask, phaser.signal_block, 2**64 + signaller, [1])
+    )
     look("a waiter that signals", refused(phase.NoSignal, phaser.signal_block, waiter, [1]))
-    look("a single of a signaller", refused(phase.NotSingle, phaser.signal_block, signaller, [1], phase.NEG))
-    look("a single that is none", refused(phase.BadSingle, phaser.signal_block, signaller, [1], phase.Clamp(1, 0)))
-    for places in (0, -1, 4, 2**32, 2**64, 2**64 + 1, numpy.zeros(0, numpy.int64), numpy.zeros(4, numpy.int64)):
+    look(
+        "a single of a signaller",
+        refused(phase.NotSingle, phaser.signal_block, signaller, [1], phase.NEG),
+    )
+    look(
+        "a single that is none",
+        refused(phase.BadSingle, phaser.signal_block, signaller, [1], phase.Clamp(1, 0)),
+    )
+    for places in (
+        0, -1, 4, 2**32, 2**64, 2**64 + 1, numpy.zeros(0, numpy.int64), numpy.zeros(4, numpy.int64),
+    ):
         look(f"{places} places", refused(phase.BadBlock, phaser.wait_block, waiter, places))
     look("a signaller that waits", refused(phase.NoWait, phaser.wait_block, signaller, 1))
     look("no task that waits", refused(phase.NoTask, phaser.wait_block, 9, 1))
     look("phases that are not complete", refused(phase.NotYet, phaser.wait_block, waiter, 1))
-    look("a block with gaps", phaser.signal_block(signaller, numpy.arange(6, dtype=numpy.int16)[::2]) == 0)
+    look(
+        "a block with gaps",
+        phaser.signal_block(signaller, numpy.arange(6, dtype=numpy.int16)[::2]) == 0,
+    )
     look("a block too far ahead", refused(phase.Ahead, phaser.signal_block, signaller, [1]))
     fixed = numpy.zeros(3, numpy.int64)
     fixed.flags.writeable = False
@@ -206,8 +250,14 @@ def blocks():
     look("a block behind it", phaser.signal_block(signaller, [MOST, -MOST]) == 3)
     out = numpy.full(3, 77)
     got = phaser.wait_block(waiter, out[1:])
-    look("a block into a part", got.phase == 2 and got.values.tolist() == [4, MOST] and out.tolist() == [77, 4, MOST])
-    look("a block past the last phase", refused(phase.Spent, phaser.signal_block, signaller, [1, 2, 3]))
+    look(
+        "a block into a part",
+        got.phase == 2 and got.values.tolist() == [4, MOST] and out.tolist() == [77, 4, MOST],
+    )
+    look(
+        "a block past the last phase",
+        refused(phase.Spent, phaser.signal_block, signaller, [1, 2, 3]),
+    )
     look("the last phases", phaser.signal_block(signaller, [8, 9]) == 5)
     phaser.drop(signaller)
     got = phaser.wait_block(waiter, numpy.int8(3))
@@ -220,7 +270,9 @@ def blocks():
     phaser.signal(0, [])
     look("a phase without a value", phaser.wait_block(0, 2).values.tolist() == [LOWEST])
     phaser.close()
-    look("a block of a phaser that was closed", refused(phase.NoPhaser, phaser.signal_block, 0, [1]))
+    look(
+        "a block of a phaser that was closed", refused(phase.NoPhaser, phaser.signal_block, 0, [1])
+    )
     look("a wait for one", refused(phase.NoPhaser, phaser.wait_block, 0, 1))
 
 
@@ -254,12 +306,16 @@ def on_a_thread(call):
 
 
 def threads():
-    """A phaser that one thread makes, others use, and another closes; and one that two use at a time."""
+    """A phaser that one thread makes, others use, and another closes; and one that two use at a
+    time."""
     made = []
     on_a_thread(lambda: made.append(sums()))
     phaser, said = made.pop(), []
     on_a_thread(lambda: said.append((phaser.signal(0, [7]), phaser.wait(0))))
-    look("a phaser of another thread", said == [(0, (0, 7))] and phaser.view(0) == (1, 1, phase.SINGLE))
+    look(
+        "a phaser of another thread",
+        said == [(0, (0, 7))] and phaser.view(0) == (1, 1, phase.SINGLE),
+    )
     on_a_thread(phaser.close)
     look("a phaser that another thread closed", refused(phase.NoPhaser, phaser.view, 0))
 
@@ -312,7 +368,10 @@ def blocks_of_threads():
             break
         got.append(block.values)
     thread.join()
-    look("blocks between two threads", numpy.array_equal(numpy.concatenate(got), numpy.arange(400000)))
+    look(
+        "blocks between two threads",
+        numpy.array_equal(numpy.concatenate(got), numpy.arange(400000)),
+    )
 
 
 def resident():
@@ -343,6 +402,9 @@ def shown():
     look("numbers are operations and modes", phase.Phaser(1, 2, 100).register(0, 1) == 1)
 
 
-for part in (made, operations, singles, sends, registrations, phases, blocks, closed, threads, blocks_of_threads, memory, shown):
+for part in (
+    made, operations, singles, sends, registrations, phases, blocks, closed, threads,
+    blocks_of_threads, memory, shown,
+):
     part()
 sys.exit(failed != 0)

@@ -1,11 +1,15 @@
-"""A pool of processes that evaluate graphs, one of which has a fault: the fault comes back, and the pool goes on."""
+"""A pool of processes that evaluate graphs, one of which has a fault: the fault comes back, and the
+pool goes on."""
 import concurrent.futures
 import multiprocessing
 import sys
 
 import phase
 
-SUMS = "phaser x sum 4\nphaser y sum 4\nsource s s.csv -> x\nfir f x -> y shift 0 taps 1 1\nsink out y\n"
+SUMS = (
+    "phaser x sum 4\nphaser y sum 4\nsource s s.csv -> x\nfir f x -> y shift 0 taps 1 1\n"
+    "sink out y\n"
+)
 
 
 def main():

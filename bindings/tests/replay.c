@@ -1,5 +1,6 @@
-/* replay SCRIPT..: each script by a phaser of C, beside the replies that are stored in SCRIPT.stdout. A line that is
- * none of the grammar is left out, and so is one that no call has: a number for a child that is not the next. */
+/* replay SCRIPT..: each script by a phaser of C, beside the replies that are stored in
+ * SCRIPT.stdout. A line that is none of the grammar is left out, and so is one that no call has: a
+ * number for a child that is not the next. */
 #define _POSIX_C_SOURCE 200809L
 #include "phase.h"
 #include <inttypes.h>
@@ -9,8 +10,8 @@
 
 enum { TASKS = 16, HELD = 16, WORDS = 20 };
 
-/* What a script has left so far: its phaser with the operation, the sends that each task holds, and the greatest
- * number of a task. */
+/* What a script has left so far: its phaser with the operation, the sends that each task holds, and
+ * the greatest number of a task. */
 struct script {
     phase_phaser phaser;
     uint32_t operation;
@@ -24,12 +25,21 @@ struct word {
     int number;
 };
 
-static const struct word operations[] = {{"sum", PHASE_SUM}, {"product", PHASE_PRODUCT}, {"least", PHASE_LEAST},
-                                         {"greatest", PHASE_GREATEST}, {"any", PHASE_ANY}, {NULL, 0}};
-static const struct word modes[] = {{"sig", PHASE_SIG}, {"wait", PHASE_WAIT}, {"sigwait", PHASE_SIG_WAIT},
-                                    {"single", PHASE_SINGLE}, {NULL, 0}};
-static const struct word singles[] = {{"neg", PHASE_NEG}, {"abs", PHASE_ABS}, {"halve", PHASE_HALVE},
-                                      {"clamp", PHASE_CLAMP}, {NULL, PHASE_NO_SINGLE}};
+static const struct word operations[] = {
+    {"sum", PHASE_SUM},           {"product", PHASE_PRODUCT}, {"least", PHASE_LEAST},
+    {"greatest", PHASE_GREATEST}, {"any", PHASE_ANY},         {NULL, 0}};
+static const struct word modes[] = {
+    {"sig", PHASE_SIG},
+    {"wait", PHASE_WAIT},
+    {"sigwait", PHASE_SIG_WAIT},
+    {"single", PHASE_SINGLE},
+    {NULL, 0}};
+static const struct word singles[] = {
+    {"neg", PHASE_NEG},
+    {"abs", PHASE_ABS},
+    {"halve", PHASE_HALVE},
+    {"clamp", PHASE_CLAMP},
+    {NULL, PHASE_NO_SINGLE}};
 static const struct word refusals[] = {{"made", PHASE_E_HAS_PHASER},
                                        {"bad-bound", PHASE_E_BAD_BOUND},
                                        {"bad-phases", PHASE_E_BAD_PHASES},
@@ -87,23 +97,26 @@ static int32_t signals(struct script *script, uint64_t task, char **rest, uint64
     uint32_t single = rest[0] ? (uint32_t)number_of(singles, rest[0]) : PHASE_NO_SINGLE;
     int64_t low = single == PHASE_CLAMP ? strtoll(rest[1], NULL, 10) : 0;
     int64_t high = single == PHASE_CLAMP ? strtoll(rest[2], NULL, 10) : 0;
-    int32_t status = phase_phaser_signal(&script->phaser, task, script->held[task], script->held_count[task], single,
-                                         low, high, phase);
+    int32_t status = phase_phaser_signal(&script->phaser, task, script->held[task],
+                                         script->held_count[task], single, low, high, phase);
     if (status == PHASE_OK)
         script->held_count[task] = 0;
     return status;
 }
 
 /* Writes the reply to a wait that got a value or the number of none. */
-static void write_value(const struct script *script, uint64_t phase, int64_t value, char *reply, size_t size)
+static void write_value(const struct script *script, uint64_t phase, int64_t value, char *reply,
+                        size_t size)
 {
     if (value != INT64_MIN)
         snprintf(reply, size, "value %" PRIu64 " %" PRId64, phase, value);
     else
-        snprintf(reply, size, "%s %" PRIu64, script->operation <= PHASE_PRODUCT ? "toobig" : "empty", phase);
+        snprintf(reply, size, "%s %" PRIu64,
+                 script->operation <= PHASE_PRODUCT ? "toobig" : "empty", phase);
 }
 
-/* Writes the reply to the words of a line, behind which there are NULLs; or answers 0 where it is left out. */
+/* Writes the reply to the words of a line, behind which there are NULLs; or answers 0 where it is
+ * left out. */
 static int replies(struct script *script, char **words, char *reply, size_t size)
 {
     uint64_t task = words[1] ? whole(words[1]) : 0, phase = 0, child = 0;
@@ -154,13 +167,15 @@ static void replay(const char *name, FILE *lines, FILE *stored)
 {
     struct script script = {0};
     char line[512], wanted[512], reply[512];
-    for (int number = 1; fgets(line, sizeof line, lines) && fgets(wanted, sizeof wanted, stored); number++) {
+    for (int number = 1; fgets(line, sizeof line, lines) && fgets(wanted, sizeof wanted, stored);
+         number++) {
         char *words[WORDS] = {0};
         int count = 0;
         wanted[strcspn(wanted, "\n")] = 0;
         if (!strcmp(wanted, "bad line"))
             continue;
-        for (char *word = strtok(line, " \n"); word && count < WORDS - 4; word = strtok(NULL, " \n"))
+        for (char *word = strtok(line, " \n"); word && count < WORDS - 4;
+             word = strtok(NULL, " \n"))
             words[count++] = word;
         if (!replies(&script, words, reply, sizeof reply))
             continue;

@@ -1,7 +1,8 @@
-"""replay.py FOLDER: the scripts of the folder by a phaser of phase.py, beside the replies that are stored there.
+"""replay.py FOLDER: the scripts of the folder by a phaser of phase.py, beside the replies that are
+stored there.
 
-A line that is none of the grammar is left out, and so is one that no call of phase.py has: a second phaser, and a
-number for a child that is not the next.
+A line that is none of the grammar is left out, and so is one that no call of phase.py has: a second
+phaser, and a number for a child that is not the next.
 """
 import collections
 import glob
@@ -23,7 +24,8 @@ SINGLES = {"neg": phase.NEG, "abs": phase.ABS, "halve": phase.HALVE}
 
 
 class Script:
-    """What a script has left so far: its phaser, the sends that each task holds, and the greatest number of a task."""
+    """What a script has left so far: its phaser, the sends that each task holds, and the greatest
+    number of a task."""
 
     def __init__(self):
         self.phaser, self.held, self.greatest = None, collections.defaultdict(list), 0
@@ -31,7 +33,12 @@ class Script:
     def reply(self, line):
         """The reply to a line, or None where it is left out."""
         word, *words = line.split()
-        if word == "make" and self.phaser or word in ("add", "now") and int(words[1]) != self.greatest + 1:
+        if (
+            word == "make"
+            and self.phaser
+            or word in ("add", "now")
+            and int(words[1]) != self.greatest + 1
+        ):
             return None
         try:
             return getattr(self, word)(*words)
@@ -96,7 +103,9 @@ def main(folder):
             continue
         script = Script()
         with open(stored) as replies, open(stored[: -len(".stdout")]) as lines:
-            for number, (line, wanted) in enumerate(zip(lines.read().splitlines(), replies.read().splitlines()), 1):
+            for number, (line, wanted) in enumerate(
+                zip(lines.read().splitlines(), replies.read().splitlines()), 1
+            ):
                 answer = None if wanted == "bad line" else script.reply(line)
                 if answer not in (None, wanted):
                     print(f"{stored}: line {number}: {line}: {answer}, and not {wanted}")

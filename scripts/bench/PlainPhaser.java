@@ -1,4 +1,5 @@
-// Phases a second of Java's Phaser with a sum: what scripts/bench/shared sync sum is measured beside.
+// Phases a second of Java's Phaser with a sum: what scripts/bench/shared sync sum is measured
+// beside.
 // usage: java scripts/bench/PlainPhaser.java THREADS COUNT
 
 import java.util.concurrent.Phaser;
@@ -45,7 +46,8 @@ public class PlainPhaser {
             all[thread].join();
             check += sums[thread];
         }
-        System.out.printf("{\"rows\": [{\"name\": \"java sync sum %d\", \"count\": %d, \"seconds\": %.6f, \"check\": %d}]}%n",
+        System.out.printf("{\"rows\": [{\"name\": \"java sync sum %d\", \"count\": %d, "
+                + "\"seconds\": %.6f, \"check\": %d}]}%n",
             threads, count, nanos[0] / 1e9, check);
     }
 }

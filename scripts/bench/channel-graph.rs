@@ -1,8 +1,9 @@
-// Does in plain Rust what bench-graphs has the program do: a source, so many filters of 64 taps one behind
-// the other and a sink, each in a thread of its own, with a bounded channel of the standard library between two.
+// Does in plain Rust what bench-graphs has the program do: a source, so many filters of 64 taps one
+// behind the other and a sink, each in a thread of its own, with a bounded channel of the standard
+// library between two.
 // usage: channel-graph FILTERS BOUND FILE
 use std::io::Write;
-use std::sync::mpsc::{Receiver, SyncSender, sync_channel};
+use std::sync::mpsc::{sync_channel, Receiver, SyncSender};
 use std::thread::spawn;
 
 const TAPS: usize = 64;
@@ -25,7 +26,8 @@ impl Filter {
         self.window[self.newest] = sample;
         let (older, newer) = self.window.split_at(self.newest);
         let window = newer.iter().chain(older);
-        let sum: i128 = window.zip(&self.taps).map(|(&x, &tap)| i128::from(x) * i128::from(tap)).sum();
+        let sum: i128 =
+            window.zip(&self.taps).map(|(&x, &tap)| i128::from(x) * i128::from(tap)).sum();
         i64::try_from(sum >> SHIFT).expect("a value in range")
     }
 }

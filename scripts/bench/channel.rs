@@ -1,5 +1,5 @@
-// Measures a bounded channel of Rust's standard library between two threads, beside bench-shared: one
-// sends numbers, the other adds up what it gets. Rows as those of bench-shared.
+// Measures a bounded channel of Rust's standard library between two threads, beside bench-shared:
+// one sends numbers, the other adds up what it gets. Rows as those of bench-shared.
 // usage: bench-channel one BOUND COUNT | bench-channel block BOUND SIZE COUNT
 use std::sync::mpsc::sync_channel;
 use std::time::Instant;
@@ -23,7 +23,9 @@ fn add_up(numbers: impl Iterator<Item = u64>, warm: u64) -> (f64, u64) {
 // One number a message.
 fn one(bound: u64, warm: u64, all: u64) -> (f64, u64) {
     let (sender, receiver) = sync_channel(bound as usize);
-    std::thread::spawn(move || (0..all).for_each(|number| sender.send(number).expect("a receiver")));
+    std::thread::spawn(move || {
+        (0..all).for_each(|number| sender.send(number).expect("a receiver"))
+    });
     add_up(receiver.into_iter(), warm)
 }
 
@@ -51,6 +53,7 @@ fn main() {
         _ => one(bound, warm, all),
     };
     println!(
-        "{{\"rows\": [{{\"name\": \"channel {mode} {size}\", \"bound\": {bound}, \"count\": {count}, \"seconds\": {seconds:.9}, \"check\": {check}}}]}}"
+        "{{\"rows\": [{{\"name\": \"channel {mode} {size}\", \"bound\": {bound}, \
+         \"count\": {count}, \"seconds\": {seconds:.9}, \"check\": {check}}}]}}"
     );
 }

@@ -1,7 +1,8 @@
 // A plain program that reads a file of numbers, one a line, passes them through so many filters of
-// 64 taps, and writes a heading and the values: unproved. With `narrow` a filter sums in 64 bits and
-// stops where a product or a sum leaves them, with `wide` it sums in 128 bits, and with `bare` in 64
-// that wrap unseen. With no filter it copies, and with `read` it tells the count of the numbers alone.
+// 64 taps, and writes a heading and the values: unproved. With `narrow` a filter sums in 64 bits
+// and stops where a product or a sum leaves them, with `wide` it sums in 128 bits, and with `bare`
+// in 64 that wrap unseen. With no filter it copies, and with `read` it tells the count of the
+// numbers alone.
 #include <cstdint>
 #include <cstdio>
 #include <cstdlib>
@@ -37,7 +38,9 @@ static std::vector<int64_t> numbers(const char *name) {
 static int64_t narrow(const int64_t *taps, const int64_t *window, int shift) {
     int64_t sum = 0, product;
     for (int j = 0; j < 64; j++)
-        if (__builtin_mul_overflow(taps[j], window[j], &product) || __builtin_add_overflow(sum, product, &sum)) exit(3);
+        if (__builtin_mul_overflow(taps[j], window[j], &product) ||
+            __builtin_add_overflow(sum, product, &sum))
+            exit(3);
     return sum >> shift;
 }
 
@@ -70,7 +73,9 @@ int main(int, char **words) {
             at = at == 0 ? 63 : at - 1;
             window[at] = window[at + 64] = value;
             const int64_t *last = window + at;
-            value = is_bare ? bare(taps, last, 12) : is_wide ? wide(taps, last, 12) : narrow(taps, last, 12);
+            value = is_bare   ? bare(taps, last, 12)
+                    : is_wide ? wide(taps, last, 12)
+                              : narrow(taps, last, 12);
         }
     }
     std::string out = "out " + std::to_string(values.size()) + "\n";

@@ -1,10 +1,10 @@
 // Makes reads or writes of a program fail, or do less than they are asked for. Load it before the C
-// library, with variables: CALL is `read` or `write`; AT is the number of the call that is meant, counted
-// from 1, or 0 for each; HOW is what it does: `fails`, is `interrupted`, takes or gives `nothing`, or one
-// `byte`. With HOW `shrinks` or `grows` the file CHANGED loses all its bytes, or gets 65,536 more, before
-// the call goes on. Writes are those to standard output, or to the descriptor in OF. At the end file
-// descriptor 9 gets how many calls there were. A program that has threads ends by `_exit`, past all
-// destructors.
+// library, with variables: CALL is `read` or `write`; AT is the number of the call that is meant,
+// counted from 1, or 0 for each; HOW is what it does: `fails`, is `interrupted`, takes or gives
+// `nothing`, or one `byte`. With HOW `shrinks` or `grows` the file CHANGED loses all its bytes, or
+// gets 65,536 more, before the call goes on. Writes are those to standard output, or to the
+// descriptor in OF. At the end file descriptor 9 gets how many calls there were. A program that has
+// threads ends by `_exit`, past all destructors.
 #define _GNU_SOURCE
 #include <dlfcn.h>
 #include <errno.h>

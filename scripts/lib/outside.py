@@ -1,9 +1,10 @@
 #!/usr/bin/env python3
 """Lays a program out as a crate in a repository of its own, over the crates that it stands on.
 
-    scripts/lib/outside.py NAME FOLDER                  in this folder; prints where the crate is
-    scripts/lib/outside.py --built NAME FOLDER [WORD..] proves and builds the program there, runs it on
-                                                        these words, and prints where it is
+    scripts/lib/outside.py NAME FOLDER     in this folder; prints where the crate is
+    scripts/lib/outside.py --built NAME FOLDER [WORD..]
+                                           proves and builds the program there, runs it on these
+                                           words, and prints where it is
 
 scripts/programs/uses has the programs. The crates below come with what earlier checks left of them,
 and stay where the folder has them; the files of the program are laid out each time.

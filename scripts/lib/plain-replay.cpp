@@ -64,8 +64,10 @@ static void join(Part &to, const Part &from) {
     switch (op) {
         case Op::Sum: to.value += from.value; break;
         case Op::Product:
-            if ((to.value == 0 && !to.big) || (from.value == 0 && !from.big)) { to.value = 0; to.big = false; }
-            else if (to.big || from.big) to.big = true;
+            if ((to.value == 0 && !to.big) || (from.value == 0 && !from.big)) {
+                to.value = 0;
+                to.big = false;
+            } else if (to.big || from.big) to.big = true;
             else { to.value *= from.value; to.big = is_wide(to.value); }
             break;
         case Op::Least: to.value = std::min(to.value, from.value); break;
@@ -85,7 +87,12 @@ static bool holds(Mode parent, Mode child) {
 }
 
 struct Member { uint64_t number; Mode mode; uint64_t s, w; Part held; };
-struct Slot { Part part; bool is_named = false; Single named; uint32_t signallers = 0, waiters = 0; };
+struct Slot {
+    Part part;
+    bool is_named = false;
+    Single named;
+    uint32_t signallers = 0, waiters = 0;
+};
 
 static bool is_made = false, is_used = false;
 static uint64_t bound, phases, base_phase, done_phase, top_phase, greatest;
@@ -217,11 +224,15 @@ static bool send(std::string_view text) {
 static bool single_of(std::string_view text, Single &single) {
     std::string_view name = cut(text);
     if (!has_more) {
-        single.fn = name == "neg" ? Fn::Neg : name == "abs" ? Fn::Abs : name == "halve" ? Fn::Halve : Fn::None;
+        single.fn = name == "neg"     ? Fn::Neg
+                    : name == "abs"   ? Fn::Abs
+                    : name == "halve" ? Fn::Halve
+                                      : Fn::None;
         return single.fn != Fn::None;
     }
     single.fn = Fn::Clamp;
-    return name == "clamp" && integer(cut(text), single.low) && has_more && integer(text, single.high) && single.low <= single.high;
+    return name == "clamp" && integer(cut(text), single.low) && has_more &&
+           integer(text, single.high) && single.low <= single.high;
 }
 
 static bool signal_one(std::string_view text) {
@@ -346,7 +357,8 @@ static bool wait_one(std::string_view text) {
 
 static bool take_block(std::string_view text) {
     uint64_t task, asked;
-    if (!nat(cut(text), task) || !has_more || !nat(text, asked) || asked < 1 || asked > 16) return false;
+    if (!nat(cut(text), task) || !has_more || !nat(text, asked)) return false;
+    if (asked < 1 || asked > 16) return false;
     Member *member;
     if (refuse_task(task, member)) return true;
     uint64_t w = member->w;

@@ -18,7 +18,8 @@ def text_of(path):
 
 
 def lines_of(path):
-    """The lines `NAME: WORD ..` of a file like crates.txt, as pairs of a name and what stands behind it."""
+    """The lines `NAME: WORD ..` of a file like crates.txt, as pairs of a name and what stands
+    behind it."""
     for line in text_of(path).splitlines():
         name, colon, others = line.partition("#")[0].partition(":")
         if colon:
@@ -33,7 +34,8 @@ def crates():
 
 
 def below(names):
-    """The lines in crates.txt of these crates and of all of ours that they stand on, by their names, lowest first."""
+    """The lines in crates.txt of these crates and of all of ours that they stand on, by their
+    names, lowest first."""
     stands_on, needed = crates(), set(names)
     for name in reversed(stands_on):
         if name in needed:

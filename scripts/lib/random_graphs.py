@@ -28,7 +28,9 @@ class Maker:
 
     def phaser(self, single=""):
         roll = self.random
-        operation = roll.choice(["sum"] * 5 + ["least", "greatest", "product"] + ["any"] * (roll.random() < 0.3))
+        operation = roll.choice(
+            ["sum"] * 5 + ["least", "greatest", "product"] + ["any"] * (roll.random() < 0.3)
+        )
         name = f"X{len(self.phasers)}"
         self.bounds.append(roll.choice([1, 1, 2, 2, 3, 4, 8, 64]))
         self.phasers.append(f"phaser {name} {operation} {self.bounds[-1]}{single}")
@@ -39,7 +41,9 @@ class Maker:
     def output(self, behind):
         """A phaser that stands behind these and has no single."""
         others = [p for p in range(max(behind) + 1, len(self.phasers)) if p not in self.singles]
-        return self.random.choice(others) if others and self.random.random() < 0.4 else self.phaser()
+        return (
+            self.random.choice(others) if others and self.random.random() < 0.4 else self.phaser()
+        )
 
     def input(self):
         return self.random.randrange(len(self.phasers))
@@ -47,11 +51,17 @@ class Maker:
     def task(self, kind, waits, signals, text):
         name = f"t{len(self.tasks)}"
         until = f" until {self.random.randint(0, 8)}" if self.random.random() < 0.12 else ""
-        self.tasks.append([kind, name, waits, signals, text, "", until + self.block(kind, waits + signals)])
+        self.tasks.append(
+            [kind, name, waits, signals, text, "", until + self.block(kind, waits + signals)]
+        )
 
     def block(self, kind, phasers):
         """In a graph of text 2, the block of a task on these phasers."""
-        if not self.is_second or kind not in ("source", "fir", "sink") or self.random.random() < 0.4:
+        if (
+            not self.is_second
+            or kind not in ("source", "fir", "sink")
+            or self.random.random() < 0.4
+        ):
             return ""
         return f" block={self.random.randint(1, min(self.bounds[p] for p in phasers))}"
 
@@ -61,7 +71,10 @@ class Maker:
 
     def file(self):
         name = f"s{len(self.files)}.csv"
-        values = [self.random.randint(-9, 9) for _ in range(self.random.choice([0, 1, 2, 3, 5, 8, 13, 21]))]
+        values = [
+            self.random.randint(-9, 9)
+            for _ in range(self.random.choice([0, 1, 2, 3, 5, 8, 13, 21]))
+        ]
         if values and self.random.random() < 0.05:
             values[self.random.randrange(len(values))] = self.random.choice([MOST, -MOST])
         self.files[name] = values
@@ -91,11 +104,15 @@ class Maker:
 
     def peers(self):
         inputs = [self.input() for _ in range(self.random.choice([1, 2, 2, 3]))]
-        single = self.random.choice(["", "", " single neg", " single abs", " single halve", " single clamp -5 5"])
+        single = self.random.choice(
+            ["", "", " single neg", " single abs", " single halve", " single clamp -5 5"]
+        )
         e = self.phaser(single)
         for x in inputs:
             y = self.output([e])
-            self.task("peer", [x, e], [e, y], f"X{x} <-> X{e} -> X{y} mul {self.random.randint(-2, 3)}")
+            self.task(
+                "peer", [x, e], [e, y], f"X{x} <-> X{e} -> X{y} mul {self.random.randint(-2, 3)}"
+            )
 
     def sinks(self):
         for p in range(len(self.phasers)):
@@ -103,7 +120,11 @@ class Maker:
                 self.task("sink", [p], [], f"X{p}")
 
     def child(self):
-        parents = [task for task in self.tasks if task[0] in ("source", "fir", "sink") and not task[5].endswith(" now")]
+        parents = [
+            task
+            for task in self.tasks
+            if task[0] in ("source", "fir", "sink") and not task[5].endswith(" now")
+        ]
         if not parents:
             return
         kind, parent, waits, signals, *_ = self.random.choice(parents)
@@ -116,21 +137,33 @@ class Maker:
         self.tasks[-1][5] = f" by {parent} at {self.random.randint(0, 6)}{now}"
 
     def text(self):
-        lines = ["graph 2"] * self.is_second + self.phasers + [f"{kind} {name} {text}{by}{until}" for kind, name, _, _, text, by, until in self.tasks]
+        lines = (
+            ["graph 2"] * self.is_second
+            + self.phasers
+            + [
+                f"{kind} {name} {text}{by}{until}"
+                for kind, name, _, _, text, by, until in self.tasks
+            ]
+        )
         return "\n".join(lines) + "\n"
 
     def write(self, folder):
         for name, values in {**self.files, "graph": None}.items():
             with open(os.path.join(folder, name), "w") as file:
-                file.write(self.text() if values is None else "".join(f"{value}\n" for value in values))
+                file.write(
+                    self.text() if values is None else "".join(f"{value}\n" for value in values)
+                )
 
 
 def ended(folder, *words):
-    """The status and both streams of the program of these words; the status is None where it took too long."""
+    """The status and both streams of the program of these words; the status is None where it took
+    too long."""
     is_run = words[0] == "run"
     own = [project.built("phase_run" if is_run else "phase_cli"), *words[is_run:]]
     try:
-        done = subprocess.run(own, cwd=folder, capture_output=True, timeout=60, stdin=subprocess.DEVNULL)
+        done = subprocess.run(
+            own, cwd=folder, capture_output=True, timeout=60, stdin=subprocess.DEVNULL
+        )
     except subprocess.TimeoutExpired:
         return None, b"", b""
     return done.returncode, done.stdout, done.stderr
@@ -140,7 +173,11 @@ STALLED = (4, b"", b"phase: stalled\n")
 
 
 def simulated(lines):
-    return STALLED if lines == ["stalled"] else (0, "".join(f"{line}\n" for line in lines).encode(), b"")
+    return (
+        STALLED
+        if lines == ["stalled"]
+        else (0, "".join(f"{line}\n" for line in lines).encode(), b"")
+    )
 
 
 def starts_told(text):

@@ -1,8 +1,8 @@
 // Refuses the request for memory whose number the variable REFUSED tells, counted from 1, and each
 // new thread where the variable ALONE is set. Load it before the C library. Where REFUSED is 0 it
-// refuses no request. At the end it writes to file descriptor 9, where that is open, how many requests
-// there were, how many bytes they asked for, and how many threads were asked for. Threads count
-// together. A program that has threads ends by `_exit`, past all destructors.
+// refuses no request. At the end it writes to file descriptor 9, where that is open, how many
+// requests there were, how many bytes they asked for, and how many threads were asked for. Threads
+// count together. A program that has threads ends by `_exit`, past all destructors.
 #define _GNU_SOURCE
 #include <dlfcn.h>
 #include <errno.h>

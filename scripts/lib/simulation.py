@@ -1,7 +1,7 @@
 """A graph that is run event by event, and the values of its sinks.
 
-It composes no lists: it moves tasks event by event, as they would run, and checks no range. It reads
-graphs that are right. Blocks are made step by step.
+It composes no lists: it moves tasks event by event, as they would run, and checks no range. It
+reads graphs that are right. Blocks are made step by step.
 """
 import os
 from functools import reduce
@@ -95,7 +95,9 @@ class Task:
         for name in waits:
             phasers[name].waited[self.name] = phasers[name].waited[parent.name] if parent else 0
         for name in signals:
-            phasers[name].signalled[self.name] = phasers[name].signalled[parent.name] if parent else 0
+            phasers[name].signalled[self.name] = (
+                phasers[name].signalled[parent.name] if parent else 0
+            )
         if parent and self.joins_now:
             self.start = starts.get(self.name, phasers[waits[0]].waited[self.name])
             phasers[waits[0]].waited[self.name] = self.start
@@ -195,16 +197,21 @@ def why(task, names, phaser, call):
     if call == "waits":
         phase = phaser.waited[task]
         late = " and ".join(other for other, done in phaser.signalled.items() if done <= phase)
-        return f"{task} waits for phase {phase} of {names[id(phaser)]}, which {late} has not signalled"
+        return (
+            f"{task} waits for phase {phase} of {names[id(phaser)]}, which {late} has not signalled"
+        )
     least = min(phaser.waited.values())
     slow = next(other for other, phase in phaser.waited.items() if phase == least)
     phase, name = phaser.signalled[task], names[id(phaser)]
-    return f"{task} may not signal phase {phase} of {name}: bound {phaser.bound}, and {slow} stands at {least}"
+    return (
+        f"{task} may not signal phase {phase} of {name}: bound {phaser.bound}, and {slow} stands "
+        f"at {least}"
+    )
 
 
 def stalls(file):
-    """What `run --explain` tells of a graph that stands still by single steps: a line for each task that
-    is left, in the order of the lines, and one for each phaser that a task may not signal."""
+    """What `run --explain` tells of a graph that stands still by single steps: a line for each task
+    that is left, in the order of the lines, and one for each phaser that a task may not signal."""
     graph = Graph(file, True, {})
     if graph.run():
         return None
@@ -216,8 +223,14 @@ def stalls(file):
             sorted_members = sorted(members.items(), key=lambda member: order[member[0]])
             members.clear()
             members.update(sorted_members)
-    live = [task for task in graph.tasks if any(
-        task.name in phaser.waited or task.name in phaser.signalled for phaser in graph.phasers.values())]
+    live = [
+        task
+        for task in graph.tasks
+        if any(
+            task.name in phaser.waited or task.name in phaser.signalled
+            for phaser in graph.phasers.values()
+        )
+    ]
     lines = [why(task.name, names, task.stuck[1], task.stuck[0]) for task in live]
     full = list(dict.fromkeys(id(task.stuck[1]) for task in live if task.stuck[0] == "signals"))
     for phaser in full:
@@ -240,7 +253,8 @@ def starts_told(output):
 
 
 def simulate(file, with_bounds, starts={}):
-    """The lines that a run of a graph has, where sinks that join now begin at these phases, by their names."""
+    """The lines that a run of a graph has, where sinks that join now begin at these phases, by
+    their names."""
     graph = Graph(file, with_bounds, starts)
     if not graph.run():
         return ["stalled"]

@@ -1,5 +1,6 @@
 //! Graphs that were made at random, and runs of them. What is expected comes from
-//! `scripts/check/simulate-graph --bounds`; `scripts/fuzz/graphs --show 1 SEED` prints a graph with it.
+//! `scripts/check/simulate-graph --bounds`; `scripts/fuzz/graphs --show 1 SEED` prints a graph with
+//! it.
 use crate::jobs::{job_of, told};
 use std::test::Fail;
 use stream_workers::Open;

@@ -26,11 +26,14 @@ int main(int argc, char **argv)
             return 1;
     for (int round = 0; round < atoi(argv[argc - 1]); round++) {
         double begin = now();
-        if (phase_eval((uint8_t *)text, length, in, N, &count, 1, NULL, 0, &found, 1, &start, 1, &fault)
+        if (phase_eval((uint8_t *)text, length, in, N, &count, 1, NULL, 0, &found, 1, &start, 1,
+                       &fault)
             != PHASE_E_ROOM)
             return 1;
         double between = now();
-        if (phase_eval((uint8_t *)text, length, in, N, &count, 1, out, N, &found, 1, &start, 1, &fault) != PHASE_OK)
+        if (phase_eval((uint8_t *)text, length, in, N, &count, 1, out, N, &found, 1, &start, 1,
+                       &fault)
+            != PHASE_OK)
             return 1;
         double end = now();
         if (between - begin < sizes)

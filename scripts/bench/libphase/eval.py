@@ -32,11 +32,17 @@ seconds, wanted = least(lambda: phase.eval(graph, s=xs)["out"])
 print(f"Python, phase.eval, arrays in and out\t{seconds:.3f}")
 numpy.savetxt("python.out", wanted, "%d")
 seconds, values = filtered(lambda ys: numpy.convolve(ys, taps)[: len(ys)] >> 8)
-print(f"numpy.convolve, int64 (wraps unseen)\t{seconds:.3f}\t{'' if (values == wanted).all() else 'OTHER VALUES'}")
+print(
+    f"numpy.convolve, int64 (wraps "
+    f"unseen)\t{seconds:.3f}\t{'' if (values == wanted).all() else 'OTHER VALUES'}"
+)
 try:
     from scipy.signal import lfilter
 except ImportError:
     print("scipy.signal.lfilter\tthere is no scipy")
 else:
     seconds, values = filtered(lambda ys: numpy.floor(lfilter(taps, [1.0], ys) / 256))
-    print(f"scipy.signal.lfilter, float64 (inexact past 2^53)\t{seconds:.3f}\t{'' if (values == wanted).all() else 'OTHER VALUES'}")
+    print(
+        f"scipy.signal.lfilter, float64 (inexact past "
+        f"2^53)\t{seconds:.3f}\t{'' if (values == wanted).all() else 'OTHER VALUES'}"
+    )

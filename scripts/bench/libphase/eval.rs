@@ -7,7 +7,8 @@ fn cpu() -> f64 {
 
 fn main() {
     let graph = fs::read_to_string("graph").unwrap();
-    let xs: Vec<i64> = fs::read_to_string("s.csv").unwrap().lines().map(|it| it.parse().unwrap()).collect();
+    let xs: Vec<i64> =
+        fs::read_to_string("s.csv").unwrap().lines().map(|it| it.parse().unwrap()).collect();
     let (mut least, mut text) = (f64::MAX, String::new());
     for _ in 0..env::args().nth(1).unwrap().parse().unwrap() {
         let begin = cpu();

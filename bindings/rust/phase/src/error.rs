@@ -52,7 +52,8 @@ pub enum Place {
 pub enum FaultKind {
     /// The line is not in the grammar.
     Syntax,
-    /// A number, or how many taps, outputs, inputs, phasers or tasks there are, is outside its limit.
+    /// A number, or how many taps, outputs, inputs, phasers or tasks there are, is outside its
+    /// limit.
     Limit,
     /// A name was declared before, or one phaser stands twice on the line.
     Twice,

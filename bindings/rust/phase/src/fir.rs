@@ -33,8 +33,8 @@ impl std::error::Error for FirError {}
 
 /// A filter with a finite impulse response, which goes on where the block before ended.
 ///
-/// The value at a sample is the sum of each tap times the sample so far back, divided by 2 to the power of
-/// the shift and rounded down.
+/// The value at a sample is the sum of each tap times the sample so far back, divided by 2 to the
+/// power of the shift and rounded down.
 ///
 /// ```
 /// let mut sums = phase::Fir::new(&[1, 1], 0)?;
@@ -66,8 +66,8 @@ impl Fir {
     /// Filters a block, one value for each sample. After an error the filter stands where it stood.
     pub fn filter(&mut self, block: &[i64], out: &mut [i64]) -> Result<(), FirError> {
         let mut done = 0;
-        // SAFETY: each pointer and length are those of one slice, and what is written is borrowed for this
-        // call alone.
+        // SAFETY: each pointer and length are those of one slice, and what is written is borrowed
+        // for this call alone.
         let status = unsafe {
             phase_fir(
                 self.taps.as_ptr(),
@@ -85,8 +85,9 @@ impl Fir {
         told(status, done)
     }
 
-    /// Filters a block, and writes each value over its sample. After an error the filter stands where it
-    /// stood; at `TooBig` the values that are right are written, and the samples behind them stay.
+    /// Filters a block, and writes each value over its sample. After an error the filter stands
+    /// where it stood; at `TooBig` the values that are right are written, and the samples behind
+    /// them stay.
     ///
     /// ```
     /// let mut sums = phase::Fir::new(&[1, 1], 0)?;

@@ -130,7 +130,8 @@ fn named(call: NamesCall, text: &[u8]) -> Result<Vec<String>, Error> {
     Ok(written.lines().map(str::to_string).collect())
 }
 
-/// Returns what each sink got, in the order of the lines, from the samples of each source in theirs.
+/// Returns what each sink got, in the order of the lines, from the samples of each source in
+/// theirs.
 ///
 /// A sink that joins now begins at the least phase that it may.
 ///

@@ -132,8 +132,8 @@ pub struct Phaser {
     place: UnsafeCell<PhasePhaser>,
 }
 
-// SAFETY: a phaser may go from one thread to another, as phase.h says, and it is no `Sync`, so that calls
-// go one by one.
+// SAFETY: a phaser may go from one thread to another, as phase.h says, and it is no `Sync`, so that
+// calls go one by one.
 unsafe impl Send for Phaser {}
 
 impl Phaser {
@@ -289,9 +289,9 @@ impl Phaser {
         }
     }
 
-    /// Signals as many phases in a row as there are values, the first the task's, with one send each
-    /// and the single or none for all of them, and returns the first phase. It takes memory, and
-    /// gives it back.
+    /// Signals as many phases in a row as there are values, the first the task's, with one send
+    /// each and the single or none for all of them, and returns the first phase. It takes memory,
+    /// and gives it back.
     ///
     /// It is refused where one of the signals would be, made one by one, and as `BadBlock` or
     /// `OutOfMemory`; then no phase is signalled.
@@ -332,24 +332,18 @@ impl Phaser {
     }
 
     /// Gets the task's phase and those behind it that are complete, at most as many as there are
-    /// places, and writes the value of each into the first of them; or tells that no more will come.
-    /// Where a phase has no value, `i64::MIN` is written. What stands behind the values stays. It
-    /// takes memory, and gives it back.
+    /// places, and writes the value of each into the first of them; or tells that no more will
+    /// come. Where a phase has no value, `i64::MIN` is written. What stands behind the values
+    /// stays. It takes memory, and gives it back.
     ///
     /// It is refused as `wait` is, as `BadBlock`, and as `OutOfMemory`.
     ///
-    /// ```
-    /// use phase::{GotBlock, Mode, Operation, Phaser};
-    /// let mut phaser = Phaser::new(Operation::Sum, 3, 100)?;
-    /// let signaller = phaser.register(0, Mode::Sig)?;
-    /// let waiter = phaser.register(0, Mode::Wait)?;
-    /// phaser.drop_task(0)?;
-    /// phaser.signal_block(signaller, &[5, 6], None)?;
-    /// let mut values = [0; 3];
-    /// assert_eq!(phaser.wait_block(waiter, &mut values)?, GotBlock::Values { phase: 0, count: 2 });
-    /// assert_eq!(values, [5, 6, 0]);
-    /// # Ok::<(), phase::PhaserError>(())
-    /// ```
+    /// ``` use phase::{GotBlock, Mode, Operation, Phaser}; let mut phaser =
+    /// Phaser::new(Operation::Sum, 3, 100)?; let signaller = phaser.register(0, Mode::Sig)?; let
+    /// waiter = phaser.register(0, Mode::Wait)?; phaser.drop_task(0)?;
+    /// phaser.signal_block(signaller, &[5, 6], None)?; let mut values = [0; 3];
+    /// assert_eq!(phaser.wait_block(waiter, &mut values)?, GotBlock::Values { phase: 0, count: 2
+    /// }); assert_eq!(values, [5, 6, 0]); # Ok::<(), phase::PhaserError>(()) ```
     pub fn wait_block(&mut self, task: u64, values: &mut [i64]) -> Result<GotBlock, PhaserError> {
         let (mut phase, mut count) = (0, 0);
         // SAFETY: as in `register`, and the pointer and length are those of one slice, which is
@@ -383,8 +377,8 @@ impl Phaser {
     /// ```
     pub fn view(&self, task: u64) -> Option<Standing> {
         let mut standing = PhaseStanding::default();
-        // SAFETY: as in `register`; no other call is under way, since a phaser is not `Sync`, and each
-        // returns before the next.
+        // SAFETY: as in `register`; no other call is under way, since a phaser is not `Sync`, and
+        // each returns before the next.
         let status = unsafe { phase_phaser_view(self.place.get(), task, &mut standing) };
         if status == PHASE_E_NO_TASK {
             return None;
