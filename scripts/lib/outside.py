@@ -92,6 +92,9 @@ def built(name, folder, *words):
 
 
 def main(words):
+    if words[:1] in (["-h"], ["--help"]):
+        print(__doc__.strip())
+        return 0
     builds = words[:1] == ["--built"]
     name, folder, *more = [*words[builds:], "", ""][: max(len(words) - builds, 2)]
     if name not in programs() or not folder or more and not builds:
