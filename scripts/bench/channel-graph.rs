@@ -1,4 +1,4 @@
-// Does in plain Rust what bench-graphs has the program do: a source, so many filters of 64 taps one
+// Does in plain Rust what bench/graphs has the program do: a source, so many filters of 64 taps one
 // behind the other and a sink, each in a thread of its own, with a bounded channel of the standard
 // library between two.
 // usage: channel-graph FILTERS BOUND FILE

@@ -1,6 +1,6 @@
-// Measures a bounded channel of Rust's standard library between two threads, beside bench-shared:
-// one sends numbers, the other adds up what it gets. Rows as those of bench-shared.
-// usage: bench-channel one BOUND COUNT | bench-channel block BOUND SIZE COUNT
+// Measures a bounded channel of Rust's standard library between two threads, beside bench/shared:
+// one sends numbers, the other adds up what it gets. Rows as those of bench/shared.
+// usage: channel one BOUND COUNT | channel block BOUND SIZE COUNT
 use std::sync::mpsc::sync_channel;
 use std::time::Instant;
 
