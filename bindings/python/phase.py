@@ -35,10 +35,14 @@ import numpy
 from numpy.typing import ArrayLike, NDArray
 
 __all__ = [
-    "check", "names", "eval", "Counts", "Names", "Values", "Fir", "Phaser", "Operation", "Mode",
-    "Single", "Clamp", "Got", "GotBlock", "Standing", "SUM", "PRODUCT", "LEAST", "GREATEST", "ANY",
-    "SIG", "WAIT", "SIG_WAIT", "SINGLE", "NO_SINGLE", "NEG", "ABS", "HALVE", "PHASERS_MAX",
-    "TASKS_MAX", "TAPS_MAX", "SAMPLES_MAX", "BOUND_MAX", "PHASES_MAX", "MEMBERS_MAX", "SENDS_MAX",
+    "check", "names", "eval", "Counts", "Names", "Values",
+    "Fir",
+    "Phaser", "Operation", "Mode", "Single", "Clamp", "Got", "GotBlock", "Standing",
+    "SUM", "PRODUCT", "LEAST", "GREATEST", "ANY",
+    "SIG", "WAIT", "SIG_WAIT", "SINGLE",
+    "NO_SINGLE", "NEG", "ABS", "HALVE",
+    "PHASERS_MAX", "TASKS_MAX", "TAPS_MAX", "SAMPLES_MAX",
+    "BOUND_MAX", "PHASES_MAX", "MEMBERS_MAX", "SENDS_MAX",
     "Error", "GraphError", "SamplesError", "TooBig", "TapsError", "PhaserError",
 ]
 

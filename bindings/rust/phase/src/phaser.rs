@@ -338,12 +338,19 @@ impl Phaser {
     ///
     /// It is refused as `wait` is, as `BadBlock`, and as `OutOfMemory`.
     ///
-    /// ``` use phase::{GotBlock, Mode, Operation, Phaser}; let mut phaser =
-    /// Phaser::new(Operation::Sum, 3, 100)?; let signaller = phaser.register(0, Mode::Sig)?; let
-    /// waiter = phaser.register(0, Mode::Wait)?; phaser.drop_task(0)?;
-    /// phaser.signal_block(signaller, &[5, 6], None)?; let mut values = [0; 3];
-    /// assert_eq!(phaser.wait_block(waiter, &mut values)?, GotBlock::Values { phase: 0, count: 2
-    /// }); assert_eq!(values, [5, 6, 0]); # Ok::<(), phase::PhaserError>(()) ```
+    /// ```
+    /// use phase::{GotBlock, Mode, Operation, Phaser};
+    /// let mut phaser = Phaser::new(Operation::Sum, 3, 100)?;
+    /// let signaller = phaser.register(0, Mode::Sig)?;
+    /// let waiter = phaser.register(0, Mode::Wait)?;
+    /// phaser.drop_task(0)?;
+    /// phaser.signal_block(signaller, &[5, 6], None)?;
+    /// let mut values = [0; 3];
+    /// let got = phaser.wait_block(waiter, &mut values)?;
+    /// assert_eq!(got, GotBlock::Values { phase: 0, count: 2 });
+    /// assert_eq!(values, [5, 6, 0]);
+    /// # Ok::<(), phase::PhaserError>(())
+    /// ```
     pub fn wait_block(&mut self, task: u64, values: &mut [i64]) -> Result<GotBlock, PhaserError> {
         let (mut phase, mut count) = (0, 0);
         // SAFETY: as in `register`, and the pointer and length are those of one slice, which is
