@@ -98,7 +98,7 @@ fn run_job<H: Threads + Wait + Sync, W: Write, E: Write>(
         Err(RunFault::TooBig { place, phase }) => {
             report_too_big(job.graph(), place, phase, faults)
         }
-        Err(RunFault::Stalled) => report_stalled(faults),
+        Err(RunFault::Stalled(_)) => report_stalled(faults),
         Err(RunFault::OutOfMemory) => report(IoFault::OutOfMemory, faults),
     }
 }

@@ -18,7 +18,7 @@ use stream_workers::graph_commands::{
     Refuses, explain_no_sink, explain_too_big, find_sink, read_job_or_explain, report_written,
     tell_bytes, write_sinks,
 };
-use stream_workers::{Open, RunFault, run};
+use stream_workers::{Open, RunFault, Stand, run};
 
 /// As `run_and_report`, and the line of a refusal or a fault, but for those of memory and of a
 /// write, is explained to a person behind it.
@@ -86,10 +86,10 @@ fn explain_asked<H: Threads + Wait + Sync, W: Write, E: Write, F: Files>(
 }
 
 /// Tells that the run of a job stalled, and what its tasks wait for, and answers the status 4.
-fn explain_stalled<H: Wait, E: Write>(
-    rt: &H,
+fn explain_stalled<E: Write>(
     alloc: Global,
     job: &Job,
+    stands: &[Stand],
     faults: &mut Watched<E>,
 ) -> u8
     ensures status { result ≡ 4 }
@@ -97,7 +97,7 @@ fn explain_stalled<H: Wait, E: Write>(
         (writer_state E.contents faults.old) (writer_state E.contents faults.new) }
 {
     let status = report_stalled(faults);
-    let more = stall_told(rt, alloc, job);
+    let more = stall_told(alloc, job, stands);
     tell_bytes(&more, faults);
     status
 }
@@ -127,7 +127,7 @@ fn explain_job<H: Threads + Wait + Sync, W: Write, E: Write, F: Files>(
         Err(RunFault::TooBig { place, phase }) => {
             explain_too_big(alloc, file, job.graph(), place, phase, faults, files)
         }
-        Err(RunFault::Stalled) => explain_stalled(rt, alloc, job, faults),
+        Err(RunFault::Stalled(stands)) => explain_stalled(alloc, job, &stands, faults),
         Err(RunFault::OutOfMemory) => report(IoFault::OutOfMemory, faults),
     }
 }

@@ -3,18 +3,10 @@ ghost use Rattle.stream_workers.specs.graph_commands.Explained.{AreFurtherLines}
 
 use itoa::Buffer;
 use std::alloc::{AllocError, Global};
-use std::sync::Wait;
-use stream_job::graph_base::Place;
-use stream_job::phase_base::Entry;
-use stream_job::{Job, Step, Turned, World};
 use stream_workers::graph_commands::further_lines;
-
-/// A task on a phaser, with its mode and phases there.
-#[derive(Clone, Copy)]
-struct Stand {
-    task: usize,
-    entry: Entry,
-}
+use stream_workers::graph_commands::stream_lists::Job;
+use stream_workers::graph_commands::stream_lists::graph_base::Place;
+use stream_workers::{Call, Stand};
 
 /// The name of a task.
 fn task_name(job: &Job, t: usize) -> &str {
@@ -34,40 +26,15 @@ fn phaser_name(job: &Job, p: usize) -> &str {
     }
 }
 
-/// How a task stands on a phaser, where it is registered there.
-fn entry_on(world: &World<'_>, t: usize, p: usize) -> Option<Entry> {
-    let graph = world.job().graph();
-    if t >= graph.tasks() {
-        return None;
-    }
-    for k in 0..graph.registrations(t) {
-        if graph.registration(t, k).phaser == p {
-            return world.standing(t, k);
-        }
-    }
-    None
-}
-
-/// The tasks on a phaser, in the order of their lines.
-fn stands_on(alloc: Global, world: &World<'_>, p: usize) -> Result<Vec<Stand>, AllocError> {
-    let mut stands = Vec::new(alloc);
-    for task in 0..world.job().graph().tasks() {
-        if let Some(entry) = entry_on(world, task, p) {
-            stands.push(Stand { task, entry })?;
-        }
-    }
-    Ok(stands)
-}
-
-/// The waiter that has come least far.
-fn slowest(stands: &[Stand]) -> Option<Stand> {
+/// The waiter on a phaser that has come least far.
+fn slowest(stands: &[Stand], p: usize) -> Option<Stand> {
     let mut found: Option<Stand> = None;
     for stand in stands {
         let is_behind = match found {
             None => true,
             Some(other) => stand.entry.wait_phase < other.entry.wait_phase,
         };
-        if stand.entry.mode.waits() && is_behind {
+        if stand.phaser == p && stand.entry.mode.waits() && is_behind {
             found = Some(*stand);
         }
     }
@@ -88,21 +55,19 @@ fn put_number(line: &mut Vec<u8>, number: u64) -> Result<(), AllocError> {
     line.extend_from_slice(digits.format(number).as_bytes())
 }
 
-/// Why task `t` may not signal phaser `p`: how far the slowest waiter is behind.
+/// Why a task may not signal: how far the slowest waiter is behind.
 fn unsignalled(
     alloc: Global,
-    world: &World<'_>,
-    t: usize,
-    p: usize,
-    first: u64,
+    job: &Job,
+    stands: &[Stand],
+    at: Stand,
 ) -> Result<Vec<u8>, AllocError> {
-    let job = world.job();
     let mut line = Vec::new(alloc);
-    put(&mut line, &[task_name(job, t), " may not signal "])?;
-    let stands = stands_on(alloc, world, p)?;
-    if let Some(slow) = slowest(&stands) {
+    put(&mut line, &[task_name(job, at.task), " may not signal "])?;
+    if let Some(slow) = slowest(stands, at.phaser) {
+        let first = at.entry.signal_phase;
         let behind = slow.entry.wait_phase;
-        let bound = bound_of(job, p);
+        let bound = bound_of(job, at.phaser);
         let is_block = first.saturating_sub(behind) < bound;
         put(
             &mut line,
@@ -113,7 +78,10 @@ fn unsignalled(
             }],
         )?;
         put_number(&mut line, first)?;
-        put(&mut line, &[" of ", phaser_name(job, p), ": bound "])?;
+        put(
+            &mut line,
+            &[" of ", phaser_name(job, at.phaser), ": bound "],
+        )?;
         put_number(&mut line, bound)?;
         put(
             &mut line,
@@ -133,22 +101,17 @@ fn bound_of(job: &Job, p: usize) -> u64 {
     }
 }
 
-/// What task `t` waits for on phaser `p`: who has not signalled it.
-fn waited(
-    alloc: Global,
-    world: &World<'_>,
-    t: usize,
-    p: usize,
-    phase: u64,
-) -> Result<Vec<u8>, AllocError> {
-    let job = world.job();
+/// What a task waits for: who has not signalled it.
+fn waited(alloc: Global, job: &Job, stands: &[Stand], at: Stand) -> Result<Vec<u8>, AllocError> {
+    let phase = at.entry.wait_phase;
     let mut line = Vec::new(alloc);
-    put(&mut line, &[task_name(job, t), " waits for phase "])?;
+    put(&mut line, &[task_name(job, at.task), " waits for phase "])?;
     put_number(&mut line, phase)?;
-    put(&mut line, &[" of ", phaser_name(job, p), ", which"])?;
+    put(&mut line, &[" of ", phaser_name(job, at.phaser), ", which"])?;
     let mut is_first = true;
-    for stand in &stands_on(alloc, world, p)? {
-        if stand.entry.mode.signals() && stand.entry.signal_phase <= phase {
+    for stand in stands {
+        let signals = stand.phaser == at.phaser && stand.entry.mode.signals();
+        if signals && stand.entry.signal_phase <= phase {
             let before = if is_first { " " } else { " and " };
             put(&mut line, &[before, task_name(job, stand.task)])?;
             is_first = false;
@@ -159,13 +122,12 @@ fn waited(
 }
 
 /// How far the waiters of phaser `p` have come.
-fn waiters(alloc: Global, world: &World<'_>, p: usize) -> Result<Vec<u8>, AllocError> {
-    let job = world.job();
+fn waiters(alloc: Global, job: &Job, stands: &[Stand], p: usize) -> Result<Vec<u8>, AllocError> {
     let mut line = Vec::new(alloc);
     put(&mut line, &[phaser_name(job, p), ":"])?;
     let mut is_first = true;
-    for stand in &stands_on(alloc, world, p)? {
-        if stand.entry.mode.waits() {
+    for stand in stands {
+        if stand.phaser == p && stand.entry.mode.waits() {
             let before = if is_first { " " } else { ", " };
             let name = task_name(job, stand.task);
             put(&mut line, &[before, name, " has come to phase "])?;
@@ -176,123 +138,45 @@ fn waiters(alloc: Global, world: &World<'_>, p: usize) -> Result<Vec<u8>, AllocE
     Ok(line)
 }
 
-/// Where a task stands still: on which phaser, at which phase, and whether it would signal there.
-#[derive(Clone, Copy)]
-struct Block {
-    phaser: usize,
-    phase: u64,
-    signals: bool,
-}
-
-/// Where a task stands still that makes this call next.
-fn block_of(world: &World<'_>, t: usize) -> Option<Block> {
-    let (input, output) = match world.next(t) {
-        Step::Sample => (None, Some(0)),
-        Step::Signal { output } => (None, Some(output)),
-        Step::Wait { input } => (Some(input), None),
-        Step::Exchange => (Some(1), None),
-        _ => return None,
-    };
-    let graph = world.job().graph();
-    for k in 0..graph.registrations(t) {
-        let at = graph.registration(t, k);
-        let signals = output.is_some() && at.output == output;
-        if signals || (input.is_some() && at.input == input) {
-            let entry = world.standing(t, k)?;
-            let phase = if signals {
-                entry.signal_phase
-            } else {
-                entry.wait_phase
-            };
-            return Some(Block {
-                phaser: at.phaser,
-                phase,
-                signals,
-            });
-        }
-    }
-    None
-}
-
 /// A line for each task that is left, and one for each phaser on which one may not signal.
-fn stall_lines(alloc: Global, world: &World<'_>) -> Result<Vec<Vec<u8>>, AllocError> {
+fn stall_lines(alloc: Global, job: &Job, stands: &[Stand]) -> Result<Vec<Vec<u8>>, AllocError> {
     let mut lines = Vec::new(alloc);
     let mut full = Vec::new(alloc);
-    for t in 0..world.job().graph().tasks() {
-        if let Some(block) = block_of(world, t) {
-            if block.signals {
-                lines.push(unsignalled(alloc, world, t, block.phaser, block.phase)?)?;
-                full.push(block.phaser)?;
-            } else {
-                lines.push(waited(alloc, world, t, block.phaser, block.phase)?)?;
+    for stand in stands {
+        match stand.next {
+            Some(Call::Signal) => {
+                lines.push(unsignalled(alloc, job, stands, *stand)?)?;
+                full.push(stand.phaser)?;
             }
+            Some(Call::Wait) => lines.push(waited(alloc, job, stands, *stand)?)?,
+            None => {}
         }
     }
-    push_waiters(alloc, world, &full, &mut lines)?;
+    push_waiters(alloc, job, stands, &full, &mut lines)?;
     Ok(lines)
 }
 
 /// A line for each of these phasers.
 fn push_waiters(
     alloc: Global,
-    world: &World<'_>,
+    job: &Job,
+    stands: &[Stand],
     phasers: &[usize],
     lines: &mut Vec<Vec<u8>>,
 ) -> Result<(), AllocError> {
     for k in 0..phasers.len() {
         if !phasers[..k].contains(&phasers[k]) {
-            lines.push(waiters(alloc, world, phasers[k])?)?;
+            lines.push(waiters(alloc, job, stands, phasers[k])?)?;
         }
     }
     Ok(())
 }
 
-/// Gives the tasks turns in the order of their lines until none moves, and the run as it stands
-/// then; nothing where a value is out of range, or where the tasks come to their end.
-fn stalled<'a, R: Wait>(
-    rt: &R,
-    alloc: Global,
-    job: &'a Job,
-) -> Result<Option<World<'a>>, AllocError> {
-    let mut world = World::new(alloc, job)?;
-    for _ in rt.forever() {
-        if !turn_all(&mut world)? {
-            break;
-        }
-    }
-    if world.stalled() {
-        Ok(Some(world))
-    } else {
-        Ok(None)
-    }
-}
-
-/// Gives each task a turn, and tells whether one moved.
-fn turn_all(world: &mut World<'_>) -> Result<bool, AllocError> {
-    let mut has_moved = false;
-    for t in 0..world.job().graph().tasks() {
-        let told = world.turn(t)?;
-        has_moved = has_moved || matches!(told, Turned::Moved | Turned::Ended);
-    }
-    Ok(has_moved)
-}
-
-/// A line for each task that is left, and for each phaser that is full.
-fn told_lines<R: Wait>(rt: &R, alloc: Global, job: &Job) -> Result<Vec<Vec<u8>>, AllocError> {
-    match stalled(rt, alloc, job)? {
-        Some(world) => stall_lines(alloc, &world),
-        None => Ok(Vec::new(alloc)),
-    }
-}
-
-/// Runs a job by turns of its tasks on one thread until it stands still, and says what each task
-/// that is left waits for then, and how far the waiters are of each phaser that a task may not
-/// signal. It is nothing where memory runs out, or where the job does not stand still by these
-/// turns.
-///
-/// It takes memory as a `World` does, and it is not promised that it comes back.
-pub fn stall_told<R: Wait>(rt: &R, alloc: Global, job: &Job) -> Vec<u8>
+/// Says what each task that is left waits for, where the tasks of a job stood so at a stall, and
+/// how far the waiters are of each phaser that a task may not signal. It takes memory for the
+/// lines, and is nothing where memory runs out.
+pub fn stall_told(alloc: Global, job: &Job, stands: &[Stand]) -> Vec<u8>
     ensures { AreFurtherLines result.items }
 {
-    further_lines(alloc, told_lines(rt, alloc, job))
+    further_lines(alloc, stall_lines(alloc, job, stands))
 }

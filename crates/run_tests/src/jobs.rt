@@ -51,7 +51,7 @@ pub fn told<R: Threads + Wait + Sync, G: Gate + Sync>(
         Err(RunFault::TooBig { place, phase }) => {
             format!(in alloc; "too big at {} {phase}\n", name_of(job.graph(), place))
         }
-        Err(RunFault::Stalled) => String::from_str(alloc, "stalled\n"),
+        Err(RunFault::Stalled(_)) => String::from_str(alloc, "stalled\n"),
         Err(RunFault::OutOfMemory) => Err(AllocError),
     }
 }

@@ -1,6 +1,8 @@
 //! A member under one of the operations.
-ghost use Rattle.std.specs.Prelude.{◌≡◌, ◌≢◌, ◌↔◌, ◌<◌, ◌≤◌, [], ◌∷◌, Err, IfOk, IfErr, IsOk, length};
+ghost use Rattle.std.specs.Prelude.{◌≡◌, ◌≢◌, ◌↔◌, ◌<◌, ◌≤◌, [], ◌∷◌, Some, Err, IfOk, IfErr, IsOk, length};
 ghost use Rattle.phase_shared.specs.phase_accum.Sends.{AreSends, IsSend};
+ghost use Rattle.phase_shared.specs.phase_base.Members.{entry_of};
+ghost use Rattle.phase_shared.specs.phase_history.Histories.{members_of};
 ghost use Rattle.phase_shared.specs.phase_accum.Values.{value_by};
 ghost use Rattle.phase_shared.specs.Blocks.{WaitsBlock};
 ghost use Rattle.phase_shared.specs.Calls.{Tries};
@@ -13,7 +15,7 @@ use crate::places::Places;
 use crate::refusal::PutRefusal;
 use phase_shared::Tried;
 use phase_shared::phase_accum::{Any, Greatest, Least, Outcome, Pending, Product, Single, Sum};
-use phase_shared::phase_base::{Mode, Op};
+use phase_shared::phase_base::{Entry, Mode, Op};
 use phase_shared::phase_core::{GotBlock, RegisterRefusal, SignalRefusal, WaitRefusal};
 use std::sync::Wait;
 
@@ -94,6 +96,14 @@ impl<'a> AnyMember<'a> {
         ensures { result ≡ (member_in self.now).number }
     {
         each!(self, one => one.number())
+    }
+
+    /// Returns its mode and its phases. It takes no turn.
+    pub fn entry(&self) -> Entry
+        ensures { entry_of (members_of (member_in self.now).seen) (member_in self.now).number
+            ≡ Some result }
+    {
+        each!(self, one => one.entry())
     }
 
     /// Returns how many phases from its signal phase on are not ahead, as far as the turns that

@@ -1,6 +1,8 @@
 //! A registration with its phaser, which puts one value a phase.
-ghost use Rattle.std.specs.Prelude.{◌≡◌, ◌≢◌, ◌↔◌, ◌<◌, ◌≤◌, [], ◌∷◌, Err, IfOk, IfErr, IsOk, length};
+ghost use Rattle.std.specs.Prelude.{◌≡◌, ◌≢◌, ◌↔◌, ◌<◌, ◌≤◌, [], ◌∷◌, Some, Err, IfOk, IfErr, IsOk, length};
 ghost use Rattle.phase_shared.specs.phase_accum.Sends.{AreSends};
+ghost use Rattle.phase_shared.specs.phase_base.Members.{entry_of};
+ghost use Rattle.phase_shared.specs.phase_history.Histories.{members_of};
 ghost use Rattle.phase_shared.specs.Blocks.{WaitsBlock};
 ghost use Rattle.phase_shared.specs.Calls.{Tries};
 ghost use Rattle.phase_shared.specs.Regs.{phaser_lock};
@@ -9,7 +11,7 @@ ghost use Rattle.stream_members.specs.Members.{limits_on, member_state, IsMember
 use crate::left::Left;
 use crate::refusal::PutRefusal;
 use phase_shared::phase_accum::{Accumulate, Outcome, Pending, Single};
-use phase_shared::phase_base::Mode;
+use phase_shared::phase_base::{Entry, Mode};
 use phase_shared::phase_core::{
     GotBlock, RegisterRefusal, SignalRefusal, WaitRefusal, are_sends, hold_each,
 };
@@ -67,6 +69,18 @@ impl<'a, A: Accumulate> Member<'a, A> {
         ensures { result ≡ self.now.number }
     {
         self.reg.number()
+    }
+
+    /// Returns its mode and its phases. It takes no turn.
+    pub fn entry(&self) -> Entry
+        ensures { entry_of (members_of self.now.seen) self.now.number ≡ Some result }
+    {
+        let (signal_phase, wait_phase) = self.reg.phase();
+        Entry {
+            mode: self.reg.mode(),
+            signal_phase,
+            wait_phase,
+        }
     }
 
     /// Returns how many phases from its signal phase on are not ahead, as far as the turns that

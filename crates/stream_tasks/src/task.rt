@@ -3,17 +3,20 @@ ghost use Rattle.std.specs.Prelude.{◌≡◌, length, None, IfErr, IfOk};
 ghost use Rattle.stream_tasks.specs.TaskLefts.{IsTaskLeft};
 ghost use Rattle.graph_runs.specs.graph_base.Graphs.{task_at};
 ghost use Rattle.graph_runs.specs.Nexts.{registrations_at};
-ghost use Rattle.stream_tasks.specs.Seeds.{seed_state, IsSeed, HasRoom, HasReceived};
+ghost use Rattle.stream_tasks.specs.Seeds.{seed_state, IsSeed, HasRegistrationRoom, HasReceivedFirst};
 
 use crate::ending::task_left::TaskLeft;
 use crate::gate::Gate;
+use crate::hold::Hold;
 use crate::run::Run;
 use crate::seed::Seed;
+use crate::stand::Stand;
 use crate::task_state::TaskState;
 use crate::unregistered::Unregistered;
 use crate::went::Went;
 use graph_runs::beginnings::roots_begin;
 use graph_runs::ends::first_calls;
+use std::alloc::AllocError;
 use std::marker::{Model, PhantomData};
 use std::sync::Wait;
 use stream_eval::stream_lists::Job;
@@ -49,8 +52,8 @@ impl<'a, J: Run> Task<'a, J> {
         requires job { job.now ≡ J.job }
         requires root { (task_at job.now.graph (seed_state seed).number).parent ≡ None }
         requires seed { IsSeed job.now (seed_state seed) }
-        requires room { HasRoom 9 (seed_state seed) }
-        requires received { HasReceived job.now J.spots (seed_state seed) }
+        requires room { HasRegistrationRoom 9 (seed_state seed) }
+        requires received { HasReceivedFirst job.now J.spots (seed_state seed) }
         requires all { length (seed_state seed).holds.items
             ≡ length (registrations_at job.now (seed_state seed).number) }
         ensures { result ≡ (seed_state seed.entry).number }
@@ -134,6 +137,26 @@ impl<'a, J: Run> Task<'a, J> {
             registering: None,
             of: PhantomData,
         })
+    }
+
+    /// Puts where it stands behind these, on each phaser that it has not left, in the order of its
+    /// registrations. It takes memory for them.
+    pub fn stand(&self, stands: &mut Vec<Stand>) -> Result<(), AllocError> {
+        let task = self.state.number;
+        let end = self.state.next_end(self.job);
+        for k in 0..self.job.graph().registrations(task) {
+            let at = self.job.graph().registration(task, k);
+            let Some(Some(entry)) = self.state.holds.get(k).map(Hold::entry) else {
+                continue;
+            };
+            stands.push(Stand {
+                task,
+                phaser: at.phaser,
+                entry,
+                next: end.call_on(at.input, at.output),
+            })?;
+        }
+        Ok(())
     }
 
     /// Leaves all phasers, by waiting, and forgets all: after a fault.

@@ -1,15 +1,17 @@
 //! How far a task has come, with its registrations.
-ghost use Rattle.std.specs.Prelude.{◌≡◌, true};
+ghost use Rattle.std.specs.Prelude.{◌≡◌, ◌<◌, length, true};
 ghost use Rattle.stream_tasks.specs.TaskLefts.{IsGone, left_by};
 
 use crate::child::Child;
 use crate::ending::task_left::{TaskKnowledge, TaskLeft};
 use crate::hold::Hold;
-use graph_runs::Owed;
+use crate::stand::End;
 use graph_runs::phase_accum::Outcome;
+use graph_runs::{Owed, first_input_of};
 use smallvec::SmallVec;
 use std::sync::Wait;
 use stream_eval::stream_filters::Fir;
+use stream_eval::stream_lists::Job;
 use stream_members::{AnyLeft, Places};
 
 /// How far a task has come, with its registrations.
@@ -67,6 +69,24 @@ impl<'a> TaskState<'a> {
         ensures { result ≡ true → IsGone self.now }
     {
         !self.met && self.over && self.lefts.len() >= self.numbers.len()
+    }
+
+    /// The end at which it makes its next call, where no child comes first.
+    pub fn next_end(&self, job: &Job) -> End
+        requires { self.now.number < length job.now.graph.tasks }
+    {
+        if self.over {
+            return End::Nowhere;
+        }
+        if !self.made.is_empty() {
+            return End::Output(0);
+        }
+        match self.owed {
+            Owed::Value { output, value: _ } => End::Output(output),
+            Owed::Exchange { x: _ } => End::Input(1),
+            Owed::Nothing if job.graph().is_source(self.number) => End::Output(0),
+            Owed::Nothing => End::Input(first_input_of(job, self.number, self.begun)),
+        }
     }
 
     /// What it leaves behind. It leaves by waiting where it still has to.

@@ -5,6 +5,7 @@ ghost use Rattle.stream_workers.specs.TasksLeft.{AreTasksLeft};
 
 use crate::endings::{dismiss_all, run_slots};
 use crate::opening::open_pool;
+use crate::stopped::Stopped;
 use std::alloc::Global;
 use std::sync::Wait;
 use std::thread::Threads;
@@ -20,7 +21,8 @@ pub struct Behind<'a> {
     pub tasks: Vec<Option<TaskLeft<'a>>>,
 }
 
-/// Runs a job on these phasers, by so many workers.
+/// Runs a job on these phasers, by so many workers. Where a worker tells of a fault, it is told
+/// where the tasks stood.
 pub fn run_on<'a, J: Run + Send + Sync, G: Gate + Sync, R: Threads + Wait + Sync>(
     rt: &R,
     alloc: Global,
@@ -29,7 +31,7 @@ pub fn run_on<'a, J: Run + Send + Sync, G: Gate + Sync, R: Threads + Wait + Sync
     regs: Vec<AnyReg>,
     workers: usize,
     gate: &'a G,
-) -> Result<Behind<'a>, Fault>
+) -> Result<Behind<'a>, Stopped>
     requires job { job.now ≡ J.job }
     requires spots { spot_at phasers.now ≡ J.spots }
     requires phasers { ArePhasers J.job phasers.now }
@@ -41,15 +43,15 @@ pub fn run_on<'a, J: Run + Send + Sync, G: Gate + Sync, R: Threads + Wait + Sync
     ensures tasks { IfOk result (λ behind. AreTasksLeft J.job J.spots behind.tasks.items) }
 {
     let Ok(mut founders) = found(rt, alloc, phasers, regs) else {
-        return Err(Fault::OutOfMemory);
+        return Err(Stopped::by(alloc, Fault::OutOfMemory));
     };
     let Ok(pool) = open_pool::<J, G, R>(rt, alloc, &mut founders, job, gate) else {
         dismiss_founders(rt, founders);
-        return Err(Fault::OutOfMemory);
+        return Err(Stopped::by(alloc, Fault::OutOfMemory));
     };
     let Ok(founders) = leave_all(rt, alloc, founders) else {
         dismiss_all(rt, pool);
-        return Err(Fault::OutOfMemory);
+        return Err(Stopped::by(alloc, Fault::OutOfMemory));
     };
     let tasks = run_slots(rt, alloc, pool, job.graph().tasks(), workers)?;
     Ok(Behind { founders, tasks })

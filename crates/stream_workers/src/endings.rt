@@ -3,36 +3,62 @@ ghost use Rattle.std.specs.Prelude.{◌≡◌, ◌+◌, [], length, IfOk, OnOk};
 ghost use Rattle.stream_workers.specs.TasksLeft.{AreTasksLeft};
 
 use crate::slot::{Slot, TaskSlot};
+use crate::stopped::Stopped;
 use std::alloc::Global;
 use std::sync::Wait;
 use std::thread::Threads;
-use stream_tasks::{Gate, Run, TaskLeft};
+use stream_tasks::{Gate, Run, Stand, TaskLeft};
 use worker_pool::{Fault, Pool};
 
 /// Runs the tasks of a pool by so many workers, and gives what each leaves behind, in the order in
 /// which they were put in, and nothing for one that never came. Where there is a fault all leave
-/// their phasers, by waiting.
+/// their phasers, by waiting, and it is told where they stood.
 pub fn run_slots<'a, J: Run + Send + Sync, G: Gate + Sync, R: Threads + Wait + Sync>(
     rt: &R,
     alloc: Global,
     pool: Pool<Slot<'a, J, G>>,
     tasks: usize,
     workers: usize,
-) -> Result<Vec<Option<TaskLeft<'a>>>, Fault>
+) -> Result<Vec<Option<TaskLeft<'a>>>, Stopped>
     ensures many { IfOk result (λ ends. length ends.items ≡ pool.entry) }
     ensures left { IfOk result (λ ends. AreTasksLeft J.job J.spots ends.items) }
 {
     let Ok(ends) = Vec::with_capacity(alloc, tasks) else {
         dismiss_all(rt, pool);
-        return Err(Fault::OutOfMemory);
+        return Err(Stopped::by(alloc, Fault::OutOfMemory));
     };
     match pool.run(rt, workers) {
-        None => end_all(rt, pool, ends),
+        None => match end_all(rt, pool, ends) {
+            Ok(ends) => Ok(ends),
+            Err(fault) => Err(Stopped::by(alloc, fault)),
+        },
         Some(fault) => {
-            dismiss_all(rt, pool);
-            Err(fault)
+            let stands = dismiss_and_tell(rt, alloc, pool);
+            Err(Stopped { fault, stands })
         }
     }
+}
+
+/// Lets all tasks leave, by waiting, and gives where each of them stood, in the order in which they
+/// were put in; nothing where memory runs out.
+fn dismiss_and_tell<J: Run, G: Gate, W: Wait>(
+    rt: &W,
+    alloc: Global,
+    pool: Pool<Slot<'_, J, G>>,
+) -> Vec<Stand> {
+    let mut stands = Vec::new(alloc);
+    let mut is_told = true;
+    let mut pool = pool;
+    while let Some(Slot { place, gate: _ }) = pool.pop() {
+        is_told = is_told && place.stand(&mut stands).is_ok();
+        place.dismiss(rt);
+    }
+    pool.destroy_empty();
+    if !is_told {
+        stands.clear();
+    }
+    stands.reverse();
+    stands
 }
 
 /// Lets all tasks leave, by waiting.

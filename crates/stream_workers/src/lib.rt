@@ -23,10 +23,11 @@ mod finishing;
 pub mod laws;
 mod opening;
 mod slot;
+mod stopped;
 mod whole;
 
 pub use graph_commands;
 pub use graph_commands::write_lines;
-pub use stream_tasks::{Gate, Open, phase_shared, stream_members};
+pub use stream_tasks::{Call, Gate, Open, Stand, phase_shared, stream_members};
 pub use whole::{RunFault, after_fault, run};
 pub use worker_pool;

@@ -2,9 +2,10 @@
 ghost use Rattle.std.specs.Prelude.{◌≡◌, IfOk, IfSome};
 ghost use Rattle.stream_tasks.specs.TaskLefts.{IsTaskLeft};
 
+use std::alloc::AllocError;
 use std::mem;
 use std::sync::Wait;
-use stream_tasks::{Gate, Run, Task, TaskLeft, Unregistered};
+use stream_tasks::{Gate, Run, Stand, Task, TaskLeft, Unregistered};
 use worker_pool::{Fault, Progress, Work};
 
 /// A task of a graph, or its place before it is registered.
@@ -54,6 +55,14 @@ impl<'a, J: Run> TaskSlot<'a, J> {
             TaskSlot::Task(task) => task.dismiss(rt),
             TaskSlot::Unregistered(child) => child.dismiss(rt),
             TaskSlot::Empty => {}
+        }
+    }
+
+    /// Puts where its task stands behind these. It takes memory for them.
+    pub fn stand(&self, stands: &mut Vec<Stand>) -> Result<(), AllocError> {
+        match self {
+            TaskSlot::Task(task) => task.stand(stands),
+            _ => Ok(()),
         }
     }
 

@@ -8,6 +8,7 @@ ghost use Rattle.stream_tasks.specs.graph_base.declared.place.Place.{Place as Pl
 use crate::behind::{Behind, run_on};
 use crate::finishing::finish_run;
 use crate::laws::starts_are_in_time;
+use crate::stopped::Stopped;
 use std::alloc::Global;
 use std::marker::Brand;
 use std::sync::Wait;
@@ -16,12 +17,12 @@ use stream_tasks::graph_base::Place;
 use stream_tasks::stream_eval::{EvalFault, Lines, eval};
 use stream_tasks::stream_lists::Job;
 use stream_tasks::stream_members::{AnyPhaser, AnyReg};
-use stream_tasks::{Gate, Run, open_phasers};
+use stream_tasks::{Gate, Run, Stand, open_phasers};
 use thiserror::Error;
 use worker_pool::Fault;
 
 /// Why a run gives no lines.
-#[derive(Clone, Copy, Debug, PartialEq, Eq, Error)]
+#[derive(Debug, PartialEq, Eq, Error, Drop)]
 pub enum RunFault {
     /// A value is out of range: the first one in the order of the phasers' lines.
     #[error("{place:?}: the value of phase or step {phase} is out of range")]
@@ -31,9 +32,10 @@ pub enum RunFault {
         /// The phase on the phaser, or the step of the task.
         phase: usize,
     },
-    /// Every task that was not done waited for another.
+    /// Every task that was not done waited for another. Where each of them stood on each phaser
+    /// that it had not left, in the order of the lines; nothing where memory ran out over it.
     #[error("stalled")]
-    Stalled,
+    Stalled(Vec<Stand>),
     /// There was no memory.
     #[error("out of memory")]
     OutOfMemory,
@@ -64,7 +66,7 @@ pub fn after_fault(alloc: Global, job: &Job, fault: Fault) -> Result<Vec<Lines>,
 {
     match fault {
         Fault::TooBig => too_big(alloc, job),
-        Fault::Stalled => Err(RunFault::Stalled),
+        Fault::Stalled => Err(RunFault::Stalled(Vec::new(alloc))),
         Fault::OutOfMemory => Err(RunFault::OutOfMemory),
     }
 }
@@ -89,12 +91,18 @@ fn run_named<'a, J: Run + Send + Sync, G: Gate + Sync, R: Threads + Wait + Sync>
 {
     let behind = match run_on::<J, G, R>(rt, alloc, job, phasers, regs, workers, gate) {
         Ok(behind) => behind,
-        Err(fault) => return after_fault(alloc, job, fault),
+        Err(
+            Stopped {
+                fault: Fault::Stalled,
+                stands,
+            },
+        ) => return Err(RunFault::Stalled(stands)),
+        Err(Stopped { fault, stands: _ }) => return after_fault(alloc, job, fault),
     };
     let Behind { founders, tasks } = behind;
     match finish_run::<J>(alloc, job, founders, tasks) {
         Ok(Some(lines)) => Ok(lines),
-        Ok(None) => Err(RunFault::Stalled),
+        Ok(None) => Err(RunFault::Stalled(Vec::new(alloc))),
         Err(_) => Err(RunFault::OutOfMemory),
     }
 }
@@ -105,8 +113,8 @@ fn run_named<'a, J: Run + Send + Sync, G: Gate + Sync, R: Threads + Wait + Sync>
 /// enters it, and once for a block of steps.
 ///
 /// It takes memory for the phasers, the tasks, their registrations and the sinks' values, and
-/// waits. `Stalled` is said where every task that is left waits for another; nothing is promised of
-/// it. It is not promised that a run comes back.
+/// waits. `Stalled` is said where every task that is left waits for another, with where it stands;
+/// nothing is promised of it. It is not promised that a run comes back.
 pub fn run<R: Threads + Wait + Sync, G: Gate + Sync>(
     rt: &R,
     alloc: Global,

@@ -2,22 +2,18 @@
 use Rattle.std.specs.Prelude.{[], ◌∷◌, pos}
 use Rattle.graph_runs.specs.phase_accum.declared.outcome.Outcome.TheVariants.{Value}
 use Rattle.graph_runs.specs.Moments.{Moment}
-use Rattle.graph_runs.specs.TaskEvents.{sample, first_wait, after_turn}
+use Rattle.graph_runs.specs.TaskEvents.{first_wait, after_turn}
 use Rattle.graph_runs.specs.TaskPlaces.{TaskPlace, at_start}
-use Rattle.worked_runs.specs.Worked.{worked, worked_opening}
+use Rattle.worked_runs.specs.Worked.{worked, worked_opening, worked_sample}
 
 -- the source is on X as 1
-abbrev pub source_at : TaskPlace
-source_at = at_start (1 ∷ [])
+abbrev pub source_start : TaskPlace
+source_start = at_start (1 ∷ [])
 
 -- the peer is on X as 2, and on E and Y as 1
-abbrev pub peer_at : TaskPlace
-peer_at = at_start (2 ∷ 1 ∷ 1 ∷ [])
-
--- the source has signalled 5
-abbrev pub after_sample : Moment
-after_sample = after_turn worked (sample 0 0 0 1 (pos 5 ∷ [])) worked_opening
+abbrev pub peer_start : TaskPlace
+peer_start = at_start (2 ∷ 1 ∷ 1 ∷ [])
 
 -- the peer has taken it
 abbrev pub after_peer_wait : Moment
-after_peer_wait = after_turn worked (first_wait 1 0 0 2 (Value (pos 5) ∷ [])) after_sample
+after_peer_wait = after_turn worked (first_wait 1 0 0 2 (Value (pos 5) ∷ [])) worked_sample

@@ -5,7 +5,7 @@ use Rattle.graph_runs.specs.Moments.{AtMost}
 use Rattle.graph_runs.specs.Nexts.{is_cut}
 use Rattle.graph_runs.specs.graph_base.Graphs.{task_at}
 use Rattle.graph_runs.specs.Places.{MayMake}
-use Rattle.stream_tasks.specs.Inside.{until_allows}
+use Rattle.graph_runs.specs.NextBlocks.{until_allows}
 use Rattle.stream_tasks.proofs.task_state.TaskState.steps.Goals as goal
 
 -- a step is left where `until` is not reached

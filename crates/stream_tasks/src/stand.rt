@@ -1,0 +1,48 @@
+//! Where a task stands on a phaser.
+
+use graph_runs::phase_base::Entry;
+
+/// Where a task stands on a phaser, as the task knows it. No contract speaks of it.
+#[derive(Clone, Copy, Debug, PartialEq, Eq)]
+pub struct Stand {
+    /// The number of the task.
+    pub task: usize,
+    /// The number of the phaser.
+    pub phaser: usize,
+    /// The task's mode and phases there.
+    pub entry: Entry,
+    /// What the task does next, where it does it on this phaser.
+    pub next: Option<Call>,
+}
+
+/// A call of a task on a phaser.
+#[derive(Clone, Copy, Debug, PartialEq, Eq)]
+pub enum Call {
+    /// It signals its signal phase.
+    Signal,
+    /// It waits for its wait phase.
+    Wait,
+}
+
+/// The end of a task at which it makes its next call.
+#[derive(Clone, Copy, Debug, PartialEq, Eq)]
+pub enum End {
+    /// It waits on this input.
+    Input(usize),
+    /// It signals on this output.
+    Output(usize),
+    /// It leaves.
+    Nowhere,
+}
+
+impl End {
+    /// The call that is made at this end, where it is on a registration of this input and this
+    /// output.
+    pub fn call_on(self, input: Option<usize>, output: Option<usize>) -> Option<Call> {
+        match self {
+            End::Input(k) if input == Some(k) => Some(Call::Wait),
+            End::Output(j) if output == Some(j) => Some(Call::Signal),
+            _ => None,
+        }
+    }
+}
