@@ -97,8 +97,8 @@ ChildrenAllow children begun steps = (i : ℕ) (child : Child) → slice_get chi
 
 -- task t, which began so many steps before, has taken these outcomes of the first wait of as many
 -- steps: none is out of range, and this is what the steps owe next
-pub record HasTakenFirst (job : Job) (t begun : ℕ) (outcomes : List Outcome) (old new : Option FirState)
-    (owed : Owed) (made : List ℤ) : Type 0 where
+pub record HasTakenFirst (job : Job) (t begun : ℕ) (outcomes : List Outcome)
+    (old new : Option FirState) (owed : Owed) (made : List ℤ) : Type 0 where
   pub fit : All (λ outcome. is_too_big outcome ≡ false) outcomes
   pub owes : (taken : List ℤ) → HasFilter (task_at job.graph t) old taken
       → owed_by owed made

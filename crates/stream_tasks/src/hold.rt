@@ -48,7 +48,8 @@ impl<'a> Hold<'a> {
 
     /// Signals with one value.
     pub fn put(&mut self, value: i64, single: Option<Single>) -> Result<(), Held>
-        ensures ok { OnOk result (HoldGoesOn (MemberHasSignalled (value ∷ []) single) self.old self.new) }
+        ensures ok { OnOk result
+            (HoldGoesOn (MemberHasSignalled (value ∷ []) single) self.old self.new) }
         ensures err { OnErr result (HoldGoesOn HasSeenOthers self.old self.new) }
     {
         laws::others_come();
@@ -66,7 +67,8 @@ impl<'a> Hold<'a> {
         places: &mut Places,
     ) -> Result<(), Held>
         requires { HasSendPlaces self.old (length values.now) places.old }
-        ensures ok { OnOk result (HoldGoesOn (MemberHasSignalled values.now single) self.old self.new) }
+        ensures ok { OnOk result
+            (HoldGoesOn (MemberHasSignalled values.now single) self.old self.new) }
         ensures err { OnErr result (HoldGoesOn HasSeenOthers self.old self.new) }
         ensures places { (op : Op) → room_for op places.new ≡ room_for op places.old }
     {

@@ -101,7 +101,8 @@ impl<'a> Seed<'a> {
             → IsRootMember job spots (seed_state self.old).number
             (length (seed_state self.old).holds.items) member.entry
             → HasReceivedFirst job spots (seed_state self.new) }
-        ensures room { (n : ℕ) → HasRegistrationRoom n (seed_state self.old) → HasRegistrationRoom n (seed_state self.new) }
+        ensures room { (n : ℕ) → HasRegistrationRoom n (seed_state self.old)
+            → HasRegistrationRoom n (seed_state self.new) }
         ensures many { length (seed_state self.new).holds.items
             ≡ length (seed_state self.old).holds.items + 1 }
         ensures number { (seed_state self.new).number ≡ (seed_state self.old).number }

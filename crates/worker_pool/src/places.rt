@@ -112,7 +112,8 @@ impl Places {
 
     /// Those that wait for an event on these phasers may go on.
     pub fn free(&mut self, events: NumberSet)
-        ensures { (t : ℕ) → t < 64 → place_of_task self.new t ≡ freed events (place_of_task self.old t) }
+        ensures { (t : ℕ) → t < 64
+            → place_of_task self.new t ≡ freed events (place_of_task self.old t) }
     {
         if events.is_empty() {
             return;

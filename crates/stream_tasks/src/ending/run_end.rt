@@ -34,7 +34,8 @@ pub fn finish<'a>(
     requires gave { length gave.now ≡ length job.now.graph.phasers }
     requires tasks { length tasks.items ≡ length job.now.graph.tasks }
     requires left { (spots : ℕ → Spot)
-        × AreFoundersLeft job.now spots founders.items (λ p. get_or (map (λ g. g.items) gave.now) p [])
+        × AreFoundersLeft job.now spots founders.items
+        (λ p. get_or (map (λ g. g.items) gave.now) p [])
         × ((t : ℕ) (left : TaskLeftValue) → IsPlaced tasks.items t left
         → IsTaskLeft job.now spots left) }
     ensures { IfOk result (λ found. IfSome found (λ lines. AreLinesOf job.now lines.items)) }
