@@ -16,7 +16,8 @@ use Rattle.graph_runs.specs.Moments.{Moment, AnsweredNone, AnsweredNoneBefore, H
 use Rattle.graph_runs.specs.Turned.{with_at}
 use Rattle.graph_runs.specs.TaskEvents.{TaskEvent, IsNext, sample, signal, first_wait, exchange_wait, leave, child, child_now, after_turn}
 use Rattle.graph_runs.specs.Beginnings.{root_mode, with_root, roots_joined, opening}
-use Rattle.graph_runs.specs.Answers.{Answer, TooBig, makes, is_blocked, is_gone, has_made, is_refused, answer_of_turn, after_answer, told_event, told_wait, turn_tells, word_of_answer}
+use Rattle.graph_runs.specs.NextBlocks.{MaySize}
+use Rattle.graph_runs.specs.Answers.{Answer, TooBig, makes, is_blocked, is_gone, has_made, is_refused, after_answer, told_event, told_wait, word_of_answer, turn_up_to, tells_up_to}
 use Rattle.graph_runs.specs.Reached.{IsReachable}
 use Rattle.graph_runs.proofs.Found.{none_found}
 use Rattle.graph_runs.proofs.Turning.{turn_makes_next}
@@ -152,25 +153,26 @@ small_told job m (leave t p n) never = tt
 small_told job m (child t p n c a mode) never = tt
 small_told job m (child_now t p n c a) never = tt
 
-pub turn_answers_none : (job : Job) (m : Moment) (t : ℕ) → IsGraph job.graph → IsReachable job m
-    → HasAnsweredNone job m → ((at : Where) → turn_tells job None m t ≢ Some (TooBig at))
-    → HasAnsweredNone job (after_answer job (answer_of_turn job m t) m)
-turn_answers_none job m t is reached none never = by (answer_of_turn job m t) refl
+pub turn_answers_none : (steps most : ℕ) (job : Job) (m : Moment) (t : ℕ)
+    → MaySize job.graph t steps most → IsGraph job.graph → IsReachable job m
+    → HasAnsweredNone job m → ((at : Where) → tells_up_to steps most job m t ≢ Some (TooBig at))
+    → HasAnsweredNone job (after_answer job (turn_up_to steps most job m t) m)
+turn_answers_none steps most job m t may is reached none never = by (turn_up_to steps most job m t) refl
   where
-    by : (answer : Answer) → answer_of_turn job m t ≡ answer
+    by : (answer : Answer) → turn_up_to steps most job m t ≡ answer
         → HasAnsweredNone job (after_answer job answer m)
     by (makes event) e =
         none_after job m event
-        (turn_makes_next job m t event is reached.ran (λ c due. reached.to_come) e)
+        (turn_makes_next steps most job m t event may is reached.ran (λ c due. reached.to_come) e)
         (small_told job m event (λ at same. never at (ap (word_of_answer job m) e ∙ same))) none
     by is_blocked e = none
     by is_gone e = none
     by (has_made at) e = none
     by is_refused e = none
 
-pub turn_answers_one : (job : Job) (m : Moment) (t : ℕ) → HasAnsweredNone job m
-    → HasAnsweredNoneBefore job (after_answer job (answer_of_turn job m t) m)
-turn_answers_one job m t none = by (answer_of_turn job m t)
+pub turn_answers_one : (steps most : ℕ) (job : Job) (m : Moment) (t : ℕ) → HasAnsweredNone job m
+    → HasAnsweredNoneBefore job (after_answer job (turn_up_to steps most job m t) m)
+turn_answers_one steps most job m t none = by (turn_up_to steps most job m t)
   where
     same : HasAnsweredNoneBefore job m
     same q qq = before_weaker (value_at job q) (m.history q) (none q qq)

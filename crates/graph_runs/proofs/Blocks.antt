@@ -32,7 +32,7 @@ use Rattle.stream_lists.specs.Jobs.{Job, samples_at}
 use Rattle.graph_runs.specs.Moments.{one, Moment, HasRun, TaskRan, AtMost, HasSamples, limits_at, value_at}
 use Rattle.graph_runs.specs.Moves.{MayBeginTo}
 use Rattle.graph_runs.specs.Nexts.{first_owed, first_due, is_cut}
-use Rattle.graph_runs.specs.NextBlocks.{until_allows, child_allows, block_of}
+use Rattle.graph_runs.specs.NextBlocks.{until_allows, child_allows, block_up_to}
 use Rattle.graph_runs.proofs.Boundaries.{all_taken, none_due, one_more}
 use Rattle.graph_runs.proofs.TurnEntries.{IsMember, sends_few}
 use Rattle.graph_runs.proofs.Refusing.{MaySignal, differs-none}
@@ -67,7 +67,7 @@ fold-at f s a (suc n) c limit less here low high =
         let moved : f s c ≡ f s a = ap (λ x. f s x) same in
         omega arith
 
--- ---- how many steps
+-- ---- how many steps, at most so many
 
 child_less : (t begun : ℕ) (o : Option Parent) (s : ℕ) → child_allows t begun o s ≤ s
 child_less t begun None s = omega arith
@@ -96,33 +96,29 @@ child_at t begun s u by later =
     rw (mine, after) (omega arith)
 
 -- a block has a step, where `until` allows one
-pub block_some : (job : Job) (m : Moment) (t : ℕ) → IsGraph job.graph → TaskRan job m t
-    → t < length job.graph.tasks
-    → is_cut (task_at job.graph t).until (m.begun t) ≡ false → 1 ≤ block_of job m t
-block_some job m t is ran there uncut =
+pub block_some : (most : ℕ) (job : Job) (m : Moment) (t : ℕ) → TaskRan job m t → 1 ≤ most
+    → is_cut (task_at job.graph t).until (m.begun t) ≡ false → 1 ≤ block_up_to most job m t
+block_some most job m t ran some uncut =
     fold-some (λ s c. child_allows t (m.begun t) (task_at job.graph c).parent s)
-    (until_allows (task_at job.graph t).until (m.begun t) (task_at job.graph t).block)
+    (until_allows (task_at job.graph t).until (m.begun t) most)
     (range_with_len 0 (length job.graph.tasks))
     (first (task_at job.graph t).until uncut ran.cut)
     (λ s c some. child_some t (m.begun t) (task_at job.graph c).parent s some)
   where
-    some : 1 ≤ (task_at job.graph t).block
-    some = (is.tasks t there).block.some
-
     first : (until : Option ℕ) → is_cut until (m.begun t) ≡ false → AtMost (m.begun t) until
-        → 1 ≤ until_allows until (m.begun t) (task_at job.graph t).block
+        → 1 ≤ until_allows until (m.begun t) most
     first None e le = some
     first (Some until) e le =
         let more : suc (m.begun t) ≤ until = one_more (Some until) (m.begun t) e le in
-        let block : 1 ≤ (task_at job.graph t).block = some in omega arith
+        omega (arith, some)
 
 -- and at most as many as the line names
-pub block_most : (job : Job) (m : Moment) (t : ℕ)
-    → block_of job m t ≤ until_allows (task_at job.graph t).until (m.begun t)
-    (task_at job.graph t).block
-block_most job m t =
+pub block_most : (most : ℕ) (job : Job) (m : Moment) (t : ℕ)
+    → block_up_to most job m t ≤ until_allows (task_at job.graph t).until (m.begun t)
+    most
+block_most most job m t =
     fold-most (λ s c. child_allows t (m.begun t) (task_at job.graph c).parent s)
-    (until_allows (task_at job.graph t).until (m.begun t) (task_at job.graph t).block)
+    (until_allows (task_at job.graph t).until (m.begun t) most)
     (range_with_len 0 (length job.graph.tasks))
     (λ s c. child_less t (m.begun t) (task_at job.graph c).parent s)
 
@@ -130,18 +126,18 @@ until_less : (until : Option ℕ) (begun s : ℕ) → until_allows until begun s
 until_less None begun s = omega arith
 until_less (Some until) begun s = omega arith
 
-pub block_few : (job : Job) (m : Moment) (t : ℕ) → block_of job m t ≤ (task_at job.graph t).block
-block_few job m t =
-    let less = until_less (task_at job.graph t).until (m.begun t) (task_at job.graph t).block in
-    omega (arith, block_most job m t)
+pub block_few : (most : ℕ) (job : Job) (m : Moment) (t : ℕ) → block_up_to most job m t ≤ most
+block_few most job m t =
+    let less = until_less (task_at job.graph t).until (m.begun t) most in
+    omega (arith, block_most most job m t)
 
 -- none past the boundary of a child that comes later
-pub block_before : (job : Job) (m : Moment) (t c : ℕ) (u : Parent) → c < length job.graph.tasks
+pub block_before : (most : ℕ) (job : Job) (m : Moment) (t c : ℕ) (u : Parent) → c < length job.graph.tasks
     → (task_at job.graph c).parent ≡ Some u → u.task ≡ t → m.begun t < u.at
-    → block_of job m t ≤ u.at - m.begun t
-block_before job m t c u there e by later =
+    → block_up_to most job m t ≤ u.at - m.begun t
+block_before most job m t c u there e by later =
     fold-at (λ s c. child_allows t (m.begun t) (task_at job.graph c).parent s)
-    (until_allows (task_at job.graph t).until (m.begun t) (task_at job.graph t).block)
+    (until_allows (task_at job.graph t).until (m.begun t) most)
     0 (length job.graph.tasks) c (u.at - m.begun t)
     (λ s c. child_less t (m.begun t) (task_at job.graph c).parent s)
     (λ s. subst (λ o. child_allows t (m.begun t) o s ≤ u.at - m.begun t) (sym e)
@@ -149,27 +145,27 @@ block_before job m t c u there e by later =
     (omega arith) (omega arith)
 
 -- the task may make all these steps
-pub may_go_on : (job : Job) (m : Moment) (t steps : ℕ) → IsGraph job.graph → TaskRan job m t
+pub may_go_on : (most : ℕ) (job : Job) (m : Moment) (t steps : ℕ) → IsGraph job.graph → TaskRan job m t
     → t < length job.graph.tasks → first_owed job m t ≡ None → first_due job m t ≡ None
-    → m.begun t ≤ steps → steps ≤ m.begun t + block_of job m t
+    → m.begun t ≤ steps → steps ≤ m.begun t + block_up_to most job m t
     → HasSamples (task_at job.graph t).kind steps (length (samples_at job t))
     → MayBeginTo job m t steps
-may_go_on job m t steps is ran there none due low most samples = record {
+may_go_on most job m t steps is ran there none due low within samples = record {
   taken = λ k lt. all_taken job m t is ran there none k lt;
-  cut = cut (task_at job.graph t).until ran.cut (block_most job m t);
+  cut = cut (task_at job.graph t).until ran.cut (block_most most job m t);
   samples = samples;
   children = λ p c n u below parent by at absent on.
       (let later : m.begun t < u.at =
       none_due job m t p is ran there due c n u below parent by at absent on in
-      omega (arith, block_before job m t c u below parent by later));
+      omega (arith, block_before most job m t c u below parent by later));
 }
   where
     cut : (until : Option ℕ) → AtMost (m.begun t) until
-        → block_of job m t ≤ until_allows until (m.begun t) (task_at job.graph t).block
+        → block_up_to most job m t ≤ until_allows until (m.begun t) most
         → AtMost steps until
     cut None le few = tt
     cut (Some until) le few =
-        omega (arith, le, few, most)
+        omega (arith, le, few, within)
 
 -- ---- a signal
 

@@ -30,10 +30,10 @@ use Rattle.graph_runs.proofs.OnLines.{on_phaser}
 use Rattle.graph_runs.proofs.Tasks.{first_looks}
 use Rattle.graph_runs.specs.Moves.{further, IsBlock}
 use Rattle.graph_runs.specs.Turned.{IsAnsweredWait, IsAnsweredWaits}
-use Rattle.graph_runs.specs.NextBlocks.{block_of, sample_block_of}
+use Rattle.graph_runs.specs.NextBlocks.{AreSizes, block_up_to, sample_block_up_to}
 use Rattle.graph_runs.specs.TaskEvents.{TaskEvent, IsNext, sample, first_wait, exchange_wait, leave}
 use Rattle.graph_runs.specs.Nexts.{first_owed, first_due, first_kept, is_cut, has_input_ended, has_run_out, has_signaller, has_registered, has_left, registrations_at, number_on, waits_first}
-use Rattle.graph_runs.specs.Answers.{makes, signal_turn, wait_answer, block_answer, accepted_answer, call_wait, call_block, call_leave, output_at, next_samples}
+use Rattle.graph_runs.specs.Answers.{makes, signal_turn, wait_answer, block_answer, accepted_answer, call_wait, call_block, call_leave, output_at, samples_up_to}
 use Rattle.graph_runs.proofs.PlacesLemmas.{find-none, find-some, place_of_output}
 use Rattle.graph_runs.proofs.Signalling.{Live, number_there, stays, event_or, signalled, lists_sendable, owed, not_ended}
 use Rattle.graph_runs.proofs.Nexts.{further-length}
@@ -174,7 +174,7 @@ no_samples Join steps many never = tt
 no_samples Peer steps many never = tt
 no_samples Sink steps many never = tt
 
--- so many steps as a line makes at once are a block of its kind
+-- so many steps as a task may make at once are a block of its kind
 block_is : (kind : Kind) (block many : ℕ) → (has_blocks kind ≡ false → block ≡ 1) → 1 ≤ many
     → many ≤ block → IsBlock kind many
 block_is Source block many one some few = tt
@@ -184,35 +184,36 @@ block_is Split block many one some few = let is : block ≡ 1 = one refl in omeg
 block_is Join block many one some few = let is : block ≡ 1 = one refl in omega arith
 block_is Peer block many one some few = let is : block ≡ 1 = one refl in omega arith
 
-pub first_wait_next : (job : Job) (m : Moment) (t : ℕ) (event : TaskEvent) → IsGraph job.graph
+pub first_wait_next : (steps most : ℕ) (job : Job) (m : Moment) (t : ℕ) (event : TaskEvent)
+    → AreSizes job.graph t steps most → IsGraph job.graph
     → HasRun job m → Live job m t → ((task_at job.graph t).kind ≡ Source → ⊥)
     → first_owed job m t ≡ None → first_due job m t ≡ None
     → is_cut (task_at job.graph t).until (m.begun t) ≡ false
     → has_input_ended job m t (task_at job.graph t).kind ≡ false
     → call_block job m t
     (input_at (task_at job.graph t) (first_input (task_at job.graph t) (m.begun t)))
-    (block_of job m t)
+    (block_up_to steps job m t)
     (first_wait t (first_input (task_at job.graph t) (m.begun t))
     (input_at (task_at job.graph t) (first_input (task_at job.graph t) (m.begun t)))
     (number_on m t
     (input_at (task_at job.graph t) (first_input (task_at job.graph t) (m.begun t)))))
     ≡ makes event → IsNext job m event
-first_wait_next job m t event is ran live no_source none due uncut more answer =
+first_wait_next steps most job m t event sizes is ran live no_source none due uncut more answer =
     let task = task_at job.graph t in
     let k = first_input task (m.begun t) in
     let p = input_at task k in
     let n = number_on m t p in
-    let steps = block_of job m t in
+    let many = block_up_to steps job m t in
     let lt : k < length task.inputs =
     (first_looks task (m.begun t) (is.tasks t live.there).ends no_source).0 in
-    let a = answered_all job m t p steps (first_wait t k p n) event answer in
+    let a = answered_all job m t p many (first_wait t k p n) event answer in
     let outcomes = slice_range (stream_of (value_at job p) (m.history p)) a.phase
     (a.phase + a.count) in
-    let b : AnsweredBlock job (m.history p) p n steps outcomes =
-    answered_block job (m.history p) p n steps a.phase a.count a.reply in
+    let b : AnsweredBlock job (m.history p) p n many outcomes =
+    answered_block job (m.history p) p n many a.phase a.count a.reply in
     let some : 1 ≤ length outcomes = b.some in
-    let few : length outcomes ≤ steps = b.few in
-    let least : steps ≤ task.block = block_few job m t in
+    let few : length outcomes ≤ many = b.few in
+    let least : many ≤ steps = block_few steps job m t in
     let on : further (m.begun t) outcomes ≡ m.begun t + length outcomes =
     further-length (m.begun t) outcomes in
     let phaser : p < length job.graph.phasers =
@@ -220,12 +221,11 @@ first_wait_next job m t event is ran live no_source none due uncut more answer =
     rw (← a.is) (
       record { task = live.there; phaser = phaser },
       record {
-        wait = answered_waits job m t k steps (first_wait t k p n) event is ran live lt
+        wait = answered_waits job m t k many (first_wait t k p n) event is ran live lt
             (goes_on job m t uncut more) a;
         first = refl;
-        block = block_is task.kind task.block (length outcomes) (is.tasks t live.there).block.kind
-            some (omega arith);
-        may_begin = may_go_on job m t (further (m.begun t) outcomes) is (ran.tasks t live.there)
+        block = block_is task.kind steps (length outcomes) sizes.block.kind some (omega arith);
+        may_begin = may_go_on steps job m t (further (m.begun t) outcomes) is (ran.tasks t live.there)
             live.there none due (omega arith) (omega arith)
             (no_samples task.kind (further (m.begun t) outcomes) (length (samples_at job t))
             no_source);
@@ -288,22 +288,22 @@ source_ends job t is there e =
     let same : signalled_by (task_at job.graph t) ≡ (task_at job.graph t).outputs = rw e refl in
     ap length same ∙ both.1
 
-pub sample_next : (job : Job) (m : Moment) (t : ℕ) (event : TaskEvent) → IsGraph job.graph
+pub sample_next : (steps : ℕ) (job : Job) (m : Moment) (t : ℕ) (event : TaskEvent) → IsGraph job.graph
     → HasRun job m → Live job m t → (task_at job.graph t).kind ≡ Source
     → first_owed job m t ≡ None → first_due job m t ≡ None
     → is_cut (task_at job.graph t).until (m.begun t) ≡ false
     → has_input_ended job m t (task_at job.graph t).kind ≡ false
-    → signal_turn job m t 0 (next_samples job m t)
-    (sample t 0 (output_at job t 0) (number_on m t (output_at job t 0)) (next_samples job m t))
+    → signal_turn job m t 0 (samples_up_to steps job m t)
+    (sample t 0 (output_at job t 0) (number_on m t (output_at job t 0)) (samples_up_to steps job m t))
     ≡ makes event → IsNext job m event
-sample_next job m t event is ran live source none due uncut more answer =
+sample_next steps job m t event is ran live source none due uncut more answer =
     let task = task_at job.graph t in
     let line = is.tasks t live.there in
     let ran_t = ran.tasks t live.there in
     let single : length (signalled_by task) ≡ 1 = source_ends job t is live.there source in
     let lt : 0 < length (signalled_by task) = omega arith in
     let p = output_at job t 0 in
-    let vs = next_samples job m t in
+    let vs = samples_up_to steps job m t in
     let n = number_on m t p in
     let a = signalled job m t 0 vs (sample t 0 p n vs) event answer in
     let place : index_in (signalled_by task) p ≡ Some 0 =
@@ -315,10 +315,11 @@ sample_next job m t event is ran live source none due uncut more answer =
     let begun_few : m.begun t ≤ length (samples_at job t) = subst S source ran_t.samples in
     let left : length (drop (m.begun t) (samples_at job t))
     ≡ length (samples_at job t) - m.begun t = length-drop (m.begun t) (samples_at job t) in
-    let steps : ℕ = sample_block_of job m t in
-    let steps_is : steps ≡ min (block_of job m t) (length (samples_at job t) - m.begun t) = refl in
-    let many : length vs ≡ steps =
-    length-take-le steps (drop (m.begun t) (samples_at job t)) (omega arith) in
+    let block : ℕ = sample_block_up_to steps job m t in
+    let block_is : block
+    ≡ min (block_up_to steps job m t) (length (samples_at job t) - m.begun t) = refl in
+    let many : length vs ≡ block =
+    length-take-le block (drop (m.begun t) (samples_at job t)) (omega arith) in
     let on_to : further (m.begun t) vs ≡ m.begun t + length vs = further-length (m.begun t) vs in
     let T : Kind → Type 0 = λ k. HasSamples k (further (m.begun t) vs)
     (length (samples_at job t)) in
@@ -333,7 +334,7 @@ sample_next job m t event is ran live source none due uncut more answer =
           staying = stays job m t is ran_t live.there (goes_on job m t uncut more);
         };
         source = source;
-        may_begin = may_go_on job m t (further (m.begun t) vs) is ran_t live.there none due
+        may_begin = may_go_on steps job m t (further (m.begun t) vs) is ran_t live.there none due
             (omega arith) (omega arith) (subst T (sym source) enough);
         all_put = ap length (all_put job m t ran_t live.there none 0 lt)
             ∙ made_many job m t 0 is ran_t live.there lt ∙ plain;

@@ -20,7 +20,7 @@ use Rattle.graph_runs.proofs.Tasks.{now_at}
 use Rattle.graph_runs.proofs.Turned.{exchange_wait_is}
 use Rattle.graph_runs.specs.TaskEvents.{IsNext, exchange_wait, after_turn}
 use Rattle.graph_runs.specs.Nexts.{first_owed, waits_first, signals, exchanges}
-use Rattle.graph_runs.specs.TaskPlaces.{Owed, nothing, values, exchange, Owes, OwesUpTo, TaskPlace, StandsAt, lacking, owed_after_exchange}
+use Rattle.graph_runs.specs.TaskPlaces.{Owed, nothing, values, exchange, OwesUpTo, TaskPlace, lacking, owed_after_exchange, StandsUpTo}
 use Rattle.graph_runs.proofs.Signalling.{owed}
 use Rattle.graph_runs.proofs.Boundaries.{made_many, peer_ends}
 use Rattle.graph_runs.proofs.Following.{Lacks, GetsAll, gets_all, stays_at, keeps_moved}
@@ -28,14 +28,15 @@ use Rattle.graph_runs.proofs.InOrder.{OwesFor}
 use Rattle.graph_runs.proofs.Lacking.{first_is, next_one}
 
 -- where a peer waits on E, the place owes that
-owes_exchange : (job : Job) (m : Moment) (t j : ℕ) (owed : Owed) → Owes job m t owed
+owes_exchange : (most : ℕ) (job : Job) (m : Moment) (t j : ℕ) (owed : Owed)
+    → OwesUpTo most job m t owed
     → first_owed job m t ≡ Some j
     → waits_first (task_at job.graph t).kind j (length (m.put t j)) (length (m.taken t 1)) ≡ true
     → (x : ℤ) × (owed ≡ exchange x)
-owes_exchange job m t j nothing owes some first =
+owes_exchange most job m t j nothing owes some first =
     absurd (let clash : None ≡ Some j = sym owes ∙ some in cc)
-owes_exchange job m t j (exchange x) owes some first = (x, refl)
-owes_exchange job m t j (values i ws) owes some first =
+owes_exchange most job m t j (exchange x) owes some first = (x, refl)
+owes_exchange most job m t j (values i ws) owes some first =
     let same : i ≡ j = same_Some i j (sym owes.0 ∙ some) in
     let is_first = rw (← same) at first in
     absurd (let clash : exchanges ≡ signals i =
@@ -152,13 +153,13 @@ exchange_owes most job m after t outcome x some is ran now there e s owes before
     none_below w zero lt = ap (λ kind. lacking kind (values 1 (w ∷ [])) 0) e
     none_below w (suc k) lt = absurd (omega arith)
 
-pub exchange_follows : (job : Job) (m : Moment) (t p n : ℕ) (outcome : Outcome) (at : TaskPlace)
-    → IsGraph job.graph → HasRun job m → IsNext job m (exchange_wait t p n outcome)
+pub exchange_follows : (steps most : ℕ) (job : Job) (m : Moment) (t p n : ℕ)
+    (outcome : Outcome) (at : TaskPlace) → 1 ≤ most → IsGraph job.graph → HasRun job m → IsNext job m (exchange_wait t p n outcome)
     → HasRun job (after_turn job (exchange_wait t p n outcome) m)
-    → OwesFor job m (exchange_wait t p n outcome) → StandsAt job m t at
-    → StandsAt job (after_turn job (exchange_wait t p n outcome) m) t
+    → OwesFor steps most job m (exchange_wait t p n outcome) → StandsUpTo most job m t at
+    → StandsUpTo most job (after_turn job (exchange_wait t p n outcome) m) t
     (record at { owed = owed_after_exchange (task_at job.graph t) at.owed (number outcome) })
-exchange_follows job m t p n outcome at is ran next now for_event stands =
+exchange_follows steps most job m t p n outcome at some is ran next now for_event stands =
     let after = after_turn job (exchange_wait t p n outcome) m in
     let there = next.0.task in
     let peer = next.1.peer in
@@ -166,10 +167,10 @@ exchange_follows job m t p n outcome at is ran next now for_event stands =
     let got = gets_all job m after t 1 p n (outcome ∷ []) s in
     let ran_before = ran.tasks t there in
     let ran_now = now.tasks t there in
-    let owed_is = owes_exchange job m t for_event.0 at.owed stands.owes for_event.1 for_event.2 in
+    let owed_is = owes_exchange most job m t for_event.0 at.owed stands.owes for_event.1 for_event.2 in
     let x = owed_is.0 in
     let w = ranged (((task_at job.graph t).mul *ℤ x) -ℤ number outcome) in
-    let owes : Owes job m t (exchange x) = rw owed_is.1 at stands.owes in
+    let owes : OwesUpTo most job m t (exchange x) = rw owed_is.1 at stands.owes in
     let before : Lacks job m t (exchange x) = rw owed_is.1 at stands.lacks in
     let same : for_event.0 ≡ 1 = same_Some for_event.0 1 (sym for_event.1 ∙ owes.0) in
     let steps : after.begun t ≡ m.begun t =
@@ -179,6 +180,5 @@ exchange_follows job m t p n outcome at is ran next now for_event stands =
     rw owed_is.1
     (stays_at job m after t at.begun (values 1 (w ∷ [])) at stands
     (keeps_moved job m after t p (Waited n 1) t s.moved (λ b at. refl)) (steps ∙ stands.begun)
-    (exchange_owes (task_at job.graph t).block job m after t outcome x
-    (is.tasks t there).block.some is ran_before ran_now there peer got owes before
+    (exchange_owes most job m after t outcome x some is ran_before ran_now there peer got owes before
     (rw same at for_event.2) lacks) lacks)

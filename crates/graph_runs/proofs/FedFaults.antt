@@ -9,10 +9,11 @@ use Rattle.stream_lists.specs.graph_base.declared.line.Kind.{Kind}
 use Rattle.stream_lists.specs.graph_base.declared.line.Kind.TheVariants.{Source, Fir, Split, Join, Peer, Sink}
 use Rattle.stream_lists.specs.Jobs.{Job, samples_at, samples_in, with_samples}
 use Rattle.stream_lists.specs.Ranges.{Where, are_made}
-use Rattle.graph_runs.specs.Answers.{Answer, Ended, Moved, TooBig, after_answer, answer_of_turn, answer_to, has_made, is_blocked, is_gone, is_refused, makes, next_samples, next_values, output_at, signal_turn, told_event, turn_tells, word_of_answer}
+use Rattle.graph_runs.specs.Answers.{Answer, Ended, Moved, TooBig, after_answer, has_made, is_blocked, is_gone, is_refused, makes, output_at, signal_turn, told_event, word_of_answer, answer_up_to, turn_up_to, values_up_to, samples_up_to, tells_up_to}
 use Rattle.graph_runs.specs.Feeds.{Continues}
 use Rattle.graph_runs.specs.Moments.{Moment, HasRun, MayStop, at_until, no_input, no_sample, started}
 use Rattle.graph_runs.specs.Nexts as nexts
+use Rattle.graph_runs.specs.NextBlocks.{MaySize}
 use Rattle.graph_runs.specs.Nexts.{Next, at_boundary, first_due, first_kept, first_missing, first_owed, has_input_ended, is_cut, is_live, next_of, next_step, number_on, of_live, waits_first}
 use Rattle.graph_runs.specs.Moves.{further}
 use Rattle.graph_runs.specs.Reached.{IsReachable}
@@ -30,24 +31,24 @@ use Rattle.graph_runs.proofs.Whose.{made_by, task_of}
 -- ---- who tells it is no source
 
 -- a source makes no value of its own
-made_none : (job : Job) (m : Moment) (t : ℕ) (at : Where) (next : Next)
-    → (task_at job.graph t).kind ≡ Source → answer_to job m t next ≡ has_made at → ⊥
-made_none job m t at nexts.is_not_live source e = (cc)
-made_none job m t at (nexts.registers c) source e =
+made_none : (steps most : ℕ) (job : Job) (m : Moment) (t : ℕ) (at : Where) (next : Next)
+    → (task_at job.graph t).kind ≡ Source → answer_up_to steps most job m t next ≡ has_made at → ⊥
+made_none steps most job m t at nexts.is_not_live source e = (cc)
+made_none steps most job m t at (nexts.registers c) source e =
     not_register job m t c (first_missing job m c) at e
-made_none job m t at nexts.leaves source e = not_leave m t (first_kept job m t) at e
-made_none job m t at nexts.samples source e =
+made_none steps most job m t at nexts.leaves source e = not_leave m t (first_kept job m t) at e
+made_none steps most job m t at nexts.samples source e =
     let p = output_at job t 0 in
-    let vs = next_samples job m t in
+    let vs = samples_up_to steps job m t in
     let out = is_out job m t 0 vs (sample t 0 p (number_on m t p) vs) at e in
     let wrong : false ≡ true = sym (ap (λ kind. are_made kind 0) source) ∙ out.made in cc
-made_none job m t at (nexts.signals j) source e =
+made_none steps most job m t at (nexts.signals j) source e =
     let p = output_at job t j in
-    let vs = next_values job m t j in
+    let vs = values_up_to most job m t j in
     let out = is_out job m t j vs (signal t j p (number_on m t p) vs) at e in
     let wrong : false ≡ true = sym (ap (λ kind. are_made kind j) source) ∙ out.made in cc
-made_none job m t at (nexts.waits k) source e = not_block _ _ at e
-made_none job m t at nexts.exchanges source e = not_wait _ _ at e
+made_none steps most job m t at (nexts.waits k) source e = not_block _ _ at e
+made_none steps most job m t at nexts.exchanges source e = not_wait _ _ at e
 
 -- and waits for none
 told_none : (job : Job) (m : Moment) (t : ℕ) (at : Where) (event : TaskEvent) → IsGraph job.graph
@@ -76,19 +77,20 @@ told_none job m t at (exchange_wait u p n outcome) is there source own next e =
     let wrong : Source ≡ Peer = sym source ∙ peer in cc
 
 -- so a source tells no value out of range
-no_source : (job : Job) (m : Moment) (t : ℕ) (at : Where) → IsGraph job.graph → IsReachable job m
-    → turn_tells job None m t ≡ Some (TooBig at) → (task_at job.graph t).kind ≢ Source
-no_source job m t at is reached told source = by (answer_of_turn job m t) refl told
+no_source : (steps most : ℕ) (job : Job) (m : Moment) (t : ℕ) (at : Where)
+    → MaySize job.graph t steps most → IsGraph job.graph → IsReachable job m
+    → tells_up_to steps most job m t ≡ Some (TooBig at) → (task_at job.graph t).kind ≢ Source
+no_source steps most job m t at sized is reached told source = by (turn_up_to steps most job m t) refl told
   where
-    by : (answer : Answer) → answer_of_turn job m t ≡ answer
+    by : (answer : Answer) → turn_up_to steps most job m t ≡ answer
         → word_of_answer job m answer ≡ Some (TooBig at) → ⊥
     by (makes event) e told =
-        let made = made_by job m t event e in
+        let made = made_by steps most job m t event e in
         told_none job m t at event is made.0.there source made.1.own
-        (turn_makes_next job m t event is reached.ran (λ c due. reached.to_come) e) told
+        (turn_makes_next steps most job m t event sized is reached.ran (λ c due. reached.to_come) e) told
     by is_blocked e told = (cc)
     by is_gone e told = (cc)
-    by (has_made there) e told = made_none job m t there (next_of job m t) source e
+    by (has_made there) e told = made_none steps most job m t there (next_of job m t) source e
     by is_refused e told = (cc)
 
 -- ---- what the turn answers with other samples
@@ -130,20 +132,20 @@ never_samples job m t not = by (is_live job m t) (first_owed job m t)
     by true None = boundary (first_due job m t)
 
 -- of a task that is no source
-answer_fed : (job : Job) (m : Moment) (more : List (List ℤ)) (t : ℕ) (next : Next)
+answer_fed : (steps most : ℕ) (job : Job) (m : Moment) (more : List (List ℤ)) (t : ℕ) (next : Next)
     → (task_at job.graph t).kind ≢ Source → next ≢ nexts.samples
-    → answer_to (with_samples more job) m t next ≡ answer_to job m t next
-answer_fed job m more t nexts.is_not_live not one = refl
-answer_fed job m more t (nexts.registers c) not one = refl
-answer_fed job m more t nexts.leaves not one = refl
-answer_fed job m more t nexts.samples not one = absurd (one refl)
-answer_fed job m more t (nexts.signals j) not one =
-    ap (λ made. let vs = take (task_at job.graph t).block (drop (length (m.put t j)) made) in
+    → answer_up_to steps most (with_samples more job) m t next ≡ answer_up_to steps most job m t next
+answer_fed steps most job m more t nexts.is_not_live not one = refl
+answer_fed steps most job m more t (nexts.registers c) not one = refl
+answer_fed steps most job m more t nexts.leaves not one = refl
+answer_fed steps most job m more t nexts.samples not one = absurd (one refl)
+answer_fed steps most job m more t (nexts.signals j) not one =
+    ap (λ made. let vs = take most (drop (length (m.put t j)) made) in
     signal_turn job m t j vs
     (signal t j (output_at job t j) (number_on m t (output_at job t j)) vs))
     (made_fed job m more t j (λ source. absurd (not source)))
-answer_fed job m more t (nexts.waits k) not one = refl
-answer_fed job m more t nexts.exchanges not one = refl
+answer_fed steps most job m more t (nexts.waits k) not one = refl
+answer_fed steps most job m more t nexts.exchanges not one = refl
 
 -- ---- the moment before
 
@@ -190,20 +192,20 @@ wait_back job m more t k p n begun outcomes not goes u there source =
 
 -- ---- the fault
 
-pub fault_fed : (job : Job) (m : Moment) (t : ℕ) (at : Where) (more : List (List ℤ))
-    → IsReady (with_samples more job) → IsReachable job m
-    → HasRun job (after_answer job (answer_of_turn job m t) m)
-    → turn_tells job None m t ≡ Some (TooBig at)
-    → Continues job (after_answer job (answer_of_turn job m t) m) more
-    → IsFaultAt (started (with_samples more job) (after_answer job (answer_of_turn job m t) m)) at
-fault_fed job m t at more ready reached ran told goes =
-    by (answer_of_turn job m t) refl ran told goes
+pub fault_fed : (steps most : ℕ) (job : Job) (m : Moment) (t : ℕ) (at : Where) (more : List (List ℤ))
+    → MaySize job.graph t steps most → IsReady (with_samples more job) → IsReachable job m
+    → HasRun job (after_answer job (turn_up_to steps most job m t) m)
+    → tells_up_to steps most job m t ≡ Some (TooBig at)
+    → Continues job (after_answer job (turn_up_to steps most job m t) m) more
+    → IsFaultAt (started (with_samples more job) (after_answer job (turn_up_to steps most job m t) m)) at
+fault_fed steps most job m t at more sized ready reached ran told goes =
+    by (turn_up_to steps most job m t) refl ran told goes
   where
     j : Job
     j = with_samples more job
 
     not : (task_at job.graph t).kind ≢ Source
-    not = no_source job m t at ready.graph reached told
+    not = no_source steps most job m t at sized ready.graph reached told
 
     may : MayBe job m more t
     may = λ source. absurd (not source)
@@ -211,20 +213,20 @@ fault_fed job m t at more ready reached ran told goes =
     is_next : next_of j m t ≡ next_of job m t
     is_next = next_fed job m more t may (λ source. absurd (not source))
 
-    is_answer : answer_of_turn j m t ≡ answer_of_turn job m t
+    is_answer : turn_up_to steps most j m t ≡ turn_up_to steps most job m t
     is_answer =
-        ap (answer_to j m t) is_next
-        ∙ answer_fed job m more t (next_of job m t) not (never_samples job m t not)
+        ap (answer_up_to steps most j m t) is_next
+        ∙ answer_fed steps most job m more t (next_of job m t) not (never_samples job m t not)
 
-    fault : Continues job m more → ((event : TaskEvent) → answer_of_turn j m t ≡ makes event
+    fault : Continues job m more → ((event : TaskEvent) → turn_up_to steps most j m t ≡ makes event
         → HasRun j (after_turn j event m)) → IsFaultAt (started j m) at
     fault back runs =
-        told_fault j m t at ready (reachable_fed job m more ready.graph reached back) runs
+        told_fault steps most j m t at sized ready (reachable_fed job m more ready.graph reached back) runs
         (ap (word_of_answer j m) is_answer ∙ told)
 
-    runs : (event : TaskEvent) → answer_of_turn job m t ≡ makes event
+    runs : (event : TaskEvent) → turn_up_to steps most job m t ≡ makes event
         → HasRun job (after_turn job event m) → Continues job (after_turn job event m) more
-        → (other : TaskEvent) → answer_of_turn j m t ≡ makes other
+        → (other : TaskEvent) → turn_up_to steps most j m t ≡ makes other
         → HasRun j (after_turn j other m)
     runs event e ran goes other makes_it =
         subst (λ a. HasRun j (after_answer j a m)) (sym (is_answer ∙ e) ∙ makes_it)
@@ -237,7 +239,7 @@ fault_fed job m t at more ready reached ran told goes =
     no_source_is : (u : ℕ) → u ≡ t → (task_at job.graph u).kind ≢ Source
     no_source_is u own source = not (ap (λ v. (task_at job.graph v).kind) (sym own) ∙ source)
 
-    made : (event : TaskEvent) → task_of event ≡ t → answer_of_turn job m t ≡ makes event
+    made : (event : TaskEvent) → task_of event ≡ t → turn_up_to steps most job m t ≡ makes event
         → HasRun job (after_turn job event m) → Some (told_event job m event) ≡ Some (TooBig at)
         → Continues job (after_turn job event m) more
         → IsFaultAt (started j (after_turn job event m)) at
@@ -254,7 +256,7 @@ fault_fed job m t at more ready reached ran told goes =
     made (leave u p n) own e ran told goes =
         absurd (no_drop (is_live job (after_turn job (leave u p n) m) u) told)
 
-    by : (answer : Answer) → answer_of_turn job m t ≡ answer → HasRun job (after_answer job answer m)
+    by : (answer : Answer) → turn_up_to steps most job m t ≡ answer → HasRun job (after_answer job answer m)
         → word_of_answer job m answer ≡ Some (TooBig at)
         → Continues job (after_answer job answer m) more
         → IsFaultAt (started j (after_answer job answer m)) at
@@ -265,4 +267,4 @@ fault_fed job m t at more ready reached ran told goes =
     by is_gone e ran told goes = absurd (cc)
     by is_refused e ran told goes = absurd (cc)
     by (makes event) e ran told goes =
-        made event (made_by job m t event e).1.own e ran told goes
+        made event (made_by steps most job m t event e).1.own e ran told goes

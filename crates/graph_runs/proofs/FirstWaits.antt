@@ -21,7 +21,7 @@ use Rattle.phase_history.proofs.Refused.{Passes, passes_from}
 use Rattle.stream_lists.specs.graph_base.declared.line.Kind.{Kind}
 use Rattle.stream_lists.specs.graph_base.declared.line.Kind.TheVariants.{Source, Fir, Split, Join, Peer, Sink}
 use Rattle.stream_lists.specs.graph_base.Graphs.{task_at}
-use Rattle.stream_lists.specs.graph_base.TaskLines.{IsGraph, HasEnds}
+use Rattle.stream_lists.specs.graph_base.TaskLines.{IsGraph, HasEnds, has_blocks}
 use Rattle.stream_lists.specs.Jobs.{Job}
 use Rattle.stream_lists.specs.Spans.{signalled_by, puts_on, takes_from, turns_below}
 use Rattle.stream_lists.specs.Lists.{number, entry, every, in_turn, turn_at}
@@ -29,14 +29,14 @@ use Rattle.stream_lists.specs.Ranges.{is_out_of_range}
 use Rattle.graph_runs.specs.Moments.{Moment, HasRun, TaskRan, made_now, taken_now, first_input, input_at, limits_at}
 use Rattle.graph_runs.proofs.Tasks.{now_at}
 use Rattle.graph_runs.specs.Moves.{further, IsBlock}
-use Rattle.graph_runs.specs.NextBlocks.{block_of}
+use Rattle.graph_runs.specs.NextBlocks.{AreSizes, block_up_to}
 use Rattle.graph_runs.proofs.Blocks.{block_few}
 use Rattle.graph_runs.proofs.BlockOwes.{fir_owes_block}
 use Rattle.graph_runs.proofs.Nexts.{turns-next, turns-stay, further-length}
 use Rattle.graph_runs.proofs.InBlocks.{first_waits_are}
 use Rattle.graph_runs.specs.TaskEvents.{IsNext, first_wait, after_turn}
 use Rattle.graph_runs.specs.Nexts.{waits_first, signals, exchanges}
-use Rattle.graph_runs.specs.TaskPlaces.{Owed, nothing, values, OwesUpTo, TaskPlace, StandsAt, lacking, owed_after_wait, outputs_of_block}
+use Rattle.graph_runs.specs.TaskPlaces.{Owed, nothing, values, OwesUpTo, TaskPlace, lacking, owed_after_wait, outputs_of_block, StandsUpTo}
 use Rattle.graph_runs.proofs.Boundaries.{all_put, made_many, peer_ends}
 use Rattle.graph_runs.proofs.Ranged.{taken_ranged}
 use Rattle.graph_runs.proofs.Following.{Lacks, GetsAll, gets_all, stays_at, keeps_moved}
@@ -85,7 +85,7 @@ pub record FirstWait (most : ℕ) (job : Job) (m after : Moment) (t k : ℕ) (xs
   pub steps : after.begun t ≡ m.begun t + length xs
   pub some : 1 ≤ length xs
   pub block : IsBlock (task_at job.graph t).kind (length xs)
-  pub room : length xs ≤ most
+  pub room : 0 < length (signalled_by (task_at job.graph t)) → length xs ≤ most
   pub all_taken : length (m.taken t k) ≡ takes_from (task_at job.graph t) (m.begun t) k
   pub lacks : Lacks job m t nothing
 
@@ -139,7 +139,7 @@ wait_owes {most} job m after t k j x w lacks lt below no_wait made =
     let full : length (made_now job m t j) ≡ length (m.put t j) + 0 = w.lacks j lt in
     let put : length (after.put t j) ≡ length (m.put t j) = ap length (w.waits.put j) in
     let index : length (after.put t j) ≡ length (made_now job m t j) = omega arith in
-    let room : 1 ≤ most = w.room in (
+    let room : 1 ≤ most = w.room (omega arith) in (
       first_is job after t j (values j (Ok x ∷ [])) lacks lt (omega arith) below,
       ap (λ b. cond b exchanges (signals j))
           (no_wait (length (after.put t j)) (length (after.taken t 1))),
@@ -195,7 +195,7 @@ fir_owes {most} job m after t k xs w e =
     ap length block.values in
     let same : length rs ≡ length vs = length-map vs ranged in
     let some : 1 ≤ length xs = w.some in
-    let room : length xs ≤ most = w.room in
+    let room : length xs ≤ most = w.room (omega arith) in
     let here : length (made_now job after t 0)
     ≡ length (after.put t 0) + lacking task.kind (values 0 rs) 0 = omega arith in
     let lacks : Lacks job after t (values 0 rs) =
@@ -490,32 +490,61 @@ waits_some limits h n steps none =
     by zero good = absurd (cc)
     by (suc n) good = omega arith
 
-pub first_wait_follows : (job : Job) (m : Moment) (t k p n : ℕ) (outcomes : List Outcome)
-    (at : TaskPlace) → IsGraph job.graph → HasRun job m
+-- what a task gets that signals it may signal by one turn
+waits_room : (steps most : ℕ) (job : Job) (t : ℕ) → AreSizes job.graph t steps most
+    → IsGraph job.graph → t < length job.graph.tasks → 0 < length (task_at job.graph t).inputs
+    → 0 < length (signalled_by (task_at job.graph t)) → steps ≤ most
+waits_room steps most job t sizes is there into out = by (task_at job.graph t).kind refl
+  where
+    -- one step at a time
+    single : has_blocks (task_at job.graph t).kind ≡ false → steps ≤ most
+    single none =
+        let one : steps ≡ 1 = sizes.block.kind none in
+        let some : 1 ≤ most = sizes.owed.some in omega arith
+
+    ends : (kind : Kind) → (task_at job.graph t).kind ≡ kind
+        → HasEnds kind (length (task_at job.graph t).inputs) (length (task_at job.graph t).outputs)
+    ends kind e =
+        rw e at (is.tasks t there).ends
+
+    by : (kind : Kind) → (task_at job.graph t).kind ≡ kind → steps ≤ most
+    by Source e = absurd (omega (arith, (ends Source e).0, into))
+    by Fir e = sizes.few e
+    by Split e = single (ap has_blocks e)
+    by Join e = single (ap has_blocks e)
+    by Peer e = single (ap has_blocks e)
+    by Sink e =
+        let outs : signalled_by (task_at job.graph t) ≡ (task_at job.graph t).outputs =
+        rw e refl in
+        absurd (omega (arith, ap length outs, (ends Sink e).1, out))
+
+pub first_wait_follows : (steps most : ℕ) (job : Job) (m : Moment) (t k p n : ℕ)
+    (outcomes : List Outcome) (at : TaskPlace) → AreSizes job.graph t steps most → IsGraph job.graph → HasRun job m
     → IsNext job m (first_wait t k p n outcomes)
     → HasRun job (after_turn job (first_wait t k p n outcomes) m)
-    → OwesFor job m (first_wait t k p n outcomes) → StandsAt job m t at
-    → StandsAt job (after_turn job (first_wait t k p n outcomes) m) t
+    → OwesFor steps most job m (first_wait t k p n outcomes) → StandsUpTo most job m t at
+    → StandsUpTo most job (after_turn job (first_wait t k p n outcomes) m) t
     (record at {
       begun = further at.begun outcomes;
       owed = owed_after_wait (task_at job.graph t) at.begun (m.taken t 0) (map number outcomes);
     })
-first_wait_follows job m t k p n outcomes at is ran next now owes stands =
+first_wait_follows steps most job m t k p n outcomes at sizes is ran next now owes stands =
     let after = after_turn job (first_wait t k p n outcomes) m in
     let there = next.0.task in
     let xs = map number outcomes in
     let s = first_waits_are job m t k p n outcomes next.1 in
-    let none : at.owed ≡ nothing = owes_nothing job m t at.owed stands.owes owes.0 in
-    let steps : after.begun t ≡ further (m.begun t) outcomes =
+    let none : at.owed ≡ nothing = owes_nothing most job m t at.owed stands.owes owes.0 in
+    let begun : after.begun t ≡ further (m.begun t) outcomes =
     (let here : eqb t t ≡ true = eq-eqb t t refl in rw here refl) in
     let more : further (m.begun t) outcomes ≡ m.begun t + length outcomes =
     further-length (m.begun t) outcomes in
     let many : length xs ≡ length outcomes = length-map outcomes number in
     let some : 1 ≤ length outcomes =
     waits_some (limits_at job p) (m.history p) n (length outcomes) next.1.wait.accepted.0 in
-    let most : length outcomes ≤ block_of job m t = owes.1 in
-    let few : block_of job m t ≤ (task_at job.graph t).block = block_few job m t in
-    let w : FirstWait (task_at job.graph t).block job m after t k xs = record {
+    let within : length outcomes ≤ block_up_to steps job m t = owes.1 in
+    let few : block_up_to steps job m t ≤ steps = block_few steps job m t in
+    let few_inputs : k < length (task_at job.graph t).inputs = next.1.wait.few in
+    let w : FirstWait most job m after t k xs = record {
       is = is;
       ran = ran.tasks t there;
       now = now.tasks t there;
@@ -528,13 +557,15 @@ first_wait_follows job m t k p n outcomes at is ran next now owes stands =
       steps = omega arith;
       some = omega arith;
       block = subst (λ (i : ℕ). IsBlock (task_at job.graph t).kind i) (sym many) next.1.block;
-      room = omega arith;
+      room = λ out.
+          (let room : steps ≤ most =
+          waits_room steps most job t sizes is there (omega arith) out in omega arith);
       all_taken = next.1.may_begin.taken k next.1.wait.few;
       lacks = subst (λ (o : Owed). Lacks job m t o) none stands.lacks;
     } in
-    let left = subst (λ (b : ℕ). LeavesOwed (task_at job.graph t).block job after t (owed_after_wait
+    let left = subst (λ (b : ℕ). LeavesOwed most job after t (owed_after_wait
     (task_at job.graph t) b (m.taken t 0) xs)) stands.begun (wait_leaves job m after t k xs w) in
     stays_at job m after t (further at.begun outcomes)
     (owed_after_wait (task_at job.graph t) at.begun (m.taken t 0) xs) at stands
     (keeps_moved job m after t p (Waited n (length outcomes)) t s.moved (λ b at. refl))
-    (steps ∙ ap (λ b. further b outcomes) stands.begun) left.0 left.1
+    (begun ∙ ap (λ b. further b outcomes) stands.begun) left.0 left.1

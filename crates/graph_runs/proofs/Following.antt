@@ -24,6 +24,7 @@ use Rattle.graph_runs.specs.Moments.{Moment, made_now, limits_at}
 use Rattle.graph_runs.specs.Moves.{HasMoved, SameTask, Registers, RegistersNow, SignalsAll, WaitsAll}
 use Rattle.graph_runs.proofs.OwnEvents.{made_still, history_where}
 use Rattle.graph_runs.specs.Nexts.{is_owed, first_owed, in_step, waits_first, has_left, number_on, registrations_at, signals, exchanges}
+use Rattle.graph_runs.specs.Answers.{values_up_to}
 use Rattle.graph_runs.specs.TaskPlaces.{Owed, nothing, values, exchange, OwesUpTo, TaskPlace, StandsUpTo, registration_at, child_place, lacking}
 use Rattle.graph_runs.proofs.Reaching.{one_registration}
 
@@ -68,13 +69,9 @@ in_step_same job before after t j same =
     ∙ ap (λ l. cond (waits_first (task_at job.graph t).kind j (length (before.put t j)) (length l))
     exchanges (signals j)) (same.taken 1)
 
--- at most so many values that are next on output j of task t
-abbrev pub next_up_to : ℕ → Job → Moment → ℕ → ℕ → List ℤ
-next_up_to most job m t j = take most (drop (length (m.put t j)) (made_now job m t j))
-
 next_same : (most : ℕ) (job : Job) (before after : Moment) (t j : ℕ)
     → SameSteps before after t
-    → next_up_to most job after t j ≡ next_up_to most job before t j
+    → values_up_to most job after t j ≡ values_up_to most job before t j
 next_same most job before after t j same =
     ap (λ l. take most (drop (length (after.put t j)) l)) (made_same job before after t j same)
     ∙ ap (λ l. take most (drop (length l) (made_now job before t j))) (same.put j)

@@ -14,14 +14,14 @@ use Rattle.stream_lists.specs.Jobs.{Job}
 use Rattle.stream_lists.specs.Lists.{number}
 use Rattle.graph_runs.specs.Moments.{Moment, TakenOn, OnLine, input_at}
 use Rattle.graph_runs.specs.Moves.{IsStaying}
-use Rattle.graph_runs.specs.Answers.{output_at}
+use Rattle.graph_runs.specs.Answers.{output_at, values_up_to}
 use Rattle.graph_runs.specs.Nexts.{waits_first}
 use Rattle.graph_runs.specs.TaskPlaces.{Owed, nothing, values, exchange, TaskPlace, StandsUpTo, registration_at, owed_after_wait, owed_after_signal, owed_after_exchange}
 use Rattle.graph_runs.proofs.Boundaries.{peer_ends}
 use Rattle.graph_runs.proofs.Calling.{waits_as_peer}
 use Rattle.graph_runs.proofs.Exchanging.{exchange_lacks, exchange_owes}
 use Rattle.graph_runs.proofs.FirstWaits.{FirstWait, wait_leaves}
-use Rattle.graph_runs.proofs.Following.{Lacks, next_up_to, KeepsPlaces, PutsAll, GetsAll, stays_at, stays_same}
+use Rattle.graph_runs.proofs.Following.{Lacks, KeepsPlaces, PutsAll, GetsAll, stays_at, stays_same}
 use Rattle.graph_runs.proofs.Lacking.{first_none}
 use Rattle.graph_runs.proofs.PlacesLemmas.{place_of_output}
 use Rattle.graph_runs.proofs.PlacesFollow.{LeavesOne, leave_stands}
@@ -93,8 +93,8 @@ pub put_follows : (job : Job) (m after : Moment) (t j p most : ℕ) (vs : List �
 put_follows job m after t j p most vs at now is there part allowed stands none owed_is s =
     let staying = staying_at job m t at is there part.ran stands none in
     let owes = owes_as job m t at (values j (map (λ v. Ok v) vs)) stands owed_is in
-    let next : next_up_to most job m t j ≡ vs =
-    ranged_values (next_up_to most job m t j) vs owes.2 in
+    let next : values_up_to most job m t j ≡ vs =
+    ranged_values (values_up_to most job m t j) vs owes.2 in
     let puts : PutsAll m after t j vs =
     record { taken = s.taken; put = s.put; other_puts = s.other_puts } in
     puts_stand job m after t j vs at is there allowed part.ran
@@ -148,7 +148,7 @@ first_wait_follows job m after t k p most outcomes at now is there part stands n
       steps = omega arith;
       some = omega arith;
       block = rw many next.block;
-      room = omega arith;
+      room = λ out. omega arith;
       all_taken = next.may_begin.taken k next.few;
       lacks = lacks_as job m t at nothing stands owed_is;
     } in

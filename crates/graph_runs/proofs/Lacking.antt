@@ -16,9 +16,10 @@ use Rattle.stream_lists.specs.Jobs.{Job}
 use Rattle.stream_lists.specs.Spans.{signalled_by, puts_on, turns_below}
 use Rattle.graph_runs.specs.Moments.{Moment, TaskRan, made_now}
 use Rattle.graph_runs.specs.Nexts.{first_owed, is_owed}
+use Rattle.graph_runs.specs.Answers.{values_up_to}
 use Rattle.graph_runs.specs.TaskPlaces.{Owed, nothing, values, lacking}
 use Rattle.graph_runs.proofs.Boundaries.{made_many}
-use Rattle.graph_runs.proofs.Following.{Lacks, next_up_to}
+use Rattle.graph_runs.proofs.Following.{Lacks}
 
 -- ---- the first that is owed
 
@@ -95,7 +96,7 @@ take_all (suc n) (x ∷ xs) le = ap (λ l. x ∷ l) (take_all n xs (omega arith)
 -- all that the output lacks, where there is room for it
 pub next_all : (most : ℕ) (job : Job) (m : Moment) (t j : ℕ)
     → length (made_now job m t j) ≤ length (m.put t j) + most
-    → next_up_to most job m t j ≡ drop (length (m.put t j)) (made_now job m t j)
+    → values_up_to most job m t j ≡ drop (length (m.put t j)) (made_now job m t j)
 next_all most job m t j le =
     let long : length (drop (length (m.put t j)) (made_now job m t j))
     ≡ length (made_now job m t j) - length (m.put t j) =
@@ -105,7 +106,7 @@ next_all most job m t j le =
 -- the first of them stands behind what was put
 pub next_begins : (most : ℕ) (job : Job) (m : Moment) (t j : ℕ) → 1 ≤ most
     → length (m.put t j) < length (made_now job m t j)
-    → next_up_to most job m t j
+    → values_up_to most job m t j
     ≡ get_or (made_now job m t j) (length (m.put t j)) (pos 0)
     ∷ take (most - 1) (drop (suc (length (m.put t j))) (made_now job m t j))
 next_begins most job m t j some more =
@@ -118,7 +119,7 @@ next_begins most job m t j some more =
 -- where it lacks one, that is all
 pub next_one : (most : ℕ) (job : Job) (m : Moment) (t j : ℕ) → 1 ≤ most
     → length (made_now job m t j) ≡ length (m.put t j) + 1
-    → next_up_to most job m t j
+    → values_up_to most job m t j
     ≡ get_or (made_now job m t j) (length (m.put t j)) (pos 0) ∷ []
 next_one most job m t j some one =
     let made = made_now job m t j in

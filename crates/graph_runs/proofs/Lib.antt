@@ -55,6 +55,7 @@ pub mod Refusing
 pub mod TurnRegistering
 pub mod Signalling
 pub mod Standing
+pub mod SizedTurns
 pub mod Stepping
 pub mod Telling
 pub mod Turning

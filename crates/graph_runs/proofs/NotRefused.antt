@@ -21,7 +21,7 @@ use Rattle.stream_lists.specs.graph_base.declared.line.Kind.TheVariants.{Source,
 use Rattle.stream_lists.specs.graph_base.declared.registration.Registration.{Registration}
 use Rattle.stream_lists.specs.graph_base.Graphs.{task_at, phaser_at}
 use Rattle.stream_lists.specs.graph_base.Registrations.{ends_of, as_input, as_output, no_registration}
-use Rattle.stream_lists.specs.graph_base.TaskLines.{IsGraph, has_blocks}
+use Rattle.stream_lists.specs.graph_base.TaskLines.{IsGraph, HasBlock, has_blocks}
 use Rattle.stream_lists.proofs.graph_base_lemmas.Registered.{registrations-plain, length-registrations, end-input, end-output}
 use Rattle.stream_lists.specs.Jobs.{Job, index_in}
 use Rattle.stream_lists.specs.Spans.{signalled_by}
@@ -31,6 +31,7 @@ use Rattle.graph_runs.specs.Moments.{one, Moment, HasEnded, OnLine, limits_at, i
 use Rattle.graph_runs.proofs.OnLines.{on_phaser}
 use Rattle.graph_runs.specs.TaskEvents.{TaskEvent, leave, child, child_now}
 use Rattle.graph_runs.specs.Nexts.{first_due, first_kept, first_missing, has_registered, has_left, has_signaller, number_on, registrations_at}
+use Rattle.graph_runs.specs.NextBlocks.{with_block}
 use Rattle.graph_runs.specs.Answers.{Answer, makes, is_blocked, is_gone, has_made, is_refused, signal_answer, wait_answer, block_answer, accepted_answer, register_answer, signal_turn, call_leave, call_register, output_at}
 use Rattle.graph_runs.specs.Reached.{IsReachable}
 use Rattle.graph_runs.proofs.PlacesLemmas.{find-some, find-none, place_of_output}
@@ -108,28 +109,30 @@ good_block : (limits : Limits) (n : ℕ) → 1 ≤ n → n ≤ limits.bound
 good_block limits n some few =
     ap (λ b. b || nat_lt limits.bound n) (ne_eqb n 0 (λ e. omega arith)) ∙ le-ltb limits.bound n few
 
--- a line's block is at most the bound of each phaser that its task signals
-block_fits : (job : Job) (t j : ℕ) → IsGraph job.graph → t < length job.graph.tasks
+-- so many values are at most the bound of each phaser that the task signals
+block_fits : {most : ℕ} (job : Job) (t j : ℕ)
+    → HasBlock job.graph (with_block most (task_at job.graph t))
+    → IsGraph job.graph → t < length job.graph.tasks
     → j < length (signalled_by (task_at job.graph t)) → output_at job t j < length job.graph.phasers
-    → (task_at job.graph t).block ≤ (phaser_at job.graph (output_at job t j)).bound
-block_fits job t j is there lt pp = by (task_at job.graph t).kind refl
+    → most ≤ (phaser_at job.graph (output_at job t j)).bound
+block_fits {most} job t j block is there lt pp = by (task_at job.graph t).kind refl
   where
     other : (task_at job.graph t).kind ≢ Peer
-        → (task_at job.graph t).block ≤ (phaser_at job.graph (output_at job t j)).bound
+        → most ≤ (phaser_at job.graph (output_at job t j)).bound
     other plain =
         let outs = plain_outputs job t plain in
-        rw outs ((is.tasks t there).block.outputs j 0 (omega (arith, ap length outs)))
+        rw outs (block.outputs j 0 (omega (arith, ap length outs)))
 
     by : (kind : Kind) → (task_at job.graph t).kind ≡ kind
-        → (task_at job.graph t).block ≤ (phaser_at job.graph (output_at job t j)).bound
+        → most ≤ (phaser_at job.graph (output_at job t j)).bound
     by Source e = other (λ peer. (let wrong = sym e ∙ peer in cc))
     by Fir e = other (λ peer. (let wrong = sym e ∙ peer in cc))
     by Split e = other (λ peer. (let wrong = sym e ∙ peer in cc))
     by Join e = other (λ peer. (let wrong = sym e ∙ peer in cc))
     by Sink e = other (λ peer. (let wrong = sym e ∙ peer in cc))
     by Peer e =
-        let one : (task_at job.graph t).block ≡ 1 =
-        (is.tasks t there).block.kind (ap has_blocks e) in
+        let one : most ≡ 1 =
+        block.kind (ap has_blocks e) in
         omega (arith, (is.phasers (output_at job t j) pp).bound.0)
 
 -- a list of one
@@ -140,16 +143,17 @@ one_of (v ∷ w ∷ vs) some few = absurd (omega arith)
 
 -- a live task that has not come to its end signals a block on output j. A peer that waits on E, its
 -- output 0, has not yet put there one value more than it has taken
-pub signal_passes : (job : Job) (m : Moment) (t j : ℕ) (vs : List ℤ) → IsGraph job.graph
+pub signal_passes : {most : ℕ} (job : Job) (m : Moment) (t j : ℕ) (vs : List ℤ)
+    → HasBlock job.graph (with_block most (task_at job.graph t)) → IsGraph job.graph
     → IsReachable job m → Live job m t → j < length (signalled_by (task_at job.graph t))
     → (HasEnded job m t → ⊥)
     → ((task_at job.graph t).kind ≡ Peer → j ≡ 0
     → length (m.put t 0) < length (m.taken t 1) + 1)
-    → 1 ≤ length vs → length vs ≤ (task_at job.graph t).block
+    → 1 ≤ length vs → length vs ≤ most
     → MaySignal (signal_refusal (limits_at job (output_at job t j))
     (m.history (output_at job t j)) (number_on m t (output_at job t j)) (map one vs)
     (phaser_at job.graph (output_at job t j)).single)
-signal_passes job m t j vs is reached live lt more turn some few =
+signal_passes {most} job m t j vs block is reached live lt more turn some few =
     let p = output_at job t j in
     let n = number_on m t p in
     let place = place_of_output job.graph t (task_at job.graph t) j (is.tasks t live.there) lt in
@@ -173,7 +177,7 @@ signal_passes job m t j vs is reached live lt more turn some few =
         (m.history (output_at job t j)) (number_on m t (output_at job t j)) (map one vs)
         (phaser_at job.graph (output_at job t j)).single)
     by mode e s pp at (inl none) =
-        let fits = block_fits job t j is live.there lt pp in
+        let fits = block_fits job t j block is live.there lt pp in
         may_signal_block job m (output_at job t j) (number_on m t (output_at job t j)) vs mode.mode
         is reached.ran pp e mode.signals none mode.named
         (good_block (limits_at job (output_at job t j)) (length vs) some (omega arith))
@@ -189,8 +193,7 @@ signal_passes job m t j vs is reached live lt more turn some few =
         let same : length (m.put t j) ≡ length (m.put t 0) =
         ap (λ i. length (m.put t i)) peer.1 in
         let low : length (m.put t 0) < length (m.taken t 1) + 1 = turn peer.0 peer.1 in
-        let block : (task_at job.graph t).block ≡ 1 =
-        (is.tasks t live.there).block.kind (ap has_blocks peer.0) in
+        let one : most ≡ 1 = block.kind (ap has_blocks peer.0) in
         let v = one_of vs some (omega arith) in
         rw v.1 (may_signal job m p n v.0 mode.mode is reached.ran pp e mode.signals
         mode.named
@@ -225,9 +228,10 @@ signal_turn_told job m t j vs event ranged may =
 
 -- a live task that has not come to its end waits on input k. A peer that signals E, its input 1, too
 -- has put there more values than it has taken, and where nobody signals there are more to take
-pub wait_passes : (job : Job) (m : Moment) (t k steps : ℕ) → IsGraph job.graph
+pub wait_passes : {most : ℕ} (job : Job) (m : Moment) (t k steps : ℕ)
+    → HasBlock job.graph (with_block most (task_at job.graph t)) → IsGraph job.graph
     → IsReachable job m → Live job m t → k < length (task_at job.graph t).inputs
-    → (HasEnded job m t → ⊥) → 1 ≤ steps → steps ≤ (task_at job.graph t).block
+    → (HasEnded job m t → ⊥) → 1 ≤ steps → steps ≤ most
     → ((task_at job.graph t).kind ≡ Peer → k ≡ 1 → length (m.taken t 1) < length (m.put t 0))
     → (has_signaller (m.history (input_at (task_at job.graph t) k)) ≡ false
     → m.offset t + length (m.taken t k)
@@ -235,7 +239,7 @@ pub wait_passes : (job : Job) (m : Moment) (t k steps : ℕ) → IsGraph job.gra
     → WaitMay (limits_at job (input_at (task_at job.graph t) k))
     (m.history (input_at (task_at job.graph t) k))
     (number_on m t (input_at (task_at job.graph t) k)) steps
-wait_passes job m t k steps is reached live lt more some few turn later =
+wait_passes {most} job m t k steps block is reached live lt more some few turn later =
     let p = input_at (task_at job.graph t) k in
     let n = number_on m t p in
     let line : OnLine (task_at job.graph t) p = inr (k, lt, refl) in
@@ -246,8 +250,7 @@ wait_passes job m t k steps is reached live lt more some few turn later =
     let e = member_on job m t p n mode.mode reached live.there mode.on pp at here in
     let into = on_input job m t k p n (reached.ran.tasks t live.there) live.there lt refl at in
     let w = wait_phase_is job m t k p n mode.mode (reached.ran.phasers p pp).legal into e in
-    let fits : (task_at job.graph t).block ≤ (phaser_at job.graph p).bound =
-    (is.tasks t live.there).block.inputs k 0 lt in
+    let fits : most ≤ (phaser_at job.graph p).bound = block.inputs k 0 lt in
     may_wait job m p n steps mode.mode e mode.waits
     (good_block (limits_at job p) steps some (omega arith)) (by mode e w pp at mode.first)
     (λ quiet. (omega (arith, w, later quiet)))

@@ -18,7 +18,7 @@ use Rattle.graph_runs.proofs.JoinsNow.{next_child_now_is}
 use Rattle.graph_runs.proofs.Turned.{exchange_wait_is, next_leave_is, next_child_is}
 use Rattle.graph_runs.specs.TaskEvents.{TaskEvent, IsNext, sample, signal, first_wait, exchange_wait, leave, child, child_now, after_turn}
 use Rattle.graph_runs.specs.Nexts.{has_left, number_on, registrations_at, first_missing}
-use Rattle.graph_runs.specs.TaskPlaces.{TaskPlace, StandsAt, StandsUpTo, registration_at, own_place, child_place, child_of, number_given}
+use Rattle.graph_runs.specs.TaskPlaces.{TaskPlace, StandsUpTo, registration_at, own_place, child_place, child_of, number_given}
 use Rattle.graph_runs.proofs.Signalling.{Live}
 use Rattle.graph_runs.proofs.Whose.{task_of, IsInOrder}
 use Rattle.graph_runs.proofs.Reaching.{one_registration}
@@ -27,10 +27,10 @@ use Rattle.graph_runs.proofs.Following.{SameSteps, same_steps, StepsAt, steps_st
 
 -- ---- other tasks
 
-pub others_follow : (job : Job) (m : Moment) (u : ℕ) (event : TaskEvent) (at : TaskPlace)
+pub others_follow : {most : ℕ} (job : Job) (m : Moment) (u : ℕ) (event : TaskEvent) (at : TaskPlace)
     → IsGraph job.graph → HasRun job m → IsNext job m event → u < length job.graph.tasks
-    → u ≢ task_of event → child_of event ≢ Some u → StandsAt job m u at
-    → StandsAt job (after_turn job event m) u at
+    → u ≢ task_of event → child_of event ≢ Some u → StandsUpTo most job m u at
+    → StandsUpTo most job (after_turn job event m) u at
 others_follow job m u (sample t j p n vs) at is ran next there apart another stands =
     let after = after_turn job (sample t j p n vs) m in
     let s = next_samples_are job m t j p n vs next.1 (ran.tasks t next.0.task) in
@@ -81,11 +81,11 @@ others_follow job m u (child_now t p n c a) at is ran next there apart another s
 -- ---- the child that is registered, and its parent
 
 -- a registration is for the first that the child misses
-first_for : (job : Job) (m after : Moment) (p c a : ℕ) (r : Registration) (at : TaskPlace)
+first_for : {most : ℕ} (job : Job) (m after : Moment) (p c a : ℕ) (r : Registration) (at : TaskPlace)
     → IsGraph job.graph → c < length job.graph.tasks → IsLegal (limits_at job p) (m.history p)
     → GivesNumber m after p c a → SameSteps m after c → first_missing job m c ≡ Some r
-    → r.phaser ≡ p → greatest_used (m.history p) + 1 ≡ a → StandsAt job m c at
-    → StandsAt job after c (child_place a at)
+    → r.phaser ≡ p → greatest_used (m.history p) + 1 ≡ a → StandsUpTo most job m c at
+    → StandsUpTo most job after c (child_place a at)
 first_for job m after p c a r at is there legal given same first on above stands =
     let found : slice_get (registrations_at job c) (length at.numbers) ≡ Some r =
     sym (missing job m c at stands) ∙ first in
@@ -108,17 +108,17 @@ first_for job m after p c a r at is there legal given same first on above stands
         sym (slice_get_past (registrations_at job c) (length at.numbers) past) ∙ found in cc)
 
 -- of the child and the number that the event names
-child_is : (job : Job) (m after : Moment) (c d a b : ℕ) (at : TaskPlace) → d ≡ c → b ≡ a
-    → StandsAt job m c at
-    → (StandsAt job m d at → StandsAt job after d (child_place b at))
-    → StandsAt job after c (child_place a at)
+child_is : {most : ℕ} (job : Job) (m after : Moment) (c d a b : ℕ) (at : TaskPlace) → d ≡ c → b ≡ a
+    → StandsUpTo most job m c at
+    → (StandsUpTo most job m d at → StandsUpTo most job after d (child_place b at))
+    → StandsUpTo most job after c (child_place a at)
 child_is job m after c d a b at same number stands follows =
     rw number at (rw same at (follows (rw same stands)))
 
-pub child_follows : (job : Job) (m : Moment) (c a : ℕ) (event : TaskEvent) (at : TaskPlace)
+pub child_follows : {most : ℕ} (job : Job) (m : Moment) (c a : ℕ) (event : TaskEvent) (at : TaskPlace)
     → IsGraph job.graph → HasRun job m → IsNext job m event → IsInOrder job m event
-    → child_of event ≡ Some c → number_given event ≡ Some a → StandsAt job m c at
-    → StandsAt job (after_turn job event m) c (child_place a at)
+    → child_of event ≡ Some c → number_given event ≡ Some a → StandsUpTo most job m c at
+    → StandsUpTo most job (after_turn job event m) c (child_place a at)
 child_follows job m c a (child t p n d b mode) at is ran next order of_c number stands =
     let after = after_turn job (child t p n d b mode) m in
     let s = next_child_is job m t p n d b mode next.1.0 next.1.1 in
@@ -141,9 +141,9 @@ child_follows job m c a (exchange_wait t p n o) at is ran next order of_c number
     absurd (cc)
 child_follows job m c a (leave t p n) at is ran next order of_c number stands = absurd (cc)
 
-pub parent_follows : (job : Job) (m : Moment) (t c : ℕ) (event : TaskEvent) (at : TaskPlace)
-    → IsNext job m event → task_of event ≡ t → child_of event ≡ Some c → StandsAt job m t at
-    → StandsAt job (after_turn job event m) t (own_place job m event at)
+pub parent_follows : {most : ℕ} (job : Job) (m : Moment) (t c : ℕ) (event : TaskEvent) (at : TaskPlace)
+    → IsNext job m event → task_of event ≡ t → child_of event ≡ Some c → StandsUpTo most job m t at
+    → StandsUpTo most job (after_turn job event m) t (own_place job m event at)
 parent_follows job m t c (child u p n d a mode) at next own of_c stands =
     let after = after_turn job (child u p n d a mode) m in
     let s = next_child_is job m u p n d a mode next.1.0 next.1.1 in
@@ -229,10 +229,10 @@ leave_stands {most} job m after t p n at is there s stands room here = record {
         ∙ ap (λ o. has_dropped (after.history p) (unwrap_or o 0)) (s.numbers p ∙ s.numbered)
         ∙ s.gone ∙ sym (lt-ltb i (suc at.left) (omega arith))
 
-pub leave_follows : (job : Job) (m : Moment) (t p n : ℕ) (at : TaskPlace) → IsGraph job.graph
+pub leave_follows : {most : ℕ} (job : Job) (m : Moment) (t p n : ℕ) (at : TaskPlace) → IsGraph job.graph
     → Live job m t → IsNext job m (leave t p n) → IsInOrder job m (leave t p n)
-    → StandsAt job m t at
-    → StandsAt job (after_turn job (leave t p n) m) t (record at { left = suc at.left })
+    → StandsUpTo most job m t at
+    → StandsUpTo most job (after_turn job (leave t p n) m) t (record at { left = suc at.left })
 leave_follows job m t p n at is live next made stands =
     let event = leave t p n in
     let s = next_leave_is job m t p n next.1 in

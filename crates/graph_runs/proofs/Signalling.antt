@@ -27,7 +27,8 @@ use Rattle.graph_runs.proofs.OnLines.{on_phaser}
 use Rattle.graph_runs.specs.Moves.{IsStaying}
 use Rattle.graph_runs.specs.TaskEvents.{TaskEvent, IsNext, signal}
 use Rattle.graph_runs.specs.Nexts.{is_live, is_owed, first_owed, first_missing, first_kept, waits_first, number_on}
-use Rattle.graph_runs.specs.Answers.{Answer, makes, is_blocked, is_gone, has_made, is_refused, signal_answer, signal_turn, call_signal, next_values, output_at}
+use Rattle.graph_runs.specs.NextBlocks.{AreSizes}
+use Rattle.graph_runs.specs.Answers.{Answer, makes, is_blocked, is_gone, has_made, is_refused, signal_answer, signal_turn, call_signal, output_at, values_up_to}
 use Rattle.graph_runs.proofs.PlacesLemmas.{place_of_output, numbered, find-some}
 
 -- ---- a live task
@@ -213,32 +214,33 @@ begins_some k xs ys a =
           ∙ ap (λ l. xs ++ l) (take-append-drop k rest ∙ is) ∙ a.1,
     )
 
--- a line makes at most its block of values at once, and one at least
-pub values_few : (job : Job) (m : Moment) (t j : ℕ)
-    → length (next_values job m t j) ≤ (task_at job.graph t).block
-values_few job m t j =
-    let many = length-take (task_at job.graph t).block
+-- at most so many values are next
+pub values_few : (most : ℕ) (job : Job) (m : Moment) (t j : ℕ)
+    → length (values_up_to most job m t j) ≤ most
+values_few most job m t j =
+    let many = length-take most
     (drop (length (m.put t j)) (made_now job m t j)) in
     omega arith
 
-pub one_value : (job : Job) (m : Moment) (t j : ℕ) → IsGraph job.graph
-    → t < length job.graph.tasks → has_blocks (task_at job.graph t).kind ≡ false
-    → length (next_values job m t j) ≤ 1
-one_value job m t j is there e =
-    let one : (task_at job.graph t).block ≡ 1 = (is.tasks t there).block.kind e in
-    let few = values_few job m t j in omega arith
+pub one_value : {steps : ℕ} (most : ℕ) (job : Job) (m : Moment) (t j : ℕ)
+    → AreSizes job.graph t steps most → has_blocks (task_at job.graph t).kind ≡ false
+    → length (values_up_to most job m t j) ≤ 1
+one_value most job m t j sizes e =
+    let one : most ≡ 1 = sizes.owed.kind e in
+    let few = values_few most job m t j in omega arith
 
-pub signal_next : (job : Job) (m : Moment) (t j : ℕ) (event : TaskEvent) → IsGraph job.graph
+pub signal_next : (steps most : ℕ) (job : Job) (m : Moment) (t j : ℕ) (event : TaskEvent)
+    → AreSizes job.graph t steps most → IsGraph job.graph
     → HasRun job m → Live job m t → first_owed job m t ≡ Some j
     → waits_first (task_at job.graph t).kind j (length (m.put t j)) (length (m.taken t 1)) ≡ false
-    → signal_turn job m t j (next_values job m t j)
-    (signal t j (output_at job t j) (number_on m t (output_at job t j)) (next_values job m t j))
+    → signal_turn job m t j (values_up_to most job m t j)
+    (signal t j (output_at job t j) (number_on m t (output_at job t j)) (values_up_to most job m t j))
     ≡ makes event → IsNext job m event
-signal_next job m t j event is ran live owes first answer =
+signal_next steps most job m t j event sizes is ran live owes first answer =
     let o = owed job m t j owes in
     let line = is.tasks t live.there in
     let p = output_at job t j in
-    let vs = next_values job m t j in
+    let vs = values_up_to most job m t j in
     let n = number_on m t p in
     let a = signalled job m t j vs (signal t j p n vs) event answer in
     let place : index_in (signalled_by (task_at job.graph t)) p ≡ Some j =
@@ -254,9 +256,9 @@ signal_next job m t j event is ran live owes first answer =
           place = place;
           staying = stays job m t is (ran.tasks t live.there) live.there (not_ended job m t j o.0 o.1);
         };
-        entries = begins_some (task_at job.graph t).block (m.put t j) (made_now job m t j)
+        entries = begins_some most (m.put t j) (made_now job m t j)
             ((ran.tasks t live.there).puts j o.0);
         exchanged = may_put (task_at job.graph t).kind j (length (m.put t j)) (length (m.taken t 1))
-            (length vs) (λ peer. one_value job m t j is live.there (ap has_blocks peer)) first;
+            (length vs) (λ peer. one_value most job m t j sizes (ap has_blocks peer)) first;
       },
     )

@@ -14,7 +14,7 @@ use Rattle.stream_lists.specs.Jobs.{Job}
 use Rattle.graph_runs.specs.Moments.{Moment, input_at}
 use Rattle.graph_runs.specs.Nexts.{registrations_at, first_missing, first_kept, has_registered, has_left}
 use Rattle.graph_runs.specs.Answers.{output_at}
-use Rattle.graph_runs.specs.TaskPlaces.{TaskPlace, StandsAt, registration_at, registration_of_output}
+use Rattle.graph_runs.specs.TaskPlaces.{TaskPlace, registration_at, registration_of_output, StandsUpTo}
 
 -- a search that fails below n, and not at n, finds what stands at n
 pub find-at : {X : Type 0} (test : X → Bool) (xs : List X) (n : ℕ) (d : X) → n ≤ length xs
@@ -28,7 +28,7 @@ find-at test (x ∷ xs) (suc n) d le below here =
     (λ lt. here (omega arith))
 
 -- the first registration that a task misses is the one behind its numbers
-pub missing : (job : Job) (m : Moment) (t : ℕ) (at : TaskPlace) → StandsAt job m t at
+pub missing : {most : ℕ} (job : Job) (m : Moment) (t : ℕ) (at : TaskPlace) → StandsUpTo most job m t at
     → first_missing job m t ≡ slice_get (registrations_at job t) (length at.numbers)
 missing job m t at stands =
     find-at (λ r. not (has_registered m t r)) (registrations_at job t) (length at.numbers)
@@ -47,7 +47,7 @@ missing job m t at stands =
         ∙ slice_get_past at.numbers (length at.numbers) (omega arith))
 
 -- the first phaser that a task has not left, where it is registered on all
-pub kept : (job : Job) (m : Moment) (t : ℕ) (at : TaskPlace) → StandsAt job m t at
+pub kept : {most : ℕ} (job : Job) (m : Moment) (t : ℕ) (at : TaskPlace) → StandsUpTo most job m t at
     → length at.numbers ≡ length (registrations_at job t)
     → first_kept job m t ≡ slice_get (registrations_at job t) at.left
 kept job m t at stands all =

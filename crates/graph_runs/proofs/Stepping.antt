@@ -8,7 +8,7 @@ use Rattle.phase_history.specs.declared.event.Event.TheVariants.{Signalled}
 use Rattle.stream_lists.specs.graph_base.declared.line.Kind.{Kind}
 use Rattle.stream_lists.specs.graph_base.declared.line.Kind.TheVariants.{Source, Fir, Split, Join, Peer, Sink}
 use Rattle.stream_lists.specs.graph_base.Graphs.{task_at, phaser_at}
-use Rattle.stream_lists.specs.graph_base.TaskLines.{IsGraph, has_blocks}
+use Rattle.stream_lists.specs.graph_base.TaskLines.{IsGraph, HasBlock, has_blocks}
 use Rattle.stream_lists.specs.Jobs.{Job}
 use Rattle.stream_lists.specs.Spans.{signalled_by, puts_on}
 use Rattle.stream_lists.proofs.Ordered.{place-at}
@@ -20,8 +20,9 @@ use Rattle.graph_runs.proofs.InBlocks.{next_samples_are, next_signals_are}
 use Rattle.graph_runs.proofs.Nexts.{further-length}
 use Rattle.graph_runs.specs.TaskEvents.{IsNext, sample, signal, after_turn}
 use Rattle.graph_runs.specs.Nexts.{first_owed, waits_first, signals, exchanges, number_on}
-use Rattle.graph_runs.specs.Answers.{next_values, output_at}
-use Rattle.graph_runs.specs.TaskPlaces.{Owed, nothing, values, exchange, Owes, OwesUpTo, TaskPlace, StandsAt, StandsUpTo, lacking, owed_after_signal}
+use Rattle.graph_runs.specs.NextBlocks.{AreSizes, MaySize, with_block}
+use Rattle.graph_runs.specs.Answers.{output_at, values_up_to}
+use Rattle.graph_runs.specs.TaskPlaces.{Owed, nothing, values, exchange, Owes, OwesUpTo, TaskPlace, StandsUpTo, lacking, owed_after_signal}
 use Rattle.stream_lists.specs.stream_filters.Range.{ranged}
 use Rattle.stream_lists.specs.stream_filters.declared.fault.TooBigValue.{TooBigValue}
 use Rattle.phase_history.specs.phase_base.Modes.{mode_signals, mode_waits}
@@ -42,19 +43,20 @@ use Rattle.graph_runs.proofs.Tasks.{now_at}
 use Rattle.graph_runs.proofs.TurnEntries.{IsMember, on_output, on_input, signal_phase_is, wait_phase_is}
 use Rattle.graph_runs.proofs.Boundaries.{made_many, peer_ends}
 use Rattle.graph_runs.proofs.Calling.{source_ends}
-use Rattle.graph_runs.proofs.Following.{Lacks, next_up_to, PutsAll, puts_all, KeepsPlaces, stays_at, keeps_moved}
+use Rattle.graph_runs.proofs.Following.{Lacks, PutsAll, puts_all, KeepsPlaces, stays_at, keeps_moved}
 use Rattle.graph_runs.proofs.InOrder.{OwesFor}
 use Rattle.graph_runs.proofs.Lacking.{first_none, first_is, lacks_here, next_begins}
 
 -- ---- what the place owes
 
 -- where nothing is first owed, the place owes nothing
-pub owes_nothing : (job : Job) (m : Moment) (t : ℕ) (owed : Owed) → Owes job m t owed
+pub owes_nothing : (most : ℕ) (job : Job) (m : Moment) (t : ℕ) (owed : Owed)
+    → OwesUpTo most job m t owed
     → first_owed job m t ≡ None → owed ≡ nothing
-owes_nothing job m t nothing owes none = refl
-owes_nothing job m t (values j vs) owes none =
+owes_nothing most job m t nothing owes none = refl
+owes_nothing most job m t (values j vs) owes none =
     absurd (let clash : Some j ≡ None = sym owes.0 ∙ none in cc)
-owes_nothing job m t (exchange x) owes none =
+owes_nothing most job m t (exchange x) owes none =
     absurd (let clash : Some 1 ≡ None = sym owes.0 ∙ none in cc)
 
 -- ---- a sample
@@ -82,18 +84,18 @@ sample_lacks job m after t j vs is ran now there source s first steps lacks i lt
     ∙ ap (λ x. length (m.put t x) + length vs) (first ∙ sym at) in
     omega arith
 
-pub sample_follows : (job : Job) (m : Moment) (t j p n : ℕ) (vs : List ℤ) (at : TaskPlace)
+pub sample_follows : {most : ℕ} (job : Job) (m : Moment) (t j p n : ℕ) (vs : List ℤ) (at : TaskPlace)
     → IsGraph job.graph → HasRun job m → IsNext job m (sample t j p n vs)
     → HasRun job (after_turn job (sample t j p n vs) m) → first_owed job m t ≡ None
-    → StandsAt job m t at
-    → StandsAt job (after_turn job (sample t j p n vs) m) t
+    → StandsUpTo most job m t at
+    → StandsUpTo most job (after_turn job (sample t j p n vs) m) t
     (record at { begun = further at.begun vs })
-sample_follows job m t j p n vs at is ran next now idle stands =
+sample_follows {most} job m t j p n vs at is ran next now idle stands =
     let after = after_turn job (sample t j p n vs) m in
     let there = next.0.task in
     let source = next.1.source in
     let s = next_samples_are job m t j p n vs next.1 (ran.tasks t there) in
-    let none : at.owed ≡ nothing = owes_nothing job m t at.owed stands.owes idle in
+    let none : at.owed ≡ nothing = owes_nothing most job m t at.owed stands.owes idle in
     let single : length (signalled_by (task_at job.graph t)) ≡ 1 =
     source_ends job t is there source in
     let lt = (place-at (signalled_by (task_at job.graph t)) p j s.place).0 in
@@ -149,17 +151,18 @@ signal_lacks job m after t j vs owed left s steps lacks others here i lt =
         ∙ ap (λ x. length (after.put t i) + x) (others i lt apart)
 
 -- where values are signalled, the place owes them
-owes_values : (job : Job) (m : Moment) (t j : ℕ) (owed : Owed) → Owes job m t owed
+owes_values : (most : ℕ) (job : Job) (m : Moment) (t j : ℕ) (owed : Owed)
+    → OwesUpTo most job m t owed
     → first_owed job m t ≡ Some j
     → waits_first (task_at job.graph t).kind j (length (m.put t j)) (length (m.taken t 1)) ≡ false
-    → owed ≡ values j (map ranged (next_values job m t j))
-owes_values job m t j nothing owes some first =
+    → owed ≡ values j (map ranged (values_up_to most job m t j))
+owes_values most job m t j nothing owes some first =
     absurd (let clash : None ≡ Some j = sym owes ∙ some in cc)
-owes_values job m t j (values i ws) owes some first =
+owes_values most job m t j (values i ws) owes some first =
     let same : i ≡ j = same_Some i j (sym owes.0 ∙ some) in
     ap (λ l. values i l) (sym owes.2)
-    ∙ ap (λ x. values x (map ranged (next_values job m t x))) same
-owes_values job m t j (exchange x) owes some first =
+    ∙ ap (λ x. values x (map ranged (values_up_to most job m t x))) same
+owes_values most job m t j (exchange x) owes some first =
     let same : 1 ≡ j = same_Some 1 j (sym owes.0 ∙ some) in
     let not_first = rw (← same) at first in
     absurd (let clash : signals 1 ≡ exchanges =
@@ -281,22 +284,28 @@ peer_owes job m after t v w is ran there low e s next before lacks =
     none_below zero lt = refl
     none_below (suc i) lt = absurd (omega arith)
 
--- a block of its line is a number of steps that a task may make at most
-pub line_most : (job : Job) (t : ℕ) → IsGraph job.graph → t < length job.graph.tasks
-    → IsMost job t (task_at job.graph t).block
-line_most job t is there = record {
-  some = (is.tasks t there).block.some;
-  block = by (task_at job.graph t).kind refl;
-}
+-- the sizes of a turn are numbers of steps that a task may make at most
+pub sizes_most : {steps most : ℕ} (job : Job) (t : ℕ) → AreSizes job.graph t steps most
+    → IsMost job t most
+sizes_most {steps} {most} job t sizes =
+    record { some = sizes.owed.some; block = by (task_at job.graph t).kind refl }
   where
-    by : (kind : Kind) → (task_at job.graph t).kind ≡ kind
-        → IsBlock kind (task_at job.graph t).block
+    by : (kind : Kind) → (task_at job.graph t).kind ≡ kind → IsBlock kind most
     by Source e = tt
     by Fir e = tt
-    by Split e = (is.tasks t there).block.kind (ap has_blocks e)
-    by Join e = (is.tasks t there).block.kind (ap has_blocks e)
-    by Peer e = (is.tasks t there).block.kind (ap has_blocks e)
+    by Split e = sizes.owed.kind (ap has_blocks e)
+    by Join e = sizes.owed.kind (ap has_blocks e)
+    by Peer e = sizes.owed.kind (ap has_blocks e)
     by Sink e = tt
+
+-- a block of its line is both
+pub line_sizes : (job : Job) (t : ℕ) → IsGraph job.graph
+    → MaySize job.graph t (task_at job.graph t).block (task_at job.graph t).block
+line_sizes job t is there =
+    let b = (is.tasks t there).block in
+    let block : HasBlock job.graph (with_block (task_at job.graph t).block (task_at job.graph t)) =
+    record { some = b.some; kind = b.kind; inputs = b.inputs; outputs = b.outputs } in
+    record { block = block; owed = block; few = λ fir. omega arith }
 
 -- a peer makes one step at most
 pub peer_most : (job : Job) (t most : ℕ) → IsMost job t most
@@ -307,7 +316,7 @@ peer_most job t most allowed e =
 -- and puts one value at a time
 peer_next : (most : ℕ) (job : Job) (m : Moment) (t j : ℕ) → IsMost job t most
     → (task_at job.graph t).kind ≡ Peer → length (m.put t j) < length (made_now job m t j)
-    → next_up_to most job m t j
+    → values_up_to most job m t j
     ≡ get_or (made_now job m t j) (length (m.put t j)) (pos 0) ∷ []
 peer_next most job m t j allowed e more =
     let made = made_now job m t j in
@@ -323,7 +332,7 @@ pub puts_stand : {most : ℕ} (job : Job) (m after : Moment) (t j : ℕ) (vs : L
     → TaskRan job m t
     → ((task_at job.graph t).kind ≡ Peer → length (m.taken t 1) ≤ length (m.put t 0))
     → PutsAll m after t j vs → KeepsPlaces m after t → after.begun t ≡ m.begun t
-    → length (m.put t j) < length (made_now job m t j) → next_up_to most job m t j ≡ vs
+    → length (m.put t j) < length (made_now job m t j) → values_up_to most job m t j ≡ vs
     → at.owed ≡ values j (map ranged vs) → StandsUpTo most job m t at
     → StandsUpTo most job after t
     (record at { owed = owed_after_signal (task_at job.graph t) j vs })
@@ -403,24 +412,24 @@ puts_stand {most} job m after t j vs at is there allowed ran in_turn puts keeps 
         peer (get_or (made_now job m t j) (length (m.put t j)) (pos 0)) e same
         (sym next ∙ peer_next most job m t j allowed e more) refl
 
-pub signal_follows : (job : Job) (m : Moment) (t j p n : ℕ) (vs : List ℤ) (at : TaskPlace)
-    → IsGraph job.graph → HasRun job m → Live job m t → IsNext job m (signal t j p n vs)
-    → OwesFor job m (signal t j p n vs) → StandsAt job m t at
-    → StandsAt job (after_turn job (signal t j p n vs) m) t
+pub signal_follows : {steps : ℕ} (most : ℕ) (job : Job) (m : Moment) (t j p n : ℕ) (vs : List ℤ)
+    (at : TaskPlace) → AreSizes job.graph t steps most → IsGraph job.graph → HasRun job m → Live job m t → IsNext job m (signal t j p n vs)
+    → OwesFor steps most job m (signal t j p n vs) → StandsUpTo most job m t at
+    → StandsUpTo most job (after_turn job (signal t j p n vs) m) t
     (record at { owed = owed_after_signal (task_at job.graph t) j vs })
-signal_follows job m t j p n vs at is ran live next owes stands =
+signal_follows most job m t j p n vs at sizes is ran live next owes stands =
     let after = after_turn job (signal t j p n vs) m in
     let there = next.0.task in
     let s = next_signals_are job m t j p n vs next.1 (ran.tasks t there) in
     let steps : after.begun t ≡ m.begun t =
     (let here : eqb t t ≡ true = eq-eqb t t refl in rw here refl) in
     let o = owed job m t j owes.0 in
-    puts_stand job m after t j vs at is there (line_most job t is there) (ran.tasks t there)
+    puts_stand job m after t j vs at is there (sizes_most job t sizes) (ran.tasks t there)
     (λ e. in_turn e) (puts_all job m after t j p n vs s)
     (keeps_moved job m after t p
     (Signalled n (map one vs) (phaser_at job.graph p).single) t s.moved (λ b at. refl)) steps
     o.1 owes.1
-    (owes_values job m t j at.owed stands.owes owes.0 owes.2
+    (owes_values most job m t j at.owed stands.owes owes.0 owes.2
     ∙ ap (λ l. values j (map ranged l)) owes.1) stands
   where
     -- a peer that signals has not come to its end

@@ -22,8 +22,8 @@ use Rattle.graph_runs.proofs.OnLines.{on_phaser}
 use Rattle.graph_runs.proofs.Tasks.{first_looks}
 use Rattle.graph_runs.specs.TaskEvents.{sample, signal, first_wait, exchange_wait}
 use Rattle.graph_runs.specs.Nexts.{is_not_live, leaves, signals, waits, exchanges, is_live, of_live, at_boundary, without_child, next_step, first_owed, is_owed, first_due, first_kept, first_missing, has_signaller, has_input_ended, has_run_out, is_cut, waits_first, number_on}
-use Rattle.graph_runs.specs.Answers.{answer_to, answer_of_turn, output_at, next_values, next_samples}
-use Rattle.graph_runs.specs.NextBlocks.{block_of, sample_block_of}
+use Rattle.graph_runs.specs.Answers.{output_at, answer_up_to, turn_up_to, values_up_to, samples_up_to}
+use Rattle.graph_runs.specs.NextBlocks.{AreSizes, MaySize, block_up_to, sample_block_up_to}
 use Rattle.graph_runs.specs.Reached.{IsReachable}
 use Rattle.graph_runs.proofs.PlacesLemmas.{place_of_output}
 use Rattle.graph_runs.proofs.Signalling.{Live, live-is, number_there, stays, owed, not_ended, values_few}
@@ -63,26 +63,25 @@ pub peer_taken : (job : Job) (m : Moment) (t : ℕ) → IsGraph job.graph → Ta
 peer_taken job m t is ran there peer =
     rw peer at (ran.takes 1 (omega (arith, (peer_ends job t is there peer).0)))
 
-signals_told : (job : Job) (m : Moment) (t j : ℕ) → IsGraph job.graph
-    → AreSends (samples_at job t) → IsReachable job m → Live job m t
-    → first_owed job m t ≡ Some j → IsTold (answer_to job m t (signals j))
-signals_told job m t j is samples reached live owes =
+signals_told : (steps most : ℕ) (job : Job) (m : Moment) (t j : ℕ) → AreSizes job.graph t steps most
+    → IsGraph job.graph → AreSends (samples_at job t) → IsReachable job m → Live job m t
+    → first_owed job m t ≡ Some j → IsTold (answer_up_to steps most job m t (signals j))
+signals_told steps most job m t j sizes is samples reached live owes =
     let o = owed job m t j owes in
     let p = output_at job t j in
-    let vs = next_values job m t j in
+    let vs = values_up_to most job m t j in
     let put = length (m.put t j) in
     let rest = drop put (made_now job m t j) in
-    let block = (task_at job.graph t).block in
-    let some_block : 1 ≤ block = (is.tasks t live.there).block.some in
-    let many : length vs ≡ min block (length rest) = length-take block rest in
+    let some_most : 1 ≤ most = sizes.owed.some in
+    let many : length vs ≡ min most (length rest) = length-take most rest in
     let left : length rest ≡ length (made_now job m t j) - put =
     length-drop put (made_now job m t j) in
     signal_turn_told job m t j vs (signal t j p (number_on m t p) vs)
     (λ plain. all_fail is_out_of_range put vs (pos 0) (λ i lt.
-    (take_ranged block rest (drop_ranged put (made_now job m t j)
+    (take_ranged most rest (drop_ranged put (made_now job m t j)
     (made_ranged job m t j is reached.ran live.there samples plain))).at i))
-    (signal_passes job m t j vs is reached live o.0 (not_ended job m t j o.0 o.1)
-    (λ peer first. in_turn peer first o.1) (omega (arith, o.1)) (values_few job m t j))
+    (signal_passes job m t j vs sizes.owed is reached live o.0 (not_ended job m t j o.0 o.1)
+    (λ peer first. in_turn peer first o.1) (omega (arith, o.1)) (values_few most job m t j))
   where
     in_turn : (task_at job.graph t).kind ≡ Peer → j ≡ 0
         → length (m.put t j) < length (made_now job m t j)
@@ -100,11 +99,11 @@ signals_told job m t j is samples reached live owes =
         ap (λ i. length (made_now job m t i)) first in
         omega arith
 
-exchange_told : (job : Job) (m : Moment) (t j : ℕ) → IsGraph job.graph → IsReachable job m
-    → Live job m t → first_owed job m t ≡ Some j
+exchange_told : (steps most : ℕ) (job : Job) (m : Moment) (t j : ℕ) → AreSizes job.graph t steps most
+    → IsGraph job.graph → IsReachable job m → Live job m t → first_owed job m t ≡ Some j
     → waits_first (task_at job.graph t).kind j (length (m.put t j)) (length (m.taken t 1)) ≡ true
-    → IsTold (answer_to job m t exchanges)
-exchange_told job m t j is reached live owes first =
+    → IsTold (answer_up_to steps most job m t exchanges)
+exchange_told steps most job m t j sizes is reached live owes first =
     let o = owed job m t j owes in
     let w = waits_as_peer (task_at job.graph t).kind j (length (m.put t j)) (length (m.taken t 1))
     first in
@@ -112,8 +111,8 @@ exchange_told job m t j is reached live owes first =
     let p = input_at (task_at job.graph t) 1 in
     wait_told (exchange_wait t p (number_on m t p)) (value_at job p) (limits_at job p)
     (m.history p) (number_on m t p)
-    (wait_passes job m t 1 1 is reached live (omega arith) (not_ended job m t j o.0 o.1)
-    (omega arith) (is.tasks t live.there).block.some
+    (wait_passes job m t 1 1 sizes.owed is reached live (omega arith) (not_ended job m t j o.0 o.1)
+    (omega arith) sizes.owed.some
     (λ peer one. below w.0 w.1 o.0 o.1 j refl)
     (λ quiet. absurd (noisy w.0 quiet)))
   where
@@ -174,45 +173,46 @@ exchange_told job m t j is reached live owes first =
 
 -- ---- a step
 
-samples_told : (job : Job) (m : Moment) (t : ℕ) → IsGraph job.graph
-    → AreSends (samples_at job t) → IsReachable job m → Live job m t
+samples_told : (steps most : ℕ) (job : Job) (m : Moment) (t : ℕ) → AreSizes job.graph t steps most
+    → IsGraph job.graph → AreSends (samples_at job t) → IsReachable job m → Live job m t
     → (task_at job.graph t).kind ≡ Source
     → is_cut (task_at job.graph t).until (m.begun t) ≡ false
     → has_input_ended job m t (task_at job.graph t).kind ≡ false
-    → IsTold (answer_to job m t (next_step (task_at job.graph t) (m.begun t) Source))
-samples_told job m t is samples reached live source uncut more =
+    → IsTold (answer_up_to steps most job m t (next_step (task_at job.graph t) (m.begun t) Source))
+samples_told steps most job m t sizes is samples reached live source uncut more =
     let one : length (signalled_by (task_at job.graph t)) ≡ 1 =
     source_ends job t is live.there source in
     let p = output_at job t 0 in
-    let vs = next_samples job m t in
+    let vs = samples_up_to steps job m t in
     let rest = drop (m.begun t) (samples_at job t) in
-    let steps : ℕ = sample_block_of job m t in
-    let steps_is : steps ≡ min (block_of job m t) (length (samples_at job t) - m.begun t) = refl in
-    let some : 1 ≤ block_of job m t =
-    block_some job m t is (reached.ran.tasks t live.there) live.there uncut in
-    let few : block_of job m t ≤ (task_at job.graph t).block = block_few job m t in
+    let block : ℕ = sample_block_up_to steps job m t in
+    let block_is : block
+    ≡ min (block_up_to steps job m t) (length (samples_at job t) - m.begun t) = refl in
+    let some : 1 ≤ block_up_to steps job m t =
+    block_some steps job m t (reached.ran.tasks t live.there) sizes.block.some uncut in
+    let few : block_up_to steps job m t ≤ steps = block_few steps job m t in
     let open_still : nat_le (length (samples_at job t)) (m.begun t) ≡ false =
     ap (λ k. has_input_ended job m t k) (sym source) ∙ more in
     let below : m.begun t < length (samples_at job t) =
     leb-false (length (samples_at job t)) (m.begun t) open_still in
     let left : length rest ≡ length (samples_at job t) - m.begun t =
     length-drop (m.begun t) (samples_at job t) in
-    let many : length vs ≡ steps = length-take-le steps rest (omega arith) in
+    let many : length vs ≡ block = length-take-le block rest (omega arith) in
     signal_turn_told job m t 0 vs (sample t 0 p (number_on m t p) vs)
     (λ plain. all_fail is_out_of_range (length (m.put t 0)) vs (pos 0) (λ i lt.
-    (take_ranged steps rest (drop_ranged (m.begun t) (samples_at job t)
+    (take_ranged block rest (drop_ranged (m.begun t) (samples_at job t)
     (sends_ranged (samples_at job t) samples))).at i))
-    (signal_passes job m t 0 vs is reached live (omega arith) (goes_on job m t uncut more)
+    (signal_passes job m t 0 vs sizes.block is reached live (omega arith) (goes_on job m t uncut more)
     (λ peer first. absurd (let no = sym source ∙ peer in cc)) (omega arith) (omega arith))
 
-waits_told : (job : Job) (m : Moment) (t : ℕ) → IsGraph job.graph → IsReachable job m
-    → Live job m t → ((task_at job.graph t).kind ≡ Source → ⊥)
+waits_told : (steps most : ℕ) (job : Job) (m : Moment) (t : ℕ) → AreSizes job.graph t steps most
+    → IsGraph job.graph → IsReachable job m → Live job m t → ((task_at job.graph t).kind ≡ Source → ⊥)
     → is_cut (task_at job.graph t).until (m.begun t) ≡ false
     → has_input_ended job m t (task_at job.graph t).kind ≡ false
     → has_run_out m (task_at job.graph t) t (first_input (task_at job.graph t) (m.begun t)) ≡ false
-    → IsTold (answer_to job m t
+    → IsTold (answer_up_to steps most job m t
     (waits (first_input (task_at job.graph t) (m.begun t))))
-waits_told job m t is reached live no_source uncut more open_still =
+waits_told steps most job m t sizes is reached live no_source uncut more open_still =
     let task = task_at job.graph t in
     let k = first_input task (m.begun t) in
     let lt : k < length task.inputs =
@@ -221,9 +221,10 @@ waits_told job m t is reached live no_source uncut more open_still =
     let made = first_wait t k p (number_on m t p) in
     block_told
     (λ phase count. made (slice_range (stream_of (value_at job p) (m.history p)) phase
-    (phase + count))) (limits_at job p) (m.history p) (number_on m t p) (block_of job m t)
-    (wait_passes job m t k (block_of job m t) is reached live lt (goes_on job m t uncut more)
-    (block_some job m t is (reached.ran.tasks t live.there) live.there uncut) (block_few job m t)
+    (phase + count))) (limits_at job p) (m.history p) (number_on m t p) (block_up_to steps job m t)
+    (wait_passes job m t k (block_up_to steps job m t) sizes.block is reached live lt (goes_on job m t uncut more)
+    (block_some steps job m t (reached.ran.tasks t live.there) sizes.block.some uncut)
+    (block_few steps job m t)
     (λ peer one. (let zero_is : k ≡ 0 = rw peer refl in absurd (omega arith)))
     (λ quiet. later (and_cases (not (has_signaller (m.history p)))
     (nat_le (done_of (m.history p)) (m.offset t + length (m.taken t k))) open_still) quiet))
@@ -242,13 +243,13 @@ waits_told job m t is reached live no_source uncut more open_still =
         absurd (let no : true ≡ false = sym (not_from_false _ quiet) ∙ noisy in cc)
     later (inr early) quiet = leb-false _ _ early
 
-step_told : (job : Job) (m : Moment) (t : ℕ) → IsGraph job.graph → AreSends (samples_at job t)
-    → IsReachable job m → Live job m t
+step_told : (steps most : ℕ) (job : Job) (m : Moment) (t : ℕ) → AreSizes job.graph t steps most
+    → IsGraph job.graph → AreSends (samples_at job t) → IsReachable job m → Live job m t
     → is_cut (task_at job.graph t).until (m.begun t) ≡ false
     → has_input_ended job m t (task_at job.graph t).kind ≡ false
-    → IsTold (answer_to job m t
+    → IsTold (answer_up_to steps most job m t
     (next_step (task_at job.graph t) (m.begun t) (task_at job.graph t).kind))
-step_told job m t is samples reached live uncut more = by (task_at job.graph t).kind refl
+step_told steps most job m t sizes is samples reached live uncut more = by (task_at job.graph t).kind refl
   where
     ended : (kind : Kind) → (task_at job.graph t).kind ≡ kind
         → has_input_ended job m t kind ≡ false
@@ -259,68 +260,69 @@ step_told job m t is samples reached live uncut more = by (task_at job.graph t).
     no_source kind e never source = never (sym e ∙ source)
 
     by : (kind : Kind) → (task_at job.graph t).kind ≡ kind
-        → IsTold (answer_to job m t (next_step (task_at job.graph t) (m.begun t) kind))
-    by Source e = samples_told job m t is samples reached live e uncut more
+        → IsTold (answer_up_to steps most job m t (next_step (task_at job.graph t) (m.begun t) kind))
+    by Source e = samples_told steps most job m t sizes is samples reached live e uncut more
     by Fir e =
-        waits_told job m t is reached live (no_source Fir e (λ s. (cc))) uncut more (ended Fir e)
+        waits_told steps most job m t sizes is reached live (no_source Fir e (λ s. (cc))) uncut more (ended Fir e)
     by Split e =
-        waits_told job m t is reached live (no_source Split e (λ s. (cc))) uncut more
+        waits_told steps most job m t sizes is reached live (no_source Split e (λ s. (cc))) uncut more
         (ended Split e)
     by Join e =
-        waits_told job m t is reached live (no_source Join e (λ s. (cc))) uncut more (ended Join e)
+        waits_told steps most job m t sizes is reached live (no_source Join e (λ s. (cc))) uncut more (ended Join e)
     by Peer e =
-        waits_told job m t is reached live (no_source Peer e (λ s. (cc))) uncut more (ended Peer e)
+        waits_told steps most job m t sizes is reached live (no_source Peer e (λ s. (cc))) uncut more (ended Peer e)
     by Sink e =
-        waits_told job m t is reached live (no_source Sink e (λ s. (cc))) uncut more (ended Sink e)
+        waits_told steps most job m t sizes is reached live (no_source Sink e (λ s. (cc))) uncut more (ended Sink e)
 
 -- ---- the table
 
-boundary_told : (job : Job) (m : Moment) (t : ℕ) → IsGraph job.graph
-    → AreSends (samples_at job t) → IsReachable job m → Live job m t
-    → is_some (first_kept job m t) ≡ true → IsTold (answer_to job m t (without_child job m t))
-boundary_told job m t is samples reached live kept =
+boundary_told : (steps most : ℕ) (job : Job) (m : Moment) (t : ℕ) → AreSizes job.graph t steps most
+    → IsGraph job.graph → AreSends (samples_at job t) → IsReachable job m → Live job m t
+    → is_some (first_kept job m t) ≡ true → IsTold (answer_up_to steps most job m t (without_child job m t))
+boundary_told steps most job m t sizes is samples reached live kept =
     by (is_cut (task_at job.graph t).until (m.begun t)
     || has_input_ended job m t (task_at job.graph t).kind) refl
   where
     by : (b : Bool)
         → (is_cut (task_at job.graph t).until (m.begun t)
         || has_input_ended job m t (task_at job.graph t).kind) ≡ b
-        → IsTold (answer_to job m t (cond b leaves
+        → IsTold (answer_up_to steps most job m t (cond b leaves
         (next_step (task_at job.graph t) (m.begun t) (task_at job.graph t).kind)))
     by true end = leave_told job m t is reached live kept
     by false end =
         let both = or_false (is_cut (task_at job.graph t).until (m.begun t))
         (has_input_ended job m t (task_at job.graph t).kind) end in
-        step_told job m t is samples reached live both.0 both.1
+        step_told steps most job m t sizes is samples reached live both.0 both.1
 
-pub turn_told : (job : Job) (m : Moment) (t : ℕ) → IsGraph job.graph
-    → AreSends (samples_at job t) → IsReachable job m → IsTold (answer_of_turn job m t)
-turn_told job m t is samples reached = by (is_live job m t) refl
+pub turn_told : (steps most : ℕ) (job : Job) (m : Moment) (t : ℕ) → MaySize job.graph t steps most
+    → IsGraph job.graph → AreSends (samples_at job t) → IsReachable job m → IsTold (turn_up_to steps most job m t)
+turn_told steps most job m t may is samples reached = by (is_live job m t) refl
   where
     at_rest : (o : Option ℕ) → first_due job m t ≡ o → Live job m t
-        → is_some (first_kept job m t) ≡ true → IsTold (answer_to job m t (at_boundary job m t o))
-    at_rest None due live kept = boundary_told job m t is samples reached live kept
+        → is_some (first_kept job m t) ≡ true → IsTold (answer_up_to steps most job m t (at_boundary job m t o))
+    at_rest None due live kept =
+        boundary_told steps most job m t (may live.there) is samples reached live kept
     at_rest (Some c) due live kept = register_told job m t c is reached live due
 
     owing : (j : ℕ) → first_owed job m t ≡ Some j → Live job m t
-        → IsTold (answer_to job m t (of_live job m t (Some j)))
+        → IsTold (answer_up_to steps most job m t (of_live job m t (Some j)))
     owing j owes live =
         first (waits_first (task_at job.graph t).kind j (length (m.put t j))
         (length (m.taken t 1))) refl
       where
         first : (b : Bool)
             → waits_first (task_at job.graph t).kind j (length (m.put t j)) (length (m.taken t 1))
-            ≡ b → IsTold (answer_to job m t (cond b exchanges (signals j)))
-        first true e = exchange_told job m t j is reached live owes e
-        first false e = signals_told job m t j is samples reached live owes
+            ≡ b → IsTold (answer_up_to steps most job m t (cond b exchanges (signals j)))
+        first true e = exchange_told steps most job m t j (may live.there) is reached live owes e
+        first false e = signals_told steps most job m t j (may live.there) is samples reached live owes
 
     of_owed : (o : Option ℕ) → first_owed job m t ≡ o → Live job m t
-        → is_some (first_kept job m t) ≡ true → IsTold (answer_to job m t (of_live job m t o))
+        → is_some (first_kept job m t) ≡ true → IsTold (answer_up_to steps most job m t (of_live job m t o))
     of_owed (Some j) owes live kept = owing j owes live
     of_owed None none live kept = at_rest (first_due job m t) refl live kept
 
     by : (b : Bool) → is_live job m t ≡ b
-        → IsTold (answer_to job m t
+        → IsTold (answer_up_to steps most job m t
         (cond b (of_live job m t (first_owed job m t)) is_not_live))
     by false live = tt
     by true live =

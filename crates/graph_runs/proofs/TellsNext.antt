@@ -18,13 +18,12 @@ use Rattle.stream_lists.specs.Spans.{signalled_by, puts_on}
 use Rattle.graph_runs.specs.Moments.{Moment, AtMost, TaskRan, HasEnded, MayStop, at_until, no_sample, no_input, RanOut, HasSamples, OnLine, made_now, input_at, first_input}
 use Rattle.graph_runs.proofs.Tasks.{first_looks}
 use Rattle.graph_runs.specs.Moves.{IsStaying, IsBlock, NoneDue, MayBeginTo}
-use Rattle.graph_runs.specs.Answers.{output_at}
+use Rattle.graph_runs.specs.Answers.{output_at, values_up_to}
 use Rattle.graph_runs.specs.Nexts.{signals, exchanges, waits_first, first_owed, has_left, registrations_at, comes_by, is_cut}
 use Rattle.graph_runs.specs.TaskPlaces.{Owed, nothing, values, exchange, OwesUpTo, TaskPlace, StandsUpTo, registration_at}
 use Rattle.graph_runs.proofs.PlacesLemmas.{on_ends, place_of_output}
 use Rattle.graph_runs.proofs.Signalling.{owed, may_put, begins_some}
 use Rattle.graph_runs.proofs.Boundaries.{all_put, made_many, all_taken, peer_ends}
-use Rattle.graph_runs.proofs.Following.{next_up_to}
 use Rattle.graph_runs.proofs.Stepping.{peer_most}
 use Rattle.graph_runs.proofs.Calling.{source_ends, until_is, waits_as_peer}
 use Rattle.graph_runs.specs.Parts.{HasPart, AreNextValues, AreNextSamples, BeginsSteps, IsExchange}
@@ -121,9 +120,9 @@ next_values_are job m t j most vs at is there part allowed stands none owed_is =
     let owes = owes_as job m t at (values j (map (λ v. Ok v) vs)) stands owed_is in
     let o = owed job m t j owes.0 in
     let rest = drop (length (m.put t j)) (made_now job m t j) in
-    let next : next_up_to most job m t j ≡ vs =
-    ranged_values (next_up_to most job m t j) vs owes.2 in
-    let many : length (next_up_to most job m t j) ≡ length vs = ap length next in
+    let next : values_up_to most job m t j ≡ vs =
+    ranged_values (values_up_to most job m t j) vs owes.2 in
+    let many : length (values_up_to most job m t j) ≡ length vs = ap length next in
     let cut = length-take most rest in
     record {
       place = place_of_output job.graph t (task_at job.graph t) j (is.tasks t there) o.0;

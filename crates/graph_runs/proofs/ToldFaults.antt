@@ -40,7 +40,8 @@ use Rattle.graph_runs.specs.Moves.{further}
 use Rattle.graph_runs.specs.Turned.{IsAnsweredWaits, after_waits, with_at}
 use Rattle.graph_runs.specs.TaskEvents.{TaskEvent, IsNext, sample, signal, first_wait, exchange_wait, leave, child, child_now, after_turn}
 use Rattle.graph_runs.specs.Nexts.{is_not_live, leaves, signals, exchanges, is_live, of_live, at_boundary, next_step, first_due, first_kept, first_missing, first_owed, has_input_ended, is_cut, number_on, waits_first}
-use Rattle.graph_runs.specs.Answers.{Answer, Told, TooBig, Moved, Ended, Blocked, Gone, makes, is_blocked, is_gone, has_made, is_refused, answer_of_turn, answer_to, call_leave, call_register, call_signal, register_answer, accepted_answer, signal_answer, wait_answer, block_answer, signal_turn, told_wait, told_event, turn_tells, word_of_answer, next_values, next_samples, output_at}
+use Rattle.graph_runs.specs.NextBlocks.{AreSizes, MaySize}
+use Rattle.graph_runs.specs.Answers.{Answer, Told, TooBig, Moved, Ended, Blocked, Gone, makes, is_blocked, is_gone, has_made, is_refused, call_leave, call_register, call_signal, register_answer, accepted_answer, signal_answer, wait_answer, block_answer, signal_turn, told_wait, told_event, word_of_answer, output_at, answer_up_to, turn_up_to, values_up_to, samples_up_to, tells_up_to}
 use Rattle.graph_runs.specs.Reached.{IsReachable}
 use Rattle.graph_runs.proofs.AnsweredInTurn.{answer_is}
 use Rattle.graph_runs.proofs.Entries.{get_or-take, get_or-drop}
@@ -170,34 +171,34 @@ met_fault job m t k p n begun i outcomes ready ran now there pp wait few big =
 
 -- ---- a value that the task has made
 
-made_fault : (job : Job) (m : Moment) (t j i : ℕ) → IsReady job → HasRun job m → Live job m t
+made_fault : (steps most : ℕ) (job : Job) (m : Moment) (t j i : ℕ)
+    → AreSizes job.graph t steps most → IsReady job → HasRun job m → Live job m t
     → first_owed job m t ≡ Some j
     → waits_first (task_at job.graph t).kind j (length (m.put t j)) (length (m.taken t 1)) ≡ false
-    → are_made (task_at job.graph t).kind j ≡ true → i < length (next_values job m t j)
-    → is_out_of_range (get_or (next_values job m t j) i (pos 0)) ≡ true
+    → are_made (task_at job.graph t).kind j ≡ true → i < length (values_up_to most job m t j)
+    → is_out_of_range (get_or (values_up_to most job m t j) i (pos 0)) ≡ true
     → IsFaultAt (started job m) (place.Task t, length (m.put t j) + i)
-made_fault job m t j i ready ran live owes first made few out =
+made_fault steps most job m t j i sizes ready ran live owes first made few out =
     let o = owed job m t j owes in
     let p = output_at job t j in
-    let block = (task_at job.graph t).block in
     let rest = drop (length (m.put t j)) (made_now job m t j) in
     let step = length (m.put t j) + i in
     let place_is : index_in (signalled_by (task_at job.graph t)) p ≡ Some j =
     place_of_output job.graph t (task_at job.graph t) j (ready.graph.tasks t live.there) o.0 in
     let on : OnLine (task_at job.graph t) p = inl (j, place_is) in
-    let many : length (next_values job m t j) ≡ min block (length rest) = length-take block rest in
+    let many : length (values_up_to most job m t j) ≡ min most (length rest) = length-take most rest in
     let left : length rest ≡ length (made_now job m t j) - length (m.put t j) =
     length-drop (length (m.put t j)) (made_now job m t j) in
     let within : step < length (made_now job m t j) = omega arith in
-    let value : get_or (next_values job m t j) i (pos 0) ≡ get_or (made_now job m t j) step (pos 0) =
-    get_or-take rest block i (pos 0) (omega arith)
+    let value : get_or (values_up_to most job m t j) i (pos 0) ≡ get_or (made_now job m t j) step (pos 0) =
+    get_or-take rest most i (pos 0) (omega arith)
     ∙ get_or-drop (made_now job m t j) (length (m.put t j)) i (pos 0) in
     let X : ℕ → Type 0 = λ y. HasExchanged (task_at job.graph t).kind j y (length (m.taken t 1)) in
     let next : length (m.put t j) + (i + 1) ≡ suc step = omega arith in
     let exchanged : X (suc step) = subst X next
     (may_put (task_at job.graph t).kind j (length (m.put t j)) (length (m.taken t 1)) (i + 1)
     (λ peer.
-    (let one = one_value job m t j ready.graph live.there (ap has_blocks peer) in omega arith))
+    (let one = one_value most job m t j sizes (ap has_blocks peer) in omega arith))
     first) in
     made_is_fault (started job m) m t j p step (ready_as job m ready)
     (run_started job m ran) live.there (on_phaser job t p ready.graph live.there on)
@@ -293,60 +294,61 @@ is_out job m t j vs event at e =
 -- ---- the answer of a turn
 
 -- a step that begins makes no value
-not_step : (job : Job) (m : Moment) (t : ℕ) (at : Where) (kind : Kind)
+not_step : (steps most : ℕ) (job : Job) (m : Moment) (t : ℕ) (at : Where) (kind : Kind)
     → (task_at job.graph t).kind ≡ kind
-    → answer_to job m t (next_step (task_at job.graph t) (m.begun t) kind) ≡ has_made at → ⊥
-not_step job m t at Source is e =
+    → answer_up_to steps most job m t (next_step (task_at job.graph t) (m.begun t) kind) ≡ has_made at → ⊥
+not_step steps most job m t at Source is e =
     let p = output_at job t 0 in
-    let vs = next_samples job m t in
+    let vs = samples_up_to steps job m t in
     let it = is_out job m t 0 vs (sample t 0 p (number_on m t p) vs) at e in
     let none : are_made (task_at job.graph t).kind 0 ≡ false = ap (λ k. are_made k 0) is in
     let wrong : true ≡ false = sym it.made ∙ none in
     cc
-not_step job m t at Fir is e = not_block _ _ at e
-not_step job m t at Split is e = not_block _ _ at e
-not_step job m t at Join is e = not_block _ _ at e
-not_step job m t at Peer is e = not_block _ _ at e
-not_step job m t at Sink is e = not_block _ _ at e
+not_step steps most job m t at Fir is e = not_block _ _ at e
+not_step steps most job m t at Split is e = not_block _ _ at e
+not_step steps most job m t at Join is e = not_block _ _ at e
+not_step steps most job m t at Peer is e = not_block _ _ at e
+not_step steps most job m t at Sink is e = not_block _ _ at e
 
-not_boundary : (job : Job) (m : Moment) (t : ℕ) (at : Where) (o : Option ℕ)
-    → answer_to job m t (at_boundary job m t o) ≡ has_made at → ⊥
-not_boundary job m t at (Some c) e = not_register job m t c (first_missing job m c) at e
-not_boundary job m t at None e =
+not_boundary : (steps most : ℕ) (job : Job) (m : Moment) (t : ℕ) (at : Where) (o : Option ℕ)
+    → answer_up_to steps most job m t (at_boundary job m t o) ≡ has_made at → ⊥
+not_boundary steps most job m t at (Some c) e = not_register job m t c (first_missing job m c) at e
+not_boundary steps most job m t at None e =
     by (is_cut (task_at job.graph t).until (m.begun t)
     || has_input_ended job m t (task_at job.graph t).kind) e
   where
     by : (b : Bool)
-        → answer_to job m t (cond b leaves
+        → answer_up_to steps most job m t (cond b leaves
         (next_step (task_at job.graph t) (m.begun t) (task_at job.graph t).kind)) ≡ has_made at → ⊥
     by true e = not_leave m t (first_kept job m t) at e
-    by false e = not_step job m t at (task_at job.graph t).kind refl e
+    by false e = not_step steps most job m t at (task_at job.graph t).kind refl e
 
-turn_made : (job : Job) (m : Moment) (t : ℕ) (at : Where) → IsReady job → HasRun job m
-    → answer_of_turn job m t ≡ has_made at → IsFaultAt (started job m) at
-turn_made job m t at ready ran e = by (is_live job m t) refl e
+turn_made : (steps most : ℕ) (job : Job) (m : Moment) (t : ℕ) (at : Where)
+    → MaySize job.graph t steps most → IsReady job → HasRun job m
+    → turn_up_to steps most job m t ≡ has_made at → IsFaultAt (started job m) at
+turn_made steps most job m t at may ready ran e = by (is_live job m t) refl e
   where
     owing : (j : ℕ) → first_owed job m t ≡ Some j → Live job m t → (b : Bool)
         → waits_first (task_at job.graph t).kind j (length (m.put t j)) (length (m.taken t 1)) ≡ b
-        → answer_to job m t (cond b exchanges (signals j)) ≡ has_made at
+        → answer_up_to steps most job m t (cond b exchanges (signals j)) ≡ has_made at
         → IsFaultAt (started job m) at
     owing j owes live true first e = absurd (not_wait _ _ at e)
     owing j owes live false first e =
-        let it = is_out job m t j (next_values job m t j) _ at e in
-        let f = found_at is_out_of_range (length (m.put t j)) (next_values job m t j) it.step
+        let it = is_out job m t j (values_up_to most job m t j) _ at e in
+        let f = found_at is_out_of_range (length (m.put t j)) (values_up_to most job m t j) it.step
         it.found in
         subst (IsFaultAt (started job m)) (ap (λ step. (place.Task t, step)) (sym f.is) ∙ it.place_is)
-        (made_fault job m t j f.index ready ran live owes first it.made f.few (f.passes (pos 0)))
+        (made_fault steps most job m t j f.index (may live.there) ready ran live owes first it.made f.few (f.passes (pos 0)))
 
     of_owed : (o : Option ℕ) → first_owed job m t ≡ o → Live job m t
-        → answer_to job m t (of_live job m t o) ≡ has_made at → IsFaultAt (started job m) at
+        → answer_up_to steps most job m t (of_live job m t o) ≡ has_made at → IsFaultAt (started job m) at
     of_owed (Some j) owes live e =
         owing j owes live
         (waits_first (task_at job.graph t).kind j (length (m.put t j)) (length (m.taken t 1))) refl e
-    of_owed None none live e = absurd (not_boundary job m t at (first_due job m t) e)
+    of_owed None none live e = absurd (not_boundary steps most job m t at (first_due job m t) e)
 
     by : (b : Bool) → is_live job m t ≡ b
-        → answer_to job m t (cond b (of_live job m t (first_owed job m t)) is_not_live)
+        → answer_up_to steps most job m t (cond b (of_live job m t (first_owed job m t)) is_not_live)
         ≡ has_made at → IsFaultAt (started job m) at
     by true live e = of_owed (first_owed job m t) refl (live-is job m t live) e
     by false live e = absurd (cc)
@@ -405,20 +407,21 @@ event_fault job m (exchange_wait t p n outcome) at ready ran now next e =
     wait_fault job m t 1 p n (m.begun t) (outcome ∷ []) at ready ran now next.0.task next.0.phaser
     next.1.wait e
 
-pub told_fault : (job : Job) (m : Moment) (t : ℕ) (at : Where) → IsReady job → IsReachable job m
-    → ((event : TaskEvent) → answer_of_turn job m t ≡ makes event
+pub told_fault : (steps most : ℕ) (job : Job) (m : Moment) (t : ℕ) (at : Where)
+    → MaySize job.graph t steps most → IsReady job → IsReachable job m
+    → ((event : TaskEvent) → turn_up_to steps most job m t ≡ makes event
     → HasRun job (after_turn job event m))
-    → turn_tells job None m t ≡ Some (TooBig at) → IsFaultAt (started job m) at
-told_fault job m t at ready reached runs told = by (answer_of_turn job m t) refl told
+    → tells_up_to steps most job m t ≡ Some (TooBig at) → IsFaultAt (started job m) at
+told_fault steps most job m t at may ready reached runs told = by (turn_up_to steps most job m t) refl told
   where
-    by : (answer : Answer) → answer_of_turn job m t ≡ answer
+    by : (answer : Answer) → turn_up_to steps most job m t ≡ answer
         → word_of_answer job m answer ≡ Some (TooBig at) → IsFaultAt (started job m) at
     by (makes event) e told =
         event_fault job m event at ready reached.ran (runs event e)
-        (turn_makes_next job m t event ready.graph reached.ran (λ c due. reached.to_come) e) told
+        (turn_makes_next steps most job m t event may ready.graph reached.ran (λ c due. reached.to_come) e) told
     by is_blocked e told = absurd (cc)
     by is_gone e told = absurd (cc)
     by (has_made there) e told =
         subst (IsFaultAt (started job m)) (ap (told_or at) told)
-        (turn_made job m t there ready reached.ran e)
+        (turn_made steps most job m t there may ready reached.ran e)
     by is_refused e told = absurd (cc)

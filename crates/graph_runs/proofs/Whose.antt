@@ -9,9 +9,9 @@ use Rattle.stream_lists.specs.graph_base.Graphs.{task_at}
 use Rattle.stream_lists.specs.Jobs.{Job}
 use Rattle.graph_runs.specs.Moments.{Moment, input_at, value_at}
 use Rattle.graph_runs.specs.TaskEvents.{TaskEvent, sample, signal, first_wait, exchange_wait, leave, child, child_now}
-use Rattle.graph_runs.specs.NextBlocks.{block_of}
+use Rattle.graph_runs.specs.NextBlocks.{block_up_to}
 use Rattle.graph_runs.specs.Nexts.{Next, is_not_live, registers, leaves, samples, signals, waits, exchanges, is_live, of_live, first_owed, first_kept, first_missing, number_on}
-use Rattle.graph_runs.specs.Answers.{makes, call_leave, call_register, register_answer, answer_to, answer_of_turn, output_at, next_values, next_samples}
+use Rattle.graph_runs.specs.Answers.{makes, call_leave, call_register, register_answer, output_at, answer_up_to, turn_up_to, values_up_to, samples_up_to}
 use Rattle.graph_runs.proofs.Signalling.{Live, live-is, signalled}
 use Rattle.graph_runs.proofs.Calling.{answered, answered_all, accepted}
 
@@ -48,10 +48,10 @@ made_is : (job : Job) (m : Moment) (t : ℕ) (made event : TaskEvent) → made �
 made_is job m t made event same is =
     rw same at is
 
-pub made_next : (job : Job) (m : Moment) (t : ℕ) (event : TaskEvent) (next : Next)
-    → answer_to job m t next ≡ makes event → IsMadeBy job m t event
-made_next job m t event is_not_live e = absurd (cc)
-made_next job m t event (registers c) e = register (first_missing job m c) refl e
+pub made_next : (steps most : ℕ) (job : Job) (m : Moment) (t : ℕ) (event : TaskEvent) (next : Next)
+    → answer_up_to steps most job m t next ≡ makes event → IsMadeBy job m t event
+made_next steps most job m t event is_not_live e = absurd (cc)
+made_next steps most job m t event (registers c) e = register (first_missing job m c) refl e
   where
     register : (o : Option Registration) → first_missing job m c ≡ o
         → call_register job m t c o ≡ makes event → IsMadeBy job m t event
@@ -74,7 +74,7 @@ made_next job m t event (registers c) e = register (first_missing job m c) refl 
             made_is job m t made event
             (accepted made event (register_refusal (m.history r.phaser) n a r.mode) e).1
             (record { own = refl; missing = (r, found, refl, refl, refl, now) })
-made_next job m t event leaves e = drop (first_kept job m t) refl e
+made_next steps most job m t event leaves e = drop (first_kept job m t) refl e
   where
     drop : (o : Option Registration) → first_kept job m t ≡ o → call_leave m t o ≡ makes event
         → IsMadeBy job m t event
@@ -84,38 +84,38 @@ made_next job m t event leaves e = drop (first_kept job m t) refl e
         made_is job m t made event
         (accepted made event (drop_refusal (m.history r.phaser) (number_on m t r.phaser)) e).1
         (record { own = refl; missing = (r, found, refl, refl) })
-made_next job m t event samples e =
+made_next steps most job m t event samples e =
     let p = output_at job t 0 in
-    let vs = next_samples job m t in
+    let vs = samples_up_to steps job m t in
     let made = sample t 0 p (number_on m t p) vs in
     made_is job m t made event (signalled job m t 0 vs made event e).2
     (record { own = refl; missing = tt })
-made_next job m t event (signals j) e =
+made_next steps most job m t event (signals j) e =
     let p = output_at job t j in
-    let vs = next_values job m t j in
+    let vs = values_up_to most job m t j in
     let made = signal t j p (number_on m t p) vs in
     made_is job m t made event (signalled job m t j vs made event e).2
     (record { own = refl; missing = tt })
-made_next job m t event (waits k) e =
+made_next steps most job m t event (waits k) e =
     let p = input_at (task_at job.graph t) k in
     let made = first_wait t k p (number_on m t p) in
-    let a = answered_all job m t p (block_of job m t) made event e in
+    let a = answered_all job m t p (block_up_to steps job m t) made event e in
     made_is job m t
     (made (slice_range (stream_of (value_at job p) (m.history p)) a.phase (a.phase + a.count)))
     event a.is (record { own = refl; missing = tt })
-made_next job m t event exchanges e =
+made_next steps most job m t event exchanges e =
     let p = input_at (task_at job.graph t) 1 in
     let a = answered job m t p (exchange_wait t p (number_on m t p)) event e in
     made_is job m t (exchange_wait t p (number_on m t p) a.outcome) event a.is
     (record { own = refl; missing = tt })
 
-pub made_by : (job : Job) (m : Moment) (t : ℕ) (event : TaskEvent)
-    → answer_of_turn job m t ≡ makes event → Live job m t × IsMadeBy job m t event
-made_by job m t event answer = by (is_live job m t) refl answer
+pub made_by : (steps most : ℕ) (job : Job) (m : Moment) (t : ℕ) (event : TaskEvent)
+    → turn_up_to steps most job m t ≡ makes event → Live job m t × IsMadeBy job m t event
+made_by steps most job m t event answer = by (is_live job m t) refl answer
   where
     by : (b : Bool) → is_live job m t ≡ b
-        → answer_to job m t (cond b (of_live job m t (first_owed job m t)) is_not_live)
+        → answer_up_to steps most job m t (cond b (of_live job m t (first_owed job m t)) is_not_live)
         ≡ makes event → Live job m t × IsMadeBy job m t event
     by true live e =
-        (live-is job m t live, made_next job m t event (of_live job m t (first_owed job m t)) e)
+        (live-is job m t live, made_next steps most job m t event (of_live job m t (first_owed job m t)) e)
     by false live e = absurd (cc)

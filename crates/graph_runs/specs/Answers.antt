@@ -21,7 +21,7 @@ use Rattle.stream_lists.specs.graph_base.Registrations.{signalled_by}
 use Rattle.stream_lists.specs.Jobs.{Job, samples_at}
 use Rattle.stream_lists.specs.Ranges.{Where, are_made, is_out_of_range, is_too_big}
 use Rattle.graph_runs.specs.Moments.{one, Moment, limits_at, value_at, input_at, made_now}
-use Rattle.graph_runs.specs.NextBlocks.{block_of, sample_block_of}
+use Rattle.graph_runs.specs.NextBlocks.{block_up_to, sample_block_up_to}
 use Rattle.graph_runs.specs.TaskEvents.{TaskEvent, sample, signal, first_wait, exchange_wait, leave, child, child_now, after_turn}
 use Rattle.graph_runs.specs.Nexts.{Next, is_not_live, registers, leaves, samples, signals, waits, exchanges, next_of, is_live, number_on, first_missing, first_kept}
 
@@ -117,14 +117,18 @@ call_register job m t c (Some r) = register_answer m t c r (task_at job.graph c)
 abbrev pub output_at : Job → ℕ → ℕ → ℕ
 output_at job t j = get_or (signalled_by (task_at job.graph t)) j 0
 
--- the next samples of task t, a block of them
-abbrev pub next_samples : Job → Moment → ℕ → List ℤ
-next_samples job m t = take (sample_block_of job m t) (drop (m.begun t) (samples_at job t))
+-- the next samples of task t, at most so many
+abbrev pub samples_up_to : ℕ → Job → Moment → ℕ → List ℤ
+samples_up_to steps job m t =
+    take (sample_block_up_to steps job m t) (drop (m.begun t) (samples_at job t))
 
--- the values that are next on output j of task t: those that it owes there, at most a block of them
+-- the values that are next on output j of task t: those that it owes there, at most so many
+abbrev pub values_up_to : ℕ → Job → Moment → ℕ → ℕ → List ℤ
+values_up_to most job m t j = take most (drop (length (m.put t j)) (made_now job m t j))
+
+-- the same, at most a block of its line
 abbrev pub next_values : Job → Moment → ℕ → ℕ → List ℤ
-next_values job m t j =
-    take (task_at job.graph t).block (drop (length (m.put t j)) (made_now job m t j))
+next_values job m t j = values_up_to (task_at job.graph t).block job m t j
 
 -- values are signalled, where all of them are in range. What a filter or a peer has made is checked
 -- here: the first that is out of range is told, and none of them is signalled
@@ -137,25 +141,43 @@ signal_turn job m t j vs event = of (position_from is_out_of_range (length (m.pu
         if are_made (task_at job.graph t).kind j then has_made (place.Task t, step)
         else is_refused
 
--- the answer to what task t does next
-abbrev pub answer_to : Job → Moment → ℕ → Next → Answer
-answer_to job m t is_not_live = is_gone
-answer_to job m t (registers c) = call_register job m t c (first_missing job m c)
-answer_to job m t leaves = call_leave m t (first_kept job m t)
-answer_to job m t samples =
+-- the answer to what task t does next, where it makes at most so many steps, or signals at most so
+-- many of the values that it owes
+abbrev pub answer_up_to : ℕ → ℕ → Job → Moment → ℕ → Next → Answer
+answer_up_to steps most job m t is_not_live = is_gone
+answer_up_to steps most job m t (registers c) = call_register job m t c (first_missing job m c)
+answer_up_to steps most job m t leaves = call_leave m t (first_kept job m t)
+answer_up_to steps most job m t samples =
     let p = output_at job t 0 in
-    let vs = next_samples job m t in
+    let vs = samples_up_to steps job m t in
     signal_turn job m t 0 vs (sample t 0 p (number_on m t p) vs)
-answer_to job m t (signals j) =
+answer_up_to steps most job m t (signals j) =
     let p = output_at job t j in
-    let vs = next_values job m t j in
+    let vs = values_up_to most job m t j in
     signal_turn job m t j vs (signal t j p (number_on m t p) vs)
-answer_to job m t (waits k) =
+answer_up_to steps most job m t (waits k) =
     let p = input_at (task_at job.graph t) k in
-    call_block job m t p (block_of job m t) (first_wait t k p (number_on m t p))
-answer_to job m t exchanges =
+    call_block job m t p (block_up_to steps job m t) (first_wait t k p (number_on m t p))
+answer_up_to steps most job m t exchanges =
     let p = input_at (task_at job.graph t) 1 in
     call_wait job m t p (exchange_wait t p (number_on m t p))
+
+-- what a turn of task t makes of these sizes
+abbrev pub turn_up_to : ℕ → ℕ → Job → Moment → ℕ → Answer
+turn_up_to steps most job m t = answer_up_to steps most job m t (next_of job m t)
+
+-- the answer where it makes at most so many steps, or signals at most a block of its line of what
+-- it owes
+abbrev pub answer_by : ℕ → Job → Moment → ℕ → Next → Answer
+answer_by steps job m t next = answer_up_to steps (task_at job.graph t).block job m t next
+
+-- what a turn of task t makes of at most so many steps
+abbrev pub turn_by : ℕ → Job → Moment → ℕ → Answer
+turn_by steps job m t = answer_by steps job m t (next_of job m t)
+
+-- the answer where it makes at most a block of its line
+abbrev pub answer_to : Job → Moment → ℕ → Next → Answer
+answer_to job m t next = answer_by (task_at job.graph t).block job m t next
 
 -- what a turn of task t makes
 abbrev pub answer_of_turn : Job → Moment → ℕ → Answer
@@ -211,12 +233,22 @@ abbrev pub turn_tells : Job → Option Where → Moment → ℕ → Option Told
 turn_tells job (Some at) m t = Some (TooBig at)
 turn_tells job None m t = word_of_answer job m (answer_of_turn job m t)
 
+-- what a turn of these sizes tells, where no value was out of range before
+abbrev pub tells_up_to : ℕ → ℕ → Job → Moment → ℕ → Option Told
+tells_up_to steps most job m t = word_of_answer job m (turn_up_to steps most job m t)
+
 -- ---- turns in a row
 
 -- the moment after the turns of these tasks, one after the other
 abbrev pub after_turns : Job → Moment → List ℕ → Moment
 after_turns job m [] = m
 after_turns job m (t ∷ ts) = after_turns job (after_answer job (answer_of_turn job m t) m) ts
+
+-- after turns of these tasks that make at most so many steps each
+abbrev pub after_turns_by : Job → Moment → List (ℕ × ℕ) → Moment
+after_turns_by job m [] = m
+after_turns_by job m (turn ∷ turns) =
+    after_turns_by job (after_answer job (turn_by turn.1 job m turn.0) m) turns
 
 -- what the turns of these tasks make
 abbrev pub answers_in_turn : Job → Moment → List ℕ → List Answer

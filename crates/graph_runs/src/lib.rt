@@ -10,7 +10,8 @@
 //!   moment that has run. `specs/Moves.antt` has one event as a relation of two moments, and
 //!   `specs/Turned.antt` as a function of the moment before.
 //! - `turns`: which event the order of a task's events gives it next, what its turn answers, and
-//!   the moment after: `specs/Nexts.antt`, then `specs/Answers.antt`.
+//!   the moment after: `specs/Nexts.antt`, then `specs/Answers.antt`; `sized`: the same of turns
+//!   that make other numbers of steps.
 //! - `parts`, `places` and `beginnings`: whoever moves one task alone, as a thread with the task's
 //!   registrations does, knows a moment of the task's own, and each call of a registration makes it
 //!   a later one: `specs/Parts.antt`, `specs/Places.antt`.
@@ -34,6 +35,7 @@ pub mod outcomes;
 mod owed;
 pub mod parts;
 pub mod places;
+pub mod sized;
 mod steps;
 mod taken;
 pub mod turns;

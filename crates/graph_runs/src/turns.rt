@@ -20,8 +20,6 @@ ghost use Rattle.graph_runs.specs.Beginnings.{opening};
 ghost use Rattle.graph_runs.specs.Reached.{HasBegun, IsReachable};
 ghost use Rattle.graph_runs.specs.TaskPlaces.{TaskPlace, StandsAt, own_place, child_place, child_of, number_given, registration_at, registration_of_output};
 
-use crate::moves;
-
 /// Where a turn makes an event, the event is the task's next one, and the moment after it has run
 /// as well. So who gives turns by the table, and nothing else, stays within the runs of the graph.
 /// Of children it asks that those to come are as the opening leaves them, and of a task with no
@@ -36,10 +34,7 @@ pub fn turns_make_next_events()
     ensures childless { (job : Job) (m : Moment) (t : ℕ) (event : TaskEvent) → IsGraph job.graph
         → HasRun job m → first_due job m t ≡ None → answer_of_turn job m t ≡ makes event
         → IsNext job m event × HasRun job (after_turn job event m) }
-{
-    moves::turns_keep();
-    moves::blocks_keep();
-}
+{}
 
 /// The opening is reached, and turns lead from a reached moment to reached ones, whichever tasks
 /// have them and whatever they answer. So who begins at the opening and gives turns by the table
@@ -51,9 +46,7 @@ pub fn turns_stay_reached()
         → IsReachable job (after_answer job (answer_of_turn job m t) m) }
     ensures turns { (job : Job) (m : Moment) (ts : List ℕ) → IsGraph job.graph
         → IsReachable job m → IsReachable job (after_turns job m ts) }
-{
-    turns_make_next_events();
-}
+{}
 
 /// A block of a task that has all its registrations leads from a reached moment to one that is
 /// reached, as its steps one by one do.

@@ -1,9 +1,12 @@
 -- By what the turn answers: a wait's outcome, or a value that was made.
+use Rattle.stream_lists.specs.graph_base.Graphs.{task_at}
+use Rattle.graph_runs.proofs.Stepping.{line_sizes}
 use Rattle.graph_runs.proofs.ToldFaults.{told_fault}
 use Rattle.graph_runs.proofs.outcomes.told_is_a_fault.Goals as goal
 
 pub returns : goal.returns
 returns c = λ job m t at ready reached.
-    told_fault job m t at ready reached (λ event answer.
+    (let block = (task_at job.graph t).block in
+    told_fault block block job m t at (line_sizes job t ready.graph) ready reached (λ event answer.
     c.turns_make_next_events.ensures.keeps job m t event ready.graph reached.ran reached.to_come
-    answer)
+    answer))
