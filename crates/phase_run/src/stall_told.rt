@@ -6,7 +6,7 @@ use std::alloc::{AllocError, Global};
 use stream_workers::graph_commands::further_lines;
 use stream_workers::graph_commands::stream_lists::Job;
 use stream_workers::graph_commands::stream_lists::graph_base::Place;
-use stream_workers::{Call, Stand};
+use stream_workers::{NextCall, Stand};
 
 /// The name of a task.
 fn task_name(job: &Job, t: usize) -> &str {
@@ -144,11 +144,11 @@ fn stall_lines(alloc: Global, job: &Job, stands: &[Stand]) -> Result<Vec<Vec<u8>
     let mut full = Vec::new(alloc);
     for stand in stands {
         match stand.next {
-            Some(Call::Signal) => {
+            Some(NextCall::Signal) => {
                 lines.push(unsignalled(alloc, job, stands, *stand)?)?;
                 full.push(stand.phaser)?;
             }
-            Some(Call::Wait) => lines.push(waited(alloc, job, stands, *stand)?)?,
+            Some(NextCall::Wait) => lines.push(waited(alloc, job, stands, *stand)?)?,
             None => {}
         }
     }

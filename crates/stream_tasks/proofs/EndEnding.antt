@@ -19,7 +19,7 @@ use Rattle.stream_members.specs.AnyMembers.{left_in}
 use Rattle.stream_members.specs.declared.any_left.AnyLeft.{AnyLeft}
 use Rattle.graph_runs.specs.Nexts.{registrations_at}
 use Rattle.graph_runs.specs.TaskEnds.{TaskEnd, FounderEnd}
-use Rattle.graph_runs.specs.RunEnds.{Ends, HasCome, IsRegisteredOn, HasWhole, IsRunEnd, HasAnswer, lines_in, start_in_end}
+use Rattle.graph_runs.specs.RunEnds.{Ends, HasCome, IsRegisteredOn, HasWholeRun, IsRunEnd, HasAnswer, lines_in, start_in_end}
 use Rattle.stream_tasks.specs.declared.ending.task_left.TaskKnowledge.{TaskKnowledge}
 use Rattle.stream_tasks.specs.Joinings.{IsPlaced}
 use Rattle.stream_tasks.specs.Gatherings.{TellsEnd, AreGathered}
@@ -89,7 +89,7 @@ module _ (job : Job) (spots : ℕ → Spot) (founders joined : List (Option AnyL
       by (Some part) is tells = record { part = part; at = is; tells = tells }
 
   whole_of : (p : ℕ) → p < length job.graph.phasers
-      → (founder : FounderEnd) × (whole : History) × HasWhole job ends p founder whole
+      → (founder : FounderEnd) × (whole : History) × HasWholeRun job ends p founder whole
   whole_of p pp =
       let f = founded p pp in
       let s = g.phasers p f.0 f.1 in

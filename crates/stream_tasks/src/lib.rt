@@ -57,7 +57,7 @@ pub use opening::founders::{dismiss_founders, found, leave_all};
 pub use opening::phasers::open_phasers;
 pub use run::Run;
 pub use seed::Seed;
-pub use stand::{Call, Stand};
+pub use stand::{NextCall, Stand};
 pub use stream_eval;
 pub use stream_eval::stream_lists;
 pub use stream_members;

@@ -12,12 +12,12 @@ pub struct Stand {
     /// The task's mode and phases there.
     pub entry: Entry,
     /// What the task does next, where it does it on this phaser.
-    pub next: Option<Call>,
+    pub next: Option<NextCall>,
 }
 
 /// A call of a task on a phaser.
 #[derive(Clone, Copy, Debug, PartialEq, Eq)]
-pub enum Call {
+pub enum NextCall {
     /// It signals its signal phase.
     Signal,
     /// It waits for its wait phase.
@@ -38,10 +38,10 @@ pub enum End {
 impl End {
     /// The call that is made at this end, where it is on a registration of this input and this
     /// output.
-    pub fn call_on(self, input: Option<usize>, output: Option<usize>) -> Option<Call> {
+    pub fn call_on(self, input: Option<usize>, output: Option<usize>) -> Option<NextCall> {
         match self {
-            End::Input(k) if input == Some(k) => Some(Call::Wait),
-            End::Output(j) if output == Some(j) => Some(Call::Signal),
+            End::Input(k) if input == Some(k) => Some(NextCall::Wait),
+            End::Output(j) if output == Some(j) => Some(NextCall::Signal),
             _ => None,
         }
     }
