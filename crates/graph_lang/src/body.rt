@@ -109,7 +109,7 @@ fn number_of(names: &IndexMap<String, Place>, word: &[u8]) -> Option<usize>
 }
 
 /// The numbers of the phasers of these names, where each is the name of one.
-fn phaser_numbers(
+fn numbers_of(
     alloc: Global,
     names: &IndexMap<String, Place>,
     words: &[&[u8]],
@@ -144,7 +144,7 @@ pub(crate) fn input_numbers(
         ≡ phaser_numbers (names_of names.now.entries) (inputs_of (body_of body.entry)))) }
 {
     let words = input_words(alloc, body)?;
-    phaser_numbers(alloc, names, &words)
+    numbers_of(alloc, names, &words)
 }
 
 /// The numbers of the phasers that a task signals, where each word is the name of one.
@@ -161,7 +161,7 @@ pub(crate) fn output_numbers(
         ≡ phaser_numbers (names_of names.now.entries) (outputs_of (body_of body.entry)))) }
 {
     let words = output_words(alloc, body)?;
-    phaser_numbers(alloc, names, &words)
+    numbers_of(alloc, names, &words)
 }
 
 /// Whether each of these numbers is above `x`.
@@ -190,7 +190,7 @@ pub(crate) fn is_exchange_below(kind: Kind, inputs: &[usize]) -> bool
 }
 
 /// Whether the number is one of these.
-fn is_number_in(qs: &[usize], p: usize) -> bool
+fn is_among(qs: &[usize], p: usize) -> bool
     ensures { result ≡ is_number_in qs.now p }
 {
     qs.iter().any(|q| *q == p)
@@ -200,5 +200,5 @@ fn is_number_in(qs: &[usize], p: usize) -> bool
 pub(crate) fn are_among(ps: &[usize], qs: &[usize]) -> bool
     ensures { result ≡ list_all (is_number_in qs.now) ps.now }
 {
-    ps.iter().all(|p| is_number_in(qs, *p))
+    ps.iter().all(|p| is_among(qs, *p))
 }

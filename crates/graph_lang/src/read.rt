@@ -179,7 +179,7 @@ impl Draft {
         ensures fault { IfErr result
             (TellsFault (version_at known) number self.old (line_read known line.now)) }
     {
-        let words = words_of_line(alloc, line)?;
+        let words = words_of(alloc, line)?;
         if begins_comment(&words) {
             return Ok(known);
         }

@@ -407,7 +407,7 @@ fn may_have_blocks(version: Version, body: Body<'_, '_>) -> bool
 
 /// What the words after `phaser` declare.
 #[tactic(auto, unfolding(crate::specs::Inside::phaser_words_at))]
-fn phaser_words_at<'w, 'a>(words: &'w [&'a [u8]]) -> Option<Line<'w, 'a>>
+fn phaser_at<'w, 'a>(words: &'w [&'a [u8]]) -> Option<Line<'w, 'a>>
     ensures { option_map decl_of result ≡ phaser_words_at (plain words.now) }
 {
     let (name, rest) = name_at(words)?;
@@ -428,7 +428,7 @@ fn phaser_words_at<'w, 'a>(words: &'w [&'a [u8]]) -> Option<Line<'w, 'a>>
 
 /// What the words after the kind of a task declare.
 #[tactic(auto, unfolding(crate::specs::Inside::task_words_at))]
-fn task_words_at<'w, 'a>(
+fn task_at<'w, 'a>(
     version: Version,
     kind: &[u8],
     words: &'w [&'a [u8]],
@@ -450,9 +450,9 @@ fn read<'w, 'a>(words: &'w [&'a [u8]], version: Version) -> Option<Line<'w, 'a>>
         [] => None,
         [kind, rest @ ..] => {
             if *kind == b"phaser".as_slice() {
-                phaser_words_at(rest)
+                phaser_at(rest)
             } else {
-                task_words_at(version, kind, rest)
+                task_at(version, kind, rest)
             }
         }
     }
@@ -460,7 +460,7 @@ fn read<'w, 'a>(words: &'w [&'a [u8]], version: Version) -> Option<Line<'w, 'a>>
 
 /// Returns what the words of a line declare in a text of this version, or that they declare
 /// nothing. The heading of a text declares nothing. It takes no memory.
-pub fn decl_at<'w, 'a>(words: &'w [&'a [u8]], version: Version) -> Option<Line<'w, 'a>>
+pub fn line_at<'w, 'a>(words: &'w [&'a [u8]], version: Version) -> Option<Line<'w, 'a>>
     ensures found { IfSome result (λ line. Spells version (plain words.now) (decl_of line)) }
     ensures none { IfNone result ((d : Decl) → ¬ (Spells version (plain words.now) d)) }
 {

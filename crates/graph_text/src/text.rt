@@ -15,7 +15,7 @@ pub fn lines_of(alloc: Global, text: &[u8]) -> Result<Vec<&[u8]>, AllocError>
 }
 
 /// Returns the words of a line. It takes memory for their places.
-pub fn words_of_line(alloc: Global, line: &[u8]) -> Result<Vec<&[u8]>, AllocError>
+pub fn words_of(alloc: Global, line: &[u8]) -> Result<Vec<&[u8]>, AllocError>
     ensures { IfOk result (λ words. plain words.items ≡ words_of_line line.now) }
 {
     let pieces = blank_pieces(alloc, line)?;

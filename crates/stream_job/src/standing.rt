@@ -13,7 +13,7 @@ use stream_eval::stream_lists::Job;
 impl Machine {
     /// The mode and the phases of task number `t` on the phaser of its registration number `k`,
     /// while it is registered there.
-    pub fn standing_on(&self, job: &Job, t: usize, k: usize) -> Option<Entry>
+    pub fn standing(&self, job: &Job, t: usize, k: usize) -> Option<Entry>
         requires machine { IsSome job.now self.now }
         requires task { t < length job.now.graph.tasks }
         requires registration { k < length (registrations_at job.now t) }

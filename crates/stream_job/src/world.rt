@@ -160,7 +160,7 @@ impl<'a> World<'a> {
     /// Returns the mode and the phases of task number `task` on a phaser of its line, while it is
     /// registered there: on that of its registration number `k`, counted from 0 over its inputs and
     /// then its outputs, or over X, E and Y of a peer. It takes no memory.
-    pub fn standing_on(&self, task: usize, k: usize) -> Option<Entry>
+    pub fn standing(&self, task: usize, k: usize) -> Option<Entry>
         requires task { task < length self.now.job.graph.tasks }
         requires registration { k < length (registrations_at self.now.job task) }
         ensures { (m : Moment) → IsWorldAt self.now m → result ≡ standing_on self.now.job m task k }
