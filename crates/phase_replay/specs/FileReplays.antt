@@ -21,7 +21,7 @@ MayFail file file_fault.ReadFault = MayBeRefused SCRIPT_MAX file
 MayFail file file_fault.OutOfMemory = MayNeedMemory SCRIPT_MAX file
 
 -- so nothing was written, and the fault was told
-pub record IsUnread (file : Option (List ℕ)) (status : ℕ)
+pub record IsFileUnread (file : Option (List ℕ)) (status : ℕ)
     (old new before after : WriterState) : Type 0 where
   pub fault : FileFault
   pub may_fail : MayFail file fault
@@ -47,10 +47,10 @@ pub record IsReplayedStrictly (file : Option (List ℕ)) (status : ℕ)
 abbrev pub FileReplayEnds : Option (List ℕ) → ℕ
     → WriterState → WriterState → WriterState → WriterState → Type 0
 FileReplayEnds file status old new before after =
-    IsUnread file status old new before after ⊎ IsReplayed file status old new before after
+    IsFileUnread file status old new before after ⊎ IsReplayed file status old new before after
 
 -- and a strict one
 abbrev pub StrictFileReplayEnds : Option (List ℕ) → ℕ
     → WriterState → WriterState → WriterState → WriterState → Type 0
 StrictFileReplayEnds file status old new before after =
-    IsUnread file status old new before after ⊎ IsReplayedStrictly file status old new before after
+    IsFileUnread file status old new before after ⊎ IsReplayedStrictly file status old new before after
