@@ -122,11 +122,15 @@ abbrev pub samples_up_to : ℕ → Job → Moment → ℕ → List ℤ
 samples_up_to steps job m t =
     take (sample_block_up_to steps job m t) (drop (m.begun t) (samples_at job t))
 
+-- at most a block of its line
+abbrev pub next_samples : Job → Moment → ℕ → List ℤ
+next_samples job m t = samples_up_to (task_at job.graph t).block job m t
+
 -- the values that are next on output j of task t: those that it owes there, at most so many
 abbrev pub values_up_to : ℕ → Job → Moment → ℕ → ℕ → List ℤ
 values_up_to most job m t j = take most (drop (length (m.put t j)) (made_now job m t j))
 
--- the same, at most a block of its line
+-- at most a block of its line
 abbrev pub next_values : Job → Moment → ℕ → ℕ → List ℤ
 next_values job m t j = values_up_to (task_at job.graph t).block job m t j
 

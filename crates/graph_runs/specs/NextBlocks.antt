@@ -37,6 +37,10 @@ abbrev pub sample_block_up_to : ℕ → Job → Moment → ℕ → ℕ
 sample_block_up_to most job m t =
     min (block_up_to most job m t) (length (samples_at job t) - m.begun t)
 
+-- at most as many as its line names
+abbrev pub sample_block_of : Job → Moment → ℕ → ℕ
+sample_block_of job m t = sample_block_up_to (task_at job.graph t).block job m t
+
 -- ---- the sizes of a turn
 
 -- the task of a line, were this its block

@@ -28,7 +28,8 @@ pub fn turns_up_to()
         → MaySize job.graph t steps most → IsGraph job.graph → AreSends (samples_at job t)
         → IsReachable job m → turn_up_to steps most job m t ≢ is_refused }
     ensures none { (steps most : ℕ) (job : Job) (m : Moment) (t : ℕ)
-        → MaySize job.graph t steps most → IsGraph job.graph → IsReachable job m → HasAnsweredNone job m
+        → MaySize job.graph t steps most → IsGraph job.graph → IsReachable job m
+        → HasAnsweredNone job m
         → ((at : Where) → tells_up_to steps most job m t ≢ Some (TooBig at))
         → HasAnsweredNone job (after_answer job (turn_up_to steps most job m t) m) }
     ensures last { (steps most : ℕ) (job : Job) (m : Moment) (t : ℕ) → HasAnsweredNone job m

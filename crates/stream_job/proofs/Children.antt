@@ -24,7 +24,7 @@ use Rattle.graph_runs.specs.Turned.{with_at}
 use Rattle.graph_runs.specs.Nexts.{is_live, is_due, next_of, number_on, first_due, registrations_at, registers, signals, exchanges, samples, waits}
 use Rattle.graph_runs.specs.TaskEvents.{TaskEvent, sample, signal, first_wait, exchange_wait, leave, child, child_now, after_turn}
 use Rattle.graph_runs.specs.Answers as answers
-use Rattle.graph_runs.specs.Answers.{makes, answer_of_turn, after_answer, answer_to, accepted_answer, call_register, register_answer, told_event}
+use Rattle.graph_runs.specs.Answers.{makes, after_answer, accepted_answer, call_register, register_answer, told_event, turn_by, answer_by}
 use Rattle.graph_runs.specs.TaskPlaces.{TaskPlace, StandsAt, registration_at, own_place, child_of, number_given}
 use Rattle.graph_runs.specs.Steps.{HasFilter}
 use Rattle.graph_runs.proofs.Signalling.{live-is, found_below}
@@ -77,7 +77,7 @@ child_due job m t c is = by (doing job m t (registers c) is (λ e. absurd (cc)))
     by (stepping s) = start (begins_is job m t (registers c) s.is)
 
 -- where the child comes next
-pub record ChildAt (job : Job) (m : Moment) (t c : ℕ) (state : TaskState) : Type 0 where
+pub record ChildAt (steps : ℕ) (job : Job) (m : Moment) (t c : ℕ) (state : TaskState) : Type 0 where
   pub live : is_live job m t ≡ true
   pub there : t < length job.graph.tasks
   pub child_there : c < length job.graph.tasks
@@ -85,10 +85,10 @@ pub record ChildAt (job : Job) (m : Moment) (t c : ℕ) (state : TaskState) : Ty
   pub phaser : (registration_at job c (length state.numbers.items)).phaser
       < length job.graph.phasers
   pub answer : let r = registration_at job c (length state.numbers.items) in
-      answer_of_turn job m t ≡ register_answer m t c r (task_at job.graph c).joins_now
+      turn_by steps job m t ≡ register_answer m t c r (task_at job.graph c).joins_now
 
-pub child_below : (job : Job) (machine : Machine) (t c : ℕ)
-    → IsNextIn job machine t (registers c) → c < length machine.tasks.items
+pub child_below : {steps : ℕ} (job : Job) (machine : Machine) (t c : ℕ)
+    → IsNextIn steps job machine t (registers c) → c < length machine.tasks.items
 child_below job machine t c next =
     let at = next.some.1 in
     let lt = (found_below (is_due job next.some.0 t) (length job.graph.tasks) c
@@ -96,17 +96,17 @@ child_below job machine t c next =
     omega (arith, at.tasks_many)
 
 -- its state, as it is read
-pub child_read : {job : Job} {machine : Machine} {t c : ℕ} {state : TaskState}
-    → IsNextIn job machine t (registers c) → state ≡ get_or machine.tasks.items c state
+pub child_read : {steps : ℕ} {job : Job} {machine : Machine} {t c : ℕ} {state : TaskState}
+    → IsNextIn steps job machine t (registers c) → state ≡ get_or machine.tasks.items c state
     → slice_get machine.tasks.items c ≡ Some state
-child_read {job} {machine} {t} {c} {state} next read =
+child_read {steps} {job} {machine} {t} {c} {state} next read =
     slice_get_read machine.tasks.items (length machine.tasks.items) c state refl
     (child_below job machine t c next) read
 
-pub child_at : (job : Job) (machine : Machine) (m : Moment) (t c : ℕ) (state : TaskState)
-    → IsNextIn job machine t (registers c) → IsMachineAt job m machine
-    → slice_get machine.tasks.items c ≡ Some state → ChildAt job m t c state
-child_at job machine m t c state next at found =
+pub child_at : {steps : ℕ} (job : Job) (machine : Machine) (m : Moment) (t c : ℕ) (state : TaskState)
+    → IsNextIn steps job machine t (registers c) → IsMachineAt job m machine
+    → slice_get machine.tasks.items c ≡ Some state → ChildAt steps job m t c state
+child_at {steps} job machine m t c state next at found =
     let is = next.is m at in
     let live = live_next job m t (registers c) is (λ e. absurd (cc)) in
     let living = live-is job m t live in
@@ -123,7 +123,7 @@ child_at job machine m t c state next at found =
       child_there = below;
       few = few;
       phaser = phaser_there job c (length state.numbers.items) at.graph below few;
-      answer = ap (answer_to job m t) is
+      answer = ap (answer_by steps job m t) is
           ∙ ap (call_register job m t c) (miss
           ∙ slice_get-get_or (registrations_at job c) (length state.numbers.items) no_registration few);
     }
@@ -147,13 +147,13 @@ child_event job t p n c a mode = of (task_at job.graph c).joins_now
     of false = child t p n c a mode
 
 -- what the turn answers
-pub child_so : (job : Job) (machine : Machine) (m : Moment) (t c p n a : ℕ) (mode : Mode)
-    (state : TaskState) → IsNextIn job machine t (registers c) → IsMachineAt job m machine
+pub child_so : {steps : ℕ} (job : Job) (machine : Machine) (m : Moment) (t c p n a : ℕ) (mode : Mode)
+    (state : TaskState) → IsNextIn steps job machine t (registers c) → IsMachineAt job m machine
     → slice_get machine.tasks.items c ≡ Some state
     → (registration_at job c (length state.numbers.items)).phaser ≡ p
     → (registration_at job c (length state.numbers.items)).mode ≡ mode
     → number_on m t p ≡ n → greatest_used (m.history p) + 1 ≡ a
-    → answer_of_turn job m t
+    → turn_by steps job m t
     ≡ accepted_answer (child_event job t p n c a mode)
     (child_refusal job c (m.history p) n a mode)
 child_so job machine m t c p n a mode state next at found phaser in_mode numbered new =
@@ -198,8 +198,8 @@ child_so job machine m t c p n a mode state next at found phaser in_mode numbere
         ∙ ap (λ o. accepted_answer (child t p n c a o) (register_refusal (m.history p) n a o)) in_mode
         ∙ sym here
 
-pub refused_child : (job : Job) (machine : Machine) (t c p n a : ℕ) (mode : Mode)
-    (state : TaskState) (e : RegisterRefusal) → IsNextIn job machine t (registers c)
+pub refused_child : {steps : ℕ} (job : Job) (machine : Machine) (t c p n a : ℕ) (mode : Mode)
+    (state : TaskState) (e : RegisterRefusal) → IsNextIn steps job machine t (registers c)
     → slice_get machine.tasks.items c ≡ Some state
     → (registration_at job c (length state.numbers.items)).phaser ≡ p
     → (registration_at job c (length state.numbers.items)).mode ≡ mode
@@ -347,8 +347,8 @@ now_input job c i is there now lt =
     ∙ get_or-map (λ r. r.phaser) rs i no_registration 0 lt
 
 -- a parent stays where it is
-parent_stays : (job : Job) (m : Moment) (t c : ℕ) (event : TaskEvent) (at : TaskPlace)
-    → MakesEvent job m t event → child_of event ≡ Some c → StandsAt job m t at
+parent_stays : {steps : ℕ} (job : Job) (m : Moment) (t c : ℕ) (event : TaskEvent) (at : TaskPlace)
+    → MakesEvent steps job m t event → child_of event ≡ Some c → StandsAt job m t at
     → StandsAt job (after_turn job event m) t at
 parent_stays job m t c event at made of_child stands =
     subst (λ place. StandsAt job (after_turn job event m) t place) (own_same job m event at c of_child)
@@ -409,8 +409,8 @@ many_lines old new same =
     ∙ length-map old (kept_behind none_given)
 
 -- the machine after it
-pub child_turn : (job : Job) (old new : Machine) (t c p n a : ℕ) (mode : Mode)
-    (state : TaskState) (numbers : SmallVec ℕ) → IsNextIn job old t (registers c)
+pub child_turn : {steps : ℕ} (job : Job) (old new : Machine) (t c p n a : ℕ) (mode : Mode)
+    (state : TaskState) (numbers : SmallVec ℕ) → IsNextIn steps job old t (registers c)
     → slice_get old.tasks.items c ≡ Some state
     → (registration_at job c (length state.numbers.items)).phaser ≡ p
     → (registration_at job c (length state.numbers.items)).mode ≡ mode
@@ -423,8 +423,8 @@ pub child_turn : (job : Job) (old new : Machine) (t c p n a : ℕ) (mode : Mode)
     → new.tasks.items ≡ set old.tasks.items c (with_numbers state numbers)
     → ((m : Moment) → IsMachineAt job m old
     → LineHasBegun job m c (done_of (m.history p)) old.lines.items new.lines.items)
-    → HadTurn job old new t (Event p Moved)
-child_turn job old new t c p n a mode state numbers next found phaser in_mode numbered fresh accepted cores items capacity tasks lines =
+    → HadTurn steps job old new t (Event p Moved)
+child_turn {steps} job old new t c p n a mode state numbers next found phaser in_mode numbered fresh accepted cores items capacity tasks lines =
     record {
       shows = λ m at. subst (λ x. MadeShows job m t x (Event p Moved)) (sym (answer m at))
           ((it m at).on, (it m at).told);
@@ -434,7 +434,7 @@ child_turn job old new t c p n a mode state numbers next found phaser in_mode nu
           subst (λ x. KeepsLines job given (after_answer job x m) new.lines.items)
           (sym (answer m at)) record {
             values = begun.values given ∙ kept.values
-                ∙ lines_stay job m old t event at (answer m at)
+                ∙ lines_stay job m old t event next.sized at (answer m at)
                 (child_quiet job event c (it m at).of_child);
             starts = begun.starts kept.starts
                 ∙ map_same (begins_with job m c (done_of (m.history p)))
@@ -453,13 +453,13 @@ child_turn job old new t c p n a mode state numbers next found phaser in_mode nu
         (child_at job old m t c state next at found).child_there now
         (child_at job old m t c state next at found).few ∙ phaser)
 
-    answer : (m : Moment) → IsMachineAt job m old → answer_of_turn job m t ≡ makes event
+    answer : (m : Moment) → IsMachineAt job m old → turn_by steps job m t ≡ makes event
     answer m at =
         child_so job old m t c p n a mode state next at found phaser in_mode (numbered m at) (fresh m at)
         ∙ ap (accepted_answer event) (accepted m at)
 
-    made : (m : Moment) → IsMachineAt job m old → MakesEvent job m t event
-    made m at = makes_event job m t event at.graph at.reached (answer m at)
+    made : (m : Moment) → IsMachineAt job m old → MakesEvent steps job m t event
+    made m at = makes_event job m t event next.sized at.graph at.reached (answer m at)
 
     here : (m : Moment) → IsMachineAt job m old
         → IsTaskAt job (after_turn job event m) c (with_numbers state numbers)
@@ -511,11 +511,11 @@ child_turn job old new t c p n a mode state numbers next found phaser in_mode nu
             let away : u ≢ t = λ same. (
             let yes : eqb u t ≡ true = ap (λ v. eqb v t) same ∙ eq-eqb t t refl in
             let wrong : true ≡ false = sym yes ∙ f in cc) in
-            keeps_other job m t u event s at.graph at.reached (answer m at) there away
+            keeps_other job m t u event s next.sized at.graph at.reached (answer m at) there away
             (λ same. apart (sym (some_is c u (sym e.of_child ∙ same)))) its
 
     after : (m : Moment) → IsMachineAt job m old
-        → IsMachineAt job (after_answer job (answer_of_turn job m t) m) new
+        → IsMachineAt job (after_answer job (turn_by steps job m t) m) new
     after m at =
         let state_c = with_numbers state numbers in
         let e = it m at in
@@ -590,8 +590,8 @@ number_is job machine m t p k state numbers at live found same few phaser =
           ∙ sym (ap (λ ns. get_or ns k 0) same),
     )
 
-pub room_for_child : (job : Job) (machine : Machine) (m : Moment) (t c : ℕ) (state : TaskState)
-    → IsNextIn job machine t (registers c) → IsMachineAt job m machine
+pub room_for_child : {steps : ℕ} (job : Job) (machine : Machine) (m : Moment) (t c : ℕ) (state : TaskState)
+    → IsNextIn steps job machine t (registers c) → IsMachineAt job m machine
     → slice_get machine.tasks.items c ≡ Some state → length (registrations_at job c) ≤ 9
     → length state.numbers.items + 1 ≤ state.numbers.capacity
 room_for_child job machine m t c state next at found few =

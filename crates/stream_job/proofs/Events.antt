@@ -9,7 +9,7 @@ use Rattle.graph_lang.specs.graph_base.TaskLines.{IsGraph}
 use Rattle.stream_eval.specs.stream_lists.Jobs.{Job}
 use Rattle.graph_runs.specs.Moments.{Moment}
 use Rattle.graph_runs.specs.TaskEvents.{TaskEvent, sample, signal, first_wait, exchange_wait, leave, child, child_now, after_turn}
-use Rattle.graph_runs.specs.Answers.{makes, answer_of_turn, after_answer}
+use Rattle.graph_runs.specs.Answers.{makes, after_answer, turn_by}
 use Rattle.graph_runs.specs.Reached.{IsReachable}
 use Rattle.graph_runs.specs.TaskPlaces.{child_of}
 use Rattle.graph_runs.proofs.Whose.{task_of}
@@ -23,6 +23,7 @@ use Rattle.stream_job.specs.declared.machine.Machine.{Machine}
 use Rattle.stream_job.specs.declared.task_state.TaskState.{TaskState}
 use Rattle.stream_job.proofs.Setting.{slice_get-set_same, slice_get-set_other, same_cores}
 use Rattle.graph_runs.specs.Turned.{with_at}
+use Rattle.stream_job.specs.Inside.{MayStep}
 
 -- what another task has taken
 pub taken_other : (job : Job) (m : Moment) (event : TaskEvent) (u k : ℕ) → u ≢ task_of event
@@ -47,12 +48,12 @@ begins_same job m (child t p n c a mode) u none = absurd (cc)
 begins_same job m (child_now t p n c a) u none = absurd (cc)
 
 -- another task is as it was
-pub keeps_other : (job : Job) (m : Moment) (t u : ℕ) (event : TaskEvent) (state : TaskState)
-    → IsGraph job.graph → IsReachable job m → answer_of_turn job m t ≡ makes event
+pub keeps_other : {steps : ℕ} (job : Job) (m : Moment) (t u : ℕ) (event : TaskEvent)
+    (state : TaskState) → MayStep job t steps → IsGraph job.graph → IsReachable job m → turn_by steps job m t ≡ makes event
     → u < length job.graph.tasks → u ≢ t → child_of event ≢ Some u → IsTaskAt job m u state
     → IsTaskAt job (after_turn job event m) u state
-keeps_other job m t u event state is reached answer there apart another at =
-    let made = makes_event job m t event is reached answer in
+keeps_other job m t u event state sized is reached answer there apart another at =
+    let made = makes_event job m t event sized is reached answer in
     let own : task_of event ≡ t = made.own in
     let taken : (after_turn job event m).taken u 0 ≡ m.taken u 0 =
     taken_other job m event u 0 (λ same. apart (same ∙ own)) in
@@ -93,23 +94,23 @@ set_state job after tasks x state many there here others u other found = by (eqb
         others u other (omega arith) apart (slice_get-set_other tasks x u state other apart found)
 
 -- the machine after an event that registers no child
-pub after_own : (job : Job) (m : Moment) (old new : Machine) (t : ℕ) (event : TaskEvent)
-    (state : TaskState) → IsMachineAt job m old → answer_of_turn job m t ≡ makes event
+pub after_own : {steps : ℕ} (job : Job) (m : Moment) (old new : Machine) (t : ℕ) (event : TaskEvent)
+    (state : TaskState) → MayStep job t steps → IsMachineAt job m old → turn_by steps job m t ≡ makes event
     → child_of event ≡ None → t < length job.graph.tasks
-    → IsReachable job (after_answer job (answer_of_turn job m t) m)
-    → UsesFew job (after_answer job (answer_of_turn job m t) m)
+    → IsReachable job (after_answer job (turn_by steps job m t) m)
+    → UsesFew job (after_answer job (turn_by steps job m t) m)
     → HasCores job (after_turn job event m).history new.cores.items
     → new.tasks.items ≡ set old.tasks.items t state
     → IsTaskAt job (after_turn job event m) t state
     → length new.lines.items ≡ length old.lines.items
-    → IsMachineAt job (after_answer job (answer_of_turn job m t) m) new
-after_own job m old new t event state at answer none there reached few cores tasks here lines =
+    → IsMachineAt job (after_answer job (turn_by steps job m t) m) new
+after_own job m old new t event state sized at answer none there reached few cores tasks here lines =
     let after = after_turn job event m in
     let long = length-set old.tasks.items t state in
     let many : length new.tasks.items ≡ length (set old.tasks.items t state) = ap length tasks in
     let before = at.tasks_many in
     let all = set_state job after old.tasks.items t state at.tasks_many there here
-    (λ u other within apart found. keeps_other job m t u event other at.graph at.reached answer
+    (λ u other within apart found. keeps_other job m t u event other sized at.graph at.reached answer
     within apart (λ same. (let wrong : None ≡ Some u = sym none ∙ same in cc))
     (at.tasks u other found)) in
     subst (λ a. IsMachineAt job (after_answer job a m) new) (sym answer) record {

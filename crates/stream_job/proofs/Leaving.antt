@@ -9,7 +9,7 @@ use Rattle.graph_runs.specs.Nexts as turns
 use Rattle.graph_runs.specs.Nexts.{is_live}
 use Rattle.graph_runs.specs.TaskEvents.{leave, after_turn}
 use Rattle.graph_runs.specs.Answers as answers
-use Rattle.graph_runs.specs.Answers.{makes, answer_of_turn, after_answer, accepted_answer, told_event}
+use Rattle.graph_runs.specs.Answers.{makes, after_answer, accepted_answer, told_event, turn_by}
 use Rattle.graph_runs.specs.TaskPlaces.{StandsAt, registration_at}
 use Rattle.graph_runs.proofs.PlacesFollow.{leave_follows}
 use Rattle.stream_job.specs.Places.{IsTaskAt, place_in_state}
@@ -32,8 +32,8 @@ abbrev pub left_once : TaskState → TaskState
 left_once state = record state { left = state.left + 1 }
 
 -- the machine after it
-pub left_turn : (job : Job) (old new : Machine) (t p number : ℕ) (state : TaskState)
-    (told : Turned) → IsNextIn job old t turns.leaves
+pub left_turn : {steps : ℕ} (job : Job) (old new : Machine) (t p number : ℕ) (state : TaskState)
+    (told : Turned) → IsNextIn steps job old t turns.leaves
     → slice_get old.tasks.items t ≡ Some state
     → (registration_at job t state.left).phaser ≡ p
     → get_or state.numbers.items state.left 0 ≡ number
@@ -43,24 +43,24 @@ pub left_turn : (job : Job) (old new : Machine) (t p number : ℕ) (state : Task
     → new.tasks.items ≡ set old.tasks.items t (left_once state) → new.lines ≡ old.lines
     → cond (nat_lt (state.left + 1) (length state.numbers.items)) answers.Moved answers.Ended
     ≡ told_of told
-    → HadTurn job old new t (Event p told)
-left_turn job old new t p number state told next found phaser numbered accepted cores tasks lines tells =
+    → HadTurn steps job old new t (Event p told)
+left_turn {steps} job old new t p number state told next found phaser numbered accepted cores tasks lines tells =
     record {
       shows = λ m at. shows m at;
       after = λ m at none. after m at;
       lines = λ given m at none.
-          quiet_lines job given m old new t (leave t p number) at (answer m at) refl tt lines;
+          quiet_lines job given m old new t (leave t p number) next.sized at (answer m at) refl tt lines;
       own = same_rooms old new lines;
     }
   where
     is : (m : Moment) → IsMachineAt job m old → IsTaskAt job m t state
     is m at = at.tasks t state found
 
-    place : (m : Moment) → IsMachineAt job m old → LeavesAt job m t (place_in_state state)
-    place m at = leaves_at job m t (place_in_state state) at.graph (is m at).stands (next.is m at)
+    place : (m : Moment) → IsMachineAt job m old → LeavesAt steps job m t (place_in_state state)
+    place m at = leaves_at steps job m t (place_in_state state) at.graph (is m at).stands (next.is m at)
 
     answer : (m : Moment) → IsMachineAt job m old
-        → answer_of_turn job m t ≡ makes (leave t p number)
+        → turn_by steps job m t ≡ makes (leave t p number)
     answer m at =
         (place m at).answer
         ∙ ap (λ q. accepted_answer (leave t q (get_or state.numbers.items state.left 0))
@@ -68,8 +68,8 @@ left_turn job old new t p number state told next found phaser numbered accepted 
         ∙ ap (λ n. accepted_answer (leave t p n) (drop_refusal (m.history p) n)) numbered
         ∙ ap (accepted_answer (leave t p number)) (accepted m at)
 
-    made : (m : Moment) → IsMachineAt job m old → MakesEvent job m t (leave t p number)
-    made m at = makes_event job m t (leave t p number) at.graph at.reached (answer m at)
+    made : (m : Moment) → IsMachineAt job m old → MakesEvent steps job m t (leave t p number)
+    made m at = makes_event job m t (leave t p number) next.sized at.graph at.reached (answer m at)
 
     stands : (m : Moment) → IsMachineAt job m old
         → StandsAt job (after_turn job (leave t p number) m) t (place_in_state (left_once state))
@@ -81,7 +81,7 @@ left_turn job old new t p number state told next found phaser numbered accepted 
         (made m at).order (is m at).stands)
 
     shows : (m : Moment) (at : IsMachineAt job m old)
-        → MadeShows job m t (answer_of_turn job m t) (Event p told)
+        → MadeShows job m t (turn_by steps job m t) (Event p told)
     shows m at =
         let after = after_turn job (leave t p number) m in
         let l = place m at in
@@ -93,10 +93,10 @@ left_turn job old new t p number state told next found phaser numbered accepted 
         subst (λ a. MadeShows job m t a (Event p told)) (sym (answer m at)) (refl, word)
 
     after : (m : Moment) (at : IsMachineAt job m old)
-        → IsMachineAt job (after_answer job (answer_of_turn job m t) m) new
+        → IsMachineAt job (after_answer job (turn_by steps job m t) m) new
     after m at =
         let it = is m at in
-        after_own job m old new t (leave t p number) (left_once state) at (answer m at) refl
+        after_own job m old new t (leave t p number) (left_once state) next.sized at (answer m at) refl
         (place m at).there (next.stays m at) (next.few m at) (cores m at) tasks
         (record {
           stands = stands m at;
@@ -110,11 +110,11 @@ left_turn job old new t p number state told next found phaser numbered accepted 
         (ap (λ l. length l.items) lines)
 
 -- what the drop of a task that leaves is answered
-leaves_so : (job : Job) (old : Machine) (t p number : ℕ) (state : TaskState)
-    → IsNextIn job old t turns.leaves → slice_get old.tasks.items t ≡ Some state
+leaves_so : {steps : ℕ} (job : Job) (old : Machine) (t p number : ℕ) (state : TaskState)
+    → IsNextIn steps job old t turns.leaves → slice_get old.tasks.items t ≡ Some state
     → (registration_at job t state.left).phaser ≡ p
     → get_or state.numbers.items state.left 0 ≡ number → (m : Moment) → IsMachineAt job m old
-    → answer_of_turn job m t ≡ accepted_answer (leave t p number) (drop_refusal (m.history p) number)
+    → turn_by steps job m t ≡ accepted_answer (leave t p number) (drop_refusal (m.history p) number)
 leaves_so job old t p number state next found phaser numbered m at =
     let n = get_or state.numbers.items state.left 0 in
     (leaves_now job old m t state next at found).answer
@@ -122,8 +122,8 @@ leaves_so job old t p number state next found phaser numbered m at =
     ∙ ap (λ n. accepted_answer (leave t p n) (drop_refusal (m.history p) n)) numbered
 
 -- it is not refused
-pub refused_drop : (job : Job) (old : Machine) (t p number : ℕ) (state : TaskState) (e : NoTask)
-    → IsNextIn job old t turns.leaves → slice_get old.tasks.items t ≡ Some state
+pub refused_drop : {steps : ℕ} (job : Job) (old : Machine) (t p number : ℕ) (state : TaskState) (e : NoTask)
+    → IsNextIn steps job old t turns.leaves → slice_get old.tasks.items t ≡ Some state
     → (registration_at job t state.left).phaser ≡ p
     → get_or state.numbers.items state.left 0 ≡ number
     → ((m : Moment) → IsMachineAt job m old → drop_refusal (m.history p) number ≡ Some e) → ⊥

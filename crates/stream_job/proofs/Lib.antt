@@ -41,6 +41,7 @@ pub mod GivenLines
 pub mod Feeding
 pub mod FedMachines
 pub mod FedStreams
+pub mod OwnSteps
 pub mod BareLists
 pub mod OpenedInputs
 pub mod OpenedStreams

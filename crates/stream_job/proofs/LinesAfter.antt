@@ -11,7 +11,7 @@ use Rattle.graph_runs.specs.Beginnings.{opening}
 use Rattle.graph_runs.specs.Moments.{Moment}
 use Rattle.graph_runs.specs.TaskEvents.{TaskEvent, after_turn}
 use Rattle.graph_runs.specs.TaskPlaces.{child_of}
-use Rattle.graph_runs.specs.Answers.{makes, answer_of_turn, after_answer}
+use Rattle.graph_runs.specs.Answers.{makes, after_answer, turn_by}
 use Rattle.stream_job.specs.Machines.{HasRoom, IsMachineAt, KeepsLines, kept_behind, none_given}
 use Rattle.stream_job.specs.SinkLines.{sink_begins_at, kept_by}
 use Rattle.stream_job.specs.declared.machine.Machine.{Machine}
@@ -19,6 +19,7 @@ use Rattle.stream_job.proofs.Begins.{opened_begins}
 use Rattle.stream_job.proofs.Events.{begins_same}
 use Rattle.stream_job.proofs.SinkLines.{map_same}
 use Rattle.stream_job.proofs.SinksKeep.{NoSinkWaits, lines_stay, opened_kept}
+use Rattle.stream_job.specs.Inside.{MayStep}
 
 -- lines that are the same keep the same
 pub same_lines : (job : Job) (given : ℕ → List ℤ) (m : Moment) (old new : Machine)
@@ -41,15 +42,15 @@ starts_stay job m event none =
     (λ u. begins_same job m event u none)
 
 -- the lines after an event by which no sink waits and no child comes
-pub quiet_lines : (job : Job) (given : ℕ → List ℤ) (m : Moment) (old new : Machine) (t : ℕ)
-    (event : TaskEvent) → IsMachineAt job m old → answer_of_turn job m t ≡ makes event
+pub quiet_lines : {steps : ℕ} (job : Job) (given : ℕ → List ℤ) (m : Moment) (old new : Machine) (t : ℕ)
+    (event : TaskEvent) → MayStep job t steps → IsMachineAt job m old → turn_by steps job m t ≡ makes event
     → child_of event ≡ None → NoSinkWaits job event → new.lines ≡ old.lines
     → KeepsLines job given m old.lines.items
-    → KeepsLines job given (after_answer job (answer_of_turn job m t) m) new.lines.items
-quiet_lines job given m old new t event at answer none quiet lines kept =
+    → KeepsLines job given (after_answer job (turn_by steps job m t) m) new.lines.items
+quiet_lines job given m old new t event sized at answer none quiet lines kept =
     subst (λ a. KeepsLines job given (after_answer job a m) new.lines.items) (sym answer) record {
       values = ap (λ l. map (kept_behind given) l.items) lines ∙ kept.values
-          ∙ lines_stay job m old t event at answer quiet;
+          ∙ lines_stay job m old t event sized at answer quiet;
       starts = ap (λ l. map (λ line. line.start) l.items) lines ∙ kept.starts
           ∙ starts_stay job m event none;
     }

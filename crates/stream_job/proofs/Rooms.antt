@@ -22,7 +22,7 @@ use Rattle.graph_runs.proofs.Whole.{stands_all}
 use Rattle.graph_runs.proofs.Started.{run_started, ready_as}
 use Rattle.graph_runs.proofs.StepsLemmas.{has_inputs}
 use Rattle.graph_runs.specs.Nexts.{next_of, waits, number_on}
-use Rattle.graph_runs.specs.Answers.{makes, answer_of_turn, after_answer}
+use Rattle.graph_runs.specs.Answers.{makes, after_answer, turn_by}
 use Rattle.graph_runs.specs.Reached.{IsReachable}
 use Rattle.graph_runs.specs.TaskEvents.{first_wait, after_turn}
 use Rattle.graph_runs.proofs.Boundaries.{all_taken}
@@ -69,19 +69,19 @@ steps_left job m t k p n outcomes ready live few reached numbered =
     let most : (span_in (started job after) t).steps ≤ (span_in (least job) t).steps =
     fewer_steps job (map after.offset (range_with_len 0 (length job.graph.tasks))) t ready.graph
     live.there in
-    let steps : after.begun t ≡ further (m.begun t) outcomes =
+    let begun : after.begun t ≡ further (m.begun t) outcomes =
     ap (λ b. cond b (further (m.begun t) outcomes) (m.begun t)) (eq-eqb t t refl) in
     omega (arith, further-length (m.begun t) outcomes)
 
 -- there is room for what a turn gets, at one moment
-room_at : (job : Job) (old : Machine) (m : Moment) (t k p n : ℕ) (outcomes : List Outcome)
+room_at : (steps : ℕ) (job : Job) (old : Machine) (m : Moment) (t k p n : ℕ) (outcomes : List Outcome)
     (state : TaskState) → KeepsLines job none_given m old.lines.items
     → All (IsLineOf job) old.lines.items
-    → IsReachable job (after_answer job (answer_of_turn job m t) m) → IsMachineAt job m old
-    → next_of job m t ≡ waits k → answer_of_turn job m t ≡ makes (first_wait t k p n outcomes)
+    → IsReachable job (after_answer job (turn_by steps job m t) m) → IsMachineAt job m old
+    → next_of job m t ≡ waits k → turn_by steps job m t ≡ makes (first_wait t k p n outcomes)
     → slice_get old.tasks.items t ≡ Some state → (task_at job.graph t).kind ≡ Sink
     → HasRoomIn old.lines.items (length outcomes) state.sink
-room_at job old m t k p n outcomes state kept owns stays at next answer found kind =
+room_at steps job old m t k p n outcomes state kept owns stays at next answer found kind =
     room state.sink ((at.tasks t state found).sink kind)
   where
     live : Live job m t
@@ -127,12 +127,12 @@ room_at job old m t k p n outcomes state kept owns stays at next answer found ki
         omega (arith, line.values.ok.0)
 
 -- where the lines keep all, and have room for all, there is room for what a turn gets
-pub sink_room : (job : Job) (old : Machine) (m : Moment) (t : ℕ)
+pub sink_room : (steps : ℕ) (job : Job) (old : Machine) (m : Moment) (t : ℕ)
     → KeepsLines job none_given m old.lines.items → All (IsLineOf job) old.lines.items
-    → IsReachable job (after_answer job (answer_of_turn job m t) m) → IsMachineAt job m old
-    → HasRoomAt job old t m
-sink_room job old m t kept owns stays at = λ k p n outcomes state next answer found sink.
-    room_at job old m t k p n outcomes state kept owns stays at next answer found
+    → IsReachable job (after_answer job (turn_by steps job m t) m) → IsMachineAt job m old
+    → HasRoomAt steps job old t m
+sink_room steps job old m t kept owns stays at = λ k p n outcomes state next answer found sink.
+    room_at steps job old m t k p n outcomes state kept owns stays at next answer found
     (sink_kind (task_at job.graph t).kind sink)
 
 -- as the code has the place of the line
@@ -157,7 +157,7 @@ pub line_kept : (needs : ℕ → ℕ) (lines : List Lines) (i : ℕ) (read kept 
 line_kept needs lines i read kept lt is owner same all =
     let was : HasRoom needs read =
     subst (HasRoom needs) (sym is) (All-get_or (HasRoom needs) lines i read lt all) in
-    let steps : needs kept.task ≡ needs read.task = ap needs owner in
+    let same_steps : needs kept.task ≡ needs read.task = ap needs owner in
     let enough : needs read.task ≤ vec_capacity read.values = was.room in
     let room : vec_capacity kept.values ≡ vec_capacity read.values = same in
     All-set (HasRoom needs) lines i kept (record { room = omega arith }) all

@@ -29,12 +29,12 @@ use Rattle.stream_eval.specs.stream_lists.Spans.{puts_on}
 use Rattle.graph_runs.specs.Moments.{one, Moment, limits_at, made_now}
 use Rattle.graph_runs.specs.Moves.{further}
 use Rattle.graph_runs.specs.Turned.{with_at}
-use Rattle.graph_runs.specs.NextBlocks.{block_of, sample_block_of}
+use Rattle.graph_runs.specs.NextBlocks.{block_up_to, sample_block_up_to}
 use Rattle.graph_runs.specs.Nexts as turns
 use Rattle.graph_runs.specs.Nexts.{Next, is_live, next_of, number_on}
 use Rattle.graph_runs.specs.TaskEvents.{TaskEvent, signal, sample, after_turn}
 use Rattle.graph_runs.specs.Answers as answers
-use Rattle.graph_runs.specs.Answers.{Answer, makes, is_blocked, is_refused, answer_of_turn, after_answer, answer_to, signal_answer, signal_turn, call_signal, output_at, next_samples, next_values, told_event}
+use Rattle.graph_runs.specs.Answers.{Answer, makes, is_blocked, is_refused, after_answer, signal_answer, signal_turn, call_signal, output_at, next_values, told_event, turn_by, answer_by, samples_up_to}
 use Rattle.graph_runs.specs.Reached.{IsReachable}
 use Rattle.graph_runs.specs.Steps.{owed_of}
 use Rattle.graph_runs.specs.TaskPlaces as places
@@ -68,11 +68,11 @@ use Rattle.stream_job.proofs.WhatNext.{signals_owes, signals_step, samples_begin
 
 -- ---- a call that the phaser would not take now
 
-pub blocked_turn : (job : Job) (old new : Machine) (t p : ℕ) (next : Next)
-    → IsNextIn job old t next → called_on job t next ≡ p
-    → ((m : Moment) → IsMachineAt job m old → answer_of_turn job m t ≡ is_blocked)
+pub blocked_turn : {steps : ℕ} (job : Job) (old new : Machine) (t p : ℕ) (next : Next)
+    → IsNextIn steps job old t next → called_on job t next ≡ p
+    → ((m : Moment) → IsMachineAt job m old → turn_by steps job m t ≡ is_blocked)
     → ((m : Moment) → IsMachineAt job m old → IsMachineAt job m new) → new.lines ≡ old.lines
-    → HadTurn job old new t (Blocked p)
+    → HadTurn steps job old new t (Blocked p)
 blocked_turn job old new t p next is called answer same lines = record {
   shows = λ m at.
       subst (λ a. MadeShows job m t a (Blocked p)) (sym (answer m at))
@@ -279,63 +279,63 @@ blocks event refusals.PhaseFull never = absurd (never refl)
 blocks event refusals.BadBlock never = absurd (never refl)
 
 -- what a turn answers that signals these values: the phaser's word
-abbrev pub SignalsBy : Job → Machine → ℕ → ℕ → ℕ → List ℤ → TaskEvent → Type 0
-SignalsBy job machine t number p vs event = (m : Moment) → IsMachineAt job m machine
-    → answer_of_turn job m t ≡ signal_answer event (refusal_of job m p number vs)
+abbrev pub SignalsBy : ℕ → Job → Machine → ℕ → ℕ → ℕ → List ℤ → TaskEvent → Type 0
+SignalsBy steps job machine t number p vs event = (m : Moment) → IsMachineAt job m machine
+    → turn_by steps job m t ≡ signal_answer event (refusal_of job m p number vs)
 
 -- a turn whose signal was refused
-pub refused_turn : (job : Job) (old new : Machine) (t number p : ℕ) (vs : List ℤ) (next : Next)
-    (event : TaskEvent) (r : SignalRefusal) → IsNextIn job old t next → called_on job t next ≡ p
-    → SignalsBy job old t number p vs event
+pub refused_turn : {steps : ℕ} (job : Job) (old new : Machine) (t number p : ℕ) (vs : List ℤ) (next : Next)
+    (event : TaskEvent) (r : SignalRefusal) → IsNextIn steps job old t next → called_on job t next ≡ p
+    → SignalsBy steps job old t number p vs event
     → ((m : Moment) → IsMachineAt job m old → reply_of job m p number vs ≡ Err r)
     → ((m : Moment) → IsMachineAt job m old
     → HasCores job (with_at p (m.history p) m.history) new.cores.items)
-    → new.tasks ≡ old.tasks → new.lines ≡ old.lines → HadTurn job old new t (Blocked p)
-refused_turn job old new t number p vs next event r is called answers reply cores tasks lines =
+    → new.tasks ≡ old.tasks → new.lines ≡ old.lines → HadTurn steps job old new t (Blocked p)
+refused_turn {steps} job old new t number p vs next event r is called answers reply cores tasks lines =
     blocked_turn job old new t p next is called answer
     (λ m at. unchanged job m old new p at (cores m at) tasks lines) lines
   where
     refused : (m : Moment) → IsMachineAt job m old
-        → answer_of_turn job m t ≡ signal_answer event (Some r)
+        → turn_by steps job m t ≡ signal_answer event (Some r)
     refused m at =
         answers m at
         ∙ ap (signal_answer event) (err_is (limits_at job p) (m.history p) number (map one vs)
         (phaser_at job.graph p).single r (reply m at))
 
-    answer : (m : Moment) → IsMachineAt job m old → answer_of_turn job m t ≡ is_blocked
+    answer : (m : Moment) → IsMachineAt job m old → turn_by steps job m t ≡ is_blocked
     answer m at = refused m at ∙ blocks event r (λ e. is.answered m at (refused m at ∙ e))
 
 -- ---- the machine after an event
 
 -- a turn whose event moved its task
-pub moved_turn : (job : Job) (old new : Machine) (t p : ℕ) (next : Next) (event : TaskEvent)
-    (left : TaskState) → IsNextIn job old t next → t < length job.graph.tasks
+pub moved_turn : {steps : ℕ} (job : Job) (old new : Machine) (t p : ℕ) (next : Next) (event : TaskEvent)
+    (left : TaskState) → IsNextIn steps job old t next → t < length job.graph.tasks
     → child_of event ≡ None → NoSinkWaits job event → phaser_of event ≡ p
     → ((m : Moment) → told_event job m event ≡ answers.Moved)
-    → ((m : Moment) → IsMachineAt job m old → answer_of_turn job m t ≡ makes event)
+    → ((m : Moment) → IsMachineAt job m old → turn_by steps job m t ≡ makes event)
     → ((m : Moment) → IsMachineAt job m old → IsTaskAt job (after_turn job event m) t left)
     → ((m : Moment) → IsMachineAt job m old
     → HasCores job (after_turn job event m).history new.cores.items)
     → new.tasks.items ≡ set old.tasks.items t left → new.lines ≡ old.lines
-    → HadTurn job old new t (Event p Moved)
+    → HadTurn steps job old new t (Event p Moved)
 moved_turn job old new t p next event left is there none quiet phaser told answer stands cores tasks lines =
     record {
       shows = λ m at. subst (λ a. MadeShows job m t a (Event p Moved)) (sym (answer m at))
           (phaser, told m);
       after = λ m at good.
-          after_own job m old new t event left at (answer m at) none there (is.stays m at)
+          after_own job m old new t event left is.sized at (answer m at) none there (is.stays m at)
           (is.few m at) (cores m at) tasks (stands m at) (ap (λ l. length l.items) lines);
       lines = λ given m at good.
-          quiet_lines job given m old new t event at (answer m at) none quiet lines;
+          quiet_lines job given m old new t event is.sized at (answer m at) none quiet lines;
       own = same_rooms old new lines;
     }
 
 -- the answer where the phaser accepts
-accepted : (job : Job) (old : Machine) (t number p phase : ℕ) (vs : List ℤ) (event : TaskEvent)
-    → SignalsBy job old t number p vs event
+accepted : (steps : ℕ) (job : Job) (old : Machine) (t number p phase : ℕ) (vs : List ℤ) (event : TaskEvent)
+    → SignalsBy steps job old t number p vs event
     → ((m : Moment) → IsMachineAt job m old → reply_of job m p number vs ≡ Ok phase)
-    → (m : Moment) → IsMachineAt job m old → answer_of_turn job m t ≡ makes event
-accepted job old t number p phase vs event answers reply m at =
+    → (m : Moment) → IsMachineAt job m old → turn_by steps job m t ≡ makes event
+accepted steps job old t number p phase vs event answers reply m at =
     answers m at
     ∙ ap (signal_answer event) (ok_is (limits_at job p) (m.history p) number (map one vs)
     (phaser_at job.graph p).single phase (reply m at))
@@ -356,8 +356,8 @@ pub record SignalsAt (job : Job) (m : Moment) (t j : ℕ) (state : TaskState) : 
   pub number : number_on m t (output_at job t j)
       ≡ get_or state.numbers.items (registration_of_output (task_at job.graph t) j) 0
 
-pub signals_at : (job : Job) (machine : Machine) (m : Moment) (t j : ℕ) (state : TaskState)
-    → IsNextIn job machine t (turns.signals j) → IsMachineAt job m machine
+pub signals_at : {steps : ℕ} (job : Job) (machine : Machine) (m : Moment) (t j : ℕ) (state : TaskState)
+    → IsNextIn steps job machine t (turns.signals j) → IsMachineAt job m machine
     → slice_get machine.tasks.items t ≡ Some state → SignalsAt job m t j state
 signals_at job machine m t j state next at found =
     let is = next.is m at in
@@ -373,8 +373,8 @@ signals_at job machine m t j state next at found =
     }
 
 -- the output is one of the task's
-pub signal_few : (job : Job) (machine : Machine) (m : Moment) (t j : ℕ)
-    → IsNextIn job machine t (turns.signals j) → IsMachineAt job m machine
+pub signal_few : {steps : ℕ} (job : Job) (machine : Machine) (m : Moment) (t j : ℕ)
+    → IsNextIn steps job machine t (turns.signals j) → IsMachineAt job m machine
     → j < length (signalled_by (task_at job.graph t))
 signal_few job machine m t j next at = (owed job m t j (signals_owes job m t j (next.is m at))).0
 
@@ -384,23 +384,23 @@ NextAre job machine t j vs = (m : Moment) → IsMachineAt job m machine
     → map ranged (next_values job m t j) ≡ map (λ x. Ok x) vs
 
 -- what the turn answers
-pub signals_so : (job : Job) (machine : Machine) (t j number p : ℕ) (vs : List ℤ)
-    (state : TaskState) → IsNextIn job machine t (turns.signals j)
+pub signals_so : {steps : ℕ} (job : Job) (machine : Machine) (t j number p : ℕ) (vs : List ℤ)
+    (state : TaskState) → IsNextIn steps job machine t (turns.signals j)
     → slice_get machine.tasks.items t ≡ Some state → p ≡ output_at job t j
     → number ≡ get_or state.numbers.items (registration_of_output (task_at job.graph t) j) 0
-    → NextAre job machine t j vs → SignalsBy job machine t number p vs (signal t j p number vs)
-signals_so job machine t j number p vs state next found phaser numbered value m at =
+    → NextAre job machine t j vs → SignalsBy steps job machine t number p vs (signal t j p number vs)
+signals_so {steps} job machine t j number p vs state next found phaser numbered value m at =
     let s = signals_at job machine m t j state next at found in
     let ranges = all_in_range (next_values job m t j) vs (value m at) in
     let q = output_at job t j in
-    ap (answer_to job m t) (next.is m at)
+    ap (answer_by steps job m t) (next.is m at)
     ∙ ap (λ l. signal_turn job m t j l (signal t j q (number_on m t q) l)) ranges.same
     ∙ goes_on job m t j vs (signal t j q (number_on m t q) vs) (ranges.none (length (m.put t j)))
     ∙ renumbered job m t j number p vs (λ r n. signal t j r n vs) phaser (s.number ∙ sym numbered)
 
 -- the values can be sent
-pub values_sent : (job : Job) (machine : Machine) (t j : ℕ) (vs : List ℤ)
-    → IsNextIn job machine t (turns.signals j) → NextAre job machine t j vs → AreSends vs
+pub values_sent : {steps : ℕ} (job : Job) (machine : Machine) (t j : ℕ) (vs : List ℤ)
+    → IsNextIn steps job machine t (turns.signals j) → NextAre job machine t j vs → AreSends vs
 values_sent job machine t j vs next value =
     let m = next.some.0 in
     let ranges = all_in_range (next_values job m t j) vs (value m next.some.1) in
@@ -421,8 +421,8 @@ pub record HasSignalled (task : Task) (j : ℕ) (vs : List ℤ) (state : TaskSta
   pub made_by : task.kind ≡ Fir → owed ≡ code.Nothing
   pub made_none : task.kind ≢ Fir → made.items ≡ []
 
-pub signalled_turn : (job : Job) (old new : Machine) (t j number p phase : ℕ) (vs : List ℤ)
-    (state : TaskState) (owed : Owed) (made : Values) → IsNextIn job old t (turns.signals j)
+pub signalled_turn : {steps : ℕ} (job : Job) (old new : Machine) (t j number p phase : ℕ) (vs : List ℤ)
+    (state : TaskState) (owed : Owed) (made : Values) → IsNextIn steps job old t (turns.signals j)
     → slice_get old.tasks.items t ≡ Some state → p ≡ output_at job t j
     → number ≡ get_or state.numbers.items (registration_of_output (task_at job.graph t) j) 0
     → NextAre job old t j vs
@@ -430,8 +430,8 @@ pub signalled_turn : (job : Job) (old new : Machine) (t j number p phase : ℕ) 
     → SignalledCores job old new number p vs
     → new.tasks.items ≡ set old.tasks.items t (with_owing state owed made)
     → new.lines ≡ old.lines → HasSignalled (task_at job.graph t) j vs state owed made
-    → HadTurn job old new t (Event p Moved)
-signalled_turn job old new t j number p phase vs state owed made next found phaser numbered value reply cores tasks lines has =
+    → HadTurn steps job old new t (Event p Moved)
+signalled_turn {steps} job old new t j number p phase vs state owed made next found phaser numbered value reply cores tasks lines has =
     moved_turn job old new t p (turns.signals j) event (with_owing state owed made) next
     (signals_at job old next.some.0 t j state next next.some.1 found).there refl tt refl (λ m. refl)
     answer stands cores tasks lines
@@ -440,21 +440,22 @@ signalled_turn job old new t j number p phase vs state owed made next found phas
     event = signal t j p number vs
 
     answer : (m : Moment) → IsMachineAt job m old
-        → answer_of_turn job m t ≡ makes (signal t j p number vs)
+        → turn_by steps job m t ≡ makes (signal t j p number vs)
     answer =
-        accepted job old t number p phase vs (signal t j p number vs)
+        accepted steps job old t number p phase vs (signal t j p number vs)
         (signals_so job old t j number p vs state next found phaser numbered value) reply
 
     stands : (m : Moment) → IsMachineAt job m old
         → IsTaskAt job (after_turn job (signal t j p number vs) m) t (with_owing state owed made)
     stands m at =
         let it = at.tasks t state found in
-        let made_so = makes_event job m t (signal t j p number vs) at.graph at.reached (answer m at) in
+        let made_so = makes_event job m t (signal t j p number vs) next.sized at.graph at.reached (answer m at) in
         record {
           stands =
               subst (λ o. StandsAt job (after_turn job (signal t j p number vs) m) t
               (record (place_in_state state) { owed = o })) (sym has.owes)
-              (signal_follows job m t j p number vs (place_in_state state) at.graph at.reached.ran
+              (signal_follows (task_at job.graph t).block job m t j p number vs (place_in_state state)
+              (next.sized made_so.live.there) at.graph at.reached.ran
               made_so.live made_so.next made_so.owes it.stands);
           room = it.room;
           filter = it.filter;
@@ -492,8 +493,8 @@ pub record OwesHere (job : Job) (m : Moment) (t j : ℕ) (state : TaskState)
   pub owes : owed_in state.owed state.made.items ≡ places.values j vs
   pub next : map ranged (next_values job m t j) ≡ vs
 
-pub owes_here : (job : Job) (machine : Machine) (m : Moment) (t j i : ℕ) (state : TaskState)
-    (vs : List (Result ℤ TooBigValue)) → IsNextIn job machine t (turns.signals j)
+pub owes_here : {steps : ℕ} (job : Job) (machine : Machine) (m : Moment) (t j i : ℕ) (state : TaskState)
+    (vs : List (Result ℤ TooBigValue)) → IsNextIn steps job machine t (turns.signals j)
     → IsMachineAt job m machine → slice_get machine.tasks.items t ≡ Some state
     → owed_in state.owed state.made.items ≡ places.values i vs
     → (i ≡ j) × OwesHere job m t j state vs
@@ -521,15 +522,15 @@ pub owes_one : (state : TaskState) (i : ℕ) (w : Result ℤ TooBigValue) → st
     → owed_in state.owed state.made.items ≡ places.values i (w ∷ [])
 owes_one state i w none is = ap (owed_in state.owed) none ∙ ap owed_of is
 
-pub owes_this : (job : Job) (machine : Machine) (m : Moment) (t j i : ℕ) (state : TaskState)
-    (w : Result ℤ TooBigValue) → IsNextIn job machine t (turns.signals j)
+pub owes_this : {steps : ℕ} (job : Job) (machine : Machine) (m : Moment) (t j i : ℕ) (state : TaskState)
+    (w : Result ℤ TooBigValue) → IsNextIn steps job machine t (turns.signals j)
     → IsMachineAt job m machine → slice_get machine.tasks.items t ≡ Some state
     → state.made.items ≡ [] → state.owed ≡ code.Value i w → OwesHere job m t j state (w ∷ [])
 owes_this job machine m t j i state w next at found none is =
     (owes_here job machine m t j i state (w ∷ []) next at found (owes_one state i w none is)).1
 
-pub owes_some : (job : Job) (machine : Machine) (t j : ℕ) (state : TaskState)
-    → IsNextIn job machine t (turns.signals j) → slice_get machine.tasks.items t ≡ Some state
+pub owes_some : {steps : ℕ} (job : Job) (machine : Machine) (t j : ℕ) (state : TaskState)
+    → IsNextIn steps job machine t (turns.signals j) → slice_get machine.tasks.items t ≡ Some state
     → state.made.items ≡ []
     → ((i : ℕ) (w : Result ℤ TooBigValue) → state.owed ≡ code.Value i w → ⊥) → ⊥
 owes_some job machine t j state next found none never =
@@ -561,8 +562,8 @@ pub record HasMade (job : Job) (m : Moment) (t j : ℕ) (state : TaskState) : Ty
   pub first : 0 ≡ j
   pub here : OwesHere job m t j state state.made.items
 
-pub has_made : (job : Job) (machine : Machine) (m : Moment) (t j : ℕ) (state : TaskState)
-    → IsNextIn job machine t (turns.signals j) → IsMachineAt job m machine
+pub has_made : {steps : ℕ} (job : Job) (machine : Machine) (m : Moment) (t j : ℕ) (state : TaskState)
+    → IsNextIn steps job machine t (turns.signals j) → IsMachineAt job m machine
     → slice_get machine.tasks.items t ≡ Some state → state.made.items ≢ []
     → HasMade job m t j state
 has_made job machine m t j state next at found some =
@@ -608,19 +609,19 @@ made_puts task b j e = by task.kind j refl e
     by Sink j k e = absurd (cc)
 
 -- the turn of a task that made a value out of range at this place of those that it owes
-pub record MadeOver (job : Job) (m : Moment) (t j at : ℕ) (state : TaskState)
+pub record MadeOver (steps : ℕ) (job : Job) (m : Moment) (t j at : ℕ) (state : TaskState)
     (vs : List (Result ℤ TooBigValue)) : Type 0 where
-  pub answer : answer_of_turn job m t
+  pub answer : turn_by steps job m t
       ≡ answers.has_made (place.Task t, length (m.put t j) + at)
   pub begun : state.begun ≡ length (m.put t j) + length vs
   pub few : at < length vs
 
-pub made_over : (job : Job) (machine : Machine) (m : Moment) (t j at : ℕ) (state : TaskState)
-    (vs : List (Result ℤ TooBigValue)) → IsNextIn job machine t (turns.signals j)
+pub made_over : {steps : ℕ} (job : Job) (machine : Machine) (m : Moment) (t j at : ℕ) (state : TaskState)
+    (vs : List (Result ℤ TooBigValue)) → IsNextIn steps job machine t (turns.signals j)
     → IsMachineAt job m machine → slice_get machine.tasks.items t ≡ Some state
     → OwesHere job m t j state vs → position_from is_value_out 0 vs ≡ Some at
-    → MadeOver job m t j at state vs
-made_over job machine m t j at state vs next stands found owes over =
+    → MadeOver steps job m t j at state vs
+made_over {steps} job machine m t j at state vs next stands found owes over =
     by (are_made (task_at job.graph t).kind j) refl
   where
     zs : List ℤ
@@ -633,18 +634,18 @@ made_over job machine m t j at state vs next stands found owes over =
     event =
         signal t j (output_at job t j) (number_on m t (output_at job t j)) (next_values job m t j)
 
-    out : answer_of_turn job m t
+    out : turn_by steps job m t
         ≡ cond (are_made (task_at job.graph t).kind j)
         (answers.has_made (place.Task t, length (m.put t j) + at)) is_refused
     out =
         let first = place_of_first in
         let same : first.at ≡ at = (let is = first.is in omega arith) in
-        ap (answer_to job m t) (next.is m stands)
+        ap (answer_by steps job m t) (next.is m stands)
         ∙ stops job m t j (length (m.put t j) + at) (next_values job m t j)
         (signal t j (output_at job t j) (number_on m t (output_at job t j)) (next_values job m t j))
         (first.found ∙ ap (λ n. Some (length (m.put t j) + n)) same)
 
-    by : (b : Bool) → are_made (task_at job.graph t).kind j ≡ b → MadeOver job m t j at state vs
+    by : (b : Bool) → are_made (task_at job.graph t).kind j ≡ b → MadeOver steps job m t j at state vs
     by true made =
         let it = (stands.tasks t state found).stands in
         let few = signal_few job machine m t j next stands in
@@ -675,17 +676,17 @@ made_over job machine m t j at state vs next stands found owes over =
         (place.Task t, length (m.put t j) + at)) is_refused) made))
 
 -- it tells the step of that value
-pub over_turn : (job : Job) (old : Machine) (t j at step : ℕ) (state : TaskState)
-    (vs : List (Result ℤ TooBigValue)) → IsNextIn job old t (turns.signals j)
-    → ((m : Moment) → IsMachineAt job m old → MadeOver job m t j at state vs)
-    → step + length vs ≡ state.begun + at → HadTurn job old old t (OutOfRange step)
+pub over_turn : {steps : ℕ} (job : Job) (old : Machine) (t j at step : ℕ) (state : TaskState)
+    (vs : List (Result ℤ TooBigValue)) → IsNextIn steps job old t (turns.signals j)
+    → ((m : Moment) → IsMachineAt job m old → MadeOver steps job m t j at state vs)
+    → step + length vs ≡ state.begun + at → HadTurn steps job old old t (OutOfRange step)
 over_turn job old t j at step state vs next over count = record {
   shows = λ m stands.
       let it = over m stands in
       let begun = it.begun in
-      let steps : length (m.put t j) + at ≡ step = omega arith in
+      let same : length (m.put t j) + at ≡ step = omega arith in
       subst (λ a. MadeShows job m t a (OutOfRange step)) (sym it.answer)
-      (ap (λ n. (place.Task t, n)) steps);
+      (ap (λ n. (place.Task t, n)) same);
   after = λ m stands good.
       subst (λ a. IsMachineAt job (after_answer job a m) old) (sym (over m stands).answer) stands;
   lines = λ given m stands good kept.
@@ -697,20 +698,20 @@ over_turn job old t j at step state vs next over count = record {
 -- ---- samples
 
 -- what is asked of the phaser, and what it answers
-pub record SamplesAt (job : Job) (m : Moment) (t : ℕ) (state : TaskState) : Type 0 where
+pub record SamplesAt (steps : ℕ) (job : Job) (m : Moment) (t : ℕ) (state : TaskState) : Type 0 where
   pub there : t < length job.graph.tasks
   pub source : (task_at job.graph t).kind ≡ Source
   pub few : 0 < length (signalled_by (task_at job.graph t))
   pub more : state.begun < length (samples_at job t)
-  pub block : 1 ≤ block_of job m t
+  pub block : 1 ≤ block_up_to steps job m t
   pub place : registration_of_output (task_at job.graph t) 0 < length state.numbers.items
   pub number : number_on m t (output_at job t 0)
       ≡ get_or state.numbers.items (registration_of_output (task_at job.graph t) 0) 0
 
-pub samples_at_place : (job : Job) (machine : Machine) (m : Moment) (t : ℕ) (state : TaskState)
-    → IsNextIn job machine t turns.samples → IsMachineAt job m machine
-    → slice_get machine.tasks.items t ≡ Some state → SamplesAt job m t state
-samples_at_place job machine m t state next at found =
+pub samples_at_place : {steps : ℕ} (job : Job) (machine : Machine) (m : Moment) (t : ℕ) (state : TaskState)
+    → IsNextIn steps job machine t turns.samples → IsMachineAt job m machine
+    → slice_get machine.tasks.items t ≡ Some state → SamplesAt steps job m t state
+samples_at_place {steps} job machine m t state next at found =
     let is = next.is m at in
     let it = (at.tasks t state found).stands in
     let live = live_next job m t turns.samples is (λ e. absurd (cc)) in
@@ -728,46 +729,47 @@ samples_at_place job machine m t state next at found =
       source = s.kind;
       few = few;
       more = omega arith;
-      block = block_some job m t at.graph (at.reached.ran.tasks t there) there s.step.uncut;
+      block = block_some steps job m t (at.reached.ran.tasks t there) (next.sized there).block.some
+          s.step.uncut;
       place = out.0;
       number = out.1;
     }
 
 -- the samples from these steps on are those that are next
-abbrev pub NextSamplesAre : Job → Machine → ℕ → List ℤ → Type 0
-NextSamplesAre job machine t vs = (m : Moment) → IsMachineAt job m machine
-    → next_samples job m t ≡ vs
+abbrev pub NextSamplesAre : ℕ → Job → Machine → ℕ → List ℤ → Type 0
+NextSamplesAre steps job machine t vs = (m : Moment) → IsMachineAt job m machine
+    → samples_up_to steps job m t ≡ vs
 
-pub record SamplesSo (job : Job) (m : Moment) (t number p : ℕ) (vs : List ℤ) : Type 0 where
-  pub answer : answer_of_turn job m t
+pub record SamplesSo (steps : ℕ) (job : Job) (m : Moment) (t number p : ℕ) (vs : List ℤ) : Type 0 where
+  pub answer : turn_by steps job m t
       ≡ signal_answer (sample t 0 p number vs) (refusal_of job m p number vs)
   pub sends : AreSends vs
 
 -- what the turn answers
-pub samples_so : (job : Job) (machine : Machine) (t number p : ℕ) (vs : List ℤ)
-    (state : TaskState) → IsNextIn job machine t turns.samples
+pub samples_so : {steps : ℕ} (job : Job) (machine : Machine) (t number p : ℕ) (vs : List ℤ)
+    (state : TaskState) → IsNextIn steps job machine t turns.samples
     → slice_get machine.tasks.items t ≡ Some state → p ≡ output_at job t 0
     → number ≡ get_or state.numbers.items (registration_of_output (task_at job.graph t) 0) 0
-    → NextSamplesAre job machine t vs → (m : Moment) → IsMachineAt job m machine
-    → SamplesSo job m t number p vs
-samples_so job machine t number p vs state next found phaser numbered value m at =
+    → NextSamplesAre steps job machine t vs → (m : Moment) → IsMachineAt job m machine
+    → SamplesSo steps job m t number p vs
+samples_so {steps} job machine t number p vs state next found phaser numbered value m at =
     by (position_from is_out_of_range (length (m.put t 0)) vs) refl
   where
-    s : SamplesAt job m t state
+    s : SamplesAt steps job m t state
     s = samples_at_place job machine m t state next at found
 
     q : ℕ
     q = output_at job t 0
 
-    out : answer_of_turn job m t
+    out : turn_by steps job m t
         ≡ signal_turn job m t 0 vs
         (sample t 0 (output_at job t 0) (number_on m t (output_at job t 0)) vs)
     out =
-        ap (answer_to job m t) (next.is m at)
+        ap (answer_by steps job m t) (next.is m at)
         ∙ ap (λ l. signal_turn job m t 0 l (sample t 0 q (number_on m t q) l)) (value m at)
 
     by : (o : Option ℕ) → position_from is_out_of_range (length (m.put t 0)) vs ≡ o
-        → SamplesSo job m t number p vs
+        → SamplesSo steps job m t number p vs
     by (Some step) over =
         absurd (next.answered m at (out
         ∙ stops job m t 0 step vs (sample t 0 q (number_on m t q) vs) over
@@ -782,25 +784,25 @@ samples_so job machine t number p vs state next found phaser numbered value m at
 abbrev pub with_begun : TaskState → ℕ → TaskState
 with_begun state begun = record state { begun = begun }
 
-pub sampled_turn : (job : Job) (old new : Machine) (t number p phase many : ℕ) (vs : List ℤ)
-    (state : TaskState) → IsNextIn job old t turns.samples
+pub sampled_turn : {steps : ℕ} (job : Job) (old new : Machine) (t number p phase many : ℕ) (vs : List ℤ)
+    (state : TaskState) → IsNextIn steps job old t turns.samples
     → slice_get old.tasks.items t ≡ Some state → p ≡ output_at job t 0
     → number ≡ get_or state.numbers.items (registration_of_output (task_at job.graph t) 0) 0
-    → NextSamplesAre job old t vs → length vs ≡ many
+    → NextSamplesAre steps job old t vs → length vs ≡ many
     → ((m : Moment) → IsMachineAt job m old → reply_of job m p number vs ≡ Ok phase)
     → SignalledCores job old new number p vs
     → new.tasks.items ≡ set old.tasks.items t (with_begun state (state.begun + many))
-    → new.lines ≡ old.lines → HadTurn job old new t (Event p Moved)
-sampled_turn job old new t number p phase many vs state next found phaser numbered value long reply cores tasks lines =
+    → new.lines ≡ old.lines → HadTurn steps job old new t (Event p Moved)
+sampled_turn {steps} job old new t number p phase many vs state next found phaser numbered value long reply cores tasks lines =
     moved_turn job old new t p turns.samples (sample t 0 p number vs)
     (with_begun state (state.begun + many)) next
     (samples_at_place job old next.some.0 t state next next.some.1 found).there refl tt refl
     (λ m. refl) answer stands cores tasks lines
   where
     answer : (m : Moment) → IsMachineAt job m old
-        → answer_of_turn job m t ≡ makes (sample t 0 p number vs)
+        → turn_by steps job m t ≡ makes (sample t 0 p number vs)
     answer =
-        accepted job old t number p phase vs (sample t 0 p number vs)
+        accepted steps job old t number p phase vs (sample t 0 p number vs)
         (λ m at. (samples_so job old t number p vs state next found phaser numbered value m at).answer)
         reply
 
@@ -810,15 +812,15 @@ sampled_turn job old new t number p phase many vs state next found phaser number
     stands m at =
         let event = sample t 0 p number vs in
         let it = at.tasks t state found in
-        let made = makes_event job m t event at.graph at.reached (answer m at) in
+        let made = makes_event job m t event next.sized at.graph at.reached (answer m at) in
         let ran = (subst (λ a. IsReachable job (after_answer job a m)) (answer m at)
         (next.stays m at)).ran in
-        let steps : further state.begun vs ≡ state.begun + many =
+        let begun : further state.begun vs ≡ state.begun + many =
         further-length state.begun vs ∙ ap (λ n. state.begun + n) long in
         record {
           stands =
               subst (λ n. StandsAt job (after_turn job event m) t
-              (record (place_in_state state) { begun = n })) steps
+              (record (place_in_state state) { begun = n })) begun
               (sample_follows job m t 0 p number vs (place_in_state state) at.graph at.reached.ran
               made.next ran made.owes it.stands);
           room = it.room;
@@ -829,8 +831,8 @@ sampled_turn job old new t number p phase many vs state next found phaser number
           sink = it.sink;
         }
 
-pub sample_few : (job : Job) (machine : Machine) (m : Moment) (t : ℕ)
-    → IsNextIn job machine t turns.samples → IsMachineAt job m machine
+pub sample_few : {steps : ℕ} (job : Job) (machine : Machine) (m : Moment) (t : ℕ)
+    → IsNextIn steps job machine t turns.samples → IsMachineAt job m machine
     → 0 < length (signalled_by (task_at job.graph t))
 sample_few job machine m t next at =
     let is = next.is m at in
@@ -844,15 +846,15 @@ pub record BlockOfSamples (job : Job) (t begun many : ℕ) (vs : List ℤ) : Typ
   pub long : length vs ≡ many
   pub here : vs ≡ take many (drop begun (samples_at job t))
 
-pub block_of_samples : (job : Job) (machine : Machine) (m : Moment) (t many : ℕ)
-    (state : TaskState) → IsNextIn job machine t turns.samples → IsMachineAt job m machine
-    → slice_get machine.tasks.items t ≡ Some state → sample_block_of job m t ≡ many
+pub block_of_samples : {steps : ℕ} (job : Job) (machine : Machine) (m : Moment) (t many : ℕ)
+    (state : TaskState) → IsNextIn steps job machine t turns.samples → IsMachineAt job m machine
+    → slice_get machine.tasks.items t ≡ Some state → sample_block_up_to steps job m t ≡ many
     → BlockOfSamples job t state.begun many (take many (drop state.begun (samples_at job t)))
-block_of_samples job machine m t many state next at found block =
+block_of_samples {steps} job machine m t many state next at found block =
     let s = samples_at_place job machine m t state next at found in
     let begun : m.begun t ≡ state.begun = (at.tasks t state found).stands.begun in
     let more = s.more in
-    let one_step : 1 ≤ block_of job m t = s.block in
+    let one_step : 1 ≤ block_up_to steps job m t = s.block in
     let rest : length (drop state.begun (samples_at job t))
     ≡ length (samples_at job t) - state.begun = length-drop state.begun (samples_at job t) in
     let few : state.begun + many ≤ length (samples_at job t) = omega arith in
@@ -864,11 +866,11 @@ block_of_samples job machine m t many state next at found block =
     }
 
 -- they are the next ones at each moment
-pub next_samples_are : (job : Job) (machine : Machine) (t many : ℕ) (state : TaskState)
+pub next_samples_are : (steps : ℕ) (job : Job) (machine : Machine) (t many : ℕ) (state : TaskState)
     → slice_get machine.tasks.items t ≡ Some state
-    → ((m : Moment) → m.begun t ≡ state.begun → sample_block_of job m t ≡ many)
-    → NextSamplesAre job machine t (take many (drop state.begun (samples_at job t)))
-next_samples_are job machine t many state found block m at =
+    → ((m : Moment) → m.begun t ≡ state.begun → sample_block_up_to steps job m t ≡ many)
+    → NextSamplesAre steps job machine t (take many (drop state.begun (samples_at job t)))
+next_samples_are steps job machine t many state found block m at =
     let begun : m.begun t ≡ state.begun = (at.tasks t state found).stands.begun in
     ap (λ n. take n (drop (m.begun t) (samples_at job t))) (block m begun)
     ∙ ap (λ b. take many (drop b (samples_at job t))) begun
@@ -915,33 +917,33 @@ all_out (z ∷ zs) (r ∷ rs) from e =
 -- ---- as the code has them
 
 -- the samples that the code has read
-pub record ReadSamples (job : Job) (machine : Machine) (t begun many : ℕ) (vs : List ℤ) : Type 0 where
+pub record ReadSamples (steps : ℕ) (job : Job) (machine : Machine) (t begun many : ℕ) (vs : List ℤ) : Type 0 where
   pub there : t < length job.graph.tasks
   pub some : 1 ≤ many
   pub few : begun + many ≤ length (samples_at job t)
-  pub block : many ≤ (task_at job.graph t).block
+  pub block : many ≤ steps
   pub long : length vs ≡ many
-  pub are : NextSamplesAre job machine t vs
+  pub are : NextSamplesAre steps job machine t vs
 
-pub read_samples : (job : Job) (machine : Machine) (t block many : ℕ) (rest : List ℤ)
-    (state : TaskState) → IsNextIn job machine t turns.samples
+pub read_samples : {steps : ℕ} (job : Job) (machine : Machine) (t block many : ℕ) (rest : List ℤ)
+    (state : TaskState) → IsNextIn steps job machine t turns.samples
     → slice_get machine.tasks.items t ≡ Some state → drop state.begun (samples_at job t) ≡ rest
-    → ((m : Moment) → m.begun t ≡ state.begun → block_of job m t ≡ block)
+    → ((m : Moment) → m.begun t ≡ state.begun → block_up_to steps job m t ≡ block)
     → many ≡ min block (length rest)
-    → ReadSamples job machine t state.begun many (take many rest)
-read_samples job machine t block many rest state next found same blocks is_many =
+    → ReadSamples steps job machine t state.begun many (take many rest)
+read_samples {steps} job machine t block many rest state next found same blocks is_many =
     let m = next.some.0 in
     let at = next.some.1 in
     let xs = samples_at job t in
     let s = samples_at_place job machine m t state next at found in
     let begun : m.begun t ≡ state.begun = (at.tasks t state found).stands.begun in
-    let least : (n : Moment) → n.begun t ≡ state.begun → sample_block_of job n t ≡ many =
+    let least : (n : Moment) → n.begun t ≡ state.begun → sample_block_up_to steps job n t ≡ many =
     λ n e. ap (λ b. min b (length xs - n.begun t)) (blocks n e)
     ∙ ap (λ b. min block (length xs - b)) e
     ∙ ap (min block) (sym (length-drop state.begun xs) ∙ ap length same) ∙ sym is_many in
     let of = block_of_samples job machine m t many state next at found (least m begun) in
     let one = least m begun in
-    let most = block_few job m t in
+    let most = block_few steps job m t in
     let is : take many rest ≡ take many (drop state.begun xs) = ap (take many) (sym same) in
     record {
       there = s.there;
@@ -949,7 +951,7 @@ read_samples job machine t block many rest state next found same blocks is_many 
       few = of.few;
       block = omega arith;
       long = ap length is ∙ of.long;
-      are = λ n stands. next_samples_are job machine t many state found least n stands ∙ sym is;
+      are = λ n stands. next_samples_are steps job machine t many state found least n stands ∙ sym is;
     }
 
 -- whether a task has made values
@@ -980,11 +982,11 @@ pub made_few : (job : Job) (machine : Machine) (m : Moment) (t j : ℕ) (state :
 made_few job machine m t j state made =
     let long : length (map ranged (next_values job m t j)) ≡ length (next_values job m t j) =
     length-map (next_values job m t j) ranged in
-    omega (arith, values_few job m t j, ap length made.here.next)
+    omega (arith, values_few (task_at job.graph t).block job m t j, ap length made.here.next)
 
 -- and were begun
-pub made_begun : (job : Job) (machine : Machine) (m : Moment) (t j : ℕ) (state : TaskState)
-    → IsNextIn job machine t (turns.signals j) → IsMachineAt job m machine
+pub made_begun : {steps : ℕ} (job : Job) (machine : Machine) (m : Moment) (t j : ℕ) (state : TaskState)
+    → IsNextIn steps job machine t (turns.signals j) → IsMachineAt job m machine
     → slice_get machine.tasks.items t ≡ Some state → HasMade job m t j state
     → state.begun ≡ length (m.put t j) + length state.made.items
 made_begun job machine m t j state next at found made =

@@ -50,6 +50,7 @@ use Rattle.stream_job.specs.Inside.{blocks_signal, blocks_signal_at, blocks_wait
 use Rattle.stream_job.proofs.Lively.{live_next}
 use Rattle.stream_job.proofs.Signals.{all_out, goes_on, owes_values, stops}
 use Rattle.stream_job.proofs.WhatNext.{samples_begins, signals_owes}
+use Rattle.graph_runs.proofs.Stepping.{line_sizes}
 
 -- ---- a signal, phase by phase
 
@@ -254,7 +255,8 @@ never_refused : (job : Job) (m : Moment) (t : ℕ) (next : Next) → IsGraph job
     → AreSends (samples_at job t) → IsReachable job m → next_of job m t ≡ next
     → answer_to job m t next ≢ is_refused
 never_refused job m t next is sends reached at refused =
-    subst IsTold (ap (answer_to job m t) at ∙ refused) (turn_told job m t is sends reached)
+    subst IsTold (ap (answer_to job m t) at ∙ refused) (turn_told (task_at job.graph t).block (task_at job.graph t).block job m t (line_sizes job t is)
+    is sends reached)
 
 -- a drop and a registration are never blocked
 accepted_moves : {R : Type 0} (event : TaskEvent) (o : Option R)
@@ -314,7 +316,8 @@ samples_next job m t is sends reached next =
     ap (has_input_ended job m t) (sym s.kind) ∙ s.step.more in
     let left = leb-false (length (samples_at job t)) (m.begun t) more in
     let steps : 1 ≤ block_of job m t =
-    block_some job m t is (reached.ran.tasks t there) there s.step.uncut in
+    block_some (task_at job.graph t).block job m t (reached.ran.tasks t there)
+    (is.tasks t there).block.some s.step.uncut in
     let rest : length (drop (m.begun t) (samples_at job t))
     ≡ length (samples_at job t) - m.begun t = length-drop (m.begun t) (samples_at job t) in
     let ranged = take_ranged (sample_block_of job m t) (drop (m.begun t) (samples_at job t))

@@ -32,6 +32,7 @@ use Rattle.stream_job.proofs.LeftAlone.{LeavesAlone, alone, found_same, lives_on
 use Rattle.stream_job.proofs.Signals.{goes_on, stops}
 use Rattle.stream_job.proofs.Stalling.{leave_moves, register_moves}
 use Rattle.stream_job.proofs.WhatNext.{AtStep, Doing, doing, owing, parent, leaving, stepping, begins_is}
+use Rattle.graph_runs.proofs.Stepping.{line_sizes}
 
 -- ---- a call that can be blocked
 
@@ -285,12 +286,14 @@ pub blocked_still : (job : Job) (m : Moment) (machine : Machine) (t u p : ℕ) (
     → IsMachineAt job m machine → answer_of_turn job m t ≡ makes event → IsBlockedOn job m u p
     → p ≢ phaser_of event → IsBlockedOn job (after_turn job event m) u p
 blocked_still job m machine t u p event at answer was apart =
-    let next = turn_makes_next job m t event at.graph at.reached.ran
+    let block = (task_at job.graph t).block in
+    let sized = line_sizes job t at.graph in
+    let next = turn_makes_next block block job m t event sized at.graph at.reached.ran
     (λ c due. at.reached.to_come) answer in
-    let made = (made_by job m t event answer).1 in
+    let made = (made_by block block job m t event answer).1 in
     let other : u ≢ t = λ same. (let wrong : is_blocked ≡ makes event =
     sym was.blocked ∙ ap (answer_of_turn job m) same ∙ answer in cc) in
     let no = no_child job m event u made.missing (live-is job m u was.live).all in
     let left = alone job m event u at.reached next (λ same. other (same ∙ made.own)) no in
     stays_blocked job m (after_turn job event m) u p (phaser_of event) left
-    (lives_on job m machine t u event at answer other no was.live) was apart
+    (lives_on job m machine t u event sized at answer other no was.live) was apart

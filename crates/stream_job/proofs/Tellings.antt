@@ -14,7 +14,7 @@ use Rattle.graph_runs.proofs.ToldFaults.{told_fault}
 use Rattle.graph_runs.proofs.OnLines.{on_phaser}
 use Rattle.graph_runs.specs.TaskEvents.{TaskEvent, IsNext, sample, signal, first_wait, exchange_wait, leave, child, child_now, after_turn}
 use Rattle.graph_runs.specs.Nexts.{Next, is_not_live, registers, leaves, samples, signals, waits, exchanges, next_of}
-use Rattle.graph_runs.specs.Answers.{Answer, Moved, Blocked, Ended, Gone, TooBig, makes, is_blocked, is_gone, has_made, is_refused, answer_to, answer_of_turn, after_answer, word_of_answer, turn_tells, was_blocked}
+use Rattle.graph_runs.specs.Answers.{Answer, Moved, Blocked, Ended, Gone, TooBig, makes, is_blocked, is_gone, has_made, is_refused, answer_to, answer_of_turn, after_answer, word_of_answer, turn_tells, was_blocked, turn_by, answer_by, tells_up_to}
 use Rattle.graph_runs.specs.Reached.{IsReachable}
 use Rattle.graph_runs.proofs.Signalling.{live-is}
 use Rattle.graph_runs.proofs.Turning.{turn_makes_next}
@@ -35,6 +35,8 @@ use Rattle.stream_job.proofs.LinesBegin.{turn_begins}
 use Rattle.stream_job.proofs.Lively.{live_next}
 use Rattle.stream_job.proofs.Stalling.{leave_moves, register_moves}
 use Rattle.stream_job.proofs.Stepping.{sample_output, signal_output, wait_input, exchange_input}
+use Rattle.stream_job.specs.Inside.{MayStep}
+use Rattle.graph_runs.proofs.Stepping.{line_sizes}
 
 -- ---- what is word_of_answer
 
@@ -149,7 +151,8 @@ made_there job m t it is reached s = by (answer_of_turn job m t) refl it s
     by (makes event) e (made.Event p word) s =
         let P : ℕ → Type 0 = λ q. q < length job.graph.phasers in
         subst P s.0 (event_there job m event
-        (turn_makes_next job m t event is reached.ran (λ c due. reached.to_come) e))
+        (turn_makes_next (task_at job.graph t).block (task_at job.graph t).block job m t event
+        (line_sizes job t is) is reached.ran (λ c due. reached.to_come) e))
     by (makes event) e (made.Blocked p) s = absurd s
     by is_blocked e (made.Event p word) s = absurd s
     by is_blocked e (made.Blocked p) s =
@@ -167,10 +170,10 @@ made_there job m t it is reached s = by (answer_of_turn job m t) refl it s
 
 -- ---- a task that is not live
 
-pub gone_turn : (job : Job) (machine : Machine) (t : ℕ)
+pub gone_turn : {steps : ℕ} (job : Job) (machine : Machine) (t : ℕ)
     → ((m : Moment) → IsMachineAt job m machine → next_of job m t ≡ is_not_live)
-    → HadTurn job machine machine t made.Nothing
-gone_turn job machine t gone = record {
+    → HadTurn steps job machine machine t made.Nothing
+gone_turn {steps} job machine t gone = record {
   shows = λ m at. shows m at;
   after = λ m at none. after m at;
   lines = λ given m at none kept.
@@ -179,15 +182,15 @@ gone_turn job machine t gone = record {
   own = λ room all. all;
 }
   where
-    answer : (m : Moment) → IsMachineAt job m machine → answer_of_turn job m t ≡ is_gone
-    answer m at = ap (answer_to job m t) (gone m at)
+    answer : (m : Moment) → IsMachineAt job m machine → turn_by steps job m t ≡ is_gone
+    answer m at = ap (answer_by steps job m t) (gone m at)
 
     shows : (m : Moment) → IsMachineAt job m machine
-        → MadeShows job m t (answer_of_turn job m t) made.Nothing
+        → MadeShows job m t (turn_by steps job m t) made.Nothing
     shows m at = subst (λ a. MadeShows job m t a made.Nothing) (sym (answer m at)) tt
 
     after : (m : Moment) → (at : IsMachineAt job m machine)
-        → IsMachineAt job (after_answer job (answer_of_turn job m t) m) machine
+        → IsMachineAt job (after_answer job (turn_by steps job m t) m) machine
     after m at =
         subst (λ a. IsMachineAt job (after_answer job a m) machine) (sym (answer m at)) at
 
@@ -214,9 +217,16 @@ turn_parks_so world m t it parked none s same =
         world.parked
     as_is world none = rw none refl
 
+-- of so many steps
+pub turn_told_so : (steps : ℕ) (job : Job) (m : Moment) (t : ℕ) (it : Made) (word : Turned)
+    → MadeShows job m t (turn_by steps job m t) it → word ≡ told_by it t
+    → tells_up_to steps (task_at job.graph t).block job m t ≡ Some (told_of word)
+turn_told_so steps job m t it word s same =
+    tells_so job m t (turn_by steps job m t) it s ∙ ap (λ w. Some (told_of w)) (sym same)
+
 -- the tasks in the lists are blocked after the turn
 pub turn_blocks_so : (job : Job) (old new : Machine) (m : Moment) (t : ℕ) (it : Made)
-    (parked after : List (List ℕ)) → HadTurn job old new t it → after ≡ parked_with it t parked
+    (parked after : List (List ℕ)) → HadTurn (task_at job.graph t).block job old new t it → after ≡ parked_with it t parked
     → IsMachineAt job m old → AreBlocked job m parked
     → AreBlocked job (after_answer job (answer_of_turn job m t) m) after
 turn_blocks_so job old new m t it parked after had same at were =
@@ -241,40 +251,40 @@ started_same job m (has_made place) at told = refl
 started_same job m is_refused at told = refl
 
 -- what a world has met after the turn
-pub turn_met_so : (job : Job) (old new : Machine) (m : Moment) (t : ℕ) (it : Made)
-    (word : Turned) → HadTurn job old new t it → IsMachineAt job m old → HasAnsweredNone job m
-    → turn_tells job None m t ≡ Some (told_of word)
-    → HasMet job (after_answer job (answer_of_turn job m t) m) (met_by None word)
-turn_met_so job old new m t it word had at none told = by word told
+pub turn_met_so : {steps : ℕ} (job : Job) (old new : Machine) (m : Moment) (t : ℕ) (it : Made)
+    (word : Turned) → MayStep job t steps → HadTurn steps job old new t it → IsMachineAt job m old → HasAnsweredNone job m
+    → tells_up_to steps (task_at job.graph t).block job m t ≡ Some (told_of word)
+    → HasMet job (after_answer job (turn_by steps job m t) m) (met_by None word)
+turn_met_so {steps} job old new m t it word sized had at none told = by word told
   where
-    kept : ((there : Where) → turn_tells job None m t ≢ Some (TooBig there))
-        → HasAnsweredNone job (after_answer job (answer_of_turn job m t) m)
-    kept never = turn_answers_none job m t at.graph at.reached none never
+    kept : ((there : Where) → tells_up_to steps (task_at job.graph t).block job m t ≢ Some (TooBig there))
+        → HasAnsweredNone job (after_answer job (turn_by steps job m t) m)
+    kept never = turn_answers_none steps (task_at job.graph t).block job m t sized at.graph at.reached none never
 
-    runs : (event : TaskEvent) → answer_of_turn job m t ≡ makes event
+    runs : (event : TaskEvent) → turn_by steps job m t ≡ makes event
         → HasRun job (after_turn job event m)
     runs event e =
         (subst (λ a. IsMachineAt job (after_answer job a m) new) e (had.after m at none)).reached.ran
 
-    by : (word : Turned) → turn_tells job None m t ≡ Some (told_of word)
-        → HasMet job (after_answer job (answer_of_turn job m t) m) (met_by None word)
+    by : (word : Turned) → tells_up_to steps (task_at job.graph t).block job m t ≡ Some (told_of word)
+        → HasMet job (after_answer job (turn_by steps job m t) m) (met_by None word)
     by turned.Moved told = kept (λ there same. (let wrong : Some Moved ≡ Some (TooBig there) = sym told ∙ same in cc))
     by turned.Blocked told = kept (λ there same. (let wrong : Some Blocked ≡ Some (TooBig there) = sym told ∙ same in cc))
     by turned.Ended told = kept (λ there same. (let wrong : Some Ended ≡ Some (TooBig there) = sym told ∙ same in cc))
     by turned.Gone told = kept (λ there same. (let wrong : Some Gone ≡ Some (TooBig there) = sym told ∙ same in cc))
     by (turned.TooBig place phase) told = record {
       fault = subst (λ j. IsFaultAt j (place, phase))
-          (sym (started_same job m (answer_of_turn job m t) (place, phase) told))
-          (told_fault job m t (place, phase) (record { graph = at.graph; apart = at.apart })
+          (sym (started_same job m (turn_by steps job m t) (place, phase) told))
+          (told_fault steps (task_at job.graph t).block job m t (place, phase) sized (record { graph = at.graph; apart = at.apart })
           at.reached runs told);
-      last = turn_answers_one job m t none;
-      lines = turn_begins job m old t at none;
+      last = turn_answers_one steps (task_at job.graph t).block job m t none;
+      lines = turn_begins job m old t sized at none;
     }
 
 -- the world stands at the moment after the turn
 pub turn_stands_so : (world : WorldState) (new : Machine) (parked : List (List ℕ))
     (met : Option Where) (m : Moment) (t : ℕ) (it : Made) (word : Turned) → world.met ≡ None
-    → HadTurn world.job world.machine new t it → parked ≡ parked_with it t world.parked
+    → HadTurn (task_at world.job.graph t).block world.job world.machine new t it → parked ≡ parked_with it t world.parked
     → word ≡ told_by it t → met ≡ met_by None word → IsWorldAt world m
     → IsWorldAt record { job = world.job; machine = new; met = met; parked = parked }
     (after_turn_of world m t)
@@ -287,7 +297,8 @@ turn_stands_so world new parked met m t it word none had same says as_told at =
       parked = turn_blocks_so world.job world.machine new m t it world.parked parked had same
           at.machine at.parked;
       met = subst (HasMet world.job (after_answer world.job (answer_of_turn world.job m t) m))
-          (sym as_told) (turn_met_so world.job world.machine new m t it word had at.machine
+          (sym as_told) (turn_met_so world.job world.machine new m t it word
+          (line_sizes world.job t at.machine.graph) had at.machine
           (subst (HasMet world.job m) none at.met)
           (turn_tells_so world.job None m t it word refl (had.shows m at.machine) says));
     }

@@ -37,7 +37,7 @@ use Rattle.graph_runs.specs.Moves.{further, IsBlock}
 use Rattle.graph_runs.proofs.Blocks.{block_few}
 use Rattle.graph_runs.proofs.Stepping.{owes_nothing}
 use Rattle.graph_lang.specs.stream_filters.declared.fault.TooBigValue.{TooBigValue}
-use Rattle.graph_runs.specs.NextBlocks.{block_of}
+use Rattle.graph_runs.specs.NextBlocks.{block_up_to}
 use Rattle.graph_runs.proofs.Nexts.{further-length}
 use Rattle.graph_runs.proofs.Tasks.{first_looks}
 use Rattle.graph_runs.specs.Turned.{with_at}
@@ -45,7 +45,7 @@ use Rattle.graph_runs.specs.Nexts as turns
 use Rattle.graph_runs.specs.Nexts.{Next, is_live, next_of, number_on}
 use Rattle.graph_runs.specs.Reached.{IsReachable}
 use Rattle.graph_runs.specs.TaskEvents.{TaskEvent, first_wait, exchange_wait, after_turn}
-use Rattle.graph_runs.specs.Answers.{Answer, makes, is_blocked, is_refused, answer_of_turn, after_answer, answer_to, wait_answer, block_answer, told_wait, told_got}
+use Rattle.graph_runs.specs.Answers.{Answer, makes, is_blocked, is_refused, after_answer, wait_answer, block_answer, told_wait, told_got, turn_by, answer_by}
 use Rattle.graph_runs.specs.TaskPlaces as places
 use Rattle.graph_runs.specs.TaskPlaces.{TaskPlace, StandsAt, owed_after_exchange}
 use Rattle.graph_runs.proofs.Signalling.{live-is}
@@ -59,7 +59,7 @@ use Rattle.graph_runs.specs.Steps.{owed_of, HasFilter}
 use Rattle.graph_runs.specs.declared.owed.Owed.{Owed}
 use Rattle.graph_runs.specs.declared.owed.Owed.TheVariants as code
 use Rattle.stream_job.specs.Buffers.{HasPlaces}
-use Rattle.stream_job.specs.Inside.{with_more, IsNextIn}
+use Rattle.stream_job.specs.Inside.{with_more, IsNextIn, MayStep}
 use Rattle.stream_job.specs.Places.{place_in_state, owed_in, StateHasTaken}
 use Rattle.stream_job.specs.Machines.{IsMachineAt, HasCores, KeepsLines, HasRoom, kept_behind}
 use Rattle.stream_job.specs.Turning.{HadTurn, MadeShows, told_of}
@@ -248,14 +248,14 @@ waits_few job m t k graph is =
     subst (λ i. i < length (task_at job.graph t).inputs) (sym b.first)
     (first_looks (task_at job.graph t) (m.begun t) (graph.tasks t there).ends b.kind).0
 
-pub first_few : (job : Job) (machine : Machine) (m : Moment) (t k : ℕ)
-    → IsNextIn job machine t (turns.waits k) → IsMachineAt job m machine
+pub first_few : {allowed : ℕ} (job : Job) (machine : Machine) (m : Moment) (t k : ℕ)
+    → IsNextIn allowed job machine t (turns.waits k) → IsMachineAt job m machine
     → k < length (task_at job.graph t).inputs
 first_few job machine m t k next at =
     waits_few job m t k at.graph (next.is m at)
 
-pub first_waits_at : (job : Job) (machine : Machine) (m : Moment) (t k : ℕ) (state : TaskState)
-    → IsNextIn job machine t (turns.waits k) → IsMachineAt job m machine
+pub first_waits_at : {allowed : ℕ} (job : Job) (machine : Machine) (m : Moment) (t k : ℕ) (state : TaskState)
+    → IsNextIn allowed job machine t (turns.waits k) → IsMachineAt job m machine
     → slice_get machine.tasks.items t ≡ Some state → WaitsAt job m t k state
 first_waits_at job machine m t k state next at found =
     waits_by job machine m t k state at found
@@ -277,8 +277,8 @@ is_peer job m t is =
         first).0
     by j false first e = absurd (cc)
 
-pub exchange_few : (job : Job) (machine : Machine) (m : Moment) (t : ℕ)
-    → IsNextIn job machine t turns.exchanges → IsMachineAt job m machine
+pub exchange_few : {allowed : ℕ} (job : Job) (machine : Machine) (m : Moment) (t : ℕ)
+    → IsNextIn allowed job machine t turns.exchanges → IsMachineAt job m machine
     → 1 < length (task_at job.graph t).inputs
 exchange_few job machine m t next at =
     let is = next.is m at in
@@ -286,8 +286,8 @@ exchange_few job machine m t next at =
     let ends = (peer_ends job t at.graph there (is_peer job m t is)).0 in
     omega arith
 
-pub exchange_waits_at : (job : Job) (machine : Machine) (m : Moment) (t : ℕ) (state : TaskState)
-    → IsNextIn job machine t turns.exchanges → IsMachineAt job m machine
+pub exchange_waits_at : {allowed : ℕ} (job : Job) (machine : Machine) (m : Moment) (t : ℕ) (state : TaskState)
+    → IsNextIn allowed job machine t turns.exchanges → IsMachineAt job m machine
     → slice_get machine.tasks.items t ≡ Some state → WaitsAt job m t 1 state
 exchange_waits_at job machine m t state next at found =
     waits_by job machine m t 1 state at found
@@ -296,51 +296,52 @@ exchange_waits_at job machine m t state next at found =
 
 -- ---- what the turn answers
 
-exchange_so : (job : Job) (machine : Machine) (m : Moment) (t n p : ℕ) (state : TaskState)
-    → IsNextIn job machine t turns.exchanges → IsMachineAt job m machine
+exchange_so : {allowed : ℕ} (job : Job) (machine : Machine) (m : Moment) (t n p : ℕ) (state : TaskState)
+    → IsNextIn allowed job machine t turns.exchanges → IsMachineAt job m machine
     → slice_get machine.tasks.items t ≡ Some state → p ≡ input_at (task_at job.graph t) 1
     → n ≡ get_or state.numbers.items 1 0
-    → answer_of_turn job m t ≡ wait_answer (exchange_wait t p n)
+    → turn_by allowed job m t ≡ wait_answer (exchange_wait t p n)
     (wait_reply (value_at job p) (limits_at job p) (m.history p) n)
-exchange_so job machine m t n p state next at found phaser numbered =
+exchange_so {allowed} job machine m t n p state next at found phaser numbered =
     let w = exchange_waits_at job machine m t state next at found in
     let q = input_at (task_at job.graph t) 1 in
-    ap (answer_to job m t) (next.is m at)
+    ap (answer_by allowed job m t) (next.is m at)
     ∙ ap (λ k. wait_answer (exchange_wait t q k) (wait_reply (value_at job q) (limits_at job q)
     (m.history q) k)) (w.number ∙ sym numbered)
     ∙ ap (λ r. wait_answer (exchange_wait t r n) (wait_reply (value_at job r) (limits_at job r)
     (m.history r) n)) (sym phaser)
 
 -- a task that waits first, and what it asks of its phaser
-pub record AsksFirst (job : Job) (old : Machine) (t k n p steps : ℕ) (state : TaskState) : Type 0
+pub record AsksFirst (allowed : ℕ) (job : Job) (old : Machine) (t k n p steps : ℕ) (state : TaskState) : Type 0
   where
-    pub next : IsNextIn job old t (turns.waits k)
+    pub next : IsNextIn allowed job old t (turns.waits k)
     pub found : slice_get old.tasks.items t ≡ Some state
     pub phaser : p ≡ input_at (task_at job.graph t) k
     pub numbered : n ≡ get_or state.numbers.items k 0
-    pub many : (m : Moment) → IsMachineAt job m old → block_of job m t ≡ steps
+    pub many : (m : Moment) → IsMachineAt job m old → block_up_to allowed job m t ≡ steps
 
 -- its block fits the places that are kept for outcomes
-pub asks_places : {job : Job} {old : Machine} {t k n p steps : ℕ} {state : TaskState}
-    → AsksFirst job old t k n p steps state → (places : ℕ) (outcomes : List Outcome)
+pub asks_places : {allowed : ℕ} {job : Job} {old : Machine} {t k n p steps : ℕ} {state : TaskState}
+    → AsksFirst allowed job old t k n p steps state → (places : ℕ) (outcomes : List Outcome)
     → HasPlaces job places → places ≤ length outcomes → length (take steps outcomes) ≡ steps
-asks_places {job} {old} {t} {k} {steps = steps} {state = state} asks places outcomes has room =
+asks_places {allowed} {job} {old} {t} {k} {steps = steps} {state = state} asks places outcomes has room =
     let m = asks.next.some.0 in
     let at = asks.next.some.1 in
-    let few = block_few job m t in
+    let few = block_few allowed job m t in
     let is = asks.many m at in
+    let small = asks.next.small in
     let fits = has t (first_waits_at job old m t k state asks.next at asks.found).there in
     length-take-le steps outcomes (omega arith)
 
-first_so : (job : Job) (old : Machine) (m : Moment) (t k n p steps : ℕ) (state : TaskState)
-    → AsksFirst job old t k n p steps state → IsMachineAt job m old
-    → answer_of_turn job m t ≡ block_turn job m t k p n steps
-first_so job old m t k n p steps state asks at =
+first_so : {allowed : ℕ} (job : Job) (old : Machine) (m : Moment) (t k n p steps : ℕ) (state : TaskState)
+    → AsksFirst allowed job old t k n p steps state → IsMachineAt job m old
+    → turn_by allowed job m t ≡ block_turn job m t k p n steps
+first_so {allowed} job old m t k n p steps state asks at =
     let w = first_waits_at job old m t k state asks.next at asks.found in
     let q = input_at (task_at job.graph t) k in
-    ap (answer_to job m t) (asks.next.is m at)
-    ∙ ap (λ i. block_turn job m t k q i (block_of job m t)) (w.number ∙ sym asks.numbered)
-    ∙ ap (λ r. block_turn job m t k r n (block_of job m t)) (sym asks.phaser)
+    ap (answer_by allowed job m t) (asks.next.is m at)
+    ∙ ap (λ i. block_turn job m t k q i (block_up_to allowed job m t)) (w.number ∙ sym asks.numbered)
+    ∙ ap (λ r. block_turn job m t k r n (block_up_to allowed job m t)) (sym asks.phaser)
     ∙ ap (block_turn job m t k p n) (asks.many m at)
 
 -- ---- a peer's exchange
@@ -350,8 +351,8 @@ abbrev pub with_owed : TaskState → Owed → TaskState
 with_owed state owed = record state { owed = owed }
 
 -- a peer has made no values
-pub none_made : (job : Job) (machine : Machine) (m : Moment) (t : ℕ) (state : TaskState)
-    → IsNextIn job machine t turns.exchanges → IsMachineAt job m machine
+pub none_made : {allowed : ℕ} (job : Job) (machine : Machine) (m : Moment) (t : ℕ) (state : TaskState)
+    → IsNextIn allowed job machine t turns.exchanges → IsMachineAt job m machine
     → slice_get machine.tasks.items t ≡ Some state → state.made.items ≡ []
 none_made job machine m t state next at found =
     (at.tasks t state found).made_none
@@ -359,8 +360,8 @@ none_made job machine m t state next at found =
     let wrong : Peer ≡ Fir = sym peer ∙ filters in cc))
 
 -- what a peer that exchanges owes, by its state
-pub owes_exchange : (job : Job) (machine : Machine) (m : Moment) (t : ℕ) (state : TaskState)
-    → IsNextIn job machine t turns.exchanges → IsMachineAt job m machine
+pub owes_exchange : {allowed : ℕ} (job : Job) (machine : Machine) (m : Moment) (t : ℕ) (state : TaskState)
+    → IsNextIn allowed job machine t turns.exchanges → IsMachineAt job m machine
     → slice_get machine.tasks.items t ≡ Some state
     → (x : ℤ) × (owed_of state.owed ≡ places.exchange x)
 owes_exchange job machine m t state next at found =
@@ -382,8 +383,8 @@ owes_exchange job machine m t state next at found =
         sym owes.1 ∙ ap (turns.in_step job m t) same ∙ s.is in cc)
     by (places.exchange x) owes = (x, refl)
 
-pub exchange_some : (job : Job) (machine : Machine) (t : ℕ) (state : TaskState)
-    → IsNextIn job machine t turns.exchanges → slice_get machine.tasks.items t ≡ Some state
+pub exchange_some : {allowed : ℕ} (job : Job) (machine : Machine) (t : ℕ) (state : TaskState)
+    → IsNextIn allowed job machine t turns.exchanges → slice_get machine.tasks.items t ≡ Some state
     → ((x : ℤ) → state.owed ≡ code.Exchange x → ⊥) → ⊥
 exchange_some job machine t state next found never =
     let owes = owes_exchange job machine next.some.0 t state next next.some.1 found in
@@ -397,21 +398,21 @@ exchange_some job machine t state next found never =
     by (code.Exchange y) e x is = never y e
 
 -- the place of a peer after its exchange
-exchange_stands : (job : Job) (m : Moment) (t p n : ℕ) (outcome : Outcome) (at : TaskPlace)
-    → IsGraph job.graph → IsReachable job m
+exchange_stands : {allowed : ℕ} (job : Job) (m : Moment) (t p n : ℕ) (outcome : Outcome)
+    (at : TaskPlace) → MayStep job t allowed → 1 ≤ (task_at job.graph t).block → IsGraph job.graph → IsReachable job m
     → HasRun job (after_turn job (exchange_wait t p n outcome) m)
-    → answer_of_turn job m t ≡ makes (exchange_wait t p n outcome) → StandsAt job m t at
+    → turn_by allowed job m t ≡ makes (exchange_wait t p n outcome) → StandsAt job m t at
     → StandsAt job (after_turn job (exchange_wait t p n outcome) m) t
     (record at { owed = owed_after_exchange (task_at job.graph t) at.owed (number outcome) })
-exchange_stands job m t p n outcome at is reached now answer stands =
+exchange_stands {allowed} job m t p n outcome at sized some is reached now answer stands =
     let event = exchange_wait t p n outcome in
-    exchange_follows job m t p n outcome at is reached.ran
-    (turn_makes_next job m t event is reached.ran (λ c due. reached.to_come) answer) now
-    (event_owes job m t event answer) stands
+    exchange_follows allowed (task_at job.graph t).block job m t p n outcome at some is reached.ran
+    (turn_makes_next allowed (task_at job.graph t).block job m t event sized is reached.ran (λ c due. reached.to_come) answer) now
+    (event_owes allowed (task_at job.graph t).block job m t event answer) stands
 
-pub exchanged_turn : (job : Job) (old new : Machine) (t n p phase : ℕ) (x : ℤ)
+pub exchanged_turn : {allowed : ℕ} (job : Job) (old new : Machine) (t n p phase : ℕ) (x : ℤ)
     (outcome : Outcome) (state : TaskState) (owed : Owed) (told : Turned)
-    → IsNextIn job old t turns.exchanges → slice_get old.tasks.items t ≡ Some state
+    → IsNextIn allowed job old t turns.exchanges → slice_get old.tasks.items t ≡ Some state
     → p ≡ input_at (task_at job.graph t) 1 → n ≡ get_or state.numbers.items 1 0
     → state.owed ≡ code.Exchange x
     → ((m : Moment) → IsMachineAt job m old
@@ -421,25 +422,25 @@ pub exchanged_turn : (job : Job) (old new : Machine) (t n p phase : ℕ) (x : �
     → new.tasks.items ≡ set old.tasks.items t (with_owed state owed) → new.lines ≡ old.lines
     → owed_of owed ≡ owed_after_exchange (task_at job.graph t) (places.exchange x) (number outcome)
     → told_of told ≡ told_got p phase (outcome ∷ [])
-    → HadTurn job old new t (Event p told)
-exchanged_turn job old new t n p phase x outcome state owed told next found phaser numbered owes reply cores tasks lines after_owes tells =
+    → HadTurn allowed job old new t (Event p told)
+exchanged_turn {allowed} job old new t n p phase x outcome state owed told next found phaser numbered owes reply cores tasks lines after_owes tells =
     record {
       shows = shows;
       after = after;
       lines = λ given m at none.
-          quiet_lines job given m old new t (exchange_wait t p n outcome) at (answer m at) refl tt
+          quiet_lines job given m old new t (exchange_wait t p n outcome) next.sized at (answer m at) refl tt
           lines;
       own = same_rooms old new lines;
     }
   where
     answer : (m : Moment) → IsMachineAt job m old
-        → answer_of_turn job m t ≡ makes (exchange_wait t p n outcome)
+        → turn_by allowed job m t ≡ makes (exchange_wait t p n outcome)
     answer m at =
         exchange_so job old m t n p state next at found phaser numbered
         ∙ ap (wait_answer (exchange_wait t p n)) (reply m at)
 
     shows : (m : Moment) → IsMachineAt job m old
-        → MadeShows job m t (answer_of_turn job m t) (Event p told)
+        → MadeShows job m t (turn_by allowed job m t) (Event p told)
     shows m at =
         subst (λ a. MadeShows job m t a (Event p told)) (sym (answer m at)) (
           refl,
@@ -466,7 +467,7 @@ exchanged_turn job old new t n p phase x outcome state owed told next found phas
         (subst (λ a. IsReachable job (after_answer job a m)) (answer m at) (next.stays m at)).ran
 
     after : (m : Moment) → IsMachineAt job m old → HasAnsweredNone job m
-        → IsMachineAt job (after_answer job (answer_of_turn job m t) m) new
+        → IsMachineAt job (after_answer job (turn_by allowed job m t) m) new
     after m at none =
         let it = at.tasks t state found in
         let event = exchange_wait t p n outcome in
@@ -479,9 +480,10 @@ exchanged_turn job old new t n p phase x outcome state owed told next found phas
         ∙ sym (ap (owed_in owed) made ∙ after_owes) in
         let stands : StandsAt job (after_turn job event m) t (place_in_state (with_owed state owed)) =
         subst (λ o. StandsAt job (after_turn job event m) t (record (place_in_state state) { owed = o }))
-        after_is (exchange_stands job m t p n outcome (place_in_state state) at.graph at.reached
+        after_is (exchange_stands job m t p n outcome (place_in_state state) next.sized
+        (at.graph.tasks t (exchange_waits_at job old m t state next at found).there).block.some at.graph at.reached
         (ran m at) (answer m at) it.stands) in
-        after_own job m old new t event (with_owed state owed) at (answer m at) refl
+        after_own job m old new t event (with_owed state owed) next.sized at (answer m at) refl
         (exchange_waits_at job old m t state next at found).there (next.stays m at) (next.few m at)
         (cores m at) tasks
         (record {
@@ -498,30 +500,30 @@ exchanged_turn job old new t n p phase x outcome state owed told next found phas
         (ap (λ l. length l.items) lines)
 
 -- a wait that the phaser would not take now
-pub blocked_exchange : (job : Job) (old new : Machine) (t n p : ℕ) (state : TaskState)
-    (r : WaitRefusal) → IsNextIn job old t turns.exchanges → slice_get old.tasks.items t ≡ Some state
+pub blocked_exchange : {allowed : ℕ} (job : Job) (old new : Machine) (t n p : ℕ) (state : TaskState)
+    (r : WaitRefusal) → IsNextIn allowed job old t turns.exchanges → slice_get old.tasks.items t ≡ Some state
     → p ≡ input_at (task_at job.graph t) 1 → n ≡ get_or state.numbers.items 1 0
     → ((m : Moment) → IsMachineAt job m old
     → wait_reply (value_at job p) (limits_at job p) (m.history p) n ≡ Err r)
     → ((m : Moment) → IsMachineAt job m old
     → HasCores job (with_at p (m.history p) m.history) new.cores.items)
-    → new.tasks ≡ old.tasks → new.lines ≡ old.lines → HadTurn job old new t (Blocked p)
-blocked_exchange job old new t n p state r next found phaser numbered reply cores tasks lines =
+    → new.tasks ≡ old.tasks → new.lines ≡ old.lines → HadTurn allowed job old new t (Blocked p)
+blocked_exchange {allowed} job old new t n p state r next found phaser numbered reply cores tasks lines =
     blocked_turn job old new t p turns.exchanges next (sym phaser) answer
     (λ m at. unchanged job m old new p at (cores m at) tasks lines) lines
   where
     refused : (m : Moment) → IsMachineAt job m old
-        → answer_of_turn job m t ≡ wait_answer (exchange_wait t p n) (Err r)
+        → turn_by allowed job m t ≡ wait_answer (exchange_wait t p n) (Err r)
     refused m at =
         exchange_so job old m t n p state next at found phaser numbered
         ∙ ap (wait_answer (exchange_wait t p n)) (reply m at)
 
-    answer : (m : Moment) → IsMachineAt job m old → answer_of_turn job m t ≡ is_blocked
+    answer : (m : Moment) → IsMachineAt job m old → turn_by allowed job m t ≡ is_blocked
     answer m at =
         refused m at ∙ blocks (exchange_wait t p n) r (λ e. next.answered m at (refused m at ∙ e))
 
-pub never_ended : (job : Job) (old : Machine) (t n p : ℕ) (state : TaskState)
-    → IsNextIn job old t turns.exchanges → slice_get old.tasks.items t ≡ Some state
+pub never_ended : {allowed : ℕ} (job : Job) (old : Machine) (t n p : ℕ) (state : TaskState)
+    → IsNextIn allowed job old t turns.exchanges → slice_get old.tasks.items t ≡ Some state
     → p ≡ input_at (task_at job.graph t) 1 → n ≡ get_or state.numbers.items 1 0
     → ((m : Moment) → IsMachineAt job m old
     → wait_reply (value_at job p) (limits_at job p) (m.history p) n ≡ Ok got.Ended) → ⊥
@@ -593,26 +595,26 @@ taken_place job after t outcomes taken old new took has stands =
     })) (sym took.numbers) stands)))
 
 -- the place of a task after the first wait of its next steps
-first_stands : (job : Job) (m : Moment) (t k p n : ℕ) (outcomes : List Outcome) (at : TaskPlace)
-    → IsGraph job.graph → IsReachable job m
+first_stands : {allowed : ℕ} (job : Job) (m : Moment) (t k p n : ℕ) (outcomes : List Outcome)
+    (at : TaskPlace) → MayStep job t allowed → t < length job.graph.tasks → IsGraph job.graph → IsReachable job m
     → HasRun job (after_turn job (first_wait t k p n outcomes) m)
-    → answer_of_turn job m t ≡ makes (first_wait t k p n outcomes) → StandsAt job m t at
+    → turn_by allowed job m t ≡ makes (first_wait t k p n outcomes) → StandsAt job m t at
     → StandsAt job (after_turn job (first_wait t k p n outcomes) m) t (record at {
       begun = further at.begun outcomes;
       owed = places.owed_after_wait (task_at job.graph t) at.begun (m.taken t 0)
           (map number outcomes);
     })
-first_stands job m t k p n outcomes at is reached now answer stands =
+first_stands {allowed} job m t k p n outcomes at sized there is reached now answer stands =
     let event = first_wait t k p n outcomes in
-    first_wait_follows job m t k p n outcomes at is reached.ran
-    (turn_makes_next job m t event is reached.ran (λ c due. reached.to_come) answer) now
-    (event_owes job m t event answer) stands
+    first_wait_follows allowed (task_at job.graph t).block job m t k p n outcomes at (sized there) is reached.ran
+    (turn_makes_next allowed (task_at job.graph t).block job m t event sized is reached.ran (λ c due. reached.to_come) answer) now
+    (event_owes allowed (task_at job.graph t).block job m t event answer) stands
 
 -- what the turn answers where the wait got values
-pub first_answer : (job : Job) (old : Machine) (m : Moment) (t k n p steps phase count : ℕ)
-    (outcomes : List Outcome) (state : TaskState) → AsksFirst job old t k n p steps state
+pub first_answer : {allowed : ℕ} (job : Job) (old : Machine) (m : Moment) (t k n p steps phase count : ℕ)
+    (outcomes : List Outcome) (state : TaskState) → AsksFirst allowed job old t k n p steps state
     → IsMachineAt job m old → GotAll job m p n steps phase count outcomes
-    → answer_of_turn job m t ≡ makes (first_wait t k p n outcomes)
+    → turn_by allowed job m t ≡ makes (first_wait t k p n outcomes)
 first_answer job old m t k n p steps phase count outcomes state asks at all =
     first_so job old m t k n p steps state asks at
     ∙ ap (block_answer (λ phase count. first_wait t k p n
@@ -634,14 +636,14 @@ pub record MayTake (job : Job) (t : ℕ) (outcomes : List Outcome) (state : Task
   pub room : (task_at job.graph t).kind ≡ Fir → length outcomes ≤ state.made.cap
   pub begun : state.begun + length outcomes ≤ 18446744073709551615
 
-pub may_take : (job : Job) (old : Machine) (m : Moment) (t k n p steps phase count : ℕ)
-    (outcomes : List Outcome) (state : TaskState) → AsksFirst job old t k n p steps state
+pub may_take : {allowed : ℕ} (job : Job) (old : Machine) (m : Moment) (t k n p steps phase count : ℕ)
+    (outcomes : List Outcome) (state : TaskState) → AsksFirst allowed job old t k n p steps state
     → IsMachineAt job m old → GotAll job m p n steps phase count outcomes
     → p < length job.graph.phasers → MayTake job t outcomes state
-may_take job old m t k n p steps phase count outcomes state asks at all there =
+may_take {allowed} job old m t k n p steps phase count outcomes state asks at all there =
     let it = at.tasks t state asks.found in
     let answer = first_answer job old m t k n p steps phase count outcomes state asks at all in
-    let made = makes_event job m t (first_wait t k p n outcomes) at.graph at.reached answer in
+    let made = makes_event job m t (first_wait t k p n outcomes) asks.next.sized at.graph at.reached answer in
     let is = asks.next.is m at in
     let b = waits_begins job m t k is in
     let few : m.begun t ≤ PHASES_MAX = begun_few job m t k at.graph at.reached.ran is in
@@ -650,20 +652,20 @@ may_take job old m t k n p steps phase count outcomes state asks at all there =
     let done : done_of (m.history p) ≤ PHASES_MAX = done_few job m p at.reached.ran there in
     let long : length outcomes ≡ count = all.many in
     let asked : count ≤ steps = all.few in
-    let many : block_of job m t ≡ steps = asks.many m at in
-    let block : block_of job m t ≤ (task_at job.graph t).block = block_few job m t in
+    let many : block_up_to allowed job m t ≡ steps = asks.many m at in
+    let block : block_up_to allowed job m t ≤ allowed = block_few allowed job m t in
     record {
       block = made.next.1.block;
-      nothing = nothing_owed state.owed state.made.items (owes_nothing job m t
+      nothing = nothing_owed state.owed state.made.items (owes_nothing (task_at job.graph t).block job m t
           (owed_in state.owed state.made.items) it.stands.owes b.step.none);
       room = λ fir. (let room : (task_at job.graph t).block ≤ state.made.cap = it.made_room fir in
-          omega arith);
+          let few = (asks.next.sized made.live.there).few fir in omega arith);
       begun = omega arith;
     }
 
-pub first_turn : (job : Job) (old new : Machine) (t k n p steps phase count : ℕ)
+pub first_turn : {allowed : ℕ} (job : Job) (old new : Machine) (t k n p steps phase count : ℕ)
     (outcomes : List Outcome) (state took : TaskState) (sink : Option ℕ) (told : Turned)
-    → AsksFirst job old t k n p steps state
+    → AsksFirst allowed job old t k n p steps state
     → StateHasTaken (task_at job.graph t) (map number outcomes) state took
     → sink ≡ cond (is_sink_at job t) (Some state.sink) None
     → ((m : Moment) → IsMachineAt job m old → GotAll job m p n steps phase count outcomes)
@@ -675,8 +677,8 @@ pub first_turn : (job : Job) (old new : Machine) (t k n p steps phase count : �
     → map (λ line. line.start) new.lines.items ≡ map (λ line. line.start) old.lines.items
     → ((room : ℕ → ℕ) → All (HasRoom room) old.lines.items → All (HasRoom room) new.lines.items)
     → told_of told ≡ told_got p phase outcomes
-    → HadTurn job old new t (Event p told)
-first_turn job old new t k n p steps phase count outcomes state took sink told asks has sinks all cores tasks lines starts own tells =
+    → HadTurn allowed job old new t (Event p told)
+first_turn {allowed} job old new t k n p steps phase count outcomes state took sink told asks has sinks all cores tasks lines starts own tells =
     record {
       shows = shows;
       after = after;
@@ -696,12 +698,12 @@ first_turn job old new t k n p steps phase count outcomes state took sink told a
     event : TaskEvent
     event = first_wait t k p n outcomes
 
-    answer : (m : Moment) → IsMachineAt job m old → answer_of_turn job m t ≡ makes event
+    answer : (m : Moment) → IsMachineAt job m old → turn_by allowed job m t ≡ makes event
     answer m at =
         first_answer job old m t k n p steps phase count outcomes state asks at (all m at)
 
     shows : (m : Moment) → IsMachineAt job m old
-        → MadeShows job m t (answer_of_turn job m t) (Event p told)
+        → MadeShows job m t (turn_by allowed job m t) (Event p told)
     shows m at =
         subst (λ a. MadeShows job m t a (Event p told)) (sym (answer m at))
         (refl, told_is m p n phase outcomes (all m at).first ∙ sym tells)
@@ -725,10 +727,10 @@ first_turn job old new t k n p steps phase count outcomes state took sink told a
         ≡ map (λ u. (u, kept_by job (after_turn job event m) u)) (sinks_of job)
     sink_lines m at none true e =
         let kind = sink_kind (task_at job.graph t).kind e in
-        lines_keep job m old t k p n state.sink outcomes at none (answer m at)
+        lines_keep job m old t k p n state.sink outcomes asks.next.sized at none (answer m at)
         (zero_first (task_at job.graph t) (m.begun t) k Sink kind (λ e. absurd (cc)) (first m at))
         ((at.tasks t state asks.found).sink kind)
-    sink_lines m at none false e = lines_stay job m old t event at (answer m at) e
+    sink_lines m at none false e = lines_stay job m old t event asks.next.sized at (answer m at) e
 
     cores_now : (m : Moment) → IsMachineAt job m old
         → HasCores job (after_turn job event m).history new.cores.items
@@ -737,15 +739,16 @@ first_turn job old new t k n p steps phase count outcomes state took sink told a
         (sym (all m at).many) (cores m at)
 
     after : (m : Moment) → IsMachineAt job m old → HasAnsweredNone job m
-        → IsMachineAt job (after_answer job (answer_of_turn job m t) m) new
+        → IsMachineAt job (after_answer job (turn_by allowed job m t) m) new
     after m at none =
         let it = at.tasks t state asks.found in
         let ran = (subst (λ a. IsReachable job (after_answer job a m)) (answer m at)
         (asks.next.stays m at)).ran in
         let stands = taken_place job (after_turn job event m) t outcomes (m.taken t 0) state took has
-        it.filter (first_stands job m t k p n outcomes (place_in_state state) at.graph at.reached ran
+        it.filter (first_stands job m t k p n outcomes (place_in_state state) asks.next.sized
+        (first_waits_at job old m t k state asks.next at asks.found).there at.graph at.reached ran
         (answer m at) it.stands) in
-        after_own job m old new t event took at (answer m at) refl
+        after_own job m old new t event took asks.next.sized at (answer m at) refl
         (first_waits_at job old m t k state asks.next at asks.found).there (asks.next.stays m at)
         (asks.next.few m at)
         (cores_now m at) tasks
@@ -763,21 +766,21 @@ first_turn job old new t k n p steps phase count outcomes state took sink told a
         ∙ length-map old.lines.items (λ line. line.start))
 
 -- a machine and an answer by other names
-pub had_as : (job : Job) (old new same : Machine) (t : ℕ) (it told : Made) → new ≡ same
-    → it ≡ told → HadTurn job old same t told → HadTurn job old new t it
-had_as job old new same t it told news its had =
-    subst (λ s. HadTurn job old s t it) (sym news)
-    (subst (λ r. HadTurn job old same t r) (sym its) had)
+pub had_as : {allowed : ℕ} (job : Job) (old new same : Machine) (t : ℕ) (it told : Made) → new ≡ same
+    → it ≡ told → HadTurn allowed job old same t told → HadTurn allowed job old new t it
+had_as {allowed} job old new same t it told news its had =
+    subst (λ s. HadTurn allowed job old s t it) (sym news)
+    (subst (λ r. HadTurn allowed job old same t r) (sym its) had)
 
 -- a wait that the phaser would not take now
-pub blocked_first : (job : Job) (old new : Machine) (t k n p steps : ℕ) (state : TaskState)
-    (r : WaitRefusal) → AsksFirst job old t k n p steps state
+pub blocked_first : {allowed : ℕ} (job : Job) (old new : Machine) (t k n p steps : ℕ) (state : TaskState)
+    (r : WaitRefusal) → AsksFirst allowed job old t k n p steps state
     → ((m : Moment) → IsMachineAt job m old
     → wait_block_reply (limits_at job p) (m.history p) n steps ≡ Err r)
     → ((m : Moment) → IsMachineAt job m old
     → HasCores job (with_at p (m.history p) m.history) new.cores.items)
-    → new.tasks ≡ old.tasks → new.lines ≡ old.lines → HadTurn job old new t (Blocked p)
-blocked_first job old new t k n p steps state r asks reply cores tasks lines =
+    → new.tasks ≡ old.tasks → new.lines ≡ old.lines → HadTurn allowed job old new t (Blocked p)
+blocked_first {allowed} job old new t k n p steps state r asks reply cores tasks lines =
     blocked_turn job old new t p (turns.waits k) asks.next (sym asks.phaser) answer
     (λ m at. unchanged job m old new p at (cores m at) tasks lines) lines
   where
@@ -787,17 +790,17 @@ blocked_first job old new t k n p steps state r asks reply cores tasks lines =
         (slice_range (stream_of (value_at job p) (m.history p)) phase (phase + count))
 
     refused : (m : Moment) → IsMachineAt job m old
-        → answer_of_turn job m t ≡ block_answer (event m) (Err r)
+        → turn_by allowed job m t ≡ block_answer (event m) (Err r)
     refused m at =
         first_so job old m t k n p steps state asks at
         ∙ ap (block_answer (event m)) (reply m at)
 
-    answer : (m : Moment) → IsMachineAt job m old → answer_of_turn job m t ≡ is_blocked
+    answer : (m : Moment) → IsMachineAt job m old → turn_by allowed job m t ≡ is_blocked
     answer m at =
         refused m at ∙ blocks_all (event m) r (λ e. asks.next.answered m at (refused m at ∙ e))
 
-pub first_never_ended : (job : Job) (old : Machine) (t k n p steps : ℕ) (state : TaskState)
-    → AsksFirst job old t k n p steps state
+pub first_never_ended : {allowed : ℕ} (job : Job) (old : Machine) (t k n p steps : ℕ) (state : TaskState)
+    → AsksFirst allowed job old t k n p steps state
     → ((m : Moment) → IsMachineAt job m old
     → wait_block_reply (limits_at job p) (m.history p) n steps ≡ Ok block.Ended) → ⊥
 first_never_ended job old t k n p steps state asks reply =

@@ -1,8 +1,13 @@
 -- Places in which blocks are made.
-use Rattle.std.specs.Prelude.{ℕ, ◌<◌, ◌≤◌, length}
+use Rattle.std.specs.Prelude.{ℕ, ◌<◌, ◌≤◌, length, max}
 use Rattle.graph_lang.specs.graph_base.Graphs.{task_at}
 use Rattle.stream_eval.specs.stream_lists.Jobs.{Job}
+use Rattle.stream_job.specs.declared.buffers.TheConstants.{OWN_STEPS}
 
--- so many places are enough for a block of each task
+-- how many steps a turn of task t makes at most, whether its line names a block or not
+abbrev pub most_steps : Job → ℕ → ℕ
+most_steps job t = max OWN_STEPS (task_at job.graph t).block
+
+-- so many places are enough for a turn of each task
 abbrev pub HasPlaces : Job → ℕ → Type 0
-HasPlaces job room = (t : ℕ) → t < length job.graph.tasks → (task_at job.graph t).block ≤ room
+HasPlaces job room = (t : ℕ) → t < length job.graph.tasks → most_steps job t ≤ room

@@ -2,8 +2,9 @@
 use Rattle.std.specs.Prelude.{◌≡◌, ℕ, ◌+◌, ◌≤◌, ℤ, List, [], ◌∷◌, ◌++◌, Option, Some, None, slice_get, set, get_or, Bool, true, false, ◌&&◌, ◌||◌, nat_le, Ok, Err, ◌≢◌, ◌==◌, length, map, nat_lt, ◌-◌, Result, if◌then◌else◌}
 use Rattle.std.specs.List.{All}
 use Rattle.std.specs.Vec.{vec_len, vec_capacity}
-use Rattle.graph_runs.specs.Answers.{answer_to, was_blocked, answer_of_turn, after_answer, makes}
+use Rattle.graph_runs.specs.Answers.{answer_to, was_blocked, turn_by, after_answer, makes}
 use Rattle.graph_runs.specs.TaskEvents.{first_wait}
+use Rattle.graph_runs.specs.NextBlocks.{MaySize}
 use Rattle.phase_any.specs.phase_accum.declared.outcome.Outcome.{Outcome}
 use Rattle.stream_eval.specs.declared.whole.Lines.{Lines}
 use Rattle.phase_any.specs.phase_base.Limits.{Limits}
@@ -26,6 +27,7 @@ use Rattle.phase_any.specs.phase_history.declared.refusal.RegisterRefusal.{Regis
 use Rattle.graph_lang.specs.graph_base.Graphs.{task_at}
 use Rattle.stream_eval.specs.stream_lists.Lists.{is_sink_at, sinks_of}
 use Rattle.stream_job.specs.Machines.{IsMachine, IsMachineAt, UsesFew, HasRoom, kept_behind}
+use Rattle.stream_job.specs.Buffers.{most_steps}
 use Rattle.stream_job.specs.SinkLines.{sink_begins_at}
 use Rattle.stream_job.specs.declared.task_state.TaskState.{TaskState}
 use Rattle.stream_job.specs.declared.machine.Machine.{Machine}
@@ -89,37 +91,48 @@ owed_many nothing = 0
 owed_many (values j vs) = length vs
 owed_many (exchange x) = 0
 
--- at each moment of the machine this is what task t does next, and its phaser does not refuse it
-pub record IsNextIn (job : Job) (machine : Machine) (t : ℕ) (next : turns.Next) : Type 0 where
+-- task t may make so many steps in a turn, and what it owes is no more than a block of its line
+abbrev pub MayStep : Job → ℕ → ℕ → Type 0
+MayStep job t steps = MaySize job.graph t steps (task_at job.graph t).block
+
+-- at each moment of the machine this is what task t does next, which may make so many steps, and
+-- its phaser does not refuse it
+pub record IsNextIn (steps : ℕ) (job : Job) (machine : Machine) (t : ℕ) (next : turns.Next)
+    : Type 0 where
   pub some : IsMachine job machine
+  pub sized : MayStep job t steps
+  pub small : steps ≤ most_steps job t
   pub is : (m : Moment) → IsMachineAt job m machine → turns.next_of job m t ≡ next
   pub stays : (m : Moment) → IsMachineAt job m machine
-      → IsReachable job (after_answer job (answer_of_turn job m t) m)
+      → IsReachable job (after_answer job (turn_by steps job m t) m)
   pub few : (m : Moment) → IsMachineAt job m machine
-      → UsesFew job (after_answer job (answer_of_turn job m t) m)
+      → UsesFew job (after_answer job (turn_by steps job m t) m)
   pub answered : (m : Moment) → IsMachineAt job m machine
-      → answer_of_turn job m t ≢ answers.is_refused
+      → turn_by steps job m t ≢ answers.is_refused
 
 -- with some samples this is what task t does next
 abbrev pub MayDo : Job → Machine → ℕ → Next → Type 0
-MayDo job machine t next = (s : List (List ℤ)) × IsNextIn (with_samples s job) machine t next
+MayDo job machine t next =
+    (s : List (List ℤ)) × (steps : ℕ) × IsNextIn steps (with_samples s job) machine t next
 
 -- with whatever samples this is what task t did next, it had a turn, of which the code tells so
 abbrev pub HasDone : Job → Machine → Machine → ℕ → Next → Made → Type 0
-HasDone job old new t next it = (s : List (List ℤ))
-    → IsNextIn (with_samples s job) old t next → HadTurn (with_samples s job) old new t it
+HasDone job old new t next it = (s : List (List ℤ)) (steps : ℕ)
+    → IsNextIn steps (with_samples s job) old t next
+    → HadTurn steps (with_samples s job) old new t it
 
 -- the line of task t, where it is a sink, has room for what its turn gets at a moment
-abbrev pub HasRoomAt : Job → Machine → ℕ → Moment → Type 0
-HasRoomAt job machine t m = (k p n : ℕ) (outcomes : List Outcome) (state : TaskState)
-    → next_of job m t ≡ waits k → answer_of_turn job m t ≡ makes (first_wait t k p n outcomes)
+abbrev pub HasRoomAt : ℕ → Job → Machine → ℕ → Moment → Type 0
+HasRoomAt steps job machine t m = (k p n : ℕ) (outcomes : List Outcome) (state : TaskState)
+    → next_of job m t ≡ waits k
+    → turn_by steps job m t ≡ makes (first_wait t k p n outcomes)
     → slice_get machine.tasks.items t ≡ Some state → is_sink_at job t ≡ true
     → HasRoomIn machine.lines.items (length outcomes) state.sink
 
 -- it does at some moment of the machine
-abbrev pub HasRoomNext : Job → Machine → ℕ → Type 0
-HasRoomNext job machine t =
-    (m : Moment) × IsMachineAt job m machine × HasRoomAt job machine t m
+abbrev pub HasRoomNext : ℕ → Job → Machine → ℕ → Type 0
+HasRoomNext steps job machine t =
+    (m : Moment) × IsMachineAt job m machine × HasRoomAt steps job machine t m
 
 -- task t is a filter that has made values which it has not signalled
 abbrev pub OwesMade : Machine → ℕ → Type 0

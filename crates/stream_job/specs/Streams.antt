@@ -9,10 +9,10 @@ use Rattle.stream_eval.specs.stream_lists.Jobs.{Job, samples_in, with_samples}
 use Rattle.stream_eval.specs.stream_lists.Lists.{is_sink_at, sinks_of}
 use Rattle.stream_eval.specs.stream_lists.Meetings.{meeting_line}
 use Rattle.stream_eval.specs.stream_lists.Ranges.{Where}
-use Rattle.graph_runs.specs.Answers.{after_turns, is_still}
+use Rattle.graph_runs.specs.Answers.{after_turns_by, is_still}
 use Rattle.graph_runs.specs.Feeds.{Call, Continues, IsOpenAt, call_of, hungers}
 use Rattle.graph_runs.specs.Moments.{Moment, started}
-use Rattle.graph_runs.specs.NextBlocks.{block_of}
+use Rattle.graph_runs.specs.NextBlocks.{block_up_to}
 use Rattle.graph_runs.specs.Nexts as nexts
 use Rattle.graph_runs.specs.Settled.{IsFaultAt, IsReady}
 use Rattle.graph_runs.specs.Nexts.{Next, is_live, next_of}
@@ -120,16 +120,20 @@ pub record IsStreamAt (stream : StreamState) (s : List (List ℤ)) (m : Moment)
 abbrev pub line_room : Job → ℕ → ℕ
 line_room job t = max LINE_ROOM (task_at job.graph t).block
 
--- whether a sink that waits next has no room for its next block
-abbrev pub is_full : Job → Moment → (ℕ → List ℤ) → ℕ → Bool
-is_full job m given t = of (next_of job m t)
+-- whether a sink that waits next has no room for its next block of at most so many steps
+abbrev pub is_full_by : ℕ → Job → Moment → (ℕ → List ℤ) → ℕ → Bool
+is_full_by steps job m given t = of (next_of job m t)
   where
     of : Next → Bool
     of (nexts.waits k) =
         is_sink_at job t
         && nat_lt (line_room job t)
-        (length (kept_by job m t) - length (given t) + block_of job m t)
+        (length (kept_by job m t) - length (given t) + block_up_to steps job m t)
     of next = false
+
+-- for a block of its line
+abbrev pub is_full : Job → Moment → (ℕ → List ℤ) → ℕ → Bool
+is_full job m given t = is_full_by (task_at job.graph t).block job m given t
 
 -- whether a source waits for a sample
 abbrev pub is_hungry : Job → (ℕ → Bool) → Moment → ℕ → Bool
@@ -195,13 +199,13 @@ StreamStopsAt stream s m given stop =
     × stop_by job (first_full job m given) (first_hungry job (ended_at stream) m)
     (is_some_live job m) stop
 
--- a stream went on by turns: for whatever samples came, whatever moment it stood at, and whatever
--- the sinks had handed over, it stands for the same samples at a moment that turns lead to, and no
--- sink has handed over more
+-- a stream went on by turns, in which a source or a sink may make more steps than its line names:
+-- for whatever samples came, whatever moment it stood at, and whatever the sinks had handed over,
+-- it stands for the same samples at a moment that turns lead to, and no sink has handed over more
 pub record StreamGoesOn (old new : StreamState) : Type 0 where
   pub later : (s : List (List ℤ)) (m : Moment) (given : ℕ → List ℤ) → IsStreamAt old s m given
-      → (turns : List ℕ)
-      × IsStreamAt new s (after_turns (with_samples s old.job) m turns) given
+      → (turns : List (ℕ × ℕ))
+      × IsStreamAt new s (after_turns_by (with_samples s old.job) m turns) given
   pub job : new.job ≡ old.job
   pub inputs : new.inputs ≡ old.inputs
 

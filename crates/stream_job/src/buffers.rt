@@ -9,6 +9,9 @@ use std::alloc::{AllocError, Global};
 use std::marker::Model;
 use stream_eval::stream_lists::Job;
 
+/// How many steps a task makes in one event of its own accord, at most.
+pub const OWN_STEPS: u64 = 64;
+
 /// Places that the calls of a turn use meanwhile: for what a wait for a block gets, and for the
 /// values of a signal. They stand for how many there are of each.
 #[derive(Drop)]
@@ -30,11 +33,11 @@ impl Model for Buffers {
 }
 
 impl Buffers {
-    /// Makes places for a block of each task of a job. It takes memory for the greatest of them.
+    /// Makes places for a turn of each task of a job. It takes memory for the greatest of them.
     pub fn new(alloc: Global, job: &Job) -> Result<Buffers, AllocError>
         ensures { IfOk result (HasPlaces job.now) }
     {
-        let Ok(most) = usize::try_from(greatest_block(job)) else {
+        let Ok(most) = usize::try_from(greatest_steps(job)) else {
             return Err(AllocError);
         };
         Ok(Buffers {
@@ -45,11 +48,11 @@ impl Buffers {
     }
 }
 
-/// The greatest block of a job's tasks.
-fn greatest_block(job: &Job) -> u64
+/// The most steps that a turn of one of a job's tasks makes.
+fn greatest_steps(job: &Job) -> u64
     ensures { HasPlaces job.now result }
 {
-    let mut most = 1;
+    let mut most = OWN_STEPS;
     for t in 0..job.graph().tasks() {
         most = most.max(job.graph().task(t).block);
     }

@@ -3,7 +3,7 @@ ghost use Rattle.std.specs.Prelude.{◌≡◌, ◌<◌, length};
 ghost use Rattle.std.specs.List.{fold, range_with_len};
 ghost use Rattle.graph_lang.specs.graph_base.Graphs.{task_at};
 ghost use Rattle.graph_runs.specs.Moments.{Moment};
-ghost use Rattle.graph_runs.specs.NextBlocks.{block_of, child_allows, until_allows};
+ghost use Rattle.graph_runs.specs.NextBlocks.{block_up_to, child_allows, until_allows};
 ghost use Rattle.stream_job.specs.Plans.{IsPlan};
 
 use crate::plan::Plan;
@@ -12,16 +12,15 @@ use graph_runs::{parent_of, until_of};
 use stream_eval::stream_lists::Job;
 
 impl Plan {
-    /// How many steps the next block of task number `t` has, which has begun so many: at most as
-    /// many as its line names, none past its `until`, and none past the boundary of a child that
-    /// comes later. It looks at the task's children alone, and only where one of them may come
-    /// within these steps.
-    pub fn block(&self, job: &Job, t: usize, begun: u64) -> u64
+    /// How many steps the next block of task number `t` has, which has begun so many: at most this
+    /// many, none past its `until`, and none past the boundary of a child that comes later. It
+    /// looks at the task's children alone, and only where one of them may come within these steps.
+    pub fn block(&self, job: &Job, t: usize, begun: u64, most: u64) -> u64
         requires plan { IsPlan job.now self.now }
         requires task { t < length job.now.graph.tasks }
-        ensures { (m : Moment) → m.begun t ≡ begun → block_of job.now m t ≡ result }
+        ensures { (m : Moment) → m.begun t ≡ begun → block_up_to most job.now m t ≡ result }
     {
-        let steps = until_allows(until_of(job, t), begun, job.graph().task(t).block);
+        let steps = until_allows(until_of(job, t), begun, most);
         let plan = &self.tasks[t];
         if plan.from <= begun && steps <= plan.to.saturating_sub(begun) {
             return steps;
@@ -42,6 +41,16 @@ impl Plan {
         }
         allowed
     }
+}
+
+/// How many steps the line of task number `t` names for a block: one, where there is no such line.
+pub fn line_block(job: &Job, t: usize) -> u64
+    ensures { result ≡ (task_at job.now.graph t).block }
+{
+    if t >= job.graph().tasks() {
+        return 1;
+    }
+    job.graph().task(t).block
 }
 
 /// So many steps, of which `until` allows some after those that were begun.

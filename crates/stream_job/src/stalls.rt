@@ -20,6 +20,7 @@ ghost use Rattle.stream_eval.specs.stream_lists.Jobs.{with_samples};
 use crate::machine::Machine;
 use crate::parked::Parked;
 use crate::plan::Plan;
+use crate::plan_blocks::line_block;
 use crate::step::Step;
 use graph_lang::{Op, TASKS_MAX};
 use graph_runs::{input_of, output_of};
@@ -122,7 +123,9 @@ impl Machine {
             → would_block (with_samples s job.now) m t samples ≡ result }
     {
         let begun = self.state(job, t).begun;
-        let many = plan.block(job, t, begun).min(awaits.len() as u64);
+        let many = plan
+            .block(job, t, begun, line_block(job, t))
+            .min(awaits.len() as u64);
         self.signal_blocks(job, t, 0, many)
     }
 

@@ -6,9 +6,9 @@ ghost use Rattle.stream_eval.specs.stream_lists.Lists.{is_sink_at};
 ghost use Rattle.graph_lang.specs.graph_base.Graphs.{sources_of};
 ghost use Rattle.graph_runs.specs.Feeds.{is_starved};
 ghost use Rattle.graph_runs.specs.Moments.{Moment};
-ghost use Rattle.graph_runs.specs.NextBlocks.{block_of};
+ghost use Rattle.graph_runs.specs.NextBlocks.{block_up_to};
 ghost use Rattle.graph_runs.specs.Nexts.{next_of};
-ghost use Rattle.stream_job.specs.Inside.{HasRoomNext};
+ghost use Rattle.stream_job.specs.Inside.{HasRoomNext, MayStep};
 ghost use Rattle.stream_job.specs.Machines.{IsMachineAt, IsSome, MayHaveCome, next_by};
 ghost use Rattle.stream_job.specs.Plans.{IsPlan};
 ghost use Rattle.stream_job.specs.SinkLines.{kept_by};
@@ -17,6 +17,7 @@ ghost use Rattle.stream_job.specs.Streams.{AreInputs, AreKept};
 use crate::input::Input;
 use crate::machine::Machine;
 use crate::plan::Plan;
+use crate::plan_blocks::line_block;
 use crate::sink_lines::line_room;
 use crate::step::Step;
 use crate::stopped::Stopped;
@@ -25,7 +26,7 @@ use graph_runs::{is_cut, until_of};
 use stream_eval::stream_lists::Job;
 
 impl Stream {
-    ghost use Rattle.stream_job.specs.Streams.{IsStreamAt, StreamStopsAt, all_tasks, ended_at, first_full, first_hungry, is_full, is_hungry, line_room, rests};
+    ghost use Rattle.stream_job.specs.Streams.{IsStreamAt, StreamStopsAt, all_tasks, ended_at, first_full, first_hungry, is_full, is_full_by, is_hungry, line_room, rests};
 
     /// Why no task can move, or that one can.
     pub fn stop(&self) -> Stopped
@@ -157,40 +158,53 @@ impl Stream {
         awaited(&self.job, &self.plan, &self.machine, &self.inputs, t).is_empty()
     }
 
-    /// Whether a task is a sink that waits next and has no room for what it may get.
-    pub fn is_full(&self, t: usize) -> bool
+    /// Whether a task is a sink that waits next and has no room for a block of its line.
+    fn is_full(&self, t: usize) -> bool
         requires { t < length self.now.job.graph.tasks }
-        ensures full { (s : List (List ℤ)) (m : Moment) (given : ℕ → List ℤ)
+        ensures { (s : List (List ℤ)) (m : Moment) (given : ℕ → List ℤ)
             → IsStreamAt self.now s m given
             → is_full (with_samples s self.now.job) m given t ≡ result }
+    {
+        self.is_full_by(t, line_block(&self.job, t))
+    }
+
+    /// Whether a task is a sink that waits next and has no room for what it may get by so many
+    /// steps.
+    pub fn is_full_by(&self, t: usize, most: u64) -> bool
+        requires task { t < length self.now.job.graph.tasks }
+        requires most { MayStep self.now.job t most }
+        ensures full { (s : List (List ℤ)) (m : Moment) (given : ℕ → List ℤ)
+            → IsStreamAt self.now s m given
+            → is_full_by most (with_samples s self.now.job) m given t ≡ result }
         ensures room { result ≡ false → (s : List (List ℤ)) (m : Moment) (given : ℕ → List ℤ)
             → IsStreamAt self.now s m given
-            → HasRoomNext (with_samples s self.now.job) self.now.machine t }
+            → HasRoomNext most (with_samples s self.now.job) self.now.machine t }
     {
         if !self.job.graph().is_sink(t) {
             return false;
         }
-        if !self.lacks_room(t) {
+        if !self.lacks_room(t, most) {
             return false;
         }
         matches!(self.step(t), Step::Wait { .. })
     }
 
-    /// Whether a sink has no room for its next block.
-    fn lacks_room(&self, t: usize) -> bool
+    /// Whether a sink has no room for its next block of at most so many steps.
+    fn lacks_room(&self, t: usize, most: u64) -> bool
         requires task { t < length self.now.job.graph.tasks }
         requires sink { is_sink_at self.now.job t ≡ true }
+        requires most { MayStep self.now.job t most }
         ensures lacks { (s : List (List ℤ)) (m : Moment) (given : ℕ → List ℤ)
             → IsStreamAt self.now s m given
             → let job = with_samples s self.now.job in
             nat_lt (line_room job t)
-            (length (kept_by job m t) - length (given t) + block_of job m t) ≡ result }
+            (length (kept_by job m t) - length (given t) + block_up_to most job m t) ≡ result }
         ensures room { result ≡ false → (s : List (List ℤ)) (m : Moment) (given : ℕ → List ℤ)
             → IsStreamAt self.now s m given
-            → HasRoomNext (with_samples s self.now.job) self.now.machine t }
+            → HasRoomNext most (with_samples s self.now.job) self.now.machine t }
     {
         let state = &self.machine.tasks[t];
-        let steps = self.plan.block(&self.job, t, state.begun);
+        let steps = self.plan.block(&self.job, t, state.begun, most);
         let kept = self.machine.lines[state.sink].values.len() as u64;
         let room = line_room(&self.job, t);
         kept > room || room - kept < steps

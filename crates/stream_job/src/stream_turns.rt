@@ -1,5 +1,5 @@
 //! The turns of a run that is fed.
-ghost use Rattle.std.specs.Prelude.{◌≡◌, ◌≢◌, ◌<◌, ℕ, ℤ, List, Ok, IfOk, length, map, false, true, None, Some};
+ghost use Rattle.std.specs.Prelude.{◌≡◌, ◌≢◌, ◌<◌, ◌≤◌, ℕ, ℤ, List, Ok, IfOk, length, map, false, true, None, Some};
 ghost use Rattle.stream_eval.specs.stream_lists.Jobs.{with_samples};
 ghost use Rattle.stream_eval.specs.stream_lists.Ranges.{answer_of};
 ghost use Rattle.graph_lang.specs.graph_base.declared.place.Place.{Place as PlaceValue};
@@ -7,17 +7,23 @@ ghost use Rattle.graph_runs.specs.Feeds.{IsFed};
 ghost use Rattle.graph_runs.specs.Moments.{Moment, started};
 ghost use Rattle.graph_runs.specs.Settled.{IsFaultAt, IsReady};
 
+use crate::buffers::OWN_STEPS;
+use crate::plan_blocks::line_block;
+use crate::sink_lines::LINE_ROOM;
 use crate::stopped::Stopped;
 use crate::stream::Stream;
 use crate::stream_stops::awaited;
 use crate::turned::Turned;
-use graph_runs::{feeds, outcomes};
+use graph_runs::{feeds, input_of, outcomes, output_of};
+use phase_any::phase_base::PHASES_MAX;
 use std::alloc::AllocError;
 
 /// The turns that a task gets one after the other, while it moves, at most.
 const TURNS: usize = 64;
 
 impl Stream {
+    ghost use Rattle.stream_job.specs.Buffers.{most_steps};
+    ghost use Rattle.stream_job.specs.Inside.{MayStep};
     ghost use Rattle.stream_job.specs.Machines.{kept_behind};
     ghost use Rattle.stream_job.specs.Streams.{StreamGoesOn, IsStreamAt, StreamStopsAt, ended_at};
     ghost use Rattle.stream_job.specs.declared.stopped.Stopped.TheVariants.{Done, TooBig};
@@ -95,16 +101,89 @@ impl Stream {
         requires { t < length self.old.job.graph.tasks }
         ensures { StreamGoesOn self.old self.new }
     {
-        if self.met.is_some() || self.is_hungry(t) || self.is_full(t) {
+        let most = self.own_steps(t);
+        if self.met.is_some() || self.is_hungry(t) || self.is_full_by(t, most) {
             return Ok(false);
         }
         feeds::feeds_go_on();
         let awaits = awaited(&self.job, &self.plan, &self.machine, &self.inputs, t);
         let (plan, buffers) = (&self.plan, &mut self.buffers);
-        let made = self.machine.make(&self.job, plan, buffers, t, awaits)?;
+        let made = self
+            .machine
+            .make(&self.job, plan, buffers, t, awaits, most)?;
         self.plan.pass(&self.job, &self.machine.tasks, t);
         let told = made.told(t);
         self.met = told.too_big();
         Ok(matches!(told, Turned::Moved | Turned::Ended))
     }
+
+    /// How many steps the next turn of a task makes at most: a block of its line; or, of a source
+    /// or a sink whose line names none, as many as there is room for.
+    fn own_steps(&self, t: usize) -> u64
+        requires { t < length self.now.job.graph.tasks }
+        ensures may { MayStep self.now.job t result }
+        ensures few { result ≤ most_steps self.now.job t }
+    {
+        let job = &self.job;
+        let block = line_block(job, t);
+        if block > 1 {
+            return block;
+        }
+        if job.graph().is_source(t) {
+            let (k, p) = output_of(job, t, 0);
+            return own_steps(job.graph().phaser(p).bound, self.phases_left(t, k, p));
+        }
+        if job.graph().is_sink(t) {
+            let p = input_of(job, t, 0);
+            return own_steps(job.graph().phaser(p).bound, self.values_left(t));
+        }
+        block
+    }
+
+    /// How many phases a task may signal now on phaser `p`, which it signals by its registration
+    /// `k`, as a hint for how many steps it makes.
+    fn phases_left(&self, t: usize, k: usize, p: usize) -> u64 {
+        let (Some(state), Some(core)) = (self.machine.tasks.get(t), self.machine.cores.get(p))
+        else {
+            return 0;
+        };
+        let Some(number) = state.numbers.get(k) else {
+            return 0;
+        };
+        let Some(entry) = core.view(*number) else {
+            return 0;
+        };
+        let last = PHASES_MAX.saturating_sub(entry.signal_phase);
+        let Some(slowest) = core.least_wait() else {
+            return last;
+        };
+        let bound = self.job.graph().phaser(p).bound;
+        last.min(
+            slowest
+                .saturating_add(bound)
+                .saturating_sub(entry.signal_phase),
+        )
+    }
+
+    /// For how many values the line of a sink has room, as a hint for how many steps it makes.
+    fn values_left(&self, t: usize) -> u64 {
+        let Some(state) = self.machine.tasks.get(t) else {
+            return 0;
+        };
+        let Some(line) = self.machine.lines.get(state.sink) else {
+            return 0;
+        };
+        LINE_ROOM.saturating_sub(line.values.len() as u64)
+    }
+}
+
+/// So many steps of its own accord, by the bound of the phaser of a task and what there is room
+/// for: one at least.
+fn own_steps(bound: u64, room: u64) -> u64
+    requires { 1 ≤ bound }
+    ensures some { 1 ≤ result }
+    ensures few { result ≤ OWN_STEPS }
+    ensures bound { result ≤ bound }
+{
+    OWN_STEPS.min(bound).min(room).max(1)
 }

@@ -11,8 +11,8 @@ ghost use Rattle.graph_runs.specs.Turned.{with_at};
 ghost use Rattle.graph_runs.specs.Nexts as turns;
 ghost use Rattle.graph_runs.specs.Nexts.{is_live, number_on};
 ghost use Rattle.stream_job.specs.Turning.{IsRegistration, HadTurn, told_of};
-ghost use Rattle.stream_job.specs.Inside.{HasDone, HasRoomIn, HasRoomNext, IsNextIn, MayDo, OwesMade, is_value_out, with_more, child_refusal, add_event, LineHasBegun};
-ghost use Rattle.stream_job.specs.Buffers.{HasPlaces};
+ghost use Rattle.stream_job.specs.Inside.{HasDone, HasRoomIn, HasRoomNext, IsNextIn, MayDo, MayStep, OwesMade, is_value_out, with_more, child_refusal, add_event, LineHasBegun};
+ghost use Rattle.stream_job.specs.Buffers.{HasPlaces, most_steps};
 ghost use Rattle.stream_job.specs.Plans.{IsPlan};
 ghost use Rattle.stream_job.specs.SinkLines.{kept_of};
 ghost use Rattle.stream_eval.specs.stream_lists.Jobs.{with_samples};
@@ -28,7 +28,7 @@ use crate::turned::Turned;
 use graph_lang::Place;
 use graph_lang::stream_filters::TooBigValue;
 use graph_runs::{
-    Owed, input_of, number_taken, output_of, owed_after_exchange, owed_after_signal, turns as laws,
+    Owed, input_of, number_taken, output_of, owed_after_exchange, owed_after_signal, sized,
 };
 use phase_any::phase_accum::Outcome;
 use phase_any::phase_base::Mode;
@@ -40,7 +40,8 @@ impl Machine {
     ghost use Rattle.stream_job.specs.Machines.{HasCores, HasRoom, IsLiveSome, IsMachineAt, IsSome, MayHaveCome, kept_behind, next_by};
 
     /// Gives a turn to task number `t`, which, where it is a source, has these samples still to
-    /// signal: it makes its next call. Where it is a sink, there is room for what it gets.
+    /// signal: it makes its next call, of at most so many steps. Where it is a sink, there is room
+    /// for what it gets.
     pub fn make(
         &mut self,
         job: &Job,
@@ -48,14 +49,16 @@ impl Machine {
         buffers: &mut Buffers,
         t: usize,
         awaits: &[i64],
+        most: u64,
     ) -> Result<Made, AllocError>
         requires came { (s : List (List ℤ)) × MayHaveCome job.now self.old t awaits.now s
-            × HasRoomNext (with_samples s job.now) self.old t }
+            × HasRoomNext most (with_samples s job.now) self.old t }
+        requires most { MayStep job.now t most × (most ≤ most_steps job.now t) }
         requires plan { IsPlan job.now plan.now }
         requires places { HasPlaces job.now buffers.old }
         ensures made { IfOk result (λ made. (s : List (List ℤ))
             → MayHaveCome job.now self.old t awaits.now s
-            → HadTurn (with_samples s job.now) self.old self.new t made) }
+            → HadTurn most (with_samples s job.now) self.old self.new t made) }
         ensures err { OnErr result (self.new ≡ self.old) }
         ensures memory { OnErr result ((s : List (List ℤ)) (m : Moment)
             → MayHaveCome job.now self.old t awaits.now s
@@ -67,9 +70,8 @@ impl Machine {
         if let Step::NotLive = step {
             return Ok(Made::Nothing);
         }
-        laws::turns_stay_reached();
-        laws::no_turn_is_refused();
-        self.make_step(job, plan, buffers, t, awaits, step)
+        sized::turns_up_to();
+        self.make_step(job, plan, buffers, t, awaits, most, step)
     }
 
     /// A task makes this step.
@@ -80,17 +82,18 @@ impl Machine {
         buffers: &mut Buffers,
         t: usize,
         awaits: &[i64],
+        most: u64,
         step: Step,
     ) -> Result<Made, AllocError>
         requires next { (s : List (List ℤ)) × MayHaveCome job.now self.old t awaits.now s
-            × IsNextIn (with_samples s job.now) self.old t (next_by step)
-            × HasRoomNext (with_samples s job.now) self.old t }
+            × IsNextIn most (with_samples s job.now) self.old t (next_by step)
+            × HasRoomNext most (with_samples s job.now) self.old t }
         requires plan { IsPlan job.now plan.now }
         requires places { HasPlaces job.now buffers.old }
         ensures made { IfOk result (λ made. (s : List (List ℤ))
             → MayHaveCome job.now self.old t awaits.now s
-            → IsNextIn (with_samples s job.now) self.old t (next_by step)
-            → HadTurn (with_samples s job.now) self.old self.new t made) }
+            → IsNextIn most (with_samples s job.now) self.old t (next_by step)
+            → HadTurn most (with_samples s job.now) self.old self.new t made) }
         ensures err { OnErr result (self.new ≡ self.old) }
         // A registration alone asks for memory.
         ensures memory { OnErr result (IsRegistration (next_by step)) }
@@ -100,9 +103,9 @@ impl Machine {
             Step::NotLive => Ok(Made::Nothing),
             Step::Register { child } => self.register_child(job, t, child),
             Step::Leave => Ok(self.leave(job, t)),
-            Step::Sample => Ok(self.signal_samples(job, plan, buffers, t, awaits)),
+            Step::Sample => Ok(self.signal_samples(job, plan, buffers, t, awaits, most)),
             Step::Signal { output } => Ok(self.signal_owed(job, buffers, t, output)),
-            Step::Wait { input } => Ok(self.wait_first(job, plan, buffers, t, input)),
+            Step::Wait { input } => Ok(self.wait_first(job, plan, buffers, t, input, most)),
             Step::Exchange => Ok(self.wait_exchange(job, t)),
         }
     }
@@ -127,7 +130,7 @@ impl Machine {
         }
     }
 
-    /// A source signals the next of the samples that it has still to signal, a block of them.
+    /// A source signals the next of the samples that it has still to signal, at most so many.
     fn signal_samples(
         &mut self,
         job: &Job,
@@ -135,21 +138,22 @@ impl Machine {
         buffers: &mut Buffers,
         t: usize,
         awaits: &[i64],
+        most: u64,
     ) -> Made
         requires next { (s : List (List ℤ)) × MayHaveCome job.now self.old t awaits.now s
-            × IsNextIn (with_samples s job.now) self.old t turns.samples }
+            × IsNextIn most (with_samples s job.now) self.old t turns.samples }
         requires plan { IsPlan job.now plan.now }
         requires places { HasPlaces job.now buffers.old }
         ensures made { (s : List (List ℤ)) → MayHaveCome job.now self.old t awaits.now s
-            → IsNextIn (with_samples s job.now) self.old t turns.samples
-            → HadTurn (with_samples s job.now) self.old self.new t result }
+            → IsNextIn most (with_samples s job.now) self.old t turns.samples
+            → HadTurn most (with_samples s job.now) self.old self.new t result }
         ensures places { buffers.new ≡ buffers.old }
     {
         let (k, phaser) = output_of(job, t, 0);
         let state = &self.tasks[t];
         let begun = state.begun;
         let number = state.numbers[k];
-        let many = plan.block(job, t, begun).min(awaits.len() as u64);
+        let many = plan.block(job, t, begun, most).min(awaits.len() as u64);
         let samples = &awaits[..many as usize];
         let parcels = &mut buffers.parcels;
         let Ok(_) = self.signal_values_on(job, phaser, number, samples, parcels) else {
@@ -215,8 +219,8 @@ impl Machine {
     fn signal_value(&mut self, job: &Job, t: usize, output: usize, x: i64) -> Made
         requires next { MayDo job.now self.old t (turns.signals output) }
         requires kind { (task_at job.now.graph t).kind ≢ filters }
-        requires value { (s : List (List ℤ)) (m : Moment)
-            → IsNextIn (with_samples s job.now) self.old t (turns.signals output)
+        requires value { (s : List (List ℤ)) (steps : ℕ) (m : Moment)
+            → IsNextIn steps (with_samples s job.now) self.old t (turns.signals output)
             → IsMachineAt (with_samples s job.now) m self.old
             → map ranged (next_values (with_samples s job.now) m t output) ≡ Ok x ∷ [] }
         ensures { HasDone job.now self.old self.new t (turns.signals output) result }
@@ -233,7 +237,7 @@ impl Machine {
         }
     }
 
-    /// A task waits on this input for its next steps, a block of them.
+    /// A task waits on this input for its next steps, at most so many.
     fn wait_first(
         &mut self,
         job: &Job,
@@ -241,18 +245,21 @@ impl Machine {
         buffers: &mut Buffers,
         t: usize,
         k: usize,
+        most: u64,
     ) -> Made
         requires next { (s : List (List ℤ))
-            × IsNextIn (with_samples s job.now) self.old t (turns.waits k)
-            × HasRoomNext (with_samples s job.now) self.old t }
+            × IsNextIn most (with_samples s job.now) self.old t (turns.waits k)
+            × HasRoomNext most (with_samples s job.now) self.old t }
         requires plan { IsPlan job.now plan.now }
         requires places { HasPlaces job.now buffers.old }
-        ensures made { HasDone job.now self.old self.new t (turns.waits k) result }
+        ensures made { (s : List (List ℤ))
+            → IsNextIn most (with_samples s job.now) self.old t (turns.waits k)
+            → HadTurn most (with_samples s job.now) self.old self.new t result }
         ensures places { buffers.new ≡ buffers.old }
     {
         let phaser = input_of(job, t, k);
         let number = self.tasks[t].numbers[k];
-        let steps = plan.block(job, t, self.tasks[t].begun) as usize;
+        let steps = plan.block(job, t, self.tasks[t].begun, most) as usize;
         let sink = self.sink_of(job, t);
         let out = &mut buffers.outcomes[..steps];
         match self.wait_block_on(job, phaser, number, out) {

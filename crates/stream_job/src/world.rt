@@ -16,6 +16,7 @@ use crate::machine::Machine;
 use crate::opening::opened_lines;
 use crate::parked::Parked;
 use crate::plan::Plan;
+use crate::plan_blocks::line_block;
 use crate::step::Step;
 use crate::turned::Turned;
 use graph_lang::Place;
@@ -205,9 +206,12 @@ impl<'a> World<'a> {
             return Ok(Turned::TooBig { place, phase });
         }
         turns::turns_stay_reached();
+        let block = line_block(self.job, task);
         let awaits = self.machine.awaits(self.job, &self.plan, task);
         let (plan, buffers) = (&self.plan, &mut self.buffers);
-        let made = self.machine.make(self.job, plan, buffers, task, awaits)?;
+        let made = self
+            .machine
+            .make(self.job, plan, buffers, task, awaits, block)?;
         self.parked.note(made, task);
         self.plan.pass(self.job, &self.machine.tasks, task);
         let told = made.told(task);

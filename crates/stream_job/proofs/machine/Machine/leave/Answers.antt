@@ -25,7 +25,7 @@ here c =
 pub bounds-deref-left : goal.bounds-deref-left
 bounds-deref-left c =
     let s = c.requires.0 in
-    let next = c.requires.1 in
+    let next = c.requires.2 in
     let job = with_samples s c.args.job.now in
     let found = state_read next (λ e. (cc)) c.index-state.ensures in
     let low = (leaves_now job c.args.self.now next.some.0 c.args.t
@@ -35,7 +35,7 @@ bounds-deref-left c =
 pub registration-phaser-requires-clause-number : goal.registration-phaser-requires-clause-number
 registration-phaser-requires-clause-number c =
     let s = c.requires.0 in
-    let next = c.requires.1 in
+    let next = c.requires.2 in
     let job = with_samples s c.args.job.now in
     let found = state_read next (λ e. (cc)) c.index-state.ensures in
     let l = leaves_now job c.args.self.now next.some.0 c.args.t
@@ -50,7 +50,7 @@ registration-phaser-requires-clause-number c =
 pub drop_on-requires-clause-phaser : goal.drop_on-requires-clause-phaser
 drop_on-requires-clause-phaser c =
     let s = c.requires.0 in
-    let next = c.requires.1 in
+    let next = c.requires.2 in
     let job = with_samples s c.args.job.now in
     let found = state_read next (λ e. (cc)) c.index-state.ensures in
     let l = leaves_now job c.args.self.now next.some.0 c.args.t
@@ -61,7 +61,7 @@ drop_on-requires-clause-phaser c =
 pub unreachable-requires : goal.unreachable-requires
 unreachable-requires c =
     let s = c.requires.0 in
-    let next = c.requires.1 in
+    let next = c.requires.2 in
     let job = with_samples s c.args.job.now in
     let found = state_read next (λ e. (cc)) c.index-state.ensures in
     let here = here (goal.at.unreachable-requires c).After-registration-phaser in
@@ -72,7 +72,7 @@ unreachable-requires c =
     (λ m at. c.in_default.ensures.refused m.history (bare_cores s at.cores))
 
 pub returns-then-last : goal.returns-then-last
-returns-then-last c = λ s next.
+returns-then-last c = λ s steps next.
     let job = with_samples s c.args.job.now in
     let lt = state_there next (λ e. (cc)) in
     let found = state_read next (λ e. (cc)) c.index-state.ensures in
@@ -93,7 +93,7 @@ returns-then-last c = λ s next.
     (length c.index-state.result.now.numbers.items) past))
 
 pub returns-else-last : goal.returns-else-last
-returns-else-last c = λ s next.
+returns-else-last c = λ s steps next.
     let job = with_samples s c.args.job.now in
     let lt = state_there next (λ e. (cc)) in
     let found = state_read next (λ e. (cc)) c.index-state.ensures in
@@ -116,7 +116,7 @@ returns-else-last c = λ s next.
 pub offset_bounds-deref-left : goal.offset_bounds-deref-left
 offset_bounds-deref-left c =
     let s = c.requires.0 in
-    let next = c.requires.1 in
+    let next = c.requires.2 in
     let job = with_samples s c.args.job.now in
     let found = state_read next (λ e. (cc)) c.index-state.ensures in
     record {
@@ -127,7 +127,7 @@ offset_bounds-deref-left c =
 pub overflow_add-last : goal.overflow_add-last
 overflow_add-last c =
     let s = c.requires.0 in
-    let next = c.requires.1 in
+    let next = c.requires.2 in
     let job = with_samples s c.args.job.now in
     let found = state_read next (λ e. (cc)) c.index-state.ensures in
     record {
@@ -138,7 +138,7 @@ overflow_add-last c =
 pub overflow_add-left : goal.overflow_add-left
 overflow_add-left c =
     let s = c.requires.0 in
-    let next = c.requires.1 in
+    let next = c.requires.2 in
     let job = with_samples s c.args.job.now in
     let found = state_read next (λ e. (cc)) c.index-state.ensures in
     record {
@@ -148,5 +148,5 @@ overflow_add-left c =
 
 pub drop_on-requires-clause-cores : goal.drop_on-requires-clause-cores
 drop_on-requires-clause-cores c =
-    let next = c.requires.1 in
+    let next = c.requires.2 in
     (next.some.0.history, bare_cores c.requires.0 next.some.1.cores)

@@ -12,8 +12,9 @@ use Rattle.stream_job.proofs.Lively.{live_next}
 use Rattle.stream_job.proofs.Numbering.{few_after}
 use Rattle.stream_job.proofs.Setting.{if_ok, on_err}
 use Rattle.stream_job.proofs.Tellings.{gone_turn}
-use Rattle.stream_job.proofs.machine.Machine.make.Goals.{After-no_turn_is_refused}
+use Rattle.stream_job.proofs.machine.Machine.make.Goals.{After-turns_up_to}
 use Rattle.stream_job.proofs.machine.Machine.make.Goals as goal
+use Rattle.graph_lang.specs.graph_base.Graphs.{task_at}
 
 -- a step that is one
 makes_one : (it : Step) → it ≢ step.NotLive → next_by it ≢ is_not_live
@@ -26,18 +27,22 @@ makes_one (step.Wait input) never = λ e. (cc)
 makes_one step.Exchange never = λ e. (cc)
 
 -- with whatever samples may have come this is what the task does next
-next_in : (c : After-no_turn_is_refused) (s : List (List ℤ))
+next_in : (c : After-turns_up_to) (s : List (List ℤ))
     → MayHaveCome c.args.job.now c.args.self.now c.args.t c.args.awaits.now s
-    → IsNextIn (with_samples s c.args.job.now) c.args.self.now c.args.t (next_by c.next-step.result)
+    → IsNextIn c.args.most (with_samples s c.args.job.now) c.args.self.now c.args.t (next_by c.next-step.result)
 next_in c s may =
     let job = with_samples s c.args.job.now in
     record {
       some = may.stands;
+      sized = c.requires.most.0;
+      small = c.requires.most.1;
       is = λ m at. c.next-step.ensures s m at (may.awaits m at);
-      stays = λ m at. c.turns_stay_reached.ensures.turn job m c.args.t at.graph at.reached;
-      few = λ m at. few_after job m c.args.t at.graph at.reached at.few;
+      stays = λ m at. c.turns_up_to.ensures.reached c.args.most (task_at job.graph c.args.t).block job
+          m c.args.t c.requires.most.0 at.graph at.reached;
+      few = λ m at. few_after job m c.args.t c.requires.most.0 at.graph at.reached at.few;
       answered = λ m at.
-          c.no_turn_is_refused.ensures.answered job m c.args.t at.graph
+          c.turns_up_to.ensures.answered c.args.most (task_at job.graph c.args.t).block job m c.args.t
+          c.requires.most.0 at.graph
           (may.sends (live-is job m c.args.t (live_next job m c.args.t (next_by c.next-step.result)
           (c.next-step.ensures s m at (may.awaits m at))
           (makes_one c.next-step.result c.in_default.not-NotLive))).there)
@@ -52,7 +57,7 @@ returns-in-NotLive-clause-made c = λ s may.
 pub make_step-requires : goal.make_step-requires
 make_step-requires c =
     let came = c.requires.came in
-    let here = (goal.at.make_step-requires c).After-no_turn_is_refused in
+    let here = (goal.at.make_step-requires c).After-turns_up_to in
     record {
       next = (came.0, came.1, next_in here came.0 came.1, came.2);
       plan = c.requires.plan;
@@ -61,7 +66,7 @@ make_step-requires c =
 
 pub returns : goal.returns
 returns c =
-    let here = (goal.at.returns c).After-no_turn_is_refused in
+    let here = (goal.at.returns c).After-turns_up_to in
     record {
       made = if_ok c.make_step.result (λ made had s may. had s may (next_in here s may))
           c.make_step.ensures.made;

@@ -1,5 +1,5 @@
 -- The child takes the next number on the phaser of its first registration that is missing.
-use Rattle.std.proofs.Common.{◌≡◌, ◌<◌, ◌≤◌, ◌+◌, [], ◌∷◌, ◌++◌, length, get_or, sym, ap, subst, ◌∙◌, arith, List, ℤ}
+use Rattle.std.proofs.Common.{ℕ, ◌≡◌, ◌<◌, ◌≤◌, ◌+◌, [], ◌∷◌, ◌++◌, length, get_or, sym, ap, subst, ◌∙◌, arith, List, ℤ}
 use Rattle.graph_lang.specs.graph_base.Graphs.{task_at, phaser_at}
 use Rattle.graph_lang.specs.graph_base.Registrations.{registrations_of, no_registration}
 use Rattle.graph_lang.specs.graph_base.declared.registration.Registration.{Registration}
@@ -26,8 +26,8 @@ reg c =
     c.graph-2.ensures.graph ∙ ap (registration_at c.args.job.now c.args.c) c.len-made.ensures.value
 
 -- is on a phaser of the graph
-there : (s : List (List ℤ)) (c : After-registration-registration)
-    (next : IsNextIn (with_samples s c.args.job.now) c.args.self.now c.args.t (registers c.args.c))
+there : {steps : ℕ} (s : List (List ℤ)) (c : After-registration-registration)
+    (next : IsNextIn steps (with_samples s c.args.job.now) c.args.self.now c.args.t (registers c.args.c))
     → c.registration-registration.result.phaser < length (with_samples s c.args.job.now).graph.phasers
 there s c next =
     subst (λ p. p < length (with_samples s c.args.job.now).graph.phasers)
@@ -39,7 +39,7 @@ pub registration-registration-requires-clause-number :
     goal.registration-registration-requires-clause-number
 registration-registration-requires-clause-number c =
     let s = c.requires.0 in
-    let next = c.requires.1 in
+    let next = c.requires.2 in
     let job = with_samples s c.args.job.now in
     let found = child_read next c.index.ensures in
     let less = (child_at job c.args.self.now next.some.0 c.args.t c.args.c c.index.result.now
@@ -52,14 +52,14 @@ registration-registration-requires-clause-number c =
 pub core-requires-clause-phaser : goal.core-requires-clause-phaser
 core-requires-clause-phaser c =
     let s = c.requires.0 in
-    let next = c.requires.1 in
+    let next = c.requires.2 in
     let job = with_samples s c.args.job.now in
     there s (goal.at.core-requires-clause-phaser c).After-registration-registration next
 
 pub add_on-requires-clause-places : goal.add_on-requires-clause-places
 add_on-requires-clause-places c =
     let s = c.requires.0 in
-    let next = c.requires.1 in
+    let next = c.requires.2 in
     let job = with_samples s c.args.job.now in
     let lt = child_below job c.args.self.now c.args.t c.args.c next in
     let many = next.some.1.tasks_many in (
@@ -70,7 +70,7 @@ add_on-requires-clause-places c =
 pub push_reserved-requires : goal.push_reserved-requires
 push_reserved-requires c =
     let s = c.requires.0 in
-    let next = c.requires.1 in
+    let next = c.requires.2 in
     let job = with_samples s c.args.job.now in
     let lt = child_below job c.args.self.now c.args.t c.args.c next in
     let found = child_read next c.index.ensures in
@@ -92,7 +92,7 @@ push_reserved-requires c =
 pub unreachable-requires : goal.unreachable-requires
 unreachable-requires c =
     let s = c.requires.0 in
-    let next = c.requires.1 in
+    let next = c.requires.2 in
     let job = with_samples s c.args.job.now in
     let m = next.some.0 in
     let at = next.some.1 in
@@ -105,7 +105,7 @@ unreachable-requires c =
 pub unreachable-requires-in_default-refusal : goal.unreachable-requires-in_default-refusal
 unreachable-requires-in_default-refusal c =
     let s = c.requires.0 in
-    let next = c.requires.1 in
+    let next = c.requires.2 in
     let job = with_samples s c.args.job.now in
     let found = child_read next c.index.ensures in
     let reg = reg (goal.at.unreachable-requires-in_default-refusal c).After-registration-registration in
@@ -124,7 +124,7 @@ unreachable-requires-in_default-refusal c =
     (bare_cores s at.cores))
 
 pub returns-in-Ok-clause-made : goal.returns-in-Ok-clause-made
-returns-in-Ok-clause-made c = λ s next.
+returns-in-Ok-clause-made c = λ s steps next.
     let job = with_samples s c.args.job.now in
     let lt = child_below job c.args.self.now c.args.t c.args.c next in
     let found = child_read next c.index.ensures in

@@ -1,5 +1,5 @@
 -- All that is made is signalled, where all of it is in range.
-use Rattle.std.proofs.Common.{◌≡◌, ◌<◌, ◌≤◌, ◌+◌, ◌-◌, [], map, length, get_or, refl, sym, ap, ◌∙◌, arith, List, ℤ}
+use Rattle.std.proofs.Common.{ℕ, ◌≡◌, ◌<◌, ◌≤◌, ◌+◌, ◌-◌, [], map, length, get_or, refl, sym, ap, ◌∙◌, arith, List, ℤ}
 use Rattle.std.specs.Prelude.{Ok, Result, ℤ}
 use Rattle.std.specs.List.{position_from}
 use Rattle.std.proofs.lemmas.List.{length-map}
@@ -19,8 +19,8 @@ use Rattle.stream_job.proofs.machine.Machine.signal_made.Goals.{After-index-stat
 use Rattle.stream_job.proofs.machine.Machine.signal_made.Goals as goal
 
 -- what the filter has made
-has_all : (s : List (List ℤ)) (c : After-index-state)
-    (next : IsNextIn (with_samples s c.args.job.now) c.args.self.now c.args.t (signals 0)) (m : Moment) → IsMachineAt (with_samples s c.args.job.now) m c.args.self.now
+has_all : {steps : ℕ} (s : List (List ℤ)) (c : After-index-state)
+    (next : IsNextIn steps (with_samples s c.args.job.now) c.args.self.now c.args.t (signals 0)) (m : Moment) → IsMachineAt (with_samples s c.args.job.now) m c.args.self.now
     → HasMade (with_samples s c.args.job.now) m c.args.t 0 c.index-state.result.now
 has_all s c next m at =
     let found = state_read next (λ e. (cc)) c.index-state.ensures in
@@ -28,8 +28,8 @@ has_all s c next m at =
     found (c.requires.made c.index-state.result.now found)
 
 -- it began no later than with the first of them
-begun : (s : List (List ℤ)) (c : After-len)
-    (next : IsNextIn (with_samples s c.args.job.now) c.args.self.now c.args.t (signals 0)) → ((m : Moment) → IsMachineAt (with_samples s c.args.job.now) m c.args.self.now
+begun : {steps : ℕ} (s : List (List ℤ)) (c : After-len)
+    (next : IsNextIn steps (with_samples s c.args.job.now) c.args.self.now c.args.t (signals 0)) → ((m : Moment) → IsMachineAt (with_samples s c.args.job.now) m c.args.self.now
     → HasMade (with_samples s c.args.job.now) m c.args.t 0 c.index-state.result.now)
     → c.len.result ≤ c.index-state.result.now.begun
 begun s c next has =
@@ -40,11 +40,11 @@ begun s c next has =
     omega (arith, c.index-state.result.now.made.ok.0, c.len.ensures)
 
 -- the first that is too big
-over : (s : List (List ℤ)) (c : In-Some)
-    (next : IsNextIn (with_samples s c.args.job.now) c.args.self.now c.args.t (signals 0)) → ((m : Moment) → IsMachineAt (with_samples s c.args.job.now) m c.args.self.now
+over : {steps : ℕ} (s : List (List ℤ)) (c : In-Some)
+    (next : IsNextIn steps (with_samples s c.args.job.now) c.args.self.now c.args.t (signals 0)) → ((m : Moment) → IsMachineAt (with_samples s c.args.job.now) m c.args.self.now
     → HasMade (with_samples s c.args.job.now) m c.args.t 0 c.index-state.result.now) → (m : Moment)
     → IsMachineAt (with_samples s c.args.job.now) m c.args.self.now
-    → MadeOver (with_samples s c.args.job.now) m c.args.t 0 c.in-Some.place c.index-state.result.now
+    → MadeOver steps (with_samples s c.args.job.now) m c.args.t 0 c.in-Some.place c.index-state.result.now
     c.index-state.result.now.made.items
 over s c next has m at =
     made_over (with_samples s c.args.job.now) c.args.self.now m c.args.t 0 c.in-Some.place c.index-state.result.now
@@ -53,8 +53,8 @@ over s c next has m at =
     (ap (position_from is_value_out 0) (sym c.deref.ensures.value) ∙ sym c.in-Some.ensures.some)
 
 -- or else these are all in range
-are : (s : List (List ℤ)) (c : After-deref-3)
-    (next : IsNextIn (with_samples s c.args.job.now) c.args.self.now c.args.t (signals 0)) → ((m : Moment) → IsMachineAt (with_samples s c.args.job.now) m c.args.self.now
+are : {steps : ℕ} (s : List (List ℤ)) (c : After-deref-3)
+    (next : IsNextIn steps (with_samples s c.args.job.now) c.args.self.now c.args.t (signals 0)) → ((m : Moment) → IsMachineAt (with_samples s c.args.job.now) m c.args.self.now
     → HasMade (with_samples s c.args.job.now) m c.args.t 0 c.index-state.result.now)
     → NextAre (with_samples s c.args.job.now) c.args.self.now c.args.t 0 c.deref-3.result.now
 are s c next has m at =
@@ -64,7 +64,7 @@ are s c next has m at =
 pub overflow_sub-first : goal.overflow_sub-first
 overflow_sub-first c =
     let s = c.requires.next.0 in
-    let next = c.requires.next.1 in
+    let next = c.requires.next.2 in
     let job = with_samples s c.args.job.now in
     let a = goal.at.overflow_sub-first c in
     let has = has_all s a.After-index-state next in
@@ -73,7 +73,7 @@ overflow_sub-first c =
 pub put_values-requires : goal.put_values-requires
 put_values-requires c =
     let s = c.requires.next.0 in
-    let next = c.requires.next.1 in
+    let next = c.requires.next.2 in
     let job = with_samples s c.args.job.now in
     let found = state_read next (λ e. (cc)) c.index-state.ensures in
     let a = goal.at.put_values-requires c in
@@ -93,7 +93,7 @@ put_values-requires c =
 pub overflow_add-result : goal.overflow_add-result
 overflow_add-result c =
     let s = c.requires.next.0 in
-    let next = c.requires.next.1 in
+    let next = c.requires.next.2 in
     let job = with_samples s c.args.job.now in
     let a = goal.at.overflow_add-result c in
     let has = has_all s a.After-index-state next in
@@ -107,7 +107,7 @@ overflow_add-result c =
     record { fits = omega arith }
 
 pub returns-in-Some-clause-made : goal.returns-in-Some-clause-made
-returns-in-Some-clause-made c = λ s next.
+returns-in-Some-clause-made c = λ s steps next.
     let job = with_samples s c.args.job.now in
     let a = goal.at.returns-in-Some-clause-made c in
     let has = has_all s a.After-index-state next in
@@ -122,7 +122,7 @@ returns-in-Some-clause-made c = λ s next.
 pub bounds-deref-k : goal.bounds-deref-k
 bounds-deref-k c =
     let s = c.requires.next.0 in
-    let next = c.requires.next.1 in
+    let next = c.requires.next.2 in
     let job = with_samples s c.args.job.now in
     let again = state_read next (λ e. (cc)) c.index.ensures in
     let place = (signals_at job c.args.self.now next.some.0 c.args.t 0
@@ -132,7 +132,7 @@ bounds-deref-k c =
 pub signal_values_on-requires-clause-sends : goal.signal_values_on-requires-clause-sends
 signal_values_on-requires-clause-sends c =
     let s = c.requires.next.0 in
-    let next = c.requires.next.1 in
+    let next = c.requires.next.2 in
     let job = with_samples s c.args.job.now in
     let a = goal.at.signal_values_on-requires-clause-sends c in
     let has = has_all s a.After-index-state next in
@@ -142,7 +142,7 @@ signal_values_on-requires-clause-sends c =
 pub signal_values_on-requires-clause-room : goal.signal_values_on-requires-clause-room
 signal_values_on-requires-clause-room c =
     let s = c.requires.next.0 in
-    let next = c.requires.next.1 in
+    let next = c.requires.next.2 in
     let job = with_samples s c.args.job.now in
     let found = state_read next (λ e. (cc)) c.index-state.ensures in
     let a = goal.at.signal_values_on-requires-clause-room c in
@@ -166,7 +166,7 @@ signal_values_on-requires-clause-room c =
     omega arith
 
 pub returns-in_default-signal_values_on-clause-made : goal.returns-in_default-signal_values_on-clause-made
-returns-in_default-signal_values_on-clause-made c = λ s next.
+returns-in_default-signal_values_on-clause-made c = λ s steps next.
     let job = with_samples s c.args.job.now in
     let a = goal.at.returns-in_default-signal_values_on-clause-made c in
     let has = has_all s a.After-index-state next in
@@ -186,7 +186,7 @@ returns-in_default-signal_values_on-clause-made c = λ s next.
     c.signal_values_on.ensures.others.0 c.signal_values_on.ensures.others.1
 
 pub returns-clause-made : goal.returns-clause-made
-returns-clause-made c = λ s next.
+returns-clause-made c = λ s steps next.
     let job = with_samples s c.args.job.now in
     let lt = state_there next (λ e. (cc)) in
     let a = goal.at.returns-clause-made c in
@@ -224,5 +224,5 @@ returns-clause-made c = λ s next.
 
 pub signal_values_on-requires-clause-cores : goal.signal_values_on-requires-clause-cores
 signal_values_on-requires-clause-cores c =
-    let next = c.requires.next.1 in
+    let next = c.requires.next.2 in
     (next.some.0.history, bare_cores c.requires.next.0 next.some.1.cores)

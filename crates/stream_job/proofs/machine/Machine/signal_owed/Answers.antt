@@ -1,5 +1,5 @@
 -- By what the state owes.
-use Rattle.std.proofs.Common.{rules, ◌-◌, [], ◌∷◌, refl, sym, ap, subst, ◌∙◌, arith, SFits, w64, to_z-of_z, List, ℤ}
+use Rattle.std.proofs.Common.{ℕ, rules, ◌-◌, [], ◌∷◌, refl, sym, ap, subst, ◌∙◌, arith, SFits, w64, to_z-of_z, List, ℤ}
 use Rattle.std.specs.Prelude.{Ok, Err}
 use Rattle.std.proofs.lemmas.Option.{same_Some}
 use Rattle.graph_runs.specs.Moments.{Moment}
@@ -14,9 +14,9 @@ use Rattle.stream_job.proofs.machine.Machine.signal_owed.Goals.{In-Err}
 use Rattle.stream_job.proofs.machine.Machine.signal_owed.Goals as goal
 
 -- a value that is too big, which it owes
-over : (s : List (List ℤ)) (c : In-Err)
-    (next : IsNextIn (with_samples s c.args.job.now) c.args.self.now c.args.t (signals c.args.output)) (m : Moment) → IsMachineAt (with_samples s c.args.job.now) m c.args.self.now
-    → MadeOver (with_samples s c.args.job.now) m c.args.t c.args.output 0 c.index-state.result.now
+over : {steps : ℕ} (s : List (List ℤ)) (c : In-Err)
+    (next : IsNextIn steps (with_samples s c.args.job.now) c.args.self.now c.args.t (signals c.args.output)) (m : Moment) → IsMachineAt (with_samples s c.args.job.now) m c.args.self.now
+    → MadeOver steps (with_samples s c.args.job.now) m c.args.t c.args.output 0 c.index-state.result.now
     (Err c.in-Err.field-0 ∷ [])
 over s c next m at =
     let found = state_read next (λ e. (cc)) c.index-state.ensures in
@@ -30,30 +30,34 @@ over s c next m at =
 pub signal_made-requires-clause-next : goal.signal_made-requires-clause-next
 signal_made-requires-clause-next c =
     let s = c.requires.next.0 in
-    let next = c.requires.next.1 in
+    let next = c.requires.next.2 in
     let job = with_samples s c.args.job.now in
     let found = state_read next (λ e. (cc)) c.index-state.ensures in
     let some = some_items c.index-state.result.now.made
     (sym c.is_empty.ensures ∙ c.if-not-is_empty.true) in
     let made = has_made job c.args.self.now next.some.0 c.args.t
-    c.args.output c.index-state.result.now next next.some.1 found some in
-    (s, subst (λ j. IsNextIn job c.args.self.now c.args.t (signals j)) (sym made.first) next)
+    c.args.output c.index-state.result.now next next.some.1 found some in (
+      s,
+      c.requires.next.1,
+      subst (λ j. IsNextIn c.requires.next.1 job c.args.self.now c.args.t
+          (signals j)) (sym made.first) next,
+    )
 
 pub returns-then-not-is_empty-clause-made : goal.returns-then-not-is_empty-clause-made
-returns-then-not-is_empty-clause-made c = λ s next.
+returns-then-not-is_empty-clause-made c = λ s steps next.
     let job = with_samples s c.args.job.now in
     let found = state_read next (λ e. (cc)) c.index-state.ensures in
     let some = some_items c.index-state.result.now.made
     (sym c.is_empty.ensures ∙ c.if-not-is_empty.true) in
     let made = has_made job c.args.self.now next.some.0 c.args.t
     c.args.output c.index-state.result.now next next.some.1 found some in
-    c.signal_made.ensures.made s
-    (subst (λ j. IsNextIn job c.args.self.now c.args.t (signals j)) (sym made.first) next)
+    c.signal_made.ensures.made s steps
+    (subst (λ j. IsNextIn steps job c.args.self.now c.args.t (signals j)) (sym made.first) next)
 
 pub signal_made-requires-clause-made : goal.signal_made-requires-clause-made
 signal_made-requires-clause-made c = λ state there none.
     let s = c.requires.next.0 in
-    let next = c.requires.next.1 in
+    let next = c.requires.next.2 in
     let job = with_samples s c.args.job.now in
     let found = state_read next (λ e. (cc)) c.index-state.ensures in
     let some = some_items c.index-state.result.now.made
@@ -64,7 +68,7 @@ signal_made-requires-clause-made c = λ state there none.
 pub unreachable-requires : goal.unreachable-requires
 unreachable-requires c =
     let s = c.requires.next.0 in
-    let next = c.requires.next.1 in
+    let next = c.requires.next.2 in
     let job = with_samples s c.args.job.now in
     let found = state_read next (λ e. (cc)) c.index-state.ensures in
     let none = none_items c.index-state.result.now.made
@@ -75,7 +79,7 @@ unreachable-requires c =
 pub signal_value-requires-clause-kind : goal.signal_value-requires-clause-kind
 signal_value-requires-clause-kind c =
     let s = c.requires.next.0 in
-    let next = c.requires.next.1 in
+    let next = c.requires.next.2 in
     let job = with_samples s c.args.job.now in
     let found = state_read next (λ e. (cc)) c.index-state.ensures in
     one_no_filter job c.args.self.now next.some.0 c.args.t c.in-Value.output
@@ -83,7 +87,7 @@ signal_value-requires-clause-kind c =
     (c.in-Value.is ∙ ap (code.Value c.in-Value.output) c.in-Ok.is)
 
 pub signal_value-requires-clause-value : goal.signal_value-requires-clause-value
-signal_value-requires-clause-value c = λ s m next at.
+signal_value-requires-clause-value c = λ s steps m next at.
     let job = with_samples s c.args.job.now in
     let found = state_read next (λ e. (cc)) c.index-state.ensures in
     let none = none_items c.index-state.result.now.made
@@ -97,13 +101,13 @@ signal_value-requires-clause-value c = λ s m next at.
 pub overflow_sub-result : goal.overflow_sub-result
 overflow_sub-result c =
     let s = c.requires.next.0 in
-    let next = c.requires.next.1 in
+    let next = c.requires.next.2 in
     let job = with_samples s c.args.job.now in
     let over = over s (goal.at.overflow_sub-result c).In-Err next in
     omega (arith, (over next.some.0 next.some.1).begun)
 
 pub returns-in-Err-clause-made : goal.returns-in-Err-clause-made
-returns-in-Err-clause-made c = λ s next.
+returns-in-Err-clause-made c = λ s steps next.
     let job = with_samples s c.args.job.now in
     let over = over s (goal.at.returns-in-Err-clause-made c).In-Err next in
     let begun = (over next.some.0 next.some.1).begun in

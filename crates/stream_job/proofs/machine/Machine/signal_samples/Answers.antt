@@ -4,7 +4,7 @@ use Rattle.std.specs.Prelude.{min}
 use Rattle.graph_lang.specs.graph_base.Graphs.{task_at}
 use Rattle.stream_eval.specs.stream_lists.Jobs.{Job, samples_at, with_samples}
 use Rattle.graph_runs.specs.Moments.{Moment}
-use Rattle.graph_runs.specs.NextBlocks.{block_of}
+use Rattle.graph_runs.specs.NextBlocks.{block_up_to}
 use Rattle.graph_runs.specs.Nexts.{samples}
 use Rattle.graph_runs.specs.TaskEvents.{sample}
 use Rattle.graph_runs.specs.TaskPlaces.{registration_of_output}
@@ -20,13 +20,13 @@ use Rattle.stream_job.proofs.machine.Machine.signal_samples.Goals.{After-min-man
 use Rattle.stream_job.proofs.machine.Machine.signal_samples.Goals as goal
 
 -- the samples that are next, of those that it has still to signal
-awaited : (job : Job) (machine : Machine) (t block many : ℕ) (rest : List ℤ)
+awaited : {most : ℕ} (job : Job) (machine : Machine) (t block many : ℕ) (rest : List ℤ)
     (s : List (List ℤ)) (state : TaskState) → MayHaveCome job machine t rest s
-    → IsNextIn (with_samples s job) machine t samples
+    → IsNextIn most (with_samples s job) machine t samples
     → slice_get machine.tasks.items t ≡ Some state
-    → ((m : Moment) → m.begun t ≡ state.begun → block_of job m t ≡ block)
+    → ((m : Moment) → m.begun t ≡ state.begun → block_up_to most job m t ≡ block)
     → many ≡ min block (length rest)
-    → ReadSamples (with_samples s job) machine t state.begun many (take many rest)
+    → ReadSamples most (with_samples s job) machine t state.begun many (take many rest)
 awaited job machine t block many rest s state may next found blocks is_many =
     let j = with_samples s job in
     let m = next.some.0 in
@@ -40,8 +40,8 @@ awaited job machine t block many rest s state may next found blocks is_many =
 -- those that it reads
 read : (s : List (List ℤ)) (c : After-min-many)
     → MayHaveCome c.args.job.now c.args.self.now c.args.t c.args.awaits.now s
-    → IsNextIn (with_samples s c.args.job.now) c.args.self.now c.args.t samples
-    → ReadSamples (with_samples s c.args.job.now) c.args.self.now c.args.t
+    → IsNextIn c.args.most (with_samples s c.args.job.now) c.args.self.now c.args.t samples
+    → ReadSamples c.args.most (with_samples s c.args.job.now) c.args.self.now c.args.t
     c.index-state.result.now.begun c.min-many.result (take c.min-many.result c.args.awaits.now)
 read s c may next =
     awaited c.args.job.now c.args.self.now c.args.t c.block.result c.min-many.result
@@ -93,7 +93,14 @@ pub signal_values_on-requires-clause-room : goal.signal_values_on-requires-claus
 signal_values_on-requires-clause-room c =
     let here = (goal.at.signal_values_on-requires-clause-room c).After-min-many in
     let read = read c.requires.next.0 here c.requires.next.1 c.requires.next.2 in
-    omega (arith, read.block, read.long, c.requires.places c.args.t read.there, c.buffers.view_is)
+    omega (
+      arith,
+      read.block,
+      read.long,
+      c.requires.next.2.small,
+      c.requires.places c.args.t read.there,
+      c.buffers.view_is,
+    )
 
 pub returns-in_default-clause-made : goal.returns-in_default-clause-made
 returns-in_default-clause-made c = λ s may next.
@@ -123,6 +130,7 @@ overflow_add-begun c =
     next.some.1.graph next.some.1.reached.ran (next.is next.some.0 next.some.1) in
     let begun = (next.some.1.tasks c.args.t c.index-state.result.now found).stands.begun in
     let block = read.block in
+    let small_block = next.small in
     let places = c.requires.places c.args.t read.there in
     let many = c.buffers.invariant.0 in
     let view = c.buffers.view_is in

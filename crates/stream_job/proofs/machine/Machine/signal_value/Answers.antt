@@ -13,7 +13,7 @@ use Rattle.stream_job.proofs.machine.Machine.signal_value.Goals as goal
 pub output_of-k-requires-clause-output : goal.output_of-k-requires-clause-output
 output_of-k-requires-clause-output c =
     let s = c.requires.next.0 in
-    let next = c.requires.next.1 in
+    let next = c.requires.next.2 in
     let job = with_samples s c.args.job.now in
     (signal_few job c.args.self.now next.some.0 c.args.t c.args.output
     next next.some.1)
@@ -21,7 +21,7 @@ output_of-k-requires-clause-output c =
 pub offset_bounds-deref-k : goal.offset_bounds-deref-k
 offset_bounds-deref-k c =
     let s = c.requires.next.0 in
-    let next = c.requires.next.1 in
+    let next = c.requires.next.2 in
     let job = with_samples s c.args.job.now in
     let found = state_read next (λ e. (cc)) c.index.ensures in
     let place = (signals_at job c.args.self.now next.some.0 c.args.t
@@ -35,7 +35,7 @@ offset_bounds-deref-k c =
 pub bounds-deref-k : goal.bounds-deref-k
 bounds-deref-k c =
     let s = c.requires.next.0 in
-    let next = c.requires.next.1 in
+    let next = c.requires.next.2 in
     let job = with_samples s c.args.job.now in
     let found = state_read next (λ e. (cc)) c.index.ensures in
     let place = (signals_at job c.args.self.now next.some.0 c.args.t
@@ -45,14 +45,14 @@ bounds-deref-k c =
 pub signal_on-requires-clause-send : goal.signal_on-requires-clause-send
 signal_on-requires-clause-send c =
     let s = c.requires.next.0 in
-    let next = c.requires.next.1 in
+    let next = c.requires.next.2 in
     let job = with_samples s c.args.job.now in
     subst IsSend (sym (to_z-of_z c.ranges.x))
     (values_sent job c.args.self.now c.args.t c.args.output (c.args.x ∷ [])
-    next (λ m at. c.requires.value s m next at)).0
+    next (λ m at. c.requires.value s c.requires.next.1 m next at)).0
 
 pub returns-in_default : goal.returns-in_default
-returns-in_default c = λ s next.
+returns-in_default c = λ s steps next.
     let job = with_samples s c.args.job.now in
     let found = state_read next (λ e. (cc)) c.index.ensures in
     let number = get_or c.deref.result.now c.output_of-k.result.0 0 in
@@ -64,14 +64,14 @@ returns-in_default c = λ s next.
     c.index.result.now next found c.output_of-k.ensures.phaser
     (ap (λ ns. get_or ns c.output_of-k.result.0 0) c.deref.ensures
     ∙ ap (λ k. get_or c.index.result.now.numbers.items k 0) c.output_of-k.ensures.registration)
-    (λ m at. c.requires.value s m next at))
+    (λ m at. c.requires.value s steps m next at))
     (λ m at. (simp (to_z-of_z, c.ranges.x) at c.in_default.ensures.reply) m.history
     (bare_cores s at.cores))
     (λ m at. full_cores s (c.in_default.ensures.cores m.history (bare_cores s at.cores)))
     c.signal_on.ensures.tasks c.signal_on.ensures.lines
 
 pub returns : goal.returns
-returns c = λ s next.
+returns c = λ s steps next.
     let job = with_samples s c.args.job.now in
     let lt = state_there next (λ e. (cc)) in
     let found = state_read next (λ e. (cc)) c.index.ensures in
@@ -84,7 +84,7 @@ returns c = λ s next.
     c.output_of-k.ensures.phaser
     (ap (λ ns. get_or ns c.output_of-k.result.0 0) c.deref.ensures
     ∙ ap (λ k. get_or c.index.result.now.numbers.items k 0) c.output_of-k.ensures.registration)
-    (λ m at. c.requires.value s m next at) (λ m at. (simp (to_z-of_z, c.ranges.x) at c.in-Ok.ensures.reply) m.history
+    (λ m at. c.requires.value s steps m next at) (λ m at. (simp (to_z-of_z, c.ranges.x) at c.in-Ok.ensures.reply) m.history
     (bare_cores s at.cores))
     (λ m at. full_cores s ((simp (to_z-of_z, c.ranges.x) at c.in-Ok.ensures.cores) m.history
     (bare_cores s at.cores)))
@@ -102,5 +102,5 @@ returns c = λ s next.
 
 pub signal_on-requires-clause-cores : goal.signal_on-requires-clause-cores
 signal_on-requires-clause-cores c =
-    let next = c.requires.next.1 in
+    let next = c.requires.next.2 in
     (next.some.0.history, bare_cores c.requires.next.0 next.some.1.cores)

@@ -16,7 +16,7 @@ use Rattle.stream_job.proofs.machine.Machine.wait_exchange.Goals as goal
 pub bounds-deref-1 : goal.bounds-deref-1
 bounds-deref-1 c =
     let s = c.requires.0 in
-    let next = c.requires.1 in
+    let next = c.requires.2 in
     let job = with_samples s c.args.job.now in
     let found = state_read next (λ e. (cc)) c.index-state.ensures in
     let place = (exchange_waits_at job c.args.self.now next.some.0 c.args.t
@@ -26,7 +26,7 @@ bounds-deref-1 c =
 pub unreachable-requires : goal.unreachable-requires
 unreachable-requires c =
     let s = c.requires.0 in
-    let next = c.requires.1 in
+    let next = c.requires.2 in
     let job = with_samples s c.args.job.now in
     let found = state_read next (λ e. (cc)) c.index-state.ensures in
     exchange_some job c.args.self.now c.args.t c.index-state.result.now next found
@@ -35,7 +35,7 @@ unreachable-requires c =
 pub unreachable-requires-in-Ok-Ended : goal.unreachable-requires-in-Ok-Ended
 unreachable-requires-in-Ok-Ended c =
     let s = c.requires.0 in
-    let next = c.requires.1 in
+    let next = c.requires.2 in
     let job = with_samples s c.args.job.now in
     let found = state_read next (λ e. (cc)) c.index-state.ensures in
     never_ended job c.args.self.now c.args.t (get_or c.deref.result.now 1 0)
@@ -46,7 +46,7 @@ unreachable-requires-in-Ok-Ended c =
 pub told_got-requires : goal.told_got-requires
 told_got-requires c =
     let s = c.requires.0 in
-    let next = c.requires.1 in
+    let next = c.requires.2 in
     let job = with_samples s c.args.job.now in
     let m = next.some.0 in
     let at = next.some.1 in
@@ -57,7 +57,7 @@ told_got-requires c =
     omega arith
 
 pub returns-in-Ok-Value : goal.returns-in-Ok-Value
-returns-in-Ok-Value c = λ s next.
+returns-in-Ok-Value c = λ s steps next.
     let job = with_samples s c.args.job.now in
     let lt = state_there next (λ e. (cc)) in
     let found = state_read next (λ e. (cc)) c.index-state.ensures in
@@ -84,7 +84,7 @@ returns-in-Ok-Value c = λ s next.
     c.told_got.ensures
 
 pub returns-in-Err : goal.returns-in-Err
-returns-in-Err c = λ s next.
+returns-in-Err c = λ s steps next.
     let job = with_samples s c.args.job.now in
     let found = state_read next (λ e. (cc)) c.index-state.ensures in
     blocked_exchange job c.args.self.now c.wait_on.new.self c.args.t
@@ -95,5 +95,5 @@ returns-in-Err c = λ s next.
 
 pub wait_on-requires-clause-cores : goal.wait_on-requires-clause-cores
 wait_on-requires-clause-cores c =
-    let next = c.requires.1 in
+    let next = c.requires.2 in
     (next.some.0.history, bare_cores c.requires.0 next.some.1.cores)

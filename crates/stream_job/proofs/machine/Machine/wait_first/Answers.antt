@@ -31,8 +31,8 @@ use Rattle.stream_job.proofs.machine.Machine.wait_first.Goals as goal
 
 -- what the task asks of its phaser
 asks : (s : List (List ℤ)) (c : After-wait_block_on)
-    (next : IsNextIn (with_samples s c.args.job.now) c.args.self.now c.args.t (waits c.args.k))
-    → AsksFirst (with_samples s c.args.job.now) c.args.self.now c.args.t c.args.k
+    (next : IsNextIn c.args.most (with_samples s c.args.job.now) c.args.self.now c.args.t (waits c.args.k))
+    → AsksFirst c.args.most (with_samples s c.args.job.now) c.args.self.now c.args.t c.args.k
     (get_or c.deref.result.now c.args.k 0) c.input_of-phaser.result c.block-steps.result
     c.index.result.now
 asks s c next =
@@ -48,7 +48,7 @@ asks s c next =
 
 -- the places that it hands over
 long : (s : List (List ℤ)) (c : After-wait_block_on)
-    (next : IsNextIn (with_samples s c.args.job.now) c.args.self.now c.args.t (waits c.args.k))
+    (next : IsNextIn c.args.most (with_samples s c.args.job.now) c.args.self.now c.args.t (waits c.args.k))
     → length (take c.block-steps.result c.deref_mut.result.now) ≡ c.block-steps.result
 long s c next =
     let items = ap length c.deref_mut.ensures.value in
@@ -58,7 +58,7 @@ long s c next =
 
 -- all that it got stands in them
 all : (s : List (List ℤ)) (c : In-Ok-Values)
-    (next : IsNextIn (with_samples s c.args.job.now) c.args.self.now c.args.t (waits c.args.k))
+    (next : IsNextIn c.args.most (with_samples s c.args.job.now) c.args.self.now c.args.t (waits c.args.k))
     → length (take c.block-steps.result c.deref_mut.result.now) ≡ c.block-steps.result
     → (m : Moment) → IsMachineAt (with_samples s c.args.job.now) m c.args.self.now
     → GotAll (with_samples s c.args.job.now) m c.input_of-phaser.result (get_or c.deref.result.now c.args.k 0)
@@ -72,8 +72,8 @@ all s c next long m at =
 
 -- and its state may take it
 may : (s : List (List ℤ)) (c : After-index_mut)
-    (next : IsNextIn (with_samples s c.args.job.now) c.args.self.now c.args.t (waits c.args.k))
-    → AsksFirst (with_samples s c.args.job.now) c.args.self.now c.args.t c.args.k
+    (next : IsNextIn c.args.most (with_samples s c.args.job.now) c.args.self.now c.args.t (waits c.args.k))
+    → AsksFirst c.args.most (with_samples s c.args.job.now) c.args.self.now c.args.t c.args.k
     (get_or c.deref.result.now c.args.k 0) c.input_of-phaser.result c.block-steps.result
     c.index.result.now
     → ((m : Moment) → IsMachineAt (with_samples s c.args.job.now) m c.args.self.now
@@ -294,7 +294,7 @@ returns-clause-made c = λ s next.
     let places = take steps c.deref_mut.result.now in
     let here = (goal.at.returns-clause-made c).After-wait_block_on in
     let asked = asks s here next in
-    elim c.match-wait_block_on.branch as (λ w. HadTurn job old c.match-wait_block_on.self t
+    elim c.match-wait_block_on.branch as (λ w. HadTurn c.args.most job old c.match-wait_block_on.self t
     c.match-wait_block_on.result) [
       | in-Ok-Values w ↦
           let v = w.in-Ok-Values in

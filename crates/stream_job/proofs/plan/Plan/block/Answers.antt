@@ -21,12 +21,9 @@ returns-then-steps-saturating_sub c = λ m begun.
     c.requires.plan.each t plan
     (slice_get_read c.args.self.now.tasks.items (length c.args.self.now.tasks.items) t plan refl
     (omega arith) c.index-plan.ensures) in
-    let block =
-    ap (λ l. l.block) c.task.ensures.task ∙ ap (λ g. (task_at g t).block) c.graph.ensures.graph in
-    let first : steps ≡ until_allows (task_at job.graph t).until b (task_at job.graph t).block =
+    let first : steps ≡ until_allows (task_at job.graph t).until b c.args.most =
     c.until_allows-steps.ensures
-    ∙ ap (λ u. until_allows u b c.task.result.now.block) c.until_of.ensures
-    ∙ ap (until_allows (task_at job.graph t).until b) block in
+    ∙ ap (λ u. until_allows u b c.args.most) c.until_of.ensures in
     let left : steps ≤ plan.to - b =
     (omega (arith, c.if-steps-saturating_sub.true, c.saturating_sub.ensures)) in
     let lines = range_with_len 0 (length job.graph.tasks) in

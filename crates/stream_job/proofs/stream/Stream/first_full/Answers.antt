@@ -16,13 +16,13 @@ returns-then-is_full c = λ s m given at.
     let lt : c.loop-t.t < c.tasks-t-end.result = c.loop-t-test.true in
     find_in_range (is_full (with_samples s c.args.self.now.job) m given)
     (length c.args.self.now.job.graph.tasks) c.loop-t.t (omega arith)
-    (c.loop-t.invariant s m given at) (c.is_full.ensures.full s m given at ∙ c.if-is_full.true)
+    (c.loop-t.invariant s m given at) (c.is_full.ensures s m given at ∙ c.if-is_full.true)
 
 pub loop-t-preserved : goal.loop-t-preserved
 loop-t-preserved c = λ s m given at d lt.
     one_more (λ x. is_full (with_samples s c.args.self.now.job) m given x ≡ false) c.loop-t.t
     (c.loop-t.invariant s m given at)
-    (c.is_full.ensures.full s m given at ∙ c.if-is_full.false) d lt
+    (c.is_full.ensures s m given at ∙ c.if-is_full.false) d lt
 
 pub returns : goal.returns
 returns c = λ s m given at.

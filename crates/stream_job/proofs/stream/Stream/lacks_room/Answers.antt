@@ -7,8 +7,8 @@ use Rattle.std.proofs.lemmas.Option.{slice_get_read}
 use Rattle.stream_eval.specs.stream_lists.Jobs.{with_samples}
 use Rattle.stream_eval.specs.stream_lists.Lists.{is_sink_at}
 use Rattle.graph_runs.specs.Moments.{Moment}
-use Rattle.graph_runs.specs.NextBlocks.{block_of}
-use Rattle.stream_job.specs.Inside.{HasRoomNext}
+use Rattle.graph_runs.specs.NextBlocks.{block_up_to}
+use Rattle.stream_job.specs.Inside.{HasRoomNext, MayStep}
 use Rattle.stream_job.specs.Machines.{HasRoom}
 use Rattle.stream_job.specs.SinkLines.{kept_by}
 use Rattle.stream_job.specs.Streams.{IsStreamAt, StreamState, line_room}
@@ -26,6 +26,11 @@ sink_is : (c : After-block-steps) → is_sink_at c.self.inside.job c.args.t ≡ 
 sink_is c =
     let P : StreamState → Type 0 = λ w. is_sink_at w.job c.args.t ≡ true in
     subst P (sym c.self.view_is) c.requires.sink
+
+may : (c : After-block-steps) → MayStep c.self.inside.job c.args.t c.args.most
+may c =
+    let P : StreamState → Type 0 = λ w. MayStep w.job c.args.t c.args.most in
+    subst P (sym c.self.view_is) c.requires.most
 
 pub index-requires : goal.index-requires
 index-requires c =
@@ -47,7 +52,7 @@ returns-then-kept-room-clause-lacks c =
     let P : StreamState → Type 0 = λ w. (s : List (List ℤ)) (m : Moment) (given : ℕ → List ℤ)
     → IsStreamAt w s m given → let job = with_samples s w.job in
     nat_lt (line_room job c.args.t)
-    (length (kept_by job m c.args.t) - length (given c.args.t) + block_of job m c.args.t)
+    (length (kept_by job m c.args.t) - length (given c.args.t) + block_up_to c.args.most job m c.args.t)
     ≡ nat_lt c.line_room-room.result c.len-kept.result in
     subst P c.self.view_is (λ s m given at.
     (let job = with_samples s c.self.inside.job in
@@ -63,10 +68,10 @@ returns-then-kept-room-clause-lacks c =
     let many : c.len-kept.result ≡ length (kept_by job m c.args.t) - length (given c.args.t) =
     c.len-kept.ensures ∙ line.values.ok.0 ∙ held.1 in
     ap (λ n. nat_lt n
-    (length (kept_by job m c.args.t) - length (given c.args.t) + block_of job m c.args.t))
+    (length (kept_by job m c.args.t) - length (given c.args.t) + block_up_to c.args.most job m c.args.t))
     (sym c.line_room-room.ensures)
-    ∙ ap (λ n. nat_lt c.line_room-room.result (n + block_of job m c.args.t)) (sym many)
-    ∙ no_room_over c.line_room-room.result c.len-kept.result (block_of job m c.args.t)
+    ∙ ap (λ n. nat_lt c.line_room-room.result (n + block_up_to c.args.most job m c.args.t)) (sym many)
+    ∙ no_room_over c.line_room-room.result c.len-kept.result (block_up_to c.args.most job m c.args.t)
     c.if-kept-room.true))
 
 pub returns-else-kept-room-clause-lacks : goal.returns-else-kept-room-clause-lacks
@@ -75,7 +80,7 @@ returns-else-kept-room-clause-lacks c =
     let P : StreamState → Type 0 = λ w. (s : List (List ℤ)) (m : Moment) (given : ℕ → List ℤ)
     → IsStreamAt w s m given → let job = with_samples s w.job in
     nat_lt (line_room job c.args.t)
-    (length (kept_by job m c.args.t) - length (given c.args.t) + block_of job m c.args.t)
+    (length (kept_by job m c.args.t) - length (given c.args.t) + block_up_to c.args.most job m c.args.t)
     ≡ nat_lt (c.line_room-room.result - c.len-kept.result) c.block-steps.result in
     subst P c.self.view_is (λ s m given at.
     (let job = with_samples s c.self.inside.job in
@@ -91,9 +96,9 @@ returns-else-kept-room-clause-lacks c =
     let many : c.len-kept.result ≡ length (kept_by job m c.args.t) - length (given c.args.t) =
     c.len-kept.ensures ∙ line.values.ok.0 ∙ held.1 in
     ap (λ n. nat_lt n
-    (length (kept_by job m c.args.t) - length (given c.args.t) + block_of job m c.args.t))
+    (length (kept_by job m c.args.t) - length (given c.args.t) + block_up_to c.args.most job m c.args.t))
     (sym c.line_room-room.ensures)
-    ∙ ap (λ n. nat_lt c.line_room-room.result (n + block_of job m c.args.t)) (sym many)
+    ∙ ap (λ n. nat_lt c.line_room-room.result (n + block_up_to c.args.most job m c.args.t)) (sym many)
     ∙ ap (λ n. nat_lt c.line_room-room.result (c.len-kept.result + n))
     (c.block-steps.ensures m (at.machine.tasks c.args.t state found).stands.begun)
     ∙ no_room_left c.line_room-room.result c.len-kept.result c.block-steps.result
@@ -108,7 +113,7 @@ pub returns-else-kept-room-clause-room : goal.returns-else-kept-room-clause-room
 returns-else-kept-room-clause-room c = λ enough.
     let b = (goal.at.returns-else-kept-room-clause-room c).After-block-steps in
     let P : StreamState → Type 0 = λ w. (s : List (List ℤ)) (m : Moment) (given : ℕ → List ℤ)
-    → IsStreamAt w s m given → HasRoomNext (with_samples s w.job) w.machine c.args.t in
+    → IsStreamAt w s m given → HasRoomNext c.args.most (with_samples s w.job) w.machine c.args.t in
     subst P c.self.view_is (λ s m given at.
     (let job = with_samples s c.self.inside.job in
     let machine = c.self.inside.machine in
@@ -132,5 +137,6 @@ returns-else-kept-room-clause-room c = λ enough.
     ap (line_room c.self.inside.job) held.0 in
     let most = c.line_room-room.ensures in
     let long = c.len-kept.ensures in
-    has_room_by job machine m c.args.t c.block-steps.result state line at.machine found read
+    has_room_by c.args.most job machine m c.args.t c.block-steps.result state line (may b) at.machine
+    found read
     (c.block-steps.ensures m) (omega arith)))

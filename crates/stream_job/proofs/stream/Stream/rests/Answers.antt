@@ -46,4 +46,4 @@ returns c = λ s m given at.
     (still (goal.at.returns c).After-is_still s m given at ∙ c.if-is_still.false)
     ∙ ap (λ b. b || is_full job m given c.args.t)
     (c.is_hungry.ensures s m given at ∙ c.if-is_hungry.false)
-    ∙ c.is_full.ensures.full s m given at
+    ∙ c.is_full.ensures s m given at

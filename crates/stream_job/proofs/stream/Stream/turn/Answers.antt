@@ -1,10 +1,10 @@
 -- A turn leads to a moment that the stream then stands for, of the same samples.
-use Rattle.std.proofs.Common.{◌≡◌, ℕ, ℤ, List, [], ◌∷◌, false, refl, sym, subst, ◌∙◌}
+use Rattle.std.proofs.Common.{◌≡◌, ◌≤◌, ℕ, ℤ, List, [], ◌∷◌, false, refl, sym, subst, ◌∙◌}
 use Rattle.stream_eval.specs.stream_lists.Jobs.{with_samples}
-use Rattle.graph_runs.specs.Answers.{after_answer, answer_of_turn}
+use Rattle.graph_runs.specs.Answers.{after_answer, turn_by}
 use Rattle.graph_runs.specs.Moments.{Moment}
-use Rattle.stream_job.specs.Buffers.{HasPlaces}
-use Rattle.stream_job.specs.Inside.{HasRoomNext}
+use Rattle.stream_job.specs.Buffers.{HasPlaces, most_steps}
+use Rattle.stream_job.specs.Inside.{HasRoomNext, MayStep}
 use Rattle.stream_job.specs.Machines.{MayHaveCome}
 use Rattle.stream_job.specs.Streams.{AreKept, StreamGoesOn, IsStreamAt, StreamState, ended_at, is_hungry, line_room}
 use Rattle.stream_job.specs.contracts.stream.Stream.{the_view}
@@ -27,13 +27,26 @@ make-requires-clause-came c =
     let given = c.self.invariant.0.2 in
     let at = c.self.invariant.0.3 in
     let P : StreamState → Type 0 = λ w. (s : List (List ℤ)) (m : Moment) (given : ℕ → List ℤ)
-    → IsStreamAt w s m given → HasRoomNext (with_samples s w.job) w.machine c.args.t in
+    → IsStreamAt w s m given
+    → HasRoomNext c.own_steps-most.result (with_samples s w.job) w.machine c.args.t in
     let room = subst P (sym c.self.view_is) (λ s m given at.
-    c.is_full.ensures.room c.if-is_full.false s m given at) in (
+    c.is_full_by.ensures.room c.if-is_full_by.false s m given at) in (
       s,
       came (goal.at.make-requires-clause-came c).After-awaited-awaits s m given at,
       room s m given at,
     )
+
+-- the task may make so many steps
+may : (c : Joined-matches) → MayStep c.self.inside.job c.args.t c.own_steps-most.result
+may c =
+    let P : StreamState → Type 0 = λ w. MayStep w.job c.args.t c.own_steps-most.result in
+    subst P (sym c.self.view_is) c.own_steps-most.ensures.may
+
+pub make-requires-clause-most : goal.make-requires-clause-most
+make-requires-clause-most c =
+    let P : StreamState → Type 0 = λ w. MayStep w.job c.args.t c.own_steps-most.result
+    × (c.own_steps-most.result ≤ most_steps w.job c.args.t) in
+    subst P (sym c.self.view_is) (c.own_steps-most.ensures.may, c.own_steps-most.ensures.few)
 
 -- the stream after the turn, at each moment
 stands : (c : Joined-matches) (s : List (List ℤ)) (m : Moment) (given : ℕ → List ℤ)
@@ -44,7 +57,7 @@ stands : (c : Joined-matches) (s : List (List ℤ)) (m : Moment) (given : ℕ �
       inputs = c.self.inside.inputs.items;
       met = c.too_big-self-inside.result;
     } s (after_answer (with_samples s c.self.inside.job)
-    (answer_of_turn (with_samples s c.self.inside.job) m c.args.t) m) given
+    (turn_by c.own_steps-most.result (with_samples s c.self.inside.job) m c.args.t) m) given
 stands c s m given at =
     let job = with_samples s c.self.inside.job in
     let old = the_view c.self.inside in
@@ -53,10 +66,11 @@ stands c s m given at =
     → is_hungry (with_samples s w.job) (ended_at w) m c.args.t ≡ false in
     let fed = subst P (sym c.self.view_is) (λ s m given at.
     c.is_hungry.ensures s m given at ∙ c.if-is_hungry.false) in
-    turn_stands old c.make.new.self c.too_big-self-inside.result s m given c.args.t
+    turn_stands c.own_steps-most.result old c.make.new.self c.too_big-self-inside.result s m given c.args.t
     c.in_ok-made.made c.told-told.result
     (λ event next ok. c.feeds_go_on.ensures.turn job (ended_at old) m event at.machine.graph
     at.machine.reached.ran next ok at.stays_open)
+    (may c)
     (none_met c.self.inside.met (sym c.is_some.ensures ∙ c.if-is_some.false))
     (fed s m given at)
     (c.in_ok-made.ensures.made s
@@ -77,7 +91,7 @@ invariant_of-self-2 c =
     (subst (AreKept c.self.inside.job s m) (sym c.deref.ensures.value) at.kept)) in (
       (
         s,
-        after_answer job (answer_of_turn job m c.args.t) m,
+        after_answer job (turn_by c.own_steps-most.result job m c.args.t) m,
         given,
         stands j s m given at,
       ),
@@ -98,7 +112,7 @@ returns c =
       met = c.too_big-self-inside.result;
     } in
     subst P c.self.view_is record {
-      later = λ s m given at. (c.args.t ∷ [], stands j s m given at);
+      later = λ s m given at. ((c.args.t, c.own_steps-most.result) ∷ [], stands j s m given at);
       job = refl;
       inputs = refl;
     }

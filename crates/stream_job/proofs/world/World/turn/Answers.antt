@@ -1,9 +1,9 @@
 -- A turn tells, and keeps of blocked tasks, what its call did.
-use Rattle.std.proofs.Common.{◌≡◌, Some, length, sym, ap, subst, ◌∙◌}
+use Rattle.std.proofs.Common.{◌≡◌, ◌≤◌, Some, length, sym, ap, subst, ◌∙◌, arith}
 use Rattle.graph_runs.specs.Moments.{Moment}
 use Rattle.graph_runs.specs.Answers.{turn_tells}
 use Rattle.graph_runs.specs.Nexts.{next_of}
-use Rattle.stream_job.specs.Buffers.{HasPlaces}
+use Rattle.stream_job.specs.Buffers.{HasPlaces, most_steps}
 use Rattle.stream_job.specs.Tellings.{IsOnPhaser}
 use Rattle.stream_job.specs.Turning.{HadTurn, IsRegistration, after_turn_of, told_of, parked_by}
 use Rattle.stream_job.specs.Worlds.{WorldState, IsWorldAt}
@@ -12,11 +12,17 @@ use Rattle.stream_job.proofs.Rooms.{sink_room}
 use Rattle.stream_job.proofs.Setting.{err_of}
 use Rattle.stream_job.proofs.world.World.turn.Goals.{In_ok-made}
 use Rattle.stream_job.proofs.world.World.turn.Goals as goal
+use Rattle.stream_job.specs.Inside.{HasRoomNext, MayStep}
+use Rattle.graph_runs.proofs.Stepping.{line_sizes}
+use Rattle.graph_lang.specs.graph_base.Graphs.{task_at}
 
 -- the machine had a turn with the job's samples
-had : (c : In_ok-made) → HadTurn c.self.inside.job.now c.self.inside.machine c.make.new.self
-    c.args.task c.in_ok-made.made
-had c = c.in_ok-made.ensures.made c.self.inside.job.now.samples c.awaits-awaits.ensures
+had : (c : In_ok-made) → HadTurn (task_at c.self.inside.job.now.graph c.args.task).block
+    c.self.inside.job.now c.self.inside.machine c.make.new.self c.args.task c.in_ok-made.made
+had c =
+    subst (λ n. HadTurn n c.self.inside.job.now c.self.inside.machine c.make.new.self c.args.task
+    c.in_ok-made.made) c.line_block-block.ensures
+    (c.in_ok-made.ensures.made c.self.inside.job.now.samples c.awaits-awaits.ensures)
 
 pub make-requires-clause-came : goal.make-requires-clause-came
 make-requires-clause-came c =
@@ -25,14 +31,24 @@ make-requires-clause-came c =
     let at = c.self.invariant.0.1 in (
       job.samples,
       c.awaits-awaits.ensures,
-      (
-        m,
-        at.machine,
-        sink_room job c.self.inside.machine m c.args.task at.lines at.own
-            (c.turns_stay_reached.ensures.turn job m c.args.task at.machine.graph at.machine.reached)
+      subst (λ n. HasRoomNext n job c.self.inside.machine c.args.task)
+          (sym c.line_block-block.ensures) (
+            m,
             at.machine,
-      ),
+            sink_room (task_at job.graph c.args.task).block job c.self.inside.machine m c.args.task
+                at.lines at.own
+                (c.turns_stay_reached.ensures.turn job m c.args.task at.machine.graph at.machine.reached)
+                at.machine,
+          ),
     )
+
+pub make-requires-clause-most : goal.make-requires-clause-most
+make-requires-clause-most c =
+    let job = c.self.inside.job.now in
+    let at = c.self.invariant.0.1 in
+    subst (λ n. MayStep job c.args.task n × (n ≤ most_steps job c.args.task))
+    (sym c.line_block-block.ensures)
+    (line_sizes job c.args.task at.machine.graph, omega arith)
 
 pub note-requires : goal.note-requires
 note-requires c =

@@ -1,0 +1,25 @@
+-- A block of its line is a number of steps that a task may make.
+use Rattle.std.proofs.Common.{◌≡◌, ℕ, ℤ, List, sym, subst}
+use Rattle.graph_lang.specs.graph_base.Graphs.{task_at}
+use Rattle.graph_runs.proofs.Stepping.{line_sizes}
+use Rattle.stream_eval.specs.stream_lists.Jobs.{with_samples}
+use Rattle.stream_job.specs.Inside.{MayStep}
+use Rattle.stream_job.specs.Streams.{StreamState, is_full_by}
+use Rattle.stream_job.proofs.stream.Stream.is_full.Goals as goal
+
+pub is_full_by-requires-clause-most : goal.is_full_by-requires-clause-most
+is_full_by-requires-clause-most c =
+    let P : StreamState → Type 0 = λ w. MayStep w.job c.args.t c.line_block.result in
+    let job = c.self.inside.job in
+    subst P c.self.view_is
+    (subst (λ n. MayStep job c.args.t n) (sym c.line_block.ensures)
+    (line_sizes job c.args.t c.self.invariant.0.3.machine.graph))
+
+pub returns : goal.returns
+returns c =
+    let same : c.line_block.result ≡ (task_at c.args.self.now.job.graph c.args.t).block =
+    subst (λ (w : StreamState). c.line_block.result ≡ (task_at w.job.graph c.args.t).block)
+    c.self.view_is c.line_block.ensures in
+    λ s m given at.
+    subst (λ n. is_full_by n (with_samples s c.args.self.now.job) m given c.args.t
+    ≡ c.is_full_by.result) same (c.is_full_by.ensures.full s m given at)
