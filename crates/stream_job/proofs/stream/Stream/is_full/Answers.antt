@@ -1,5 +1,5 @@
 -- A block of its line is a number of steps that a task may make.
-use Rattle.std.proofs.Common.{◌≡◌, ℕ, ℤ, List, sym, subst}
+use Rattle.std.proofs.Common.{◌≡◌, sym, subst}
 use Rattle.graph_lang.specs.graph_base.Graphs.{task_at}
 use Rattle.graph_runs.proofs.Stepping.{line_sizes}
 use Rattle.stream_eval.specs.stream_lists.Jobs.{with_samples}
