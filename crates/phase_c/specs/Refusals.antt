@@ -85,7 +85,8 @@ pub record IsFirstTooBig (job : Job) (room : ℕ) (sinks : List ℕ) (starts : L
 -- the values of a job were not written: they have no room, one is out of range, or memory ran out
 abbrev pub RefusesJob : Job → ℕ → List ℕ → List ℤ → Refusal → Type 0
 RefusesJob job room sinks starts refusal.Room = HasNoRoom job room sinks starts
-RefusesJob job room sinks starts (refusal.TooBig place n) = IsFirstTooBig job room sinks starts place n
+RefusesJob job room sinks starts (refusal.TooBig place n) =
+    IsFirstTooBig job room sinks starts place n
 RefusesJob job room sinks starts refusal.OutOfMemory = Unit {0}
 RefusesJob job room sinks starts (refusal.Graph found) = ⊥
 RefusesJob job room sinks starts refusal.Counts = ⊥

@@ -72,7 +72,8 @@ impl TaskState {
         requires nothing { (self.old.owed ≡ Nothing) × (self.old.made.items ≡ []) }
         requires room { (task_at job.now.graph t).kind ≡ filters
             → length outcomes.now ≤ vec_capacity self.old.made }
-        ensures { StateHasTaken (task_at job.now.graph t) (map number outcomes.now) self.old self.new }
+        ensures { StateHasTaken (task_at job.now.graph t) (map number outcomes.now)
+            self.old self.new }
     {
         for outcome in outcomes {
             let x = number_taken(*outcome);
