@@ -1,6 +1,6 @@
 use Rattle.stream_eval.specs.stream_lists.Jobs.{with_starts}
 use Rattle.graph_commands.proofs.Places.{sinks-within}
-use Rattle.graph_commands.proofs.answered.write_sinks.Goals as goal
+use Rattle.graph_commands.proofs.asked.write_sinks.Goals as goal
 
 -- each sink is a task of the graph
 pub write_lines-requires : goal.write_lines-requires

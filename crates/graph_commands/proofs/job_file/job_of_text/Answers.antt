@@ -1,6 +1,6 @@
 use Rattle.std.proofs.lemmas.Result.{IfErr-weaker, IfOk-weaker}
 use Rattle.graph_commands.proofs.Explaining.{graph-of-text}
-use Rattle.graph_commands.proofs.explained.job_of_text.Goals as goal
+use Rattle.graph_commands.proofs.job_file.job_of_text.Goals as goal
 
 -- the graph was read
 pub returns-clause-ok : goal.returns-clause-ok
