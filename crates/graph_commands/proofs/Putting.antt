@@ -5,21 +5,21 @@ use Rattle.std.proofs.KnownBytes.{Appends-nil, Appends-trans}
 use Rattle.std.specs.declared.option.Option.{Option}
 use Rattle.graph_show.specs.watched_io.Prefix.{AppendsPrefix}
 use Rattle.graph_show.proofs.watched_io_lemmas.Writing.{prefix_of_prefix}
-use Rattle.graph_commands.specs.Inside.{Puts}
+use Rattle.graph_commands.specs.Inside.{PutsBytes}
 
 -- all the bytes wait
 pub Puts-kept : (old : Option (List ℕ)) (before bytes : List ℕ)
-    → Puts old old before (before ++ bytes) bytes
+    → PutsBytes old old before (before ++ bytes) bytes
 Puts-kept old before bytes = record { sent = []; whole = refl; appends = Appends-nil old }
 
 -- what waited was written, and the bytes wait
 pub Puts-begun : (old new : Option (List ℕ)) (before bytes : List ℕ) → Appends old new before
-    → Puts old new before bytes bytes
+    → PutsBytes old new before bytes bytes
 Puts-begun old new before bytes p = record { sent = before; whole = refl; appends = p }
 
 -- all was written
 pub Puts-all : (old mid new : Option (List ℕ)) (before bytes : List ℕ) → Appends old mid before
-    → Appends mid new bytes → Puts old new before [] bytes
+    → Appends mid new bytes → PutsBytes old new before [] bytes
 Puts-all old mid new before bytes p q = record {
   sent = before ++ bytes;
   whole = sym (append-nil (before ++ bytes));
@@ -28,8 +28,8 @@ Puts-all old mid new before bytes p q = record {
 
 -- two puts put both texts
 pub Puts-append : (old mid new : Option (List ℕ)) (before between after xs ys : List ℕ)
-    → Puts old mid before between xs → Puts mid new between after ys
-    → Puts old new before after (xs ++ ys)
+    → PutsBytes old mid before between xs → PutsBytes mid new between after ys
+    → PutsBytes old new before after (xs ++ ys)
 Puts-append old mid new before between after xs ys p q = record {
   sent = p.sent ++ q.sent;
   whole = sym (append_assoc before xs ys)
@@ -40,7 +40,7 @@ Puts-append old mid new before between after xs ys p q = record {
 
 -- the first text was put, and of the second a prefix was written
 pub prefix_behind : (old mid new : Option (List ℕ)) (before between xs ys : List ℕ)
-    → Puts old mid before between xs → AppendsPrefix mid new (between ++ ys)
+    → PutsBytes old mid before between xs → AppendsPrefix mid new (between ++ ys)
     → AppendsPrefix old new (before ++ (xs ++ ys))
 prefix_behind old mid new before between xs ys p q = (
   p.sent ++ q.0,
@@ -53,7 +53,7 @@ prefix_behind old mid new before between xs ys p q = (
 
 -- the text was put, and of what waited then a prefix was written
 pub prefix_of_put : (old mid new : Option (List ℕ)) (before after bytes : List ℕ)
-    → Puts old mid before after bytes → AppendsPrefix mid new after
+    → PutsBytes old mid before after bytes → AppendsPrefix mid new after
     → AppendsPrefix old new (before ++ bytes)
 prefix_of_put old mid new before after bytes p q = (
   p.sent ++ q.0,

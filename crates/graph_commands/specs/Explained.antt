@@ -62,15 +62,15 @@ pub record HasNoRecord (known : Option (List ℕ)) (number : ℕ) : Type 0 where
   pub none : (at : ℕ) → IsStart samples number at → ⊥
 
 -- it was read again: its line is told, or nothing, where it is refused now or has no such record
-abbrev pub IsPlace : Option (List ℕ) → ℕ → List ℕ → Type 0
-IsPlace known number place = TellsLine known number place
+abbrev pub IsPlaceTold : Option (List ℕ) → ℕ → List ℕ → Type 0
+IsPlaceTold known number place = TellsLine known number place
     ⊎ ((place ≡ []) × (MayBeRefused TEXT_MAX known ⊎ HasNoRecord known number))
 
 -- a line with the file, the number of the record and its place, and further ones
 pub record TellsPlace (known : Option (List ℕ)) (file : List ℕ) (number : ℕ) (front : List ℕ)
     : Type 0 where
   pub place : List ℕ
-  pub place_is : IsPlace known number place
+  pub place_is : IsPlaceTold known number place
   pub more : List ℕ
   pub more_are : AreFurtherLines more
   pub is : front ≡ further_line (file ++ codes ", record " ++ decimal number ++ place) ++ more

@@ -4,7 +4,7 @@ use Rattle.std.specs.Io.KnownBytes.{Appends}
 use Rattle.std.specs.declared.option.Option.{Option}
 
 -- behind the bytes that waited these were put: the writer got the front of both, and the rest waits
-pub record Puts (old new : Option (List ℕ)) (before after bytes : List ℕ) : Type 0 where
+pub record PutsBytes (old new : Option (List ℕ)) (before after bytes : List ℕ) : Type 0 where
   pub sent : List ℕ
   pub whole : before ++ bytes ≡ sent ++ after
   pub appends : Appends old new sent

@@ -4,7 +4,7 @@ ghost use Rattle.std.specs.List.{All, flat_map};
 ghost use Rattle.std.specs.Io.KnownBytes.{Appends};
 ghost use Rattle.stream_eval.specs.Results.{sink_output};
 ghost use Rattle.graph_commands.specs.OutputTexts.{heading_text, sink_text, start_text, text_of, value_text};
-ghost use Rattle.graph_commands.specs.Inside.{Puts};
+ghost use Rattle.graph_commands.specs.Inside.{PutsBytes};
 ghost use Rattle.graph_show.specs.watched_io.Prefix.{AppendsPrefix};
 ghost use Rattle.graph_show.specs.watched_io.Watched.{has_failed_of, inner_of};
 
@@ -57,13 +57,13 @@ pub fn write_values<W: Write>(writer: &mut Watched<W>, values: &[i64]) -> Result
 }
 
 impl OutputBuffer {
-    /// Puts where a sink begins, of one that has a start.
+    /// PutsBytes where a sink begins, of one that has a start.
     fn put_start<W: Write>(
         &mut self,
         start: Option<u64>,
         writer: &mut Watched<W>,
     ) -> Result<(), WriteFailed>
-        ensures ok { OnOk result (Puts (W.contents (inner_of writer.old))
+        ensures ok { OnOk result (PutsBytes (W.contents (inner_of writer.old))
             (W.contents (inner_of writer.new)) self.old self.new (start_text start)) }
         ensures err { OnErr result (AppendsPrefix (W.contents (inner_of writer.old))
             (W.contents (inner_of writer.new)) (self.old ++ start_text start)) }
@@ -77,7 +77,7 @@ impl OutputBuffer {
         self.put(Buffer::new().format(start).as_bytes(), writer)
     }
 
-    /// Puts the line of a sink's name, its start and its count.
+    /// PutsBytes the line of a sink's name, its start and its count.
     fn put_heading<W: Write>(
         &mut self,
         name: &str,
@@ -85,7 +85,7 @@ impl OutputBuffer {
         count: usize,
         writer: &mut Watched<W>,
     ) -> Result<(), WriteFailed>
-        ensures ok { OnOk result (Puts (W.contents (inner_of writer.old))
+        ensures ok { OnOk result (PutsBytes (W.contents (inner_of writer.old))
             (W.contents (inner_of writer.new)) self.old self.new
             (heading_text name.now start count)) }
         ensures err { OnErr result (AppendsPrefix (W.contents (inner_of writer.old))
@@ -100,13 +100,13 @@ impl OutputBuffer {
         self.put(b"\n", writer)
     }
 
-    /// Puts values, each on a line of its own.
+    /// PutsBytes values, each on a line of its own.
     fn put_values<W: Write>(
         &mut self,
         values: &[i64],
         writer: &mut Watched<W>,
     ) -> Result<(), WriteFailed>
-        ensures ok { OnOk result (Puts (W.contents (inner_of writer.old))
+        ensures ok { OnOk result (PutsBytes (W.contents (inner_of writer.old))
             (W.contents (inner_of writer.new)) self.old self.new
             (flat_map value_text values.now)) }
         ensures err { OnErr result (AppendsPrefix (W.contents (inner_of writer.old))
@@ -120,14 +120,14 @@ impl OutputBuffer {
         Ok(())
     }
 
-    /// Puts a sink's name, its start, the count of its values, and the values.
+    /// PutsBytes a sink's name, its start, the count of its values, and the values.
     fn put_sink<W: Write>(
         &mut self,
         name: &str,
         sink: &Lines,
         writer: &mut Watched<W>,
     ) -> Result<(), WriteFailed>
-        ensures ok { OnOk result (Puts (W.contents (inner_of writer.old))
+        ensures ok { OnOk result (PutsBytes (W.contents (inner_of writer.old))
             (W.contents (inner_of writer.new)) self.old self.new
             (sink_text name.now sink.now.start sink.now.values.items)) }
         ensures err { OnErr result (AppendsPrefix (W.contents (inner_of writer.old))

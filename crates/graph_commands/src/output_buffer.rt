@@ -1,7 +1,7 @@
 //! Text that is collected, so that a writer is called once for many lines.
 ghost use Rattle.std.specs.Prelude.{◌≡◌, ◌≤◌, ◌++◌, ◌+◌, ◌∷◌, List, ℕ, [], length, take, true, decimal, OnOk, OnErr};
 ghost use Rattle.std.specs.Io.KnownBytes.{Appends};
-ghost use Rattle.graph_commands.specs.Inside.{Puts};
+ghost use Rattle.graph_commands.specs.Inside.{PutsBytes};
 ghost use Rattle.graph_commands.specs.OutputTexts.{value_text};
 ghost use Rattle.graph_show.specs.watched_io.declared.text.TheConstants.{CHUNK_MAX};
 ghost use Rattle.graph_show.specs.watched_io.Prefix.{AppendsPrefix};
@@ -118,7 +118,7 @@ impl OutputBuffer {
 
     /// Writes what waits where it leaves no room for a value's line.
     fn make_room<W: Write>(&mut self, writer: &mut Watched<W>) -> Result<(), WriteFailed>
-        ensures ok { OnOk result (Puts (W.contents (inner_of writer.old))
+        ensures ok { OnOk result (PutsBytes (W.contents (inner_of writer.old))
             (W.contents (inner_of writer.new)) self.old self.new []) }
         ensures room { OnOk result (length self.new + LINE_ROOM ≤ CHUNK_MAX) }
         ensures err { OnErr result (AppendsPrefix (W.contents (inner_of writer.old))
@@ -132,13 +132,13 @@ impl OutputBuffer {
         self.hand_over(writer)
     }
 
-    /// Puts a value on a line of its own.
+    /// PutsBytes a value on a line of its own.
     pub(crate) fn put_value<W: Write>(
         &mut self,
         value: i64,
         writer: &mut Watched<W>,
     ) -> Result<(), WriteFailed>
-        ensures ok { OnOk result (Puts (W.contents (inner_of writer.old))
+        ensures ok { OnOk result (PutsBytes (W.contents (inner_of writer.old))
             (W.contents (inner_of writer.new)) self.old self.new (value_text value)) }
         ensures err { OnErr result (AppendsPrefix (W.contents (inner_of writer.old))
             (W.contents (inner_of writer.new)) (self.old ++ value_text value)) }
@@ -150,13 +150,13 @@ impl OutputBuffer {
         Ok(())
     }
 
-    /// Puts the bytes behind those that wait, and writes what finds no room.
+    /// PutsBytes the bytes behind those that wait, and writes what finds no room.
     pub(crate) fn put<W: Write>(
         &mut self,
         bytes: &[u8],
         writer: &mut Watched<W>,
     ) -> Result<(), WriteFailed>
-        ensures ok { OnOk result (Puts (W.contents (inner_of writer.old))
+        ensures ok { OnOk result (PutsBytes (W.contents (inner_of writer.old))
             (W.contents (inner_of writer.new)) self.old self.new bytes.now) }
         ensures err { OnErr result (AppendsPrefix (W.contents (inner_of writer.old))
             (W.contents (inner_of writer.new)) (self.old ++ bytes.now)) }

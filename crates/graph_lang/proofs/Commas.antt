@@ -14,7 +14,7 @@ use Rattle.csv.specs.declared.parser.Action.TheVariants as act
 use Rattle.csv.proofs.ReadFacts.{reached-more}
 use Rattle.graph_base.specs.phase_accum.Sends.{AreSends, IsSend}
 use Rattle.graph_lang.specs.TextInside.{EndsWithComma, IsThroughComma}
-use Rattle.graph_lang.specs.Samples.{AreSamples, IsBadSample, row_of}
+use Rattle.graph_lang.specs.Samples.{AreRecordsOfValues, IsBadSample, row_of}
 use Rattle.graph_lang.proofs.Digits.{looks_decimal}
 use lib.IntN.{pos, negsuc}
 
@@ -490,7 +490,7 @@ strips (a ∷ b ∷ c ∷ front) back =
 -- ---- the samples of the part
 
 -- the part up to a comma has no samples
-pub part-no_samples : (front : List ℕ) (values : List ℤ) → AreSamples (front ++ (44 ∷ [])) values → ⊥
+pub part-no_samples : (front : List ℕ) (values : List ℤ) → AreRecordsOfValues (front ++ (44 ∷ [])) values → ⊥
 part-no_samples front values samples =
     let (s2, ys, reached, none) = samples.records in
     let bare = strips front [] in
@@ -538,11 +538,11 @@ through-comma text i within is =
     }
 
 -- samples of the part are the text's
-pub samples-through : (text part : List ℕ) (values : List ℤ) → IsThroughComma text part → AreSamples part values
-    → AreSamples text values
-samples-through text part values (inl same) samples = subst (λ (xs : List ℕ). AreSamples xs values) same samples
+pub samples-through : (text part : List ℕ) (values : List ℤ) → IsThroughComma text part → AreRecordsOfValues part values
+    → AreRecordsOfValues text values
+samples-through text part values (inl same) samples = subst (λ (xs : List ℕ). AreRecordsOfValues xs values) same samples
 samples-through text part values (inr ends) samples =
-    absurd (part-no_samples ends.front values (subst (λ (xs : List ℕ). AreSamples xs values) ends.part_is samples))
+    absurd (part-no_samples ends.front values (subst (λ (xs : List ℕ). AreRecordsOfValues xs values) ends.part_is samples))
 
 -- and so is its first bad record
 pub bad-through : (text part : List ℕ) (n : ℕ) → IsThroughComma text part → IsBadSample part n → IsBadSample text n

@@ -9,7 +9,7 @@ use Rattle.graph_base.specs.declared.line.Parent.{Parent}
 use Rattle.graph_text.specs.phase_base.Numbers.{is_nat, nat_value}
 use Rattle.graph_text.specs.Decls.{EndWords, BodyWords, source, fir, split, join, peer, sink, IsBody, IsBy, AreEnds, MayHaveBy, may_have_blocks}
 use Rattle.graph_text.specs.declared.version.Version.{Version}
-use Rattle.graph_lang.specs.WordValues.{inputs_of, outputs_of, task_line, kind_of_body, numbers_of, parent_of, taps_of, shift_of, factor_of, block_of, joins_now}
+use Rattle.graph_lang.specs.WordValues.{inputs_of, outputs_of, task_line, kind_of_body, phaser_numbers, parent_of, taps_of, shift_of, factor_of, block_of, joins_now}
 use Rattle.graph_lang.specs.Faults.{phasers_of}
 use Rattle.graph_lang.proofs.Grown.{weaken_some}
 
@@ -53,7 +53,7 @@ phasers-names body is = list_all-append is_name (inputs_of body) (outputs_of bod
 pub task-built : (names : List Named) (n : ℕ) (body : BodyWords) (ends : EndWords) (kind : Kind)
     (inputs outputs : List ℕ) (parent : Option Parent) (until : Option ℕ) (taps : List ℤ) (shift : ℕ)
     (mul : ℤ) (block : ℕ) (now : Bool) → kind ≡ kind_of_body body
-    → inputs ≡ numbers_of names (inputs_of body) → outputs ≡ numbers_of names (outputs_of body)
+    → inputs ≡ phaser_numbers names (inputs_of body) → outputs ≡ phaser_numbers names (outputs_of body)
     → parent ≡ option_map (parent_of names) ends.by
     → until ≡ option_map nat_value ends.until → taps ≡ taps_of body → shift ≡ shift_of body
     → mul ≡ factor_of body → block ≡ block_of ends.block → now ≡ joins_now ends.by

@@ -17,8 +17,8 @@ use Rattle.graph_text.specs.declared.version.Version.TheVariants.{One, Two}
 use Rattle.graph_base.specs.stream_filters.declared.fir.TheConstants.{TAPS_MAX, TAP_MAX, SHIFT_MAX}
 use Rattle.graph_base.specs.Graphs.{Graph, Task, Named, IsPlace, task_at, phaser_at}
 use Rattle.graph_base.specs.Names.{place_of, phaser_number, task_number, phaser_named, task_named}
-use Rattle.graph_lang.specs.WordValues.{or_zero, numbers_of, parent_of, task_line, kind_of_body, inputs_of, outputs_of, taps_of, shift_of, factor_of, block_of, joins_now}
-use Rattle.graph_lang.specs.Faults.{kind_of, is_body_within, are_ends_within, is_count_within, is_tap_within, phasers_of, are_distinct, is_phaser, is_parent_known, is_in_order, is_exchange_below, may_be_parent, is_among, holds_for, is_plain, is_held, is_bound_within, is_within_bound, is_block_within}
+use Rattle.graph_lang.specs.WordValues.{or_zero, phaser_numbers, parent_of, task_line, kind_of_body, inputs_of, outputs_of, taps_of, shift_of, factor_of, block_of, joins_now}
+use Rattle.graph_lang.specs.Faults.{kind_of, is_body_within, are_ends_within, is_count_within, is_tap_within, phasers_of, are_distinct, is_phaser, is_parent_known, is_in_order, is_exchange_below, may_be_parent, is_number_in, holds_for, is_plain, is_held, is_bound_within, is_within_bound, is_block_within}
 use Rattle.graph_base.specs.TaskLines.{IsGraph, IsTaskLine, IsParent, AreNames, HasEnds, HasTaps, HasFactor, IsExchangeBelow, has_children, has_blocks, AreAmong}
 use Rattle.graph_text.specs.phase_base.Lists.{is_distinct}
 use Rattle.graph_base.specs.declared.limits.TheConstants.{TASKS_MAX, ENDS_MAX, STEPS_MAX, FACTOR_MAX}
@@ -46,18 +46,18 @@ pub record IsSound (before : Graph) (name : Word) (body : BodyWords) (ends : End
   pub distinct : are_distinct (phasers_of body) ≡ true
   pub phasers : list_all (is_phaser before.names) (phasers_of body) ≡ true
   pub known : is_parent_known before.names ends.by ≡ true
-  pub order : list_all (λ x. list_all (nat_lt x) (numbers_of before.names (outputs_of body)))
-      (numbers_of before.names (inputs_of body)) ≡ true
-  pub exchange : is_exchange_below (kind_of_body body) (numbers_of before.names (inputs_of body))
+  pub order : list_all (λ x. list_all (nat_lt x) (phaser_numbers before.names (outputs_of body)))
+      (phaser_numbers before.names (inputs_of body)) ≡ true
+  pub exchange : is_exchange_below (kind_of_body body) (phaser_numbers before.names (inputs_of body))
       ≡ true
   pub may : may_be_parent before (option_map (parent_of before.names) ends.by) ≡ true
-  pub plain : list_all (is_plain before) (numbers_of before.names (outputs_of body)) ≡ true
+  pub plain : list_all (is_plain before) (phaser_numbers before.names (outputs_of body)) ≡ true
   pub holds : holds_for before (task_line before.names 0 body ends)
       (option_map (parent_of before.names) ends.by) ≡ true
   pub waits : list_all (is_within_bound before (block_of ends.block))
-      (numbers_of before.names (inputs_of body)) ≡ true
+      (phaser_numbers before.names (inputs_of body)) ≡ true
   pub signals : list_all (is_within_bound before (block_of ends.block))
-      (numbers_of before.names (outputs_of body)) ≡ true
+      (phaser_numbers before.names (outputs_of body)) ≡ true
 
 pub task-sound : (before : Graph) (name : Word) (body : BodyWords) (ends : EndWords)
     → kind_of before (task name body ends) ≡ None → IsSound before name body ends
@@ -133,8 +133,8 @@ contains-found (q ∷ qs) p e =
         let below = found.1 in
         (suc found.0, omega (arith, below), found.2)
 
-all-among : (ps qs : List ℕ) → list_all (is_among qs) ps ≡ true → AreAmong ps qs
-all-among ps qs e = each-passed (is_among qs) (Contains qs) (contains-found qs) ps e
+all-among : (ps qs : List ℕ) → list_all (is_number_in qs) ps ≡ true → AreAmong ps qs
+all-among ps qs e = each-passed (is_number_in qs) (Contains qs) (contains-found qs) ps e
 
 -- ---- phasers
 
@@ -181,7 +181,7 @@ same-phaser before are word other is also same =
 number-new : (before : Graph) → AreNames before → (word : Word) (words : List Word)
     → is_phaser before.names word ≡ true → list_all (is_phaser before.names) words ≡ true
     → list_any (bytes_eq word) words ≡ false
-    → list_any (λ q. q == number_in before.names word) (numbers_of before.names words) ≡ false
+    → list_any (λ q. q == number_in before.names word) (phaser_numbers before.names words) ≡ false
 number-new before are word [] is all none = refl
 number-new before are word (other ∷ words) is all none =
     let first = both (is_phaser before.names other) (list_all (is_phaser before.names) words) all in
@@ -191,13 +191,13 @@ number-new before are word (other ∷ words) is all none =
     (bytes_eq-Decides word other).1 (same-phaser before are word other is first.0 same) in
     let clash : false ≡ true = sym apart.0 ∙ one in absurd (cc) in
     or_from (number_in before.names other == number_in before.names word)
-    (list_any (λ q. q == number_in before.names word) (numbers_of before.names words))
+    (list_any (λ q. q == number_in before.names word) (phaser_numbers before.names words))
     (ne_eqb (number_in before.names other) (number_in before.names word) differ)
     (number-new before are word words is first.1 apart.1)
 
 numbers-distinct : (before : Graph) → AreNames before → (words : List Word)
     → list_all (is_phaser before.names) words ≡ true → are_distinct words ≡ true
-    → is_distinct (numbers_of before.names words) ≡ true
+    → is_distinct (phaser_numbers before.names words) ≡ true
 numbers-distinct before are [] all distinct = refl
 numbers-distinct before are (word ∷ words) all distinct =
     let first = both (is_phaser before.names word) (list_all (is_phaser before.names) words) all in
@@ -207,7 +207,7 @@ numbers-distinct before are (word ∷ words) all distinct =
 
 numbers-below : (before : Graph) → AreNames before → (words : List Word)
     → list_all (is_phaser before.names) words ≡ true
-    → All (λ p. p < length before.phasers) (numbers_of before.names words)
+    → All (λ p. p < length before.phasers) (phaser_numbers before.names words)
 numbers-below before are words all =
     All-map (λ p. p < length before.phasers) (number_in before.names) words
     (each-passed (is_phaser before.names)
@@ -216,8 +216,8 @@ numbers-below before are words all =
 -- ---- what a kind has
 
 count-ends : (before : List Named) (body : BodyWords) → is_body_within body ≡ true
-    → HasEnds (kind_of_body body) (length (numbers_of before (inputs_of body)))
-    (length (numbers_of before (outputs_of body)))
+    → HasEnds (kind_of_body body) (length (phaser_numbers before (inputs_of body)))
+    (length (phaser_numbers before (outputs_of body)))
 count-ends names (source file output) e = (refl, refl)
 count-ends names (fir input output shift taps) e = (refl, refl)
 count-ends names (split input outputs) e =
@@ -312,8 +312,8 @@ new-parent : (before : Graph) → AreNames before → (child : Task) (by : Optio
 new-parent before are child None known at may holds allowed = tt
 new-parent before are child (Some by) known at may holds allowed =
     let above = task_at before (or_zero (task_named before.names by.parent)) in
-    let held = both (list_all (is_among above.inputs) child.inputs)
-    (list_all (is_among above.outputs) child.outputs) holds in
+    let held = both (list_all (is_number_in above.inputs) child.inputs)
+    (list_all (is_number_in above.outputs) child.outputs) holds in
     let may_be = both (has_children above.kind) (not above.joins_now) may in
     record {
       above = task-below before are by.parent known;
@@ -410,8 +410,8 @@ IsTaskLine-new version before n name body ends is is_body are_ends sound =
     let known = both (list_all (is_phaser names) (inputs_of body))
     (list_all (is_phaser names) (outputs_of body))
     (sym (list_all-append (is_phaser names) (inputs_of body) (outputs_of body)) ∙ sound.phasers) in
-    let together : numbers_of names (phasers_of body)
-    ≡ numbers_of names (inputs_of body) ++ numbers_of names (outputs_of body) =
+    let together : phaser_numbers names (phasers_of body)
+    ≡ phaser_numbers names (inputs_of body) ++ phaser_numbers names (outputs_of body) =
     map-append (number_in names) (inputs_of body) (outputs_of body) in
     record {
       ends = count-ends names body sound.within;
@@ -419,14 +419,14 @@ IsTaskLine-new version before n name body ends is is_body are_ends sound =
       outputs = numbers-below before are (outputs_of body) known.1;
       distinct = ap is_distinct (sym together)
           ∙ numbers-distinct before are (phasers_of body) sound.phasers sound.distinct;
-      in_order = each-passed (λ x. list_all (nat_lt x) (numbers_of names (outputs_of body)))
-          (λ x. All (λ y. x < y) (numbers_of names (outputs_of body)))
-          (λ x. each-passed (nat_lt x) (λ y. x < y) (ltb-true x) (numbers_of names (outputs_of body)))
-          (numbers_of names (inputs_of body)) sound.order;
-      exchange = exchange-below (kind_of_body body) (numbers_of names (inputs_of body)) sound.exchange;
+      in_order = each-passed (λ x. list_all (nat_lt x) (phaser_numbers names (outputs_of body)))
+          (λ x. All (λ y. x < y) (phaser_numbers names (outputs_of body)))
+          (λ x. each-passed (nat_lt x) (λ y. x < y) (ltb-true x) (phaser_numbers names (outputs_of body)))
+          (phaser_numbers names (inputs_of body)) sound.order;
+      exchange = exchange-below (kind_of_body body) (phaser_numbers names (inputs_of body)) sound.exchange;
       plain = each-passed (is_plain before) (λ y. (phaser_at before y).single ≡ None)
           (λ y e. nothing-there (phaser_at before y).single (not-true _ e))
-          (numbers_of names (outputs_of body)) sound.plain;
+          (phaser_numbers names (outputs_of body)) sound.plain;
       taps = has-taps body is_body sound.within;
       factor = has-factor body sound.within;
       until = has-until ends.until sound.until;
@@ -437,9 +437,9 @@ IsTaskLine-new version before n name body ends is is_body are_ends sound =
         some = block-some ends.block sound.block;
         kind = block-kind version body ends.block are_ends.block;
         inputs = each-passed (is_within_bound before steps) Wide wide
-            (numbers_of names (inputs_of body)) sound.waits;
+            (phaser_numbers names (inputs_of body)) sound.waits;
         outputs = each-passed (is_within_bound before steps) Wide wide
-            (numbers_of names (outputs_of body)) sound.signals;
+            (phaser_numbers names (outputs_of body)) sound.signals;
       };
       now = may-join names version body ends.by are_ends.by;
     }

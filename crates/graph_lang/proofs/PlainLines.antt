@@ -13,7 +13,7 @@ use Rattle.csv.specs.declared.parser.Action.TheVariants as act
 use Rattle.csv.proofs.ReadFacts.{run-copies, not-first}
 use Rattle.graph_base.specs.phase_accum.Sends.{AreSends, IsSend, value_max}
 use Rattle.graph_lang.specs.TextInside.{EndsLine, BeginsWithCount, BeginsWithLine, BeginsWithWord}
-use Rattle.graph_lang.specs.Samples.{AreSamples, row_of}
+use Rattle.graph_lang.specs.Samples.{AreRecordsOfValues, row_of}
 use Rattle.graph_lang.proofs.Digits.{looks_decimal}
 use lib.IntN.{pos, negsuc, neg_ℤ}
 
@@ -210,7 +210,7 @@ bare-end (c ∷ text) at all bare = bare (omega arith)
 -- ---- the whole text
 
 pub samples-whole : (text : List ℕ) (values : List ℤ) → AreSends values → Leads text values []
-    → strip_bom text ≡ text → AreSamples text values
+    → strip_bom text ≡ text → AreRecordsOfValues text values
 unfolding Reached next_record
 samples-whole text values sends leads bare = record {
   sends = sends;

@@ -2,7 +2,7 @@
 use Rattle.std.proofs.Common.{ℕ, ◌≡◌, ◌<◌, ◌≤◌, ◌+◌, List, ◌∷◌, Bor, length, map, drop, get_or, refl, ap, sym, ◌∙◌, Result, Ok, Err, Bool, true, false, Option, Some, None, if◌then◌else◌, [], inl, inr, subst}
 use Rattle.std.proofs.lemmas.List.{drop_all}
 use Rattle.graph_text.specs.phase_base.Words.{Word}
-use Rattle.graph_text.specs.Texts.{words_of, are_printable, is_ignored}
+use Rattle.graph_text.specs.Texts.{words_of_line, are_printable, is_ignored}
 use Rattle.graph_text.specs.phase_base.Lists.{without_cr}
 use Rattle.graph_text.specs.Plain.{plain}
 use Rattle.graph_text.specs.Decls.{Decl, Declares, Spells}
@@ -23,14 +23,14 @@ use Rattle.graph_lang.proofs.Alls.{cut}
 
 -- a line whose words spell a declaration
 pub declares : (version : Version) (line : List ℕ) (words : List Word) (d : Decl)
-    → are_printable line ≡ true → words ≡ words_of line → Spells version words d
+    → are_printable line ≡ true → words ≡ words_of_line line → Spells version words d
     → Declares version line d
 declares version line words d printable same spells =
     record { printable = printable; spells = rw same at spells }
 
 -- a line whose words spell no declaration
 pub declares-none : (version : Version) (line : List ℕ) (words : List Word)
-    → words ≡ words_of line → ((d : Decl) → ¬ (Spells version words d))
+    → words ≡ words_of_line line → ((d : Decl) → ¬ (Spells version words d))
     → (d : Decl) → ¬ (Declares version line d)
 declares-none version line words same none d declared =
     none d (rw same declared.spells)
@@ -82,12 +82,12 @@ emptied-ignored false line e = e
 -- what a line comes to by itself, it comes to as the first of those that are left
 first-step : (n : ℕ) (before : Graph) (line : List ℕ) (lines : List (List ℕ))
     (outcome : Result Graph GraphFault) → Steps One n before (emptied line) outcome
-    → (ignored heading : Bool) → is_ignored line ≡ ignored → is_heading (words_of line) ≡ heading
+    → (ignored heading : Bool) → is_ignored line ≡ ignored → is_heading (words_of_line line) ≡ heading
     → Steps (if ignored then version_of lines else if heading then Two else One) n before
     (if ignored then line else emptied line) outcome
 first-step n before line lines outcome step true heading e h =
     step-ignored One (version_of lines) n before (emptied line) line outcome
-    (emptied-ignored (is_heading (words_of line)) line e) e step
+    (emptied-ignored (is_heading (words_of_line line)) line e) e step
 first-step n before line lines outcome step false true e h =
     let gone : emptied line ≡ [] = ap (λ b. if b then [] else line) h in
     let none : is_ignored (emptied line) ≡ true = ap is_ignored gone in
@@ -126,7 +126,7 @@ reads-more : (known : Option Version) (n : ℕ) (before after : Graph) (line : L
 reads-more (Some version) n before after line lines outcome step rest = inr (after, step, rest)
 reads-more None n before after line lines outcome step rest =
     let ignored = is_ignored line in
-    let heading = is_heading (words_of line) in
+    let heading = is_heading (words_of_line line) in
     more-lines n before after line lines outcome ignored heading
     (first-step n before line lines (Ok after) step ignored heading refl refl) rest
 
@@ -137,7 +137,7 @@ reads-fault : (known : Option Version) (n : ℕ) (before : Graph) (line : List �
 reads-fault (Some version) n before line lines f step = inl (f, step, refl)
 reads-fault None n before line lines f step =
     let ignored = is_ignored line in
-    let heading = is_heading (words_of line) in
+    let heading = is_heading (words_of_line line) in
     fault-line n before line lines f ignored heading
     (first-step n before line lines (Err f) step ignored heading refl refl)
 
@@ -148,12 +148,12 @@ reads-end None n before = refl
 
 -- a line that is read in a version is no heading
 pub known-version : (known : Option Version) (line : List ℕ) (version : Version)
-    → is_ignored line ≡ false → Some version ≡ version_in known (words_of line)
+    → is_ignored line ≡ false → Some version ≡ version_in known (words_of_line line)
     → (version_at known ≡ version) × (line_read known line ≡ line)
     × (Some version ≡ version_behind known line)
 known-version (Some other) line version going e =
     let same : version ≡ other = cc in (sym same, refl, e)
-known-version None line version going e = at (is_heading (words_of line)) e
+known-version None line version going e = at (is_heading (words_of_line line)) e
   where
     at : (heading : Bool) → Some version ≡ (if heading then None else Some One)
         → (One ≡ version) × ((if heading then [] else line) ≡ line)
@@ -164,11 +164,11 @@ known-version None line version going e = at (is_heading (words_of line)) e
 
 -- a line that is read in no version is the heading, where none is known above it
 pub heading-steps : (known : Option Version) (n : ℕ) (before : Graph) (line : List ℕ)
-    → is_ignored line ≡ false → None ≡ version_in known (words_of line)
+    → is_ignored line ≡ false → None ≡ version_in known (words_of_line line)
     → (Some Two ≡ version_behind known line)
     × Steps (version_at known) n before (line_read known line) (Ok before)
 heading-steps (Some version) n before line going e = absurd (cc)
-heading-steps None n before line going e = at (is_heading (words_of line)) e
+heading-steps None n before line going e = at (is_heading (words_of_line line)) e
   where
     at : (heading : Bool) → None ≡ (if heading then None else Some One)
         → (Some Two ≡ (if is_ignored line then None else if heading then Some Two else Some One))

@@ -11,7 +11,7 @@ use Rattle.graph_base.specs.Names.{place_of}
 use Rattle.graph_lang.specs.WordValues.{task_line, files_in}
 use Rattle.graph_lang.specs.Faults.{kind_of, phasers_of, is_past_limit, are_distinct, is_phaser, is_parent_known, is_in_order, may_be_parent, is_held, is_block_within, is_phaser_within}
 use Rattle.graph_lang.specs.Inside.{last_kind}
-use Rattle.graph_lang.specs.Reads.{with_line}
+use Rattle.graph_lang.specs.Reads.{with_declared}
 use Rattle.graph_base.specs.declared.limits.TheConstants.{PHASERS_MAX}
 use Rattle.graph_lang.specs.declared.fault.FaultKind.TheVariants.{Limit, Twice, Unknown, OutBeforeIn, BadParent, NotHeld, OverBound}
 use Rattle.graph_lang.specs.declared.fault.FaultKind.{FaultKind}
@@ -155,7 +155,7 @@ pub with-task : (before : Graph) (name : Word) (body : BodyWords) (ends : EndWor
       names = before.names ++ (name, place.Task (length before.tasks)) ∷ [];
       tasks = before.tasks ++ t ∷ [];
       files = before.files ++ files_in body;
-    } ≡ with_line before n (task name body ends)
+    } ≡ with_declared before n (task name body ends)
 with-task before name body ends n t line = ap (λ t. record before {
   names = before.names ++ (name, place.Task (length before.tasks)) ∷ [];
   tasks = before.tasks ++ t ∷ [];

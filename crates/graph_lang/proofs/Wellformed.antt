@@ -19,7 +19,7 @@ use Rattle.graph_base.specs.Names.{place_of}
 use Rattle.graph_lang.specs.WordValues.{phaser_line, single_of, task_line, kind_of_body, files_in}
 use Rattle.graph_lang.specs.Faults.{kind_of, is_bound_within, is_function_within}
 use Rattle.graph_base.specs.TaskLines.{IsGraph, IsPhaserLine, IsTaskLine, AreRising}
-use Rattle.graph_lang.specs.Reads.{Reads, Steps, with_line, line_outcome, fault_at}
+use Rattle.graph_lang.specs.Reads.{Reads, Steps, with_declared, line_outcome, fault_at}
 use Rattle.graph_base.specs.declared.limits.TheConstants.{PHASERS_MAX}
 use Rattle.graph_lang.specs.declared.fault.FaultKind.{FaultKind}
 use Rattle.graph_lang.specs.declared.fault.FaultKind.TheVariants.{Limit, Twice, Syntax}
@@ -191,10 +191,10 @@ adds-task before after name names same more = record {
 phaser-keeps : (before : Graph) (n : ℕ) (name : Word) (operation : Op) (bound : Word)
     (function : Option FunctionWords) → is_name name ≡ true
     → IsSoundPhaser before name bound function → IsGraph before
-    → IsGraph (with_line before n (phaser name operation bound function))
+    → IsGraph (with_declared before n (phaser name operation bound function))
 phaser-keeps before n name operation bound function named sound is =
     let line = phaser_line operation bound function in
-    let after = with_line before n (phaser name operation bound function) in
+    let after = with_declared before n (phaser name operation bound function) in
     let long = length_push before.phasers line in
     let few = sound.few in
     let grows : Grows before after = record {
@@ -272,10 +272,10 @@ lines-more before after line more counted above lines =
 task-keeps : (version : Version) (before : Graph) (n : ℕ) (name : Word) (body : BodyWords)
     (ends : EndWords) → IsWellFormed version (task name body ends) → IsSound before name body ends
     → 1 ≤ n → AreAbove n before → IsGraph before
-    → IsGraph (with_line before n (task name body ends))
+    → IsGraph (with_declared before n (task name body ends))
 task-keeps version before n name body ends formed sound counted above is =
     let line = task_line before.names n body ends in
-    let after = with_line before n (task name body ends) in
+    let after = with_declared before n (task name body ends) in
     let long = length_push before.tasks line in
     let few = sound.few in
     let grows : Grows before after = record {
@@ -307,7 +307,7 @@ task-keeps version before n name body ends formed sound counted above is =
 -- a line without fault keeps it
 pub line-keeps : (version : Version) (before : Graph) (n : ℕ) (d : Decl) → IsWellFormed version d
     → kind_of before d ≡ None → 1 ≤ n → AreAbove n before → IsGraph before
-    → IsGraph (with_line before n d)
+    → IsGraph (with_declared before n d)
 line-keeps version before n (phaser name operation bound function) formed e counted above is =
     phaser-keeps before n name operation bound function formed.0
     (phaser-sound before name operation bound function e) is
@@ -316,7 +316,7 @@ line-keeps version before n (task name body ends) formed e counted above is =
     above is
 
 line-above : (before : Graph) (n : ℕ) (d : Decl) → AreAbove n before
-    → AreAbove (n + 1) (with_line before n d)
+    → AreAbove (n + 1) (with_declared before n d)
 line-above before n (phaser name operation bound function) above = above-next n before above
 line-above before n (task name body ends) above =
     each-push before.tasks (task_line before.names n body ends) no_task (λ t line. line.line < n + 1)
@@ -337,8 +337,8 @@ told-keeps : (version : Version) (before after : Graph) (n : ℕ) (d : Decl)
 told-keeps version before after n d (Some kind) e formed is line_outcome =
     let clash : Ok after ≡ fault_at n kind = line_outcome in absurd (cc)
 told-keeps version before after n d None e formed is line_outcome =
-    let same : Ok after ≡ Ok (with_line before n d) = line_outcome in
-    let one : after ≡ with_line before n d = cc in
+    let same : Ok after ≡ Ok (with_declared before n d) = line_outcome in
+    let one : after ≡ with_declared before n d = cc in
     subst (IsBefore (n + 1)) (sym one) (record {
       counted = omega arith;
       above = line-above before n d is.above;

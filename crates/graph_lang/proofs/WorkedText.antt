@@ -4,7 +4,7 @@ use Rattle.std.proofs.Common.{ℕ, ◌≡◌, true, false, inl, sym, ap, List, [
 use Rattle.graph_base.specs.phase_accum.declared.single.Single.TheVariants.{Clamp}
 use Rattle.graph_text.specs.Texts.{is_ignored}
 use Rattle.graph_text.specs.Decls.{Decl, phaser, task, clamp, source, sink, Declares}
-use Rattle.graph_text.specs.Inside.{line_at, task_at, body_at, word_at}
+use Rattle.graph_text.specs.Inside.{decl_at, task_words_at, body_at, word_at}
 use Rattle.graph_text.specs.declared.version.Version.{Version}
 use Rattle.graph_text.specs.declared.version.Version.TheVariants.{One, Two}
 use Rattle.graph_text.proofs.Spelled.{line_again}
@@ -13,7 +13,7 @@ use Rattle.graph_base.specs.declared.line.Kind.TheVariants.{Source, Sink}
 use Rattle.graph_base.specs.declared.place.Place.TheVariants as place
 use Rattle.graph_base.specs.Graphs.{Graph, no_graph, no_task}
 use Rattle.graph_base.specs.TaskLines.{IsGraph}
-use Rattle.graph_lang.specs.Reads.{ReadsText, without_heading, Steps, with_line, line_outcome}
+use Rattle.graph_lang.specs.Reads.{ReadsText, without_heading, Steps, with_declared, line_outcome}
 use Rattle.graph_lang.specs.Faults.{kind_of}
 use Rattle.graph_lang.specs.declared.fault.FaultKind.TheVariants.{Syntax}
 use Rattle.graph_lang.proofs.Wellformed.{reads_give_graph}
@@ -76,22 +76,22 @@ ignored version n before line e = inl (e, refl)
 -- a line that declares d, without fault
 declared : (version : Version) (n : ℕ) (before : Graph) (line : List ℕ) (d : Decl)
     → is_ignored line ≡ false → Declares version line d → kind_of before d ≡ None
-    → Steps version n before line (Ok (with_line before n d))
+    → Steps version n before line (Ok (with_declared before n d))
 declared version n before line d words declares e =
     inr (inr (words, d, declares, sym (ap (line_outcome n before d) e)))
 
 -- the graph after each line
 abbrev with_x : Graph
-with_x = with_line no_graph 2 x
+with_x = with_declared no_graph 2 x
 
 abbrev with_y : Graph
-with_y = with_line with_x 3 y
+with_y = with_declared with_x 3 y
 
 abbrev with_s : Graph
-with_s = with_line with_y 4 s
+with_s = with_declared with_y 4 s
 
 abbrev with_out : Graph
-with_out = with_line with_s 6 out
+with_out = with_declared with_s 6 out
 
 reads : ReadsText lines (Ok late_sink)
 reads =
@@ -215,10 +215,10 @@ late_joins = task (codes "late") (sink (codes "X")) (record {
 })
 
 abbrev with_x_of_two : Graph
-with_x_of_two = with_line no_graph 3 x
+with_x_of_two = with_declared no_graph 3 x
 
 abbrev with_out_of_two : Graph
-with_out_of_two = with_line with_x_of_two 4 out_in_blocks
+with_out_of_two = with_declared with_x_of_two 4 out_in_blocks
 
 reads_two : ReadsText lines_of_two (Ok late_now)
 reads_two =
@@ -288,9 +288,9 @@ x_of_two = phaser (codes "X") Sum (codes "2") None
 
 -- the words of the heading declare nothing
 heading_none : (version : Version) (d : Decl) → ¬ (Declares version (codes "graph 2") d)
-unfolding line_at task_at body_at word_at
+unfolding decl_at task_words_at body_at word_at
 heading_none version d declares =
-    let spelled = ap (line_at version) declares.spells.spelled in
+    let spelled = ap (decl_at version) declares.spells.spelled in
     let read = line_again version d declares.spells.well_formed in
     let clash : None ≡ Some d = spelled ∙ read in absurd (cc)
 
@@ -298,7 +298,7 @@ heading_below : ReadsText (codes "phaser X sum 2" ∷ codes "graph 2" ∷ [])
     (Err (record { line = 2; kind = Syntax }))
 heading_below =
     inr (
-      with_line no_graph 1 x_of_two,
+      with_declared no_graph 1 x_of_two,
       declared One 1 no_graph (codes "phaser X sum 2") x_of_two refl x_is refl,
       inl (record { line = 2; kind = Syntax }, inr (inl (refl, heading_none One, refl)), refl),
     )

@@ -147,15 +147,15 @@ is_bad_parent before (task name body ends) =
     not (may_be_parent before (task_line before.names 0 body ends).parent)
 
 -- whether p is one of these numbers
-abbrev pub is_among : List ℕ → ℕ → Bool
-is_among qs p = list_any (λ q. q == p) qs
+abbrev pub is_number_in : List ℕ → ℕ → Bool
+is_number_in qs p = list_any (λ q. q == p) qs
 
 -- whether the parent waits for what the child waits for, and signals what the child signals
 abbrev pub holds_for : Graph → Task → Option Parent → Bool
 holds_for before child None = true
 holds_for before child (Some parent) =
-    list_all (is_among (task_at before parent.task).inputs) child.inputs
-    && list_all (is_among (task_at before parent.task).outputs) child.outputs
+    list_all (is_number_in (task_at before parent.task).inputs) child.inputs
+    && list_all (is_number_in (task_at before parent.task).outputs) child.outputs
 
 -- whether phaser y has no single
 abbrev pub is_plain : Graph → ℕ → Bool

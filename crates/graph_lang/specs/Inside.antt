@@ -2,7 +2,7 @@
 use Rattle.std.specs.Prelude.{◌≡◌, option_map, ℕ, not, List, [], ◌∷◌, Option, Some, None, Result, Ok, Err, if◌then◌else◌}
 use Rattle.graph_text.specs.phase_base.Numbers.{nat_value}
 use Rattle.graph_text.specs.Decls.{BodyWords, EndWords, Decl}
-use Rattle.graph_text.specs.Texts.{words_of, is_ignored}
+use Rattle.graph_text.specs.Texts.{words_of_line, is_ignored}
 use Rattle.graph_text.specs.Versions.{is_heading}
 use Rattle.graph_text.specs.declared.version.Version.{Version}
 use Rattle.graph_text.specs.declared.version.Version.TheVariants.{One, Two}
@@ -60,7 +60,7 @@ TellsFault version n before line refusal.OutOfMemory = Unit {0}
 abbrev pub version_behind : Option Version → List ℕ → Option Version
 version_behind (Some version) line = Some version
 version_behind None line =
-    if is_ignored line then None else if is_heading (words_of line) then Some Two else Some One
+    if is_ignored line then None else if is_heading (words_of_line line) then Some Two else Some One
 
 -- the version in which a line of these words is read, where this one is known above it; none of a
 -- heading

@@ -1,7 +1,7 @@
 -- What a text declares, line by line in the version that its heading tells, and which fault is its
 -- first.
 use Rattle.std.specs.Prelude.{if◌then◌else◌, ℕ, ◌≡◌, ◌+◌, true, false, List, [], ◌∷◌, ◌++◌, length, Option, Some, None, Result, Ok, Err, ◌⊎◌}
-use Rattle.graph_text.specs.Texts.{words_of, is_ignored}
+use Rattle.graph_text.specs.Texts.{words_of_line, is_ignored}
 use Rattle.graph_text.specs.Versions.{is_heading}
 use Rattle.graph_text.specs.declared.version.Version.{Version}
 use Rattle.graph_text.specs.declared.version.Version.TheVariants.{One, Two}
@@ -23,11 +23,11 @@ abbrev pub version_of : List (List ℕ) → Version
 version_of [] = One
 version_of (line ∷ lines) =
     if is_ignored line then version_of lines
-    else if is_heading (words_of line) then Two else One
+    else if is_heading (words_of_line line) then Two else One
 
 -- an empty line, which is ignored, in the place of a heading
 abbrev pub emptied : List ℕ → List ℕ
-emptied line = if is_heading (words_of line) then [] else line
+emptied line = if is_heading (words_of_line line) then [] else line
 
 -- the lines of a text, with an empty one in the place of its heading
 abbrev pub without_heading : List (List ℕ) → List (List ℕ)
@@ -38,14 +38,14 @@ without_heading (line ∷ lines) =
 -- ---- the lines
 
 -- the graph with what line n declares
-abbrev pub with_line : Graph → ℕ → Decl → Graph
-with_line before n (phaser name operation bound single) = record {
+abbrev pub with_declared : Graph → ℕ → Decl → Graph
+with_declared before n (phaser name operation bound single) = record {
   names = before.names ++ (name, place.Phaser (length before.phasers)) ∷ [];
   phasers = before.phasers ++ phaser_line operation bound single ∷ [];
   tasks = before.tasks;
   files = before.files;
 }
-with_line before n (task name body ends) = record {
+with_declared before n (task name body ends) = record {
   names = before.names ++ (name, place.Task (length before.tasks)) ∷ [];
   phasers = before.phasers;
   tasks = before.tasks ++ task_line before.names n body ends ∷ [];
@@ -59,7 +59,7 @@ fault_at n kind = Err (record { line = n; kind = kind })
 -- what line n of the grammar comes to, by its first kind of fault
 abbrev pub line_outcome : ℕ → Graph → Decl → Option FaultKind → Result Graph GraphFault
 line_outcome n before d (Some kind) = fault_at n kind
-line_outcome n before d None = Ok (with_line before n d)
+line_outcome n before d None = Ok (with_declared before n d)
 
 -- line n of a text of this version, after the lines above it: it is ignored, or it is not in the
 -- grammar, or it declares d

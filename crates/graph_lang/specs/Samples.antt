@@ -15,7 +15,7 @@ abbrev pub row_of : ℤ → List (List ℕ)
 row_of v = signed_decimal v ∷ []
 
 -- the records of the text are those of the values, one for each
-pub record AreSamples (text : List ℕ) (values : List ℤ) : Type 0 where
+pub record AreRecordsOfValues (text : List ℕ) (values : List ℤ) : Type 0 where
   pub sends : AreSends values
   pub records : AreRecords default_config st.StartRecord (strip_bom text) (map row_of values)
 
@@ -35,7 +35,7 @@ pub record IsBadSample (text : List ℕ) (n : ℕ) : Type 0 where
 
 -- the values are those of a text that is short enough
 pub record AreShortSamples (values : List ℤ) (text : List ℕ) : Type 0 where
-  pub samples : AreSamples text values
+  pub samples : AreRecordsOfValues text values
   pub short : length text ≤ TEXT_MAX
 
 -- record number n is the first that is not of a value, in a text that is short enough
@@ -47,7 +47,7 @@ pub record IsBadShortSample (n : ℕ) (text : List ℕ) : Type 0 where
 pub record ReadsSamples (old new : ReaderState) (values : List ℤ) : Type 0 where
   pub text : List ℕ
   pub reads : ReadsAll TEXT_MAX old new text
-  pub samples : AreSamples text values
+  pub samples : AreRecordsOfValues text values
 
 -- the reader gave a whole text, whose record number n is the first that is not of a value
 pub record ReadsBadSample (old new : ReaderState) (n : ℕ) : Type 0 where

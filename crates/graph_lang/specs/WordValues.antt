@@ -85,8 +85,8 @@ files_in (source file output) = file ∷ []
 files_in body = []
 
 -- the numbers of the phasers of these names
-abbrev pub numbers_of : List Named → List Word → List ℕ
-numbers_of names words = map (λ word. or_zero (phaser_named names word)) words
+abbrev pub phaser_numbers : List Named → List Word → List ℕ
+phaser_numbers names words = map (λ word. or_zero (phaser_named names word)) words
 
 -- the parent that `by` names, and how many steps it makes before
 abbrev pub parent_of : List Named → ByWords → Parent
@@ -110,8 +110,8 @@ abbrev pub task_line : List Named → ℕ → BodyWords → EndWords → Task
 task_line names n body ends = record {
   line = n;
   kind = kind_of_body body;
-  inputs = numbers_of names (inputs_of body);
-  outputs = numbers_of names (outputs_of body);
+  inputs = phaser_numbers names (inputs_of body);
+  outputs = phaser_numbers names (outputs_of body);
   parent = option_map (parent_of names) ends.by;
   until = option_map nat_value ends.until;
   taps = taps_of body;

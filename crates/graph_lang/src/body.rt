@@ -6,8 +6,8 @@ ghost use Rattle.graph_text.specs.Plain.{plain};
 ghost use Rattle.graph_text.specs.phase_base.Words.{is_name};
 ghost use Rattle.graph_text.specs.Lines.{body_of};
 ghost use Rattle.graph_base.specs.Names.{names_of, phaser_named};
-ghost use Rattle.graph_lang.specs.WordValues.{inputs_of, outputs_of, numbers_of, kind_of_body};
-ghost use Rattle.graph_lang.specs.Faults.{are_distinct, is_phaser, is_among, phasers_of, is_exchange_below};
+ghost use Rattle.graph_lang.specs.WordValues.{inputs_of, outputs_of, phaser_numbers, kind_of_body};
+ghost use Rattle.graph_lang.specs.Faults.{are_distinct, is_phaser, is_number_in, phasers_of, is_exchange_below};
 
 use crate::draft::phaser_named;
 use graph_base::{Kind, Place};
@@ -118,7 +118,7 @@ fn numbers_of(
     ensures known { IfOk result (λ found. is_some found
         ≡ list_all (is_phaser (names_of names.now.entries)) (plain words.now)) }
     ensures numbers { IfOk result (λ found. IfSome found (λ numbers.
-        numbers.items ≡ numbers_of (names_of names.now.entries) (plain words.now))) }
+        numbers.items ≡ phaser_numbers (names_of names.now.entries) (plain words.now))) }
 {
     let mut numbers = Vec::new(alloc);
     for word in words {
@@ -140,7 +140,7 @@ pub(crate) fn input_numbers(
     ensures known { IfOk result (λ found. is_some found
         ≡ list_all (is_phaser (names_of names.now.entries)) (inputs_of (body_of body.entry))) }
     ensures numbers { IfOk result (λ found. IfSome found (λ numbers.
-        numbers.items ≡ numbers_of (names_of names.now.entries) (inputs_of (body_of body.entry)))) }
+        numbers.items ≡ phaser_numbers (names_of names.now.entries) (inputs_of (body_of body.entry)))) }
 {
     let words = input_words(alloc, body)?;
     numbers_of(alloc, names, &words)
@@ -157,7 +157,7 @@ pub(crate) fn output_numbers(
         ≡ list_all (is_phaser (names_of names.now.entries)) (outputs_of (body_of body.entry))) }
     ensures numbers { IfOk result (λ found. IfSome found (λ numbers.
         numbers.items
-        ≡ numbers_of (names_of names.now.entries) (outputs_of (body_of body.entry)))) }
+        ≡ phaser_numbers (names_of names.now.entries) (outputs_of (body_of body.entry)))) }
 {
     let words = output_words(alloc, body)?;
     numbers_of(alloc, names, &words)
@@ -190,14 +190,14 @@ pub(crate) fn is_exchange_below(kind: Kind, inputs: &[usize]) -> bool
 
 /// Whether the number is one of these.
 fn is_among(qs: &[usize], p: usize) -> bool
-    ensures { result ≡ is_among qs.now p }
+    ensures { result ≡ is_number_in qs.now p }
 {
     qs.iter().any(|q| *q == p)
 }
 
 /// Whether each number is one of those.
 pub(crate) fn are_among(ps: &[usize], qs: &[usize]) -> bool
-    ensures { result ≡ list_all (is_among qs.now) ps.now }
+    ensures { result ≡ list_all (is_number_in qs.now) ps.now }
 {
     ps.iter().all(|p| is_among(qs, *p))
 }

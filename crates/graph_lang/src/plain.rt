@@ -2,7 +2,7 @@
 //! by `int` of `phase_base`: most of the time of a long text goes here.
 ghost use Rattle.std.specs.Prelude.{◌≡◌, ◌≤◌, [], length, take, IfOk, IfSome};
 ghost use Rattle.std.specs.Str.Parse.{AllDigits, digits_value};
-ghost use Rattle.graph_lang.specs.Samples.{AreSamples};
+ghost use Rattle.graph_lang.specs.Samples.{AreRecordsOfValues};
 ghost use Rattle.graph_lang.specs.TextInside.{BeginsWithWord, BeginsWithCount, BeginsWithLine};
 
 use graph_base::phase_accum::MAGNITUDE_MAX;
@@ -102,7 +102,7 @@ fn line_in(text: &[u8]) -> Option<Line>
 
 /// The samples of a text whose lines are all plain, or nothing where one is not.
 pub fn plain_samples(alloc: Global, text: &[u8]) -> Result<Option<Vec<i64>>, AllocError>
-    ensures ok { IfOk result (λ found. IfSome found (λ values. AreSamples text.now values.items)) }
+    ensures ok { IfOk result (λ found. IfSome found (λ values. AreRecordsOfValues text.now values.items)) }
     ensures few { IfOk result (λ found. IfSome found (λ values.
         length values.items ≤ length text.now)) }
 {

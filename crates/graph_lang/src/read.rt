@@ -3,7 +3,7 @@ ghost use Rattle.std.specs.Prelude.{◌≡◌, IfOk, IfErr, IfSome, OnOk, Ok, Er
 ghost use Rattle.graph_text.specs.Decls.{IsWellFormed};
 ghost use Rattle.graph_text.specs.Lines.{decl_of, single_of, body_of, ends_of};
 ghost use Rattle.graph_text.specs.Plain.{plain};
-ghost use Rattle.graph_text.specs.Texts.{lines_of, words_of, is_ignored};
+ghost use Rattle.graph_text.specs.Texts.{lines_of, words_of_line, is_ignored};
 ghost use Rattle.graph_text.specs.declared.version.Version.TheVariants.{Two};
 ghost use Rattle.graph_text.specs.declared.line.Line.TheVariants as line;
 ghost use Rattle.graph_lang.specs.WordValues.{phaser_line};
@@ -19,7 +19,7 @@ use crate::within::{EndNumbers, Numbers, numbers_of, phaser_line, steps_of};
 use graph_base::{Graph, PHASERS_MAX, PhaserLine, TASKS_MAX};
 use graph_text::{
     Line, PhaserWords, TaskWords, Version, are_printable, begins_comment, is_heading, line_at,
-    lines_of, name_text, without_cr, words_of,
+    lines_of, name_text, without_cr, words_of_line,
 };
 use std::alloc::{AllocError, Global};
 
@@ -150,7 +150,7 @@ impl Draft {
         words: &[&[u8]],
         version: Version,
     ) -> Result<(), GraphRefusal>
-        requires words { plain words.now ≡ words_of line.now }
+        requires words { plain words.now ≡ words_of_line line.now }
         requires read { is_ignored line.now ≡ false }
         ensures ok { OnOk result (Steps version number self.old line.now (Ok self.new)) }
         ensures fault { IfErr result (TellsFault version number self.old line.now) }

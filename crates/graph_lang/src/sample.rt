@@ -4,7 +4,7 @@ ghost use Rattle.std.specs.Fmt.{signed_decimal};
 ghost use Rattle.csv.specs.Records.{fields_of};
 ghost use Rattle.graph_base.specs.phase_accum.Sends.{IsSend, AreSends};
 ghost use Rattle.graph_lang.specs.TextInside.{IsThroughComma};
-ghost use Rattle.graph_lang.specs.Samples.{AreSamples, IsBadSample, AreShortSamples, IsBadShortSample, ReadsSamples, ReadsBadSample};
+ghost use Rattle.graph_lang.specs.Samples.{AreRecordsOfValues, IsBadSample, AreShortSamples, IsBadShortSample, ReadsSamples, ReadsBadSample};
 ghost use Rattle.watched_io.specs.States.{ReadsTooMuch, ReadsWithin, reader_state};
 ghost use Rattle.watched_io.specs.Watched.{has_failed_of, inner_of};
 ghost use Rattle.watched_io.specs.declared.text.TheConstants.{CHUNK_MAX};
@@ -55,7 +55,7 @@ fn through_comma(text: &[u8]) -> &[u8]
 /// A record with a comma is no sample, so what stands behind the first one is not read, and takes
 /// no memory.
 pub fn samples_of(alloc: Global, text: &[u8]) -> Result<Vec<i64>, SampleFault>
-    ensures ok { IfOk result (λ values. AreSamples text.now values.items) }
+    ensures ok { IfOk result (λ values. AreRecordsOfValues text.now values.items) }
     ensures values { IfOk result (λ values. AreSends values.items
         × (length values.items ≤ length text.now)) }
     ensures bad { (n : ℕ) → IsErrOf result (SampleFault.BadSample n) → IsBadSample text.now n }
@@ -70,7 +70,7 @@ pub fn samples_of(alloc: Global, text: &[u8]) -> Result<Vec<i64>, SampleFault>
 
 /// The values of all records of a text.
 fn records_of(alloc: Global, text: &[u8]) -> Result<Vec<i64>, SampleFault>
-    ensures ok { IfOk result (λ values. AreSamples text.now values.items) }
+    ensures ok { IfOk result (λ values. AreRecordsOfValues text.now values.items) }
     ensures values { IfOk result (λ values. AreSends values.items
         × (length values.items ≤ length text.now)) }
     ensures bad { (n : ℕ) → IsErrOf result (SampleFault.BadSample n) → IsBadSample text.now n }

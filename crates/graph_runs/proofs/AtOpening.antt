@@ -29,7 +29,7 @@ use Rattle.graph_runs.specs.Moments.{limits_at, input_at, OnLine}
 use Rattle.graph_runs.proofs.OnLines.{on_phaser}
 use Rattle.graph_runs.specs.Openings.{PhaserOpened, TaskOpened}
 use Rattle.graph_runs.specs.Nexts.{registrations_at}
-use Rattle.graph_runs.specs.Beginnings.{mode_on, root_mode, root_number, number_after, with_root, roots_joined, offset_below, opening_offsets, opening}
+use Rattle.graph_runs.specs.Beginnings.{mode_on, root_mode, root_number, number_after_founder, with_root, roots_joined, offset_below, opening_offsets, opening}
 use Rattle.graph_runs.specs.Reached.{HasModes, HasTaskMembers, IsOfTask, HasBegun}
 use Rattle.graph_runs.proofs.Beginning.{Rooted, rooted, roots-later, opening_legal, only_roots, IsRoot, is_root}
 use Rattle.graph_runs.proofs.PlacesLemmas.{find-none, find-some, on_ends}
@@ -85,7 +85,7 @@ has_number job p t n is pp e = by (cases_lt t (length job.graph.tasks))
     by : (t < length job.graph.tasks) ⊎ (length job.graph.tasks ≤ t) → HasNumber job p t n
     by (inr beyond) =
         let none : root_number job p t ≡ None =
-        ap (number_after (roots_joined job p t)) (no_root job p t beyond) in
+        ap (number_after_founder (roots_joined job p t)) (no_root job p t beyond) in
         absurd (let no = sym none ∙ e in cc)
     by (inl there) =
         let root = is_root job p t n (rooted_at job p t is pp (omega arith)) e in
@@ -189,7 +189,7 @@ present job t p is there root on =
     by (Some r) f =
         let mode : root_mode job t p ≡ Some r.mode =
         (rw root refl) ∙ ap (option_map (λ s. s.mode)) f in
-        ap (λ o. is_some (number_after (roots_joined job p t) o)) mode
+        ap (λ o. is_some (number_after_founder (roots_joined job p t) o)) mode
     by None f =
         let at = on_ends job.graph t (task_at job.graph t) p (is.tasks t there) on in
         let rs = registrations_at job t in
@@ -261,7 +261,7 @@ task_opened job t is there = record {
     mode_of p n e = by (root_mode job t p) refl e
       where
         by : (o : Option Mode) → root_mode job t p ≡ o
-            → number_after (roots_joined job p t) o ≡ Some n
+            → number_after_founder (roots_joined job p t) o ≡ Some n
             → (mode : Mode) × (root_mode job t p ≡ Some mode)
         by None f g = absurd (cc)
         by (Some mode) f g = (mode, f)
@@ -335,7 +335,7 @@ root_used job p n (suc k) used other =
     by (Some mode) e rec =
         let a : ℕ = greatest_used h + 1 in
         let same : roots_joined job p (suc k) ≡ Registered 0 a mode ∷ h = ap (with_root h) e in
-        here a mode (eqb a n) refl (ap (number_after h) e)
+        here a mode (eqb a n) refl (ap (number_after_founder h) e)
         (ap (λ x. is_some (start_of x n)) (sym same) ∙ used) rec
 
 has_members : (job : Job) → IsGraph job.graph → HasTaskMembers job (opening job)

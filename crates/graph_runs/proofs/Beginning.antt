@@ -21,7 +21,7 @@ use Rattle.stream_lists.specs.Jobs.{Job}
 use Rattle.stream_lists.proofs.Firsts.{filter_map-skip, filter_map-take}
 use Rattle.graph_runs.specs.Moments.{limits_at, numbers_on}
 use Rattle.graph_runs.specs.Openings.{IsOpening}
-use Rattle.graph_runs.specs.Beginnings.{root_mode, root_number, number_after, with_root, roots_joined, opening}
+use Rattle.graph_runs.specs.Beginnings.{root_mode, root_number, number_after_founder, with_root, roots_joined, opening}
 
 -- ---- what the founder's registrations leave
 
@@ -65,7 +65,7 @@ rooted-suc job p n room is = by (root_mode job n p) refl
     by : (o : Option Mode) → root_mode job n p ≡ o → Rooted job p (suc n)
     by None e =
         let same : roots_joined job p (suc n) ≡ h = ap (with_root h) e in
-        let none : root_number job p n ≡ None = ap (number_after h) e in
+        let none : root_number job p n ≡ None = ap (number_after_founder h) e in
         let kept : filter_map (root_number job p) (range_with_len 0 (suc n))
         ≡ filter_map (root_number job p) (range_with_len 0 n) =
         ap (λ k. filter_map (root_number job p) (range_with_len 0 k)) next
@@ -83,7 +83,7 @@ rooted-suc job p n room is = by (root_mode job n p) refl
     by (Some child) e =
         let a : ℕ = greatest_used h + 1 in
         let same : roots_joined job p (suc n) ≡ Registered 0 a child ∷ h = ap (with_root h) e in
-        let some : root_number job p n ≡ Some a = ap (number_after h) e in
+        let some : root_number job p n ≡ Some a = ap (number_after_founder h) e in
         let entry : Entry = entry_at child (signal_phase h 0) (wait_phase h 0) in
         let more : filter_map (root_number job p) (range_with_len 0 (suc n))
         ≡ filter_map (root_number job p) (range_with_len 0 n) ++ a ∷ [] =
@@ -212,7 +212,7 @@ is_root job p t n was e = by (root_mode job t p) refl e
     h : History
     h = roots_joined job p t
 
-    by : (o : Option Mode) → root_mode job t p ≡ o → number_after h o ≡ Some n
+    by : (o : Option Mode) → root_mode job t p ≡ o → number_after_founder h o ≡ Some n
         → IsRoot job p t n
     by None f g = absurd (cc)
     by (Some child) f g =

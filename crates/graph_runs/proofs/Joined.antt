@@ -13,7 +13,7 @@ use Rattle.graph_runs.specs.Beginnings.{opening}
 use Rattle.graph_runs.specs.Nexts.{registrations_at}
 use Rattle.graph_runs.specs.TaskPlaces.{registration_at}
 use Rattle.graph_runs.specs.TaskEnds.{TaskEnd, IsChildOf, FounderEnd}
-use Rattle.graph_runs.specs.RunEnds.{Ends, HasCome, IsRegisteredOn, HasWhole, IsRunEnd}
+use Rattle.graph_runs.specs.RunEnds.{Ends, HasCome, IsRegisteredOn, HasWholeRun, IsRunEnd}
 use Rattle.graph_runs.proofs.Owns.{IsFound, found_on, has_some, HasOwn, owns_as, HasNumber, has_number}
 
 -- a task that never came, or one that came, with its end and a moment of its own
@@ -69,12 +69,12 @@ module _ (job : Job) (ends : Ends) (is : IsGraph job.graph) (r : IsRunEnd job en
   whole_history p = history_by p (cases_lt p (length job.graph.phasers))
 
   pub has_whole : (p : ℕ) → p < length job.graph.phasers
-      → (founder : FounderEnd) × HasWhole job ends p founder (whole_history p)
+      → (founder : FounderEnd) × HasWholeRun job ends p founder (whole_history p)
   unfolding history_by whole_history
   has_whole p pp = by (cases_lt p (length job.graph.phasers))
     where
       by : (c : (p < length job.graph.phasers) ⊎ (length job.graph.phasers ≤ p))
-          → (founder : FounderEnd) × HasWhole job ends p founder (history_by p c)
+          → (founder : FounderEnd) × HasWholeRun job ends p founder (history_by p c)
       by (inl here) = ((r.phasers p here).0, (r.phasers p here).2)
       by (inr beyond) = absurd (omega arith)
 

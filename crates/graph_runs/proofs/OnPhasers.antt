@@ -21,7 +21,7 @@ use Rattle.graph_runs.specs.Moments.{Moment, PhaserRan, limits_at, numbers_on}
 use Rattle.graph_runs.specs.Moves.{PartStays}
 use Rattle.graph_runs.proofs.Framed.{part_came}
 use Rattle.graph_runs.specs.TaskEnds.{FounderEnd, HasGiven, HasNoSignal}
-use Rattle.graph_runs.specs.RunEnds.{Ends, HasWhole, IsRunEnd}
+use Rattle.graph_runs.specs.RunEnds.{Ends, HasWholeRun, IsRunEnd}
 use Rattle.graph_runs.proofs.Founding.{events_stay, names_any, founder_silent, named_by_each}
 use Rattle.graph_runs.proofs.Owns.{used_by}
 use Rattle.graph_runs.proofs.Joined.{whole, whole_history, IsNumbered, is_numbered, number_there, number_given, number_among, among_is}
@@ -31,7 +31,7 @@ or_right true b e = refl
 or_right false b e = e
 
 module _ (job : Job) (ends : Ends) (is : IsGraph job.graph) (r : IsRunEnd job ends) (p : ℕ)
-    (founder : FounderEnd) (w : HasWhole job ends p founder (whole_history job ends is r p)) where
+    (founder : FounderEnd) (w : HasWholeRun job ends p founder (whole_history job ends is r p)) where
   abbrev pub m : Moment
   m = whole job ends is r
 

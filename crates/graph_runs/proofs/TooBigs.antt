@@ -29,7 +29,7 @@ use Rattle.stream_lists.specs.Ranges.{Where, is_out_of_range, are_made, takes_ph
 use Rattle.stream_lists.proofs.Ordered.{place-at, place_of_input}
 use Rattle.graph_runs.specs.Moments.{one, Moment, HasRun, TaskRan, HasEnded, IsRegistered, IsOver, OnOutput, OnInput, HasMetNone, input_at, taken_now, made_now, limits_at, value_at, HasExchanged}
 use Rattle.stream_lists.specs.graph_base.declared.place.Place.TheVariants as place
-use Rattle.graph_runs.specs.Settled.{Stands, PutsOut, IsFaultAt, IsThere}
+use Rattle.graph_runs.specs.Settled.{Stands, PutsOut, IsFaultAt, IsPlaceThere}
 use Rattle.graph_runs.proofs.Composed.{Composes}
 use Rattle.graph_runs.proofs.OnLines.{signalled_within}
 use Rattle.graph_runs.proofs.Entries.{prefix_length, prefix_at, take_full, take_length, get_or-take, get_or-drop}
@@ -127,7 +127,7 @@ made_is_fault job m t j p i ready ran there pp registered placed made lt exchang
     front_begins (suc n) (x ∷ xs) = let r = front_begins n xs in (r.0, ap (λ l. x ∷ l) r.1)
 
 -- so the job does not fit
-pub fault_tells : (job : Job) (at : Where) → IsGraph job.graph → IsThere job at → IsFaultAt job at
+pub fault_tells : (job : Job) (at : Where) → IsGraph job.graph → IsPlaceThere job at → IsFaultAt job at
     → first_too_big job ≢ None
 fault_tells job (place.Phaser p, n) is there f = phase_faults job p n is there f.0 f.1
 fault_tells job (place.Task t, i) is there f =

@@ -26,9 +26,9 @@ root_mode job t p = of (task_at job.graph t).parent
 -- ---- histories and numbers
 
 -- the number of a task that joins after this history, where it joins
-abbrev pub number_after : History → Option Mode → Option ℕ
-number_after h None = None
-number_after h (Some mode) = Some (greatest_used h + 1)
+abbrev pub number_after_founder : History → Option Mode → Option ℕ
+number_after_founder h None = None
+number_after_founder h (Some mode) = Some (greatest_used h + 1)
 
 -- the history with it
 abbrev pub with_root : History → Option Mode → History
@@ -42,7 +42,7 @@ roots_joined job p (suc t) = with_root (roots_joined job p t) (root_mode job t p
 
 -- the number of task t on phaser p
 abbrev pub root_number : Job → ℕ → ℕ → Option ℕ
-root_number job p t = number_after (roots_joined job p t) (root_mode job t p)
+root_number job p t = number_after_founder (roots_joined job p t) (root_mode job t p)
 
 -- ---- offsets
 

@@ -35,7 +35,7 @@ pub record IsRegisteredOn (job : Job) (ends : Ends) (t i p n : ℕ) (seen : Hist
 
 -- one history of phaser p: it begins with what its founder and each task has seen, and has no later
 -- event of theirs; their numbers are their own; and the founder gave numbers to tasks that came
-pub record HasWhole (job : Job) (ends : Ends) (p : ℕ) (founder : FounderEnd) (whole : History)
+pub record HasWholeRun (job : Job) (ends : Ends) (p : ℕ) (founder : FounderEnd) (whole : History)
     : Type 0 where
   pub legal : IsLegal (limits_at job p) whole
   pub founds : HasFoundedAndLeft founder
@@ -55,7 +55,7 @@ pub record IsRunEnd (job : Job) (ends : Ends) : Type 0 where
   pub tasks : (t : ℕ) (end : TaskEnd) → HasCome ends t end
       → (end.task ≡ t) × (t < length job.graph.tasks) × ((m : Moment) × HasLeftAt job m end)
   pub phasers : (p : ℕ) → p < length job.graph.phasers
-      → (founder : FounderEnd) × (whole : History) × HasWhole job ends p founder whole
+      → (founder : FounderEnd) × (whole : History) × HasWholeRun job ends p founder whole
   -- each task without a parent came
   pub roots : (t : ℕ) → t < length job.graph.tasks → (task_at job.graph t).parent ≡ None
       → (end : TaskEnd) × HasCome ends t end

@@ -45,6 +45,6 @@ IsFaultAt job (place.Task t, i) =
     ≡ true)
 
 -- the place is on a line of the graph
-abbrev pub IsThere : Job → Where → Type 0
-IsThere job (place.Phaser p, n) = p < length job.graph.phasers
-IsThere job (place.Task t, i) = t < length job.graph.tasks
+abbrev pub IsPlaceThere : Job → Where → Type 0
+IsPlaceThere job (place.Phaser p, n) = p < length job.graph.phasers
+IsPlaceThere job (place.Task t, i) = t < length job.graph.tasks

@@ -14,7 +14,7 @@ ghost use Rattle.stream_lists.specs.Lists.{numbers_of, list_of_phaser, taken_fro
 ghost use Rattle.stream_lists.specs.Ranges.{Where, first_too_big, answer_of, are_made, is_out_of_range};
 ghost use Rattle.stream_lists.specs.Spans.{span_in, signalled_by};
 ghost use Rattle.graph_runs.specs.Moments.{Moment, HasRun, IsOver, IsRegistered, started, HasMetNone, AnsweredNone, HasExchanged, value_at, input_at, made_now};
-ghost use Rattle.graph_runs.specs.Settled.{IsReady, Stands, PutsOut, IsFaultAt, IsThere};
+ghost use Rattle.graph_runs.specs.Settled.{IsReady, Stands, PutsOut, IsFaultAt, IsPlaceThere};
 
 /// The phases of a phaser that are complete have the values that its list begins with, and where no
 /// task signals any more they are the whole list. So a wait is answered what the graph's lines say,
@@ -69,7 +69,7 @@ pub fn too_big_is_a_fault()
         → HasExchanged (task_at job.graph t).kind j (suc i) (length (m.taken t 1))
         → is_out_of_range (get_or (made_now job m t j) i (pos 0)) ≡ true
         → IsFaultAt (started job m) (place.Task t, i) }
-    ensures tells { (job : Job) (at : Where) → IsGraph job.graph → IsThere job at
+    ensures tells { (job : Job) (at : Where) → IsGraph job.graph → IsPlaceThere job at
         → IsFaultAt job at → first_too_big job ≢ None }
 {}
 

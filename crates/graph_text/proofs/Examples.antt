@@ -1,13 +1,13 @@
 -- Worked words and lines, computed in the definitions.
 use Rattle.std.proofs.Common.{◌≡◌, [], ◌∷◌, true, false, refl, codes, Some, None, is_some}
 use Rattle.std.specs.List.{list_all, list_any}
-use Rattle.graph_text.specs.Texts.{words_of, are_printable, is_ignored}
+use Rattle.graph_text.specs.Texts.{words_of_line, are_printable, is_ignored}
 use Rattle.phase_base.specs.declared.operation.Op.TheVariants.{Sum}
 use Rattle.phase_base.specs.Numbers.{is_nat, is_int}
 use Rattle.graph_text.specs.Decls.{phaser, task, source, sink, neg, abs, halve, clamp, EndWords}
 use Rattle.graph_text.specs.Versions.{is_heading}
 use Rattle.graph_text.specs.declared.version.Version.TheVariants.{One, Two}
-use Rattle.graph_text.specs.Inside.{line_at, phaser_at, task_at, body_at, source_at, split_at, sink_at, word_at, some_at, after, begins, single_at, operation_at, function_at, function_named, clamp_at, now_at, by_at, until_at, block_number, block_at, ends_at}
+use Rattle.graph_text.specs.Inside.{decl_at, phaser_words_at, task_words_at, body_at, source_at, split_at, sink_at, word_at, some_at, after, begins, single_at, operation_at, function_at, function_named, clamp_at, now_at, by_at, until_at, block_number, block_at, ends_at}
 
 -- ---- words
 
@@ -38,14 +38,14 @@ abbrev no_ends : EndWords
 no_ends = record { by = None; until = None; block = None }
 
 -- `->` may name a file
-arrow_file : line_at One (words_of (codes "source s -> -> X"))
+arrow_file : decl_at One (words_of_line (codes "source s -> -> X"))
     ≡ Some (task (codes "s") (source (codes "->") (codes "X")) no_ends)
-unfolding line_at task_at body_at source_at word_at after ends_at by_at until_at block_at begins
+unfolding decl_at task_words_at body_at source_at word_at after ends_at by_at until_at block_at begins
 arrow_file = refl
 
-halved : line_at One (words_of (codes "phaser X sum 2 single halve"))
+halved : decl_at One (words_of_line (codes "phaser X sum 2 single halve"))
     ≡ Some (phaser (codes "X") Sum (codes "2") (Some halve))
-unfolding line_at phaser_at word_at operation_at single_at begins after function_at function_named
+unfolding decl_at phaser_words_at word_at operation_at single_at begins after function_at function_named
 halved = refl
 
 negated : function_at (codes "neg" ∷ []) ≡ Some (neg, [])
@@ -62,35 +62,35 @@ unfolding function_at function_named clamp_at word_at
 clamped = refl
 
 -- no such operation, and no such function
-mean : line_at One (words_of (codes "phaser X mean 2")) ≡ None
-unfolding line_at phaser_at word_at operation_at
+mean : decl_at One (words_of_line (codes "phaser X mean 2")) ≡ None
+unfolding decl_at phaser_words_at word_at operation_at
 mean = refl
 
-doubled : line_at One (words_of (codes "phaser X sum 2 single double")) ≡ None
-unfolding line_at phaser_at word_at operation_at single_at begins after function_at function_named
+doubled : decl_at One (words_of_line (codes "phaser X sum 2 single double")) ≡ None
+unfolding decl_at phaser_words_at word_at operation_at single_at begins after function_at function_named
 doubled = refl
 
 -- a word of the grammar is no name
-sink_named_at : line_at One (words_of (codes "sink at A")) ≡ None
-unfolding line_at task_at word_at
+sink_named_at : decl_at One (words_of_line (codes "sink at A")) ≡ None
+unfolding decl_at task_words_at word_at
 sink_named_at = refl
 
 -- the ends stand in their order, and nothing after them
-ends_turned : line_at One (words_of (codes "sink o X until 5 by s at 1")) ≡ None
-unfolding line_at task_at body_at sink_at word_at ends_at by_at until_at block_at begins after
+ends_turned : decl_at One (words_of_line (codes "sink o X until 5 by s at 1")) ≡ None
+unfolding decl_at task_words_at body_at sink_at word_at ends_at by_at until_at block_at begins after
 ends_turned = refl
 
-one_more : line_at One (words_of (codes "sink o X until 5 until")) ≡ None
-unfolding line_at task_at body_at sink_at word_at ends_at by_at until_at block_at begins after
+one_more : decl_at One (words_of_line (codes "sink o X until 5 until")) ≡ None
+unfolding decl_at task_words_at body_at sink_at word_at ends_at by_at until_at block_at begins after
 one_more = refl
 
 -- ---- the heading
 
-headed : is_heading (words_of (codes "  graph   2")) ≡ true
+headed : is_heading (words_of_line (codes "  graph   2")) ≡ true
 headed = refl
 
 -- no other version, no other form of the number, and nothing behind it
-unheaded : list_any (λ line. is_heading (words_of line))
+unheaded : list_any (λ line. is_heading (words_of_line line))
     (codes "graph" ∷ codes "graph 1" ∷ codes "graph 02" ∷ codes "graph 2 x" ∷ codes "Graph 2" ∷ [])
     ≡ false
 unheaded = refl
@@ -104,41 +104,41 @@ late_ends = record {
   block = Some (codes "4");
 }
 
-late : line_at Two (words_of (codes "sink late X by out at 2 now until 9 block=4"))
+late : decl_at Two (words_of_line (codes "sink late X by out at 2 now until 9 block=4"))
     ≡ Some (task (codes "late") (sink (codes "X")) late_ends)
-unfolding line_at task_at body_at sink_at word_at ends_at by_at now_at until_at begins after
+unfolding decl_at task_words_at body_at sink_at word_at ends_at by_at now_at until_at begins after
     block_at block_number
 late = refl
 
 -- in the first version the same line is none
-late_in_one : line_at One (words_of (codes "sink late X by out at 2 now until 9 block=4")) ≡ None
-unfolding line_at task_at body_at sink_at word_at ends_at by_at now_at until_at begins after
+late_in_one : decl_at One (words_of_line (codes "sink late X by out at 2 now until 9 block=4")) ≡ None
+unfolding decl_at task_words_at body_at sink_at word_at ends_at by_at now_at until_at begins after
     block_at block_number
 late_in_one = refl
 
-blocked_in_one : line_at One (words_of (codes "source s s.csv -> X block=4")) ≡ None
-unfolding line_at task_at body_at source_at word_at ends_at by_at until_at begins after block_at
+blocked_in_one : decl_at One (words_of_line (codes "source s s.csv -> X block=4")) ≡ None
+unfolding decl_at task_words_at body_at source_at word_at ends_at by_at until_at begins after block_at
 blocked_in_one = refl
 
 -- only a sink with a parent joins now, and `now` stands directly behind the parent
-now_of_a_source : line_at Two (words_of (codes "source s s.csv -> X by p at 2 now")) ≡ None
-unfolding line_at task_at body_at source_at word_at ends_at by_at now_at until_at begins after
+now_of_a_source : decl_at Two (words_of_line (codes "source s s.csv -> X by p at 2 now")) ≡ None
+unfolding decl_at task_words_at body_at source_at word_at ends_at by_at now_at until_at begins after
     block_at block_number
 now_of_a_source = refl
 
-now_alone : line_at Two (words_of (codes "sink o X now")) ≡ None
-unfolding line_at task_at body_at sink_at word_at ends_at by_at until_at begins after
+now_alone : decl_at Two (words_of_line (codes "sink o X now")) ≡ None
+unfolding decl_at task_words_at body_at sink_at word_at ends_at by_at until_at begins after
     block_at block_number
 now_alone = refl
 
-now_behind_until : line_at Two (words_of (codes "sink o X by p at 2 until 5 now")) ≡ None
-unfolding line_at task_at body_at sink_at word_at ends_at by_at now_at until_at begins after
+now_behind_until : decl_at Two (words_of_line (codes "sink o X by p at 2 until 5 now")) ≡ None
+unfolding decl_at task_words_at body_at sink_at word_at ends_at by_at now_at until_at begins after
     block_at block_number
 now_behind_until = refl
 
 -- a block stands last, has a number, and is of no splitter
-block_first : line_at Two (words_of (codes "sink o X block=4 until 5")) ≡ None
-unfolding line_at task_at body_at sink_at word_at ends_at by_at until_at begins after block_at
+block_first : decl_at Two (words_of_line (codes "sink o X block=4 until 5")) ≡ None
+unfolding decl_at task_words_at body_at sink_at word_at ends_at by_at until_at begins after block_at
 block_first = refl
 
 blocks : list_all (λ word. is_some (block_number word))
@@ -152,18 +152,18 @@ no_blocks : list_any (λ word. is_some (block_number word))
 unfolding block_number
 no_blocks = refl
 
-splitter_with_a_block : line_at Two (words_of (codes "split d X -> A B block=2")) ≡ None
-unfolding line_at task_at body_at split_at word_at some_at ends_at by_at until_at begins after
+splitter_with_a_block : decl_at Two (words_of_line (codes "split d X -> A B block=2")) ≡ None
+unfolding decl_at task_words_at body_at split_at word_at some_at ends_at by_at until_at begins after
     block_at
 splitter_with_a_block = refl
 
 -- the words of the second version may be names
-named_now : line_at Two (words_of (codes "sink now block by graph at 1"))
+named_now : decl_at Two (words_of_line (codes "sink now block by graph at 1"))
     ≡ Some (task (codes "now") (sink (codes "block")) (record {
       by = Some (record { parent = codes "graph"; at = codes "1"; now = false });
       until = None;
       block = None;
     }))
-unfolding line_at task_at body_at sink_at word_at ends_at by_at now_at until_at begins after
+unfolding decl_at task_words_at body_at sink_at word_at ends_at by_at now_at until_at begins after
     block_at
 named_now = refl

@@ -1,4 +1,4 @@
--- Reading a line and spelling it agree: what is spelled is read so.
+-- Reading a line and decl_spelling it agree: what is spelled is read so.
 use Rattle.std.proofs.Common.{suc, ◌≡◌, ◌+◌, ◌==◌, ◌&&◌, not, nat_le, Bool, true, false, List, [], ◌∷◌, ◌++◌, length, refl, ap, sym, ◌∙◌, arith, Option, Some, None, codes, IfSome, IsTrue, ne_eqb, append-nil, append_assoc}
 use Rattle.std.specs.List.{list_all, prefix_len}
 use Rattle.std.proofs.Math.Seq.{take-append_seam, drop-append_seam}
@@ -11,10 +11,10 @@ use Rattle.phase_base.specs.OperationWords.{operation_word}
 use Rattle.phase_base.specs.declared.operation.Op.{Op}
 use Rattle.phase_base.specs.declared.operation.Op.TheVariants.{Sum, Product, Least, Greatest, Any}
 use Rattle.phase_base.specs.Numbers.{is_nat, is_int}
-use Rattle.graph_text.specs.Decls.{Decl, phaser, task, FunctionWords, neg, abs, halve, clamp, ByWords, EndWords, BodyWords, source, fir, split, join, peer, sink, spelling, function_words, single_words, now_words, by_words, until_words, block_words, end_words, kind_word, body_words, IsFunction, IsBody, IsBy, MayHaveBy, AreEnds, AreSome, IsWellFormed, may_have_parent, may_join_now, may_have_blocks, Spells}
+use Rattle.graph_text.specs.Decls.{Decl, phaser, task, FunctionWords, neg, abs, halve, clamp, ByWords, EndWords, BodyWords, source, fir, split, join, peer, sink, decl_spelling, function_words, single_words, now_words, by_words, until_words, block_words, end_words, body_word, body_words, IsFunction, IsBody, IsBy, MayHaveBy, AreEnds, AreSome, IsWellFormed, may_have_parent, may_join_now, may_have_blocks, Spells}
 use Rattle.graph_text.specs.declared.version.Version.{Version}
 use Rattle.graph_text.specs.declared.version.Version.TheVariants.{One, Two}
-use Rattle.graph_text.specs.Inside.{word_at, after, begins, some_at, operation_at, clamp_at, function_named, function_at, single_at, now_at, by_at, until_at, block_number, block_at, ends_at, source_at, fir_at, split_at, join_at, peer_at, sink_at, body_at, phaser_at, task_at, line_at}
+use Rattle.graph_text.specs.Inside.{word_at, after, begins, some_at, operation_at, clamp_at, function_named, function_at, single_at, now_at, by_at, until_at, block_number, block_at, ends_at, source_at, fir_at, split_at, join_at, peer_at, sink_at, body_at, phaser_words_at, task_words_at, decl_at}
 
 -- ---- words
 
@@ -159,7 +159,7 @@ no_name steps = at (length (codes "block=" ++ steps) == 0)
     at false false = refl
 
 body_again : (body : BodyWords) (ws : List Word) → IsBody body → Stops is_int ws → Stops is_name ws
-    → body_at (kind_word body) (body_words body ++ ws) ≡ Some (body, ws)
+    → body_at (body_word body) (body_words body ++ ws) ≡ Some (body, ws)
 unfolding body_at source_at fir_at split_at join_at peer_at sink_at after word_at
 body_again (source file output) ws is ints names = rw (is.0, is.1) refl
 body_again (fir input output shift taps) ws is ints names =
@@ -176,7 +176,7 @@ body_again (peer input exchange output factor) ws is ints names =
     rw (is.0, is.1, is.2, is.3) refl
 body_again (sink input) ws is ints names = rw is refl
 
-is_no_phaser : (body : BodyWords) → bytes_eq (kind_word body) (codes "phaser") ≡ false
+is_no_phaser : (body : BodyWords) → bytes_eq (body_word body) (codes "phaser") ≡ false
 is_no_phaser (source file output) = refl
 is_no_phaser (fir input output shift taps) = refl
 is_no_phaser (split input outputs) = refl
@@ -186,8 +186,8 @@ is_no_phaser (sink input) = refl
 
 -- what is spelled is read so
 pub line_again : (version : Version) (d : Decl) → IsWellFormed version d
-    → line_at version (spelling d) ≡ Some d
-unfolding line_at phaser_at task_at word_at
+    → decl_at version (decl_spelling d) ≡ Some d
+unfolding decl_at phaser_words_at task_words_at word_at
 line_again version (phaser name operation bound single) is =
     rw (
       is.0,
@@ -249,5 +249,5 @@ pub one_declaration : (version other : Version) (words : List Word) (d e : Decl)
 one_declaration version other words d e first second =
     same_Some d e
     (sym (line_again Two d (well_formed_later version d first.well_formed))
-    ∙ ap (line_at Two) (sym first.spelled ∙ second.spelled)
+    ∙ ap (decl_at Two) (sym first.spelled ∙ second.spelled)
     ∙ line_again Two e (well_formed_later other e second.well_formed))

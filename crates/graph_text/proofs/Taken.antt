@@ -12,10 +12,10 @@ use Rattle.phase_base.specs.OperationWords.{operation_of, operation_word}
 use Rattle.phase_base.specs.declared.operation.Op.{Op}
 use Rattle.phase_base.proofs.OperationWords.{operation-read}
 use Rattle.phase_base.specs.Numbers.{is_nat, is_int}
-use Rattle.graph_text.specs.Decls.{Decl, phaser, task, FunctionWords, neg, abs, halve, ByWords, EndWords, BodyWords, function_words, single_words, now_words, by_words, until_words, block_words, end_words, kind_word, body_words, IsFunction, IsBody, IsBy, AreEnds, AreSome, may_have_parent, may_join_now, may_have_blocks, Spells}
+use Rattle.graph_text.specs.Decls.{Decl, phaser, task, FunctionWords, neg, abs, halve, ByWords, EndWords, BodyWords, function_words, single_words, now_words, by_words, until_words, block_words, end_words, body_word, body_words, IsFunction, IsBody, IsBy, AreEnds, AreSome, may_have_parent, may_join_now, may_have_blocks, Spells}
 use Rattle.graph_text.specs.declared.version.Version.{Version}
 use Rattle.std.proofs.lemmas.Bool.{and_parts}
-use Rattle.graph_text.specs.Inside.{Found, ◌>>=◌, word_at, after, begins, some_at, operation_at, clamp_at, function_named, function_at, single_at, now_at, by_with, by_at, until_at, block_number, block_at, ends_at, source_at, fir_at, split_at, join_at, peer_at, sink_at, body_at, phaser_at, task_at, line_at}
+use Rattle.graph_text.specs.Inside.{Found, ◌>>=◌, word_at, after, begins, some_at, operation_at, clamp_at, function_named, function_at, single_at, now_at, by_with, by_at, until_at, block_number, block_at, ends_at, source_at, fir_at, split_at, join_at, peer_at, sink_at, body_at, phaser_words_at, task_words_at, decl_at}
 
 -- ---- words
 
@@ -285,7 +285,7 @@ ends_takes version body ws ends e =
 -- the words spell the body that was read, before the words that are left
 TakesBody : Word → List Word → Option (Found BodyWords) → Type 0
 TakesBody kind ws o = IfSome o (λ x.
-    IsBody x.0 × (kind ≡ kind_word x.0) × (ws ≡ body_words x.0 ++ x.1))
+    IsBody x.0 × (kind ≡ body_word x.0) × (ws ≡ body_words x.0 ++ x.1))
 
 source_takes : (ws : List Word) (x : Found BodyWords) → source_at ws ≡ Some x
     → TakesBody (codes "source") ws (Some x)
@@ -421,9 +421,9 @@ body_takes kind ws x e =
 
 -- ---- a line
 
-phaser_takes : (version : Version) (ws : List Word) (d : Decl) → phaser_at ws ≡ Some d
+phaser_takes : (version : Version) (ws : List Word) (d : Decl) → phaser_words_at ws ≡ Some d
     → Spells version (codes "phaser" ∷ ws) d
-unfolding phaser_at
+unfolding phaser_words_at
 phaser_takes version ws d e =
     let n = steps _ (word_at is_name ws) d e in
     let o = steps _ (operation_at n.0.1) d n.2 in
@@ -444,8 +444,8 @@ phaser_takes version ws d e =
     })
 
 task_takes : (version : Version) (kind : Word) (ws : List Word) (d : Decl)
-    → task_at version kind ws ≡ Some d → Spells version (kind ∷ ws) d
-unfolding task_at TakesBody
+    → task_words_at version kind ws ≡ Some d → Spells version (kind ∷ ws) d
+unfolding task_words_at TakesBody
 task_takes version kind ws d e =
     let n = steps _ (word_at is_name ws) d e in
     let b = steps _ (body_at kind n.0.1) d n.2 in
@@ -455,19 +455,19 @@ task_takes version kind ws d e =
     let ends = ends_takes version b.0.0 b.0.1 s.0 s.1 in
     subst (Spells version (kind ∷ ws)) (same_Some (task n.0.0 b.0.0 s.0) d s.2) (record {
       well_formed = (name.0, body.0, ends.0);
-      spelled = ap (λ k. k ∷ ws) body.1 ∙ ap (λ ws. kind_word b.0.0 ∷ ws)
+      spelled = ap (λ k. k ∷ ws) body.1 ∙ ap (λ ws. body_word b.0.0 ∷ ws)
           (followed n.0.0 name.1 (body.2 ∙ ap (λ ws. body_words b.0.0 ++ ws) ends.1));
     })
 
 -- what is read is spelled so
-pub line_takes : (version : Version) (ws : List Word) (d : Decl) → line_at version ws ≡ Some d
+pub line_takes : (version : Version) (ws : List Word) (d : Decl) → decl_at version ws ≡ Some d
     → Spells version ws d
-unfolding line_at
+unfolding decl_at
 line_takes version [] d e = absurd (cc)
 line_takes version (kind ∷ ws) d e = at (bytes_eq kind (codes "phaser")) refl e
   where
     at : (is : Bool) → bytes_eq kind (codes "phaser") ≡ is
-        → (if is then phaser_at ws else task_at version kind ws) ≡ Some d
+        → (if is then phaser_words_at ws else task_words_at version kind ws) ≡ Some d
         → Spells version (kind ∷ ws) d
     at true is found =
         rw (same kind (codes "phaser") is) (phaser_takes version ws d found)

@@ -3,7 +3,7 @@
 use Rattle.std.specs.Prelude.{ℕ, ◌≡◌, ◌≤◌, Bool, true, false, List, [], ◌∷◌, ◌++◌, length, Option, Some, None, IsTrue, IfSome, codes, if◌then◌else◌}
 use Rattle.std.specs.List.{list_all}
 use Rattle.phase_base.specs.Words.{Word, is_name, is_file}
-use Rattle.graph_text.specs.Texts.{words_of, are_printable}
+use Rattle.graph_text.specs.Texts.{words_of_line, are_printable}
 use Rattle.phase_base.specs.OperationWords.{operation_word}
 use Rattle.phase_base.specs.declared.operation.Op.{Op}
 use Rattle.phase_base.specs.Numbers.{is_nat, is_int}
@@ -84,13 +84,13 @@ abbrev pub end_words : EndWords → List Word
 end_words ends = by_words ends.by ++ (until_words ends.until ++ block_words ends.block)
 
 -- the first word of the line
-abbrev pub kind_word : BodyWords → Word
-kind_word (source file output) = codes "source"
-kind_word (fir input output shift taps) = codes "fir"
-kind_word (split input outputs) = codes "split"
-kind_word (join inputs output) = codes "join"
-kind_word (peer input exchange output factor) = codes "peer"
-kind_word (sink input) = codes "sink"
+abbrev pub body_word : BodyWords → Word
+body_word (source file output) = codes "source"
+body_word (fir input output shift taps) = codes "fir"
+body_word (split input outputs) = codes "split"
+body_word (join inputs output) = codes "join"
+body_word (peer input exchange output factor) = codes "peer"
+body_word (sink input) = codes "sink"
 
 -- the words between the name and the ends
 abbrev pub body_words : BodyWords → List Word
@@ -104,10 +104,10 @@ body_words (peer input exchange output factor) =
 body_words (sink input) = input ∷ []
 
 -- the words of the line
-abbrev pub spelling : Decl → List Word
-spelling (phaser name operation bound single) =
+abbrev pub decl_spelling : Decl → List Word
+decl_spelling (phaser name operation bound single) =
     codes "phaser" ∷ name ∷ operation_word operation ∷ bound ∷ single_words single
-spelling (task name body ends) = kind_word body ∷ name ∷ (body_words body ++ end_words ends)
+decl_spelling (task name body ends) = body_word body ∷ name ∷ (body_words body ++ end_words ends)
 
 -- ---- which words may stand where
 
@@ -188,9 +188,9 @@ IsWellFormed version (task name body ends) =
 -- the words spell what is declared, in a text of this version
 pub record Spells (version : Version) (words : List Word) (d : Decl) : Type 0 where
   pub well_formed : IsWellFormed version d
-  pub spelled : words ≡ spelling d
+  pub spelled : words ≡ decl_spelling d
 
 -- the line is one of the grammar of this version, and declares d
 pub record Declares (version : Version) (line : List ℕ) (d : Decl) : Type 0 where
   pub printable : are_printable line ≡ true
-  pub spells : Spells version (words_of line) d
+  pub spells : Spells version (words_of_line line) d

@@ -215,8 +215,8 @@ body_at kind words =
 -- ---- a line
 
 -- the line of a phaser, behind its first word
-unfoldable pub phaser_at : List Word → Option Decl
-phaser_at words = do
+unfoldable pub phaser_words_at : List Word → Option Decl
+phaser_words_at words = do
   name ← word_at is_name words
   operation ← operation_at name.1
   bound ← word_at is_nat operation.1
@@ -224,18 +224,18 @@ phaser_at words = do
   if length single.1 == 0 then Some (phaser name.0 operation.0 bound.0 single.0) else None
 
 -- the line of a task, by its first word
-unfoldable pub task_at : Version → Word → List Word → Option Decl
-task_at version kind words = do
+unfoldable pub task_words_at : Version → Word → List Word → Option Decl
+task_words_at version kind words = do
   name ← word_at is_name words
   body ← body_at kind name.1
   ends ← ends_at version body.0 body.1
   Some (task name.0 body.0 ends)
 
 -- a line
-unfoldable pub line_at : Version → List Word → Option Decl
-line_at version [] = None
-line_at version (kind ∷ words) =
-    if bytes_eq kind (codes "phaser") then phaser_at words else task_at version kind words
+unfoldable pub decl_at : Version → List Word → Option Decl
+decl_at version [] = None
+decl_at version (kind ∷ words) =
+    if bytes_eq kind (codes "phaser") then phaser_words_at words else task_words_at version kind words
 
 -- ---- what was read, with the words after it
 

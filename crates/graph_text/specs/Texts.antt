@@ -22,8 +22,8 @@ abbrev pub is_empty : List ℕ → Bool
 is_empty bytes = length bytes == 0
 
 -- what stands between blanks
-abbrev pub words_of : List ℕ → List Word
-words_of line = filter (λ word. not (is_empty word)) (slice_split is_blank line)
+abbrev pub words_of_line : List ℕ → List Word
+words_of_line line = filter (λ word. not (is_empty word)) (slice_split is_blank line)
 
 -- a blank, or a byte of a word
 abbrev pub is_printable : ℕ → Bool
@@ -40,4 +40,4 @@ begins_comment (word ∷ words) = slice_index word 0 == 35
 
 -- whether a line has no words, or is a comment
 abbrev pub is_ignored : List ℕ → Bool
-is_ignored line = begins_comment (words_of line)
+is_ignored line = begins_comment (words_of_line line)

@@ -5,7 +5,7 @@ ghost use Rattle.phase_base.specs.Words.{is_name as is_name_word, is_file as is_
 ghost use Rattle.phase_base.specs.Numbers.{is_nat as is_nat_word, is_int as is_int_word};
 ghost use Rattle.graph_text.specs.Decls.{Decl, Spells, may_have_parent, may_join_now, may_have_blocks};
 ghost use Rattle.std.specs.List.{prefix_len};
-ghost use Rattle.graph_text.specs.Inside.{found_word, found_words, found_operation, found_function, found_single, found_now, found_by, found_until, found_body, word_at, after, begins, some_at, operation_at, clamp_at, function_named, function_at, single_at, now_at, by_at, until_at, block_number, block_at, ends_at, source_at, fir_at, split_at, join_at, peer_at, sink_at, body_at, phaser_at, task_at, line_at};
+ghost use Rattle.graph_text.specs.Inside.{found_word, found_words, found_operation, found_function, found_single, found_now, found_by, found_until, found_body, word_at, after, begins, some_at, operation_at, clamp_at, function_named, function_at, single_at, now_at, by_at, until_at, block_number, block_at, ends_at, source_at, fir_at, split_at, join_at, peer_at, sink_at, body_at, phaser_words_at, task_words_at, decl_at};
 ghost use Rattle.graph_text.specs.Lines.{word_of, body_of, ends_of, decl_of};
 
 use crate::line::{Body, By, Ends, Function, Line, PhaserWords, TaskWords};
@@ -406,9 +406,9 @@ fn may_have_blocks(version: Version, body: Body<'_, '_>) -> bool
 // ---- a line
 
 /// What the words after `phaser` declare.
-#[tactic(auto, unfolding(crate::specs::Inside::phaser_at))]
+#[tactic(auto, unfolding(crate::specs::Inside::phaser_words_at))]
 fn phaser_at<'w, 'a>(words: &'w [&'a [u8]]) -> Option<Line<'w, 'a>>
-    ensures { option_map decl_of result ≡ phaser_at (plain words.now) }
+    ensures { option_map decl_of result ≡ phaser_words_at (plain words.now) }
 {
     let (name, rest) = name_at(words)?;
     let (operation, rest) = operation_at(rest)?;
@@ -427,9 +427,9 @@ fn phaser_at<'w, 'a>(words: &'w [&'a [u8]]) -> Option<Line<'w, 'a>>
 }
 
 /// What the words after the kind of a task declare.
-#[tactic(auto, unfolding(crate::specs::Inside::task_at))]
+#[tactic(auto, unfolding(crate::specs::Inside::task_words_at))]
 fn task_at<'w, 'a>(version: Version, kind: &[u8], words: &'w [&'a [u8]]) -> Option<Line<'w, 'a>>
-    ensures { option_map decl_of result ≡ task_at version kind.now (plain words.now) }
+    ensures { option_map decl_of result ≡ task_words_at version kind.now (plain words.now) }
 {
     let (name, rest) = name_at(words)?;
     let (body, rest) = body_at(kind, rest)?;
@@ -438,9 +438,9 @@ fn task_at<'w, 'a>(version: Version, kind: &[u8], words: &'w [&'a [u8]]) -> Opti
 }
 
 /// What the words declare, read one after another.
-#[tactic(auto, unfolding(crate::specs::Inside::line_at))]
+#[tactic(auto, unfolding(crate::specs::Inside::decl_at))]
 fn read<'w, 'a>(words: &'w [&'a [u8]], version: Version) -> Option<Line<'w, 'a>>
-    ensures { option_map decl_of result ≡ line_at version (plain words.now) }
+    ensures { option_map decl_of result ≡ decl_at version (plain words.now) }
 {
     match words {
         [] => None,

@@ -1,7 +1,7 @@
 //! The lines of a text, and the words of a line.
 ghost use Rattle.std.specs.Prelude.{◌≡◌, IfOk, map};
 ghost use Rattle.std.specs.List.{slice_split};
-ghost use Rattle.graph_text.specs.Texts.{is_line_feed, is_blank, words_of, are_printable};
+ghost use Rattle.graph_text.specs.Texts.{is_line_feed, is_blank, words_of_line, are_printable};
 ghost use Rattle.graph_text.specs.Texts.{begins_comment};
 ghost use Rattle.graph_text.specs.Plain.{plain};
 
@@ -16,7 +16,7 @@ pub fn lines_of(alloc: Global, text: &[u8]) -> Result<Vec<&[u8]>, AllocError>
 
 /// Returns the words of a line. It takes memory for their places.
 pub fn words_of(alloc: Global, line: &[u8]) -> Result<Vec<&[u8]>, AllocError>
-    ensures { IfOk result (λ words. plain words.items ≡ words_of line.now) }
+    ensures { IfOk result (λ words. plain words.items ≡ words_of_line line.now) }
 {
     let pieces = blank_pieces(alloc, line)?;
     let mut words = Vec::new(alloc);

@@ -14,7 +14,7 @@ use Rattle.stream_eval.proofs.Made.{ranged-err, ranged-ok}
 use Rattle.stream_eval.proofs.stream_lists_lemmas.Growing.{map-same}
 use Rattle.stream_eval.proofs.stream_lists_lemmas.InRange.{IsSend-in_range}
 use Rattle.stream_eval.proofs.stream_lists_lemmas.stream_filters_lemmas.Weighted.{weighted-same}
-use Rattle.phase_c.specs.Filtered.{AreOfFilter, Filters, FiltersAll, FiltersTo, Shows, first_outputs, output_behind}
+use Rattle.phase_c.specs.Filtered.{AreOfFilter, Filters, FiltersAll, FiltersTo, ShowsLast, first_outputs, output_behind}
 use Rattle.phase_c.proofs.Cuts.{AreSends-append}
 
 -- ---- one sample after the other
@@ -151,7 +151,7 @@ shows_behind m xs ys block same j less = by (nat_lt j (length block)) refl
 
 -- the output behind a state is the one behind the samples that it shows
 output_same : (taps : List ℤ) (shift : ℕ) (state before block : List ℤ) (n : ℕ)
-    → length state + 1 ≡ length taps → Shows state before → n < length block
+    → length state + 1 ≡ length taps → ShowsLast state before → n < length block
     → output_behind taps shift state block n ≡ output_behind taps shift before block n
 output_same taps shift state before block n long shows less =
     let some : length (take (n + 1) block) ≡ n + 1 =
@@ -163,7 +163,7 @@ output_same taps shift state before block n long shows less =
 
 -- so are the first ones
 outputs_same : (taps : List ℤ) (shift : ℕ) (state before block : List ℤ) (n : ℕ)
-    → length state + 1 ≡ length taps → Shows state before → n ≤ length block
+    → length state + 1 ≡ length taps → ShowsLast state before → n ≤ length block
     → first_outputs taps shift state block n ≡ first_outputs taps shift before block n
 outputs_same taps shift state before block n long shows few =
     map-same (output_behind taps shift state block) (output_behind taps shift before block) 0 n
@@ -182,8 +182,8 @@ drop_shows samples n j less =
     ∙ sym (get_or-reverse samples j (pos 0) (omega (arith, less)))))
 
 -- a state that keeps the last samples shows those of the block too
-keeps_shows : (state before block new : List ℤ) → Shows state before
-    → new ≡ drop (length block) (state ++ block) → Shows new (before ++ block)
+keeps_shows : (state before block new : List ℤ) → ShowsLast state before
+    → new ≡ drop (length block) (state ++ block) → ShowsLast new (before ++ block)
 keeps_shows state before block new shows is j less =
     let all : length (state ++ block) ≡ length state + length block = length-append state block in
     let short : length new ≡ length (state ++ block) - length block =
@@ -204,7 +204,7 @@ drop_past state block le =
 
 -- what a filter with these taps gives behind a state are the outputs behind what the state shows
 outputs_are : (taps other : List ℤ) (shift moved : ℕ) (state before block : List ℤ) (n : ℕ)
-    → other ≡ taps → moved ≡ shift → length state + 1 ≡ length taps → Shows state before
+    → other ≡ taps → moved ≡ shift → length state + 1 ≡ length taps → ShowsLast state before
     → n ≤ length block
     → first_outputs other moved state block n ≡ first_outputs taps shift before block n
 outputs_are taps other shift moved state before block n same unmoved long shows few =
@@ -214,7 +214,7 @@ outputs_are taps other shift moved state before block n same unmoved long shows 
 
 -- an output behind the state that is out of range is so behind what the state shows
 too_big_is : (taps other : List ℤ) (shift moved : ℕ) (state before block : List ℤ) (n : ℕ)
-    → other ≡ taps → moved ≡ shift → length state + 1 ≡ length taps → Shows state before
+    → other ≡ taps → moved ≡ shift → length state + 1 ≡ length taps → ShowsLast state before
     → n < length block → ¬ (IsSend (output_behind other moved state block n))
     → ¬ (IsSend (output_behind taps shift before block n))
 too_big_is taps other shift moved state before block n same unmoved long shows less big is =

@@ -6,12 +6,12 @@ use Rattle.stream_eval.specs.stream_lists.Lists.{lines_of, sinks_of, start_in}
 use Rattle.stream_eval.specs.stream_lists.Ranges.{Fits}
 
 -- the values of each sink, in the order of the lines
-abbrev pub values_of : Job → List (List ℤ)
-values_of job = map (λ line. line.1) (lines_of job)
+abbrev pub values_of_sinks : Job → List (List ℤ)
+values_of_sinks job = map (λ line. line.1) (lines_of job)
 
 -- how many values each sink has
 abbrev pub counts_of : Job → List ℕ
-counts_of job = map length (values_of job)
+counts_of job = map length (values_of_sinks job)
 
 -- the number that tells where a sink begins: its start, or -1 where it has none
 abbrev pub start_number : Option ℕ → ℤ
@@ -24,7 +24,7 @@ starts_of job = map (λ t. start_number (start_in job t)) (sinks_of job)
 
 -- the values of the sinks, one sink behind the other
 abbrev pub all_values : Job → List ℤ
-all_values job = flat_map (λ values. values) (values_of job)
+all_values job = flat_map (λ values. values) (values_of_sinks job)
 
 -- it is told how many values each sink has, and where each begins
 pub record TellsSinks (job : Job) (sinks : List ℕ) (starts : List ℤ) : Type 0 where
@@ -32,7 +32,7 @@ pub record TellsSinks (job : Job) (sinks : List ℕ) (starts : List ℤ) : Type 
   pub starts_are : starts ≡ starts_of job
 
 -- every value is in range, and the values of the sinks were written; what stands behind them stays
-pub record Evaluates (job : Job) (old new : List ℤ) (sinks : List ℕ) (starts : List ℤ)
+pub record WritesValues (job : Job) (old new : List ℤ) (sinks : List ℕ) (starts : List ℤ)
     : Type 0 where
   pub fits : Fits job
   pub told : TellsSinks job sinks starts

@@ -19,8 +19,8 @@ first_outputs taps shift before block n =
 
 -- a state of so many taps less one shows the samples so far: it has the last ones, and 0 before the
 -- first
-abbrev pub Shows : List ℤ → List ℤ → Type 0
-Shows state samples = (j : ℕ) → j < length state → back state j ≡ back samples j
+abbrev pub ShowsLast : List ℤ → List ℤ → Type 0
+ShowsLast state samples = (j : ℕ) → j < length state → back state j ≡ back samples j
 
 -- ---- a block
 
@@ -35,7 +35,7 @@ pub record Filters (taps : List ℤ) (shift : ℕ) (state block old new : List �
     : Type 0 where
   pub of_filter : AreOfFilter taps shift state
   pub room : length block ≤ length old
-  pub written : (before : List ℤ) → Shows state before
+  pub written : (before : List ℤ) → ShowsLast state before
       → take count new ≡ first_outputs taps shift before block count
   pub fits : AreSends (take count new)
   pub behind : drop count new ≡ drop count old
@@ -44,7 +44,7 @@ pub record Filters (taps : List ℤ) (shift : ℕ) (state block old new : List �
 pub record FiltersAll (taps : List ℤ) (shift : ℕ) (old_state new_state block old new : List ℤ)
     (done : ℕ) : Type 0 where
   pub filters : Filters taps shift old_state block old new (length block)
-  pub shows : (before : List ℤ) → Shows old_state before → Shows new_state (before ++ block)
+  pub shows : (before : List ℤ) → ShowsLast old_state before → ShowsLast new_state (before ++ block)
   pub long : length new_state ≡ length old_state
   pub done_is : done ≡ length block
 
@@ -53,7 +53,7 @@ pub record FiltersTo (taps : List ℤ) (shift : ℕ) (state block old new : List
     : Type 0 where
   pub filters : Filters taps shift state block old new done
   pub less : done < length block
-  pub too_big : (before : List ℤ) → Shows state before
+  pub too_big : (before : List ℤ) → ShowsLast state before
       → ¬ (IsSend (output_behind taps shift before block done))
 
 -- ---- refusals

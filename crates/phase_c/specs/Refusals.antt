@@ -12,14 +12,14 @@ use Rattle.stream_eval.specs.stream_lists.Jobs.{Job}
 use Rattle.stream_eval.specs.stream_lists.Meetings.{meeting_line}
 use Rattle.stream_eval.specs.stream_lists.Ranges.{first_too_big}
 use Rattle.phase_c.specs.Lent.{HasLengths, IsFirstNoSample, IsJobLent}
-use Rattle.phase_c.specs.Evaluations.{Evaluates, TellsSinks, counts_of}
+use Rattle.phase_c.specs.Evaluations.{WritesValues, TellsSinks, counts_of}
 use Rattle.phase_c.specs.declared.refusal.Refusal.{Refusal}
 use Rattle.phase_c.specs.declared.refusal.Refusal.TheVariants as refusal
 
 -- why a text gives no graph, as the refusal of a call
-abbrev pub of_graph : GraphRefusal → Refusal
-of_graph (graph.Fault found) = refusal.Graph found
-of_graph graph.OutOfMemory = refusal.OutOfMemory
+abbrev pub refusal_of_graph : GraphRefusal → Refusal
+refusal_of_graph (graph.Fault found) = refusal.Graph found
+refusal_of_graph graph.OutOfMemory = refusal.OutOfMemory
 
 -- the text has this fault, or memory ran out
 abbrev pub RefusesText : List ℕ → Refusal → Type 0
@@ -48,7 +48,7 @@ pub record HasNoSample (text : List ℕ) (samples : List ℤ) (counts : List ℕ
   pub first : IsFirstNoSample samples at
 
 -- the task of this line is the first that meets one of an earlier line
-pub record MeetsAt (text : List ℕ) (samples : List ℤ) (counts : List ℕ) (sinks starts line : ℕ)
+pub record TextMeetsAt (text : List ℕ) (samples : List ℤ) (counts : List ℕ) (sinks starts line : ℕ)
     : Type 0 where
   pub job : Job
   pub lent : IsJobLent text samples counts sinks starts job
@@ -59,7 +59,7 @@ pub record MeetsAt (text : List ℕ) (samples : List ℤ) (counts : List ℕ) (s
 abbrev pub RefusesLent : List ℕ → List ℤ → List ℕ → ℕ → ℕ → Refusal → Type 0
 RefusesLent text samples counts sinks starts (refusal.Graph found) =
     ReadsText (text_lines text) (Err found)
-    ⊎ ((found.kind ≡ AnyMeets) × MeetsAt text samples counts sinks starts found.line)
+    ⊎ ((found.kind ≡ AnyMeets) × TextMeetsAt text samples counts sinks starts found.line)
 RefusesLent text samples counts sinks starts refusal.Counts =
     IsMiscounted text samples counts sinks starts
 RefusesLent text samples counts sinks starts (refusal.Sample at) =
@@ -76,7 +76,7 @@ pub record HasNoRoom (job : Job) (room : ℕ) (sinks : List ℕ) (starts : List 
   pub short : room < sum (counts_of job)
 
 -- there is room, and this is the first value that is out of range
-pub record IsTooBig (job : Job) (room : ℕ) (sinks : List ℕ) (starts : List ℤ) (place : Place)
+pub record IsFirstTooBig (job : Job) (room : ℕ) (sinks : List ℕ) (starts : List ℤ) (place : Place)
     (n : ℕ) : Type 0 where
   pub told : TellsSinks job sinks starts
   pub enough : sum (counts_of job) ≤ room
@@ -85,7 +85,7 @@ pub record IsTooBig (job : Job) (room : ℕ) (sinks : List ℕ) (starts : List �
 -- the values of a job were not written: they have no room, one is out of range, or memory ran out
 abbrev pub RefusesJob : Job → ℕ → List ℕ → List ℤ → Refusal → Type 0
 RefusesJob job room sinks starts refusal.Room = HasNoRoom job room sinks starts
-RefusesJob job room sinks starts (refusal.TooBig place n) = IsTooBig job room sinks starts place n
+RefusesJob job room sinks starts (refusal.TooBig place n) = IsFirstTooBig job room sinks starts place n
 RefusesJob job room sinks starts refusal.OutOfMemory = Unit {0}
 RefusesJob job room sinks starts (refusal.Graph found) = ⊥
 RefusesJob job room sinks starts refusal.Counts = ⊥
@@ -111,9 +111,9 @@ pub record IsRefusedJob (text : List ℕ) (samples : List ℤ) (counts : List �
   pub refuses : RefusesJob job room sinks starts why
 
 -- why an evaluation has no answer
-abbrev pub Refuses : List ℕ → List ℤ → List ℕ → ℕ → List ℕ → List ℕ → List ℤ → List ℤ → Refusal
+abbrev pub RefusesEval : List ℕ → List ℤ → List ℕ → ℕ → List ℕ → List ℕ → List ℤ → List ℤ → Refusal
     → Type 0
-Refuses text samples counts room old_sinks new_sinks old_starts new_starts why =
+RefusesEval text samples counts room old_sinks new_sinks old_starts new_starts why =
     IsRefusedLent text samples counts old_sinks new_sinks old_starts new_starts why
     ⊎ IsRefusedJob text samples counts room new_sinks new_starts why
 
@@ -125,4 +125,4 @@ pub record IsDone (text : List ℕ) (samples : List ℤ) (counts : List ℕ) (ol
   pub lent : IsJobLent text samples counts (length sinks) (length starts) job
   pub least : job.starts ≡ []
   pub apart : meeting_line job ≡ None
-  pub evaluates : Evaluates job old new sinks starts
+  pub evaluates : WritesValues job old new sinks starts

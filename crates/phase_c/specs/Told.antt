@@ -8,7 +8,7 @@ use Rattle.graph_lang.specs.declared.fault.FaultKind.{FaultKind}
 use Rattle.graph_lang.specs.declared.fault.FaultKind.TheVariants.{Syntax, Limit, Twice, Unknown, OutBeforeIn, BadParent, NotHeld, OverBound, AnyMeets}
 use Rattle.phase_c.specs.Lent.{sinks_in}
 use Rattle.phase_c.specs.Names.{RefusesNames}
-use Rattle.phase_c.specs.Refusals.{Refuses, RefusesText}
+use Rattle.phase_c.specs.Refusals.{RefusesEval, RefusesText}
 use Rattle.phase_c.specs.declared.refusal.Refusal.{Refusal}
 use Rattle.phase_c.specs.declared.refusal.Refusal.TheVariants as refusal
 use Rattle.phase_c.specs.declared.fault.PhaseFault.{PhaseFault}
@@ -57,30 +57,30 @@ fault_of refusal.Room = no_fault
 fault_of refusal.OutOfMemory = no_fault
 
 -- the status and what is told beside it are those of the refusal
-pub record Says (why : Refusal) (status : ℤ) (fault : PhaseFault) : Type 0 where
+pub record IsToldAs (why : Refusal) (status : ℤ) (fault : PhaseFault) : Type 0 where
   pub status_is : status ≡ status_of why
   pub fault_is : fault ≡ fault_of why
 
 -- an evaluation was refused: it is told why
-pub record EvalStops (text : List ℕ) (samples : List ℤ) (counts : List ℕ) (room : ℕ)
+pub record EvalIsRefused (text : List ℕ) (samples : List ℤ) (counts : List ℕ) (room : ℕ)
     (old_sinks new_sinks : List ℕ) (old_starts new_starts : List ℤ) (status : ℤ)
     (fault : PhaseFault) : Type 0 where
   pub why : Refusal
-  pub refuses : Refuses text samples counts room old_sinks new_sinks old_starts new_starts why
-  pub says : Says why status fault
+  pub refuses : RefusesEval text samples counts room old_sinks new_sinks old_starts new_starts why
+  pub says : IsToldAs why status fault
 
 -- a check was refused: it is told why
-pub record CheckStops (text : List ℕ) (status : ℤ) (fault : PhaseFault) : Type 0 where
+pub record CheckIsRefused (text : List ℕ) (status : ℤ) (fault : PhaseFault) : Type 0 where
   pub why : Refusal
   pub refuses : RefusesText text why
-  pub says : Says why status fault
+  pub says : IsToldAs why status fault
 
 -- names were not written: it is told why
 pub record NamesStop (names_of : Graph → List ℕ) (text : List ℕ)
     (room old_needed new_needed : ℕ) (status : ℤ) (fault : PhaseFault) : Type 0 where
   pub why : Refusal
   pub refuses : RefusesNames names_of text room old_needed new_needed why
-  pub says : Says why status fault
+  pub says : IsToldAs why status fault
 
 -- the counts are those of the graph that the text declares
 pub record Counted (text : List ℕ) (counts : PhaseCounts) : Type 0 where

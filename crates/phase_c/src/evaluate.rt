@@ -2,9 +2,9 @@
 ghost use Rattle.std.specs.Prelude.{◌≡◌, ◌↔◌, [], length, IsTrue, IfOk, IfErr, OnOk, OnErr, None};
 ghost use Rattle.stream_eval.specs.stream_lists.Lists.{sinks_of};
 ghost use Rattle.stream_eval.specs.stream_lists.Meetings.{meeting_line};
-ghost use Rattle.phase_c.specs.Evaluations.{Evaluates};
+ghost use Rattle.phase_c.specs.Evaluations.{WritesValues};
 ghost use Rattle.phase_c.specs.Lent.{HasLengths, IsGraphLent, IsJobLent, sinks_in};
-ghost use Rattle.phase_c.specs.Refusals.{IsDone, Refuses, RefusesJob, RefusesLent};
+ghost use Rattle.phase_c.specs.Refusals.{IsDone, RefusesEval, RefusesJob, RefusesLent};
 
 use crate::counts::{are_counts, has_room};
 use crate::refusal::Refusal;
@@ -100,7 +100,7 @@ fn evaluate_job(
 ) -> Result<(), Refusal>
     requires sinks { length sinks.old ≡ length (sinks_of job.now) }
     requires starts { length starts.old ≡ length (sinks_of job.now) }
-    ensures done { OnOk result (Evaluates job.now out.old out.new sinks.new starts.new) }
+    ensures done { OnOk result (WritesValues job.now out.old out.new sinks.new starts.new) }
     ensures refused { IfErr result (λ why.
         RefusesJob job.now (length out.old) sinks.new starts.new why) }
     ensures same { OnErr result (out.new ≡ out.old) }
@@ -134,7 +134,7 @@ pub(crate) fn evaluate(
 ) -> Result<(), Refusal>
     ensures done { OnOk result (IsDone text.now samples.now counts.now out.old out.new
         sinks.new starts.new) }
-    ensures refused { IfErr result (λ why. Refuses text.now samples.now counts.now
+    ensures refused { IfErr result (λ why. RefusesEval text.now samples.now counts.now
         (length out.old) sinks.old sinks.new starts.old starts.new why) }
     ensures same { OnErr result (out.new ≡ out.old) }
 {

@@ -3,7 +3,7 @@ ghost use Rattle.std.specs.Prelude.{◌≡◌, ◌≢◌, pos, length, IfOk, IfE
 ghost use Rattle.phase_c.specs.Filtered.{FilterStops, FiltersAll};
 ghost use Rattle.phase_c.specs.Names.{WritesNames, all_names_text, names_text};
 ghost use Rattle.phase_c.specs.Refusals.{IsDone, RefusesText};
-ghost use Rattle.phase_c.specs.Told.{CheckStops, Counted, EvalStops, NamesStop, version};
+ghost use Rattle.phase_c.specs.Told.{CheckIsRefused, Counted, EvalIsRefused, NamesStop, version};
 
 use crate::evaluate::evaluate;
 use crate::fault::{PhaseCounts, PhaseFault};
@@ -51,7 +51,7 @@ pub extern "C" fn phase_check(
     ensures done { result ≡ pos 0 → Counted text.now counts.new }
     ensures quiet { result ≡ pos 0 → fault.new ≡ fault.old }
 
-    ensures stops { result ≢ pos 0 → CheckStops text.now result fault.new }
+    ensures stops { result ≢ pos 0 → CheckIsRefused text.now result fault.new }
     ensures same { result ≢ pos 0 → counts.new ≡ counts.old }
 {
     match counts_of_text(alloc, text) {
@@ -145,7 +145,7 @@ pub extern "C" fn phase_eval(
         sinks.new starts.new }
     ensures quiet { result ≡ pos 0 → fault.new ≡ fault.old }
 
-    ensures stops { result ≢ pos 0 → EvalStops text.now samples.now counts.now
+    ensures stops { result ≢ pos 0 → EvalIsRefused text.now samples.now counts.now
         (length out.old) sinks.old sinks.new starts.old starts.new result fault.new }
     ensures same { result ≢ pos 0 → out.new ≡ out.old }
 {

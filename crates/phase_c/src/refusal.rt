@@ -32,9 +32,9 @@ pub enum Refusal {
 
 impl From<GraphRefusal> for Refusal {
     ghost use Rattle.std.specs.Prelude.{◌≡◌};
-    ghost use Rattle.phase_c.specs.Refusals.{of_graph};
+    ghost use Rattle.phase_c.specs.Refusals.{refusal_of_graph};
 
-    ghost from_gives = { λ given why. why ≡ of_graph given };
+    ghost from_gives = { λ given why. why ≡ refusal_of_graph given };
 
     fn from(given: GraphRefusal) -> Refusal {
         match given {

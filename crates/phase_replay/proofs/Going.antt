@@ -5,7 +5,7 @@ use Rattle.std.proofs.KnownBytes.{Appends-trans}
 use Rattle.std.proofs.lemmas.List.{length-take}
 use Rattle.std.specs.declared.option.Option.{Option}
 use Rattle.watched_io.specs.Prefix.{AppendsPrefix}
-use Rattle.phase_replay.specs.Replayer.{Owes, Goes}
+use Rattle.phase_replay.specs.Replayer.{ReplayerOwes, Goes}
 use Rattle.phase_replay.specs.declared.replayer.Replayer.{Replayer}
 
 -- what is written is a prefix of what was owed
@@ -14,7 +14,7 @@ goes_stopped a b replayer later owed goes = (goes.sent, goes.rest, goes.whole, g
 
 -- a step further
 pub goes_further : (a b c : Option (List ℕ)) (old new : Replayer) (later later' owed : List ℕ) → Goes a b old later owed
-    → ((rest : List ℕ) → Owes old later rest → Goes b c new later' rest) → Goes a c new later' owed
+    → ((rest : List ℕ) → ReplayerOwes old later rest → Goes b c new later' rest) → Goes a c new later' owed
 goes_further a b c old new later later' owed goes step =
     let next = step goes.rest goes.owes in
     record {
@@ -27,7 +27,7 @@ goes_further a b c old new later later' owed goes step =
 
 -- a step that fails
 pub goes_failed : (a b c : Option (List ℕ)) (replayer : Replayer) (later owed : List ℕ) → Goes a b replayer later owed
-    → ((rest : List ℕ) → Owes replayer later rest → AppendsPrefix b c rest) → AppendsPrefix a c owed
+    → ((rest : List ℕ) → ReplayerOwes replayer later rest → AppendsPrefix b c rest) → AppendsPrefix a c owed
 goes_failed a b c replayer later owed goes step =
     let last = step goes.rest goes.owes in (
       goes.sent ++ last.0,
@@ -38,7 +38,7 @@ goes_failed a b c replayer later owed goes step =
 
 -- a step that writes nothing
 pub goes_on : (a b : Option (List ℕ)) (old new : Replayer) (later later' owed : List ℕ) → Goes a b old later owed
-    → ((rest : List ℕ) → Owes old later rest → Owes new later' rest) → Goes a b new later' owed
+    → ((rest : List ℕ) → ReplayerOwes old later rest → ReplayerOwes new later' rest) → Goes a b new later' owed
 goes_on a b old new later later' owed goes step = record {
   sent = goes.sent;
   rest = goes.rest;
@@ -55,13 +55,13 @@ cut_at bytes i h lf =
 
 -- a line that ends in what is left of a piece is answered
 pub goes_answered : (a b : Option (List ℕ)) (old new : Replayer) (bytes : List ℕ) (i : ℕ) (later owed : List ℕ) → i < length bytes → get_or bytes i 0 ≡ 10
-    → ((later rest : List ℕ) → Owes old (take i bytes ++ 10 ∷ later) rest → Owes new later rest)
+    → ((later rest : List ℕ) → ReplayerOwes old (take i bytes ++ 10 ∷ later) rest → ReplayerOwes new later rest)
     → Goes a b old (bytes ++ later) owed → Goes a b new (drop (i + 1) bytes ++ later) owed
 goes_answered a b old new bytes i later owed h lf answered goes =
     let cut : bytes ++ later ≡ take i bytes ++ 10 ∷ (drop (i + 1) bytes ++ later) =
     ap (λ l. l ++ later) (cut_at bytes i h lf) ∙ append_assoc (take i bytes) (10 ∷ drop (i + 1) bytes) later in
     goes_on a b old new (bytes ++ later) (drop (i + 1) bytes ++ later) owed goes
-    (λ rest owes. answered (drop (i + 1) bytes ++ later) rest (subst (λ l. Owes old l rest) cut owes))
+    (λ rest owes. answered (drop (i + 1) bytes ++ later) rest (subst (λ l. ReplayerOwes old l rest) cut owes))
 
 -- what is left of a piece is no longer than the piece
 pub length-left : (n i limit : ℕ) (bytes : List ℕ) → length bytes ≤ limit → length (take n (drop i bytes)) ≤ limit
@@ -74,7 +74,7 @@ none_said (Some x) P Q p none = absurd (none x refl)
 
 -- a step that writes all that was left
 pub goes_ended : (a b c : Option (List ℕ)) (replayer : Replayer) (later owed : List ℕ) → Goes a b replayer later owed
-    → ((rest : List ℕ) → Owes replayer later rest → Appends b c rest) → Appends a c owed
+    → ((rest : List ℕ) → ReplayerOwes replayer later rest → Appends b c rest) → Appends a c owed
 goes_ended a b c replayer later owed goes step =
     subst (Appends a c) (sym goes.whole)
     (Appends-trans a b c goes.sent goes.rest goes.appends (step goes.rest goes.owes))

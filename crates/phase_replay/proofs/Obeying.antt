@@ -28,8 +28,8 @@ use Rattle.std.specs.Prelude.{IfOk, OnOk, OnErr, IsSome, is_some, nat_lt}
 use Rattle.phase_replay.specs.declared.script_phaser.ScriptPhaser.{ScriptPhaser}
 use Rattle.phase_replay.specs.HeldSends.{Parcels, held_at, nothing}
 use Rattle.phase_core.specs.Blocks.{one_each}
-use Rattle.phase_replay.specs.Scripts.{Held, held_by, held_signal, after_call, held_by_others, send_rows, send_reply, held_after_send, held_after_signal, held_after_drop, done_unless, phaser_reply, history_after, held_after, IsOkReply, MayWantMemory, script_reply, signal_reason, block_rows, block_refusal, refused_or_reply, block_reply}
-use Rattle.phase_replay.specs.Session.{PhaserStandsFor}
+use Rattle.phase_replay.specs.Scripts.{Held, held_by, held_signal, after_call, held_by_others, send_rows, send_reply, held_after_send, held_after_signal, held_after_drop, done_unless, phaser_reply, history_after, held_after, IsOkReply, MayWantMemory, script_reply, signal_reason, script_block_rows, block_refusal, refused_or_reply, block_reply}
+use Rattle.phase_replay.specs.Session.{ScriptPhaserStandsFor}
 
 -- ---- the sends of a task among those of all
 
@@ -131,10 +131,10 @@ nothing_held op = record { part_is = record { is = refl; are_sends = tt; few = o
 -- an accepted send is held
 pub phaser_sent : {A : Type 0} (op : Operation A) (old : ScriptPhaser A) (new : Parcels A) (own : Parcel A)
     (limits : Limits) (h : History) (held : Held) (task : ℕ) (e : Entry) (v : ℤ)
-    → PhaserStandsFor op old limits h held → Some e ≡ entry_of old.core.members task → mode_signals e.mode ≡ true
+    → ScriptPhaserStandsFor op old limits h held → Some e ≡ entry_of old.core.members task → mode_signals e.mode ≡ true
     → StandsForSends op own (held_by held task ++ v ∷ [])
     → ((other : ℕ) → held_at op new other ≡ cond (eqb task other) own (held_at op old.held other))
-    → PhaserStandsFor op (record { core = old.core; held = new; sends = old.sends }) limits h (held_after_send (send_reply h held task) held task v)
+    → ScriptPhaserStandsFor op (record { core = old.core; held = new; sends = old.sends }) limits h (held_after_send (send_reply h held task) held task v)
 phaser_sent op old new own limits h held task e v stands found signals more puts =
     let found_h : entry_of (members_of h) task ≡ Some e = sym (found ∙ ap (λ ms. entry_of ms task) stands.core.members_are) in
     let one_more : length (held_by held task ++ v ∷ []) ≤ 65536 = more.part_is.few in
@@ -153,11 +153,11 @@ phaser_sent op old new own limits h held task e v stands found signals more puts
 -- an accepted signal takes the task's sends along
 pub phaser_signalled : {A : Type 0} (op : Operation A) (old : ScriptPhaser A) (core : CoreState A) (new : Parcels A)
     (limits : Limits) (h : History) (held : Held) (task phase : ℕ) (single : Option Single)
-    → PhaserStandsFor op old limits h held → core.limits ≡ old.core.limits
+    → ScriptPhaserStandsFor op old limits h held → core.limits ≡ old.core.limits
     → signal_reply old.core.limits h task (held_by held task ∷ []) single ≡ Ok phase
     → StandsFor op core (Signalled task (held_by held task ∷ []) single ∷ h)
     → ((other : ℕ) → held_at op new other ≡ cond (eqb task other) (nothing op) (held_at op old.held other))
-    → PhaserStandsFor op (record { core = core; held = new; sends = old.sends }) limits
+    → ScriptPhaserStandsFor op (record { core = core; held = new; sends = old.sends }) limits
     (after_call op.value limits h (held_signal held task single))
     (held_after_signal (signal_reply limits h task (held_by held task ∷ []) single) held task)
 phaser_signalled op old core new limits h held task phase single stands same ok after clears =
@@ -171,10 +171,10 @@ phaser_signalled op old core new limits h held task phase single stands same ok 
 -- an accepted drop gives the task's sends up
 pub phaser_dropped : {A : Type 0} (op : Operation A) (old : ScriptPhaser A) (core : CoreState A) (new : Parcels A)
     (limits : Limits) (h : History) (held : Held) (task : ℕ)
-    → PhaserStandsFor op old limits h held → core.limits ≡ old.core.limits
+    → ScriptPhaserStandsFor op old limits h held → core.limits ≡ old.core.limits
     → drop_refusal h task ≡ None → StandsFor op core (Dropped task ∷ h)
     → ((other : ℕ) → held_at op new other ≡ cond (eqb task other) (nothing op) (held_at op old.held other))
-    → PhaserStandsFor op (record { core = core; held = new; sends = old.sends }) limits
+    → ScriptPhaserStandsFor op (record { core = core; held = new; sends = old.sends }) limits
     (after_call op.value limits h (Drop task)) (held_after_drop (drop_refusal h task) held task)
 phaser_dropped op old core new limits h held task stands same accepted after clears =
     rw accepted (record {
@@ -187,21 +187,21 @@ phaser_dropped op old core new limits h held task stands same accepted after cle
 
 abbrev pub RepliesTo : {A : Type 0} → Operation A → ScriptPhaser A → WholeCommand → WholeReply → Type 0
 RepliesTo op old command reply = (limits : Limits) (h : History) (held : Held)
-    → PhaserStandsFor op old limits h held → reply ≡ phaser_reply op.value limits h held command
+    → ScriptPhaserStandsFor op old limits h held → reply ≡ phaser_reply op.value limits h held command
 
 abbrev pub StandsAfter : {A : Type 0} → Operation A → ScriptPhaser A → ScriptPhaser A → WholeCommand → Type 0
 StandsAfter op old new command = (limits : Limits) (h : History) (held : Held)
-    → PhaserStandsFor op old limits h held
-    → PhaserStandsFor op new limits (history_after op.value limits h held command) (held_after limits h held command)
+    → ScriptPhaserStandsFor op old limits h held
+    → ScriptPhaserStandsFor op new limits (history_after op.value limits h held command) (held_after limits h held command)
 
 abbrev pub IsOkAfter : {A : Type 0} → Operation A → ScriptPhaser A → WholeCommand → Type 0
 IsOkAfter op old command = (limits : Limits) (h : History) (held : Held)
-    → PhaserStandsFor op old limits h held → IsOkReply (phaser_reply op.value limits h held command)
+    → ScriptPhaserStandsFor op old limits h held → IsOkReply (phaser_reply op.value limits h held command)
 
 -- what is told to a command that is this one, whatever outcomes stand beside
 abbrev pub TellsOf : {A : Type 0} → Operation A → ScriptPhaser A → WholeCommand → Reply → Type 0
 TellsOf op old command reply = (limits : Limits) (h : History) (held : Held)
-    → PhaserStandsFor op old limits h held → Tells reply (phaser_reply op.value limits h held command)
+    → ScriptPhaserStandsFor op old limits h held → Tells reply (phaser_reply op.value limits h held command)
 
 pub replies : {A : Type 0} (op : Operation A) (old : ScriptPhaser A) (reply : WholeReply) (values : List ℤ) (command given : Command)
     → command ≡ given → RepliesTo op old (whole_command values given) reply → RepliesTo op old (whole_command values command) reply
@@ -243,7 +243,7 @@ stands_then op old new values command given is stands =
 
 -- a member's drop is accepted
 pub drop_is_accepted : {A : Type 0} (op : Operation A) (old : ScriptPhaser A) (limits : Limits) (h : History) (held : Held) (task : ℕ)
-    → PhaserStandsFor op old limits h held → IsSome (entry_of old.core.members task) → drop_refusal h task ≡ None
+    → ScriptPhaserStandsFor op old limits h held → IsSome (entry_of old.core.members task) → drop_refusal h task ≡ None
 drop_is_accepted op old limits h held task stands member =
     let there : IsSome (entry_of (members_of h) task) = ap (λ ms. is_some (entry_of ms task)) (sym stands.core.members_are) ∙ member in
     let absent : NoTask = record {} in
@@ -255,13 +255,13 @@ drop_is_accepted op old limits h held task stands member =
 -- a block that a signaller with no sends makes is answered as its signal is
 pub block_refused : {A : Type 0} (op : Operation A) (old : ScriptPhaser A) (limits : Limits) (h : History) (held : Held) (task : ℕ) (values : List ℤ)
     (e : Entry) (refusal : SignalRefusal)
-    → PhaserStandsFor op old limits h held → Some e ≡ entry_of old.core.members task → mode_signals e.mode ≡ true
+    → ScriptPhaserStandsFor op old limits h held → Some e ≡ entry_of old.core.members task → mode_signals e.mode ≡ true
     → length (held_by held task) ≡ 0 → signal_reply old.core.limits h task (one_each values) None ≡ Err refusal
     → signal_reason refusal ≡ block_reply op.value limits h held task values
 block_refused op old limits h held task values e refusal stands found signals none refused =
     let found_h : entry_of (members_of h) task ≡ Some e = sym (found ∙ ap (λ ms. entry_of ms task) stands.core.members_are) in
     let allowed : block_refusal h held task ≡ None =
-    ap (λ o. refusal_at o no.NoTask (block_rows (held_by held task))) found_h
+    ap (λ o. refusal_at o no.NoTask (script_block_rows (held_by held task))) found_h
     ∙ ap (λ b. cond (not b) (Some no.NoSignal) (cond (nat_lt 0 (length (held_by held task))) (Some no.Held) None)) signals
     ∙ ap (λ n. cond (nat_lt 0 n) (Some no.Held) None) none in
     sym (

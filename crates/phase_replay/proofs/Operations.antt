@@ -20,16 +20,16 @@ use Rattle.phase_replay.specs.declared.any_phaser.AnyPhaser.{AnyPhaser}
 use Rattle.phase_replay.specs.declared.any_phaser.AnyPhaser.TheVariants as phaser
 use Rattle.phase_script.specs.phase_accum.Values.{value_by}
 use Rattle.phase_replay.specs.Scripts.{Held, phaser_reply, history_after, held_after, IsOkReply}
-use Rattle.phase_replay.specs.Session.{PhaserStandsFor, AnyStandsFor}
+use Rattle.phase_replay.specs.Session.{ScriptPhaserStandsFor, AnyStandsFor}
 use Rattle.phase_replay.proofs.Obeying.{RepliesTo, StandsAfter, IsOkAfter}
 
 -- a phaser stands under an operation just where this one stands under the operation
 pub record IsUnder {A : Type 0} (whole : AnyPhaser) (op : Operation A) (p : ScriptPhaser A) (v : Op) : Type 0 where
   pub values : op.value ≡ value_by v
   pub down : (operation : Op) (limits : Limits) (h : History) (held : Held)
-      → AnyStandsFor whole operation limits h held → (v ≡ operation) × PhaserStandsFor op p limits h held
+      → AnyStandsFor whole operation limits h held → (v ≡ operation) × ScriptPhaserStandsFor op p limits h held
   pub up : (limits : Limits) (h : History) (held : Held)
-      → PhaserStandsFor op p limits h held → AnyStandsFor whole v limits h held
+      → ScriptPhaserStandsFor op p limits h held → AnyStandsFor whole v limits h held
 
 -- ---- what follows for a command
 
@@ -77,7 +77,7 @@ pub stands_under : {A E : Type 0} (old new : AnyPhaser) (op : Operation A) (p q 
 stands_under old new op p q v r command u w =
     on_ok (StandsAfter op p q command) (AnyStandsAfter old new command) r (λ after operation limits h held stands.
     let d = u.down operation limits h held stands in
-    let V : (List ℤ → Outcome) → Type 0 = λ value. PhaserStandsFor op q limits (history_after value limits h held command) (held_after limits h held command) in
+    let V : (List ℤ → Outcome) → Type 0 = λ value. ScriptPhaserStandsFor op q limits (history_after value limits h held command) (held_after limits h held command) in
     rw d.0 at (w.up limits _ _ (subst V (same_value old op p v operation u d.0) (after limits h held d.1))))
 
 pub ok_under : {A E : Type 0} (old : AnyPhaser) (op : Operation A) (p : ScriptPhaser A) (v : Op) (r : Result Reply E) (command : WholeCommand)
@@ -91,7 +91,7 @@ ok_under old op p v r command u =
 -- ---- the five operations
 
 sum_down : (p : ScriptPhaser ℤ) (operation : Op) (limits : Limits) (h : History) (held : Held)
-    → AnyStandsFor (phaser.Sum p) operation limits h held → (Sum ≡ operation) × PhaserStandsFor sum_operation p limits h held
+    → AnyStandsFor (phaser.Sum p) operation limits h held → (Sum ≡ operation) × ScriptPhaserStandsFor sum_operation p limits h held
 unfolding AnyStandsFor
 sum_down p Sum limits h held stands = (refl, stands)
 sum_down p Product limits h held stands = absurd stands
@@ -100,7 +100,7 @@ sum_down p Greatest limits h held stands = absurd stands
 sum_down p Any limits h held stands = absurd stands
 
 sum_up : (p : ScriptPhaser ℤ) (limits : Limits) (h : History) (held : Held)
-    → PhaserStandsFor sum_operation p limits h held → AnyStandsFor (phaser.Sum p) Sum limits h held
+    → ScriptPhaserStandsFor sum_operation p limits h held → AnyStandsFor (phaser.Sum p) Sum limits h held
 unfolding AnyStandsFor
 sum_up p limits h held stands = stands
 
@@ -109,7 +109,7 @@ under_sum whole p is =
     rw is (record { values = refl; down = sum_down p; up = sum_up p })
 
 product_down : (p : ScriptPhaser ℤ) (operation : Op) (limits : Limits) (h : History) (held : Held)
-    → AnyStandsFor (phaser.Product p) operation limits h held → (Product ≡ operation) × PhaserStandsFor product_operation p limits h held
+    → AnyStandsFor (phaser.Product p) operation limits h held → (Product ≡ operation) × ScriptPhaserStandsFor product_operation p limits h held
 unfolding AnyStandsFor
 product_down p Sum limits h held stands = absurd stands
 product_down p Product limits h held stands = (refl, stands)
@@ -118,7 +118,7 @@ product_down p Greatest limits h held stands = absurd stands
 product_down p Any limits h held stands = absurd stands
 
 product_up : (p : ScriptPhaser ℤ) (limits : Limits) (h : History) (held : Held)
-    → PhaserStandsFor product_operation p limits h held → AnyStandsFor (phaser.Product p) Product limits h held
+    → ScriptPhaserStandsFor product_operation p limits h held → AnyStandsFor (phaser.Product p) Product limits h held
 unfolding AnyStandsFor
 product_up p limits h held stands = stands
 
@@ -127,7 +127,7 @@ under_product whole p is =
     rw is (record { values = refl; down = product_down p; up = product_up p })
 
 least_down : (p : ScriptPhaser (Option ℤ)) (operation : Op) (limits : Limits) (h : History) (held : Held)
-    → AnyStandsFor (phaser.Least p) operation limits h held → (Least ≡ operation) × PhaserStandsFor least_operation p limits h held
+    → AnyStandsFor (phaser.Least p) operation limits h held → (Least ≡ operation) × ScriptPhaserStandsFor least_operation p limits h held
 unfolding AnyStandsFor
 least_down p Sum limits h held stands = absurd stands
 least_down p Product limits h held stands = absurd stands
@@ -136,7 +136,7 @@ least_down p Greatest limits h held stands = absurd stands
 least_down p Any limits h held stands = absurd stands
 
 least_up : (p : ScriptPhaser (Option ℤ)) (limits : Limits) (h : History) (held : Held)
-    → PhaserStandsFor least_operation p limits h held → AnyStandsFor (phaser.Least p) Least limits h held
+    → ScriptPhaserStandsFor least_operation p limits h held → AnyStandsFor (phaser.Least p) Least limits h held
 unfolding AnyStandsFor
 least_up p limits h held stands = stands
 
@@ -145,7 +145,7 @@ under_least whole p is =
     rw is (record { values = refl; down = least_down p; up = least_up p })
 
 greatest_down : (p : ScriptPhaser (Option ℤ)) (operation : Op) (limits : Limits) (h : History) (held : Held)
-    → AnyStandsFor (phaser.Greatest p) operation limits h held → (Greatest ≡ operation) × PhaserStandsFor greatest_operation p limits h held
+    → AnyStandsFor (phaser.Greatest p) operation limits h held → (Greatest ≡ operation) × ScriptPhaserStandsFor greatest_operation p limits h held
 unfolding AnyStandsFor
 greatest_down p Sum limits h held stands = absurd stands
 greatest_down p Product limits h held stands = absurd stands
@@ -154,7 +154,7 @@ greatest_down p Greatest limits h held stands = (refl, stands)
 greatest_down p Any limits h held stands = absurd stands
 
 greatest_up : (p : ScriptPhaser (Option ℤ)) (limits : Limits) (h : History) (held : Held)
-    → PhaserStandsFor greatest_operation p limits h held → AnyStandsFor (phaser.Greatest p) Greatest limits h held
+    → ScriptPhaserStandsFor greatest_operation p limits h held → AnyStandsFor (phaser.Greatest p) Greatest limits h held
 unfolding AnyStandsFor
 greatest_up p limits h held stands = stands
 
@@ -163,7 +163,7 @@ under_greatest whole p is =
     rw is (record { values = refl; down = greatest_down p; up = greatest_up p })
 
 any_down : (p : ScriptPhaser (Option ℤ)) (operation : Op) (limits : Limits) (h : History) (held : Held)
-    → AnyStandsFor (phaser.Any p) operation limits h held → (Any ≡ operation) × PhaserStandsFor any_operation p limits h held
+    → AnyStandsFor (phaser.Any p) operation limits h held → (Any ≡ operation) × ScriptPhaserStandsFor any_operation p limits h held
 unfolding AnyStandsFor
 any_down p Sum limits h held stands = absurd stands
 any_down p Product limits h held stands = absurd stands
@@ -172,7 +172,7 @@ any_down p Greatest limits h held stands = absurd stands
 any_down p Any limits h held stands = (refl, stands)
 
 any_up : (p : ScriptPhaser (Option ℤ)) (limits : Limits) (h : History) (held : Held)
-    → PhaserStandsFor any_operation p limits h held → AnyStandsFor (phaser.Any p) Any limits h held
+    → ScriptPhaserStandsFor any_operation p limits h held → AnyStandsFor (phaser.Any p) Any limits h held
 unfolding AnyStandsFor
 any_up p limits h held stands = stands
 

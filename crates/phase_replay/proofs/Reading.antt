@@ -10,7 +10,7 @@ use Rattle.watched_io.proofs.Giving as giving
 use Rattle.phase_replay.specs.Inside.{StopsReading}
 use Rattle.phase_replay.specs.Replay.{known_bytes, ReplaysAll, ReplaysPrefix}
 use Rattle.phase_replay.specs.Replies.{replies_of}
-use Rattle.phase_replay.specs.Replayer.{Owes, Goes}
+use Rattle.phase_replay.specs.Replayer.{ReplayerOwes, Goes}
 use Rattle.phase_replay.specs.declared.replayer.Replayer.{Replayer}
 use Rattle.phase_replay.specs.declared.whole.TheConstants.{SCRIPT_MAX, PIECE_MAX}
 use Rattle.phase_replay.proofs.Going.{goes_stopped, goes_further, goes_failed}
@@ -33,7 +33,7 @@ pub record Reads (unread rest : ReaderState) (old new : Option (List ℕ)) (repl
   pub goes : (later : List ℕ) → Goes old new replayer later (replies_of (script ++ later))
 
 pub reads_start : (unread : ReaderState) (old : Option (List ℕ)) (replayer : Replayer)
-    → ((script : List ℕ) → Owes replayer script (replies_of script)) → Reads unread unread old old replayer SCRIPT_MAX
+    → ((script : List ℕ) → ReplayerOwes replayer script (replies_of script)) → Reads unread unread old old replayer SCRIPT_MAX
 reads_start unread old replayer owes = record {
   script = [];
   gives = gives_none unread;
@@ -59,7 +59,7 @@ replays_nothing unread old = record {
 -- the replies that waited were written
 pub reads_sent : (unread rest : ReaderState) (old mid new : Option (List ℕ)) (replayer next : Replayer) (left : ℕ)
     → Reads unread rest old mid replayer left
-    → ((later owed : List ℕ) → Owes replayer later owed → Goes mid new next later owed) → Reads unread rest old new next left
+    → ((later owed : List ℕ) → ReplayerOwes replayer later owed → Goes mid new next later owed) → Reads unread rest old new next left
 reads_sent unread rest old mid new replayer next left reads step = record {
   script = reads.script;
   gives = reads.gives;
@@ -70,7 +70,7 @@ reads_sent unread rest old mid new replayer next left reads step = record {
 -- a prefix of them was
 pub reads_send_failed : (unread rest : ReaderState) (old new : WriterState) (mid : Option (List ℕ)) (replayer : Replayer) (left : ℕ)
     → Reads unread rest old.written mid replayer left
-    → ((later owed : List ℕ) → Owes replayer later owed → AppendsPrefix mid new.written owed) → ReplaysPrefix unread rest old new
+    → ((later owed : List ℕ) → ReplayerOwes replayer later owed → AppendsPrefix mid new.written owed) → ReplaysPrefix unread rest old new
 reads_send_failed unread rest old new mid replayer left reads step =
     let later = known_bytes rest.unread in
     record {
@@ -115,7 +115,7 @@ reads_too_much unread mid rest old new replayer left most reads few stops = elim
 -- a piece was read and answered
 pub reads_pieced : (unread mid rest : ReaderState) (old was new : Option (List ℕ)) (replayer next : Replayer) (left count : ℕ) (piece : List ℕ)
     → Reads unread mid old was replayer left → Gives mid rest piece → length piece ≡ count → count ≤ left
-    → ((later owed : List ℕ) → Owes replayer (piece ++ later) owed → Goes was new next later owed)
+    → ((later owed : List ℕ) → ReplayerOwes replayer (piece ++ later) owed → Goes was new next later owed)
     → Reads unread rest old new next (left - count)
 reads_pieced unread mid rest old was new replayer next left count piece reads gives long fits step = record {
   script = reads.script ++ piece;
@@ -137,7 +137,7 @@ reads_within unread mid rest old was replayer left count piece reads gives long 
 -- a piece was read, and the replay stopped on its way through it
 pub reads_piece_failed : (unread mid rest : ReaderState) (old new : WriterState) (was : Option (List ℕ)) (replayer : Replayer) (left count : ℕ) (piece : List ℕ)
     → Reads unread mid old.written was replayer left → Gives mid rest piece → length piece ≡ count → count ≤ left
-    → ((later owed : List ℕ) → Owes replayer (piece ++ later) owed → AppendsPrefix was new.written owed) → ReplaysPrefix unread rest old new
+    → ((later owed : List ℕ) → ReplayerOwes replayer (piece ++ later) owed → AppendsPrefix was new.written owed) → ReplaysPrefix unread rest old new
 reads_piece_failed unread mid rest old new was replayer left count piece reads gives long fits step =
     let later = known_bytes rest.unread in
     record {
@@ -155,7 +155,7 @@ known_bytes-end (Some bs) end = end
 -- the script ended, and all replies were written
 pub reads_end : (unread mid rest : ReaderState) (old new : WriterState) (was : Option (List ℕ)) (replayer : Replayer) (left : ℕ)
     → Reads unread mid old.written was replayer left
-    → Gives mid rest [] → IsAtEnd rest.unread → ((owed : List ℕ) → Owes replayer [] owed → Appends was new.written owed)
+    → Gives mid rest [] → IsAtEnd rest.unread → ((owed : List ℕ) → ReplayerOwes replayer [] owed → Appends was new.written owed)
     → rest.failed ≡ unread.failed → new.failed ≡ old.failed → ReplaysAll unread rest old new
 reads_end unread mid rest old new was replayer left reads gives ends step read wrote =
     let goes = reads.goes [] in
@@ -174,7 +174,7 @@ reads_end unread mid rest old new was replayer left reads gives ends step read w
 -- the script ended, and a prefix of them was
 pub reads_end_failed : (unread mid rest : ReaderState) (old new : WriterState) (was : Option (List ℕ)) (replayer : Replayer) (left : ℕ)
     → Reads unread mid old.written was replayer left
-    → Gives mid rest [] → IsAtEnd rest.unread → ((owed : List ℕ) → Owes replayer [] owed → AppendsPrefix was new.written owed)
+    → Gives mid rest [] → IsAtEnd rest.unread → ((owed : List ℕ) → ReplayerOwes replayer [] owed → AppendsPrefix was new.written owed)
     → ReplaysPrefix unread rest old new
 reads_end_failed unread mid rest old new was replayer left reads gives ends step =
     let same : reads.script ++ [] ≡ reads.script = append-nil reads.script in

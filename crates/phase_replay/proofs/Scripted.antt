@@ -5,7 +5,7 @@ use Rattle.std.specs.Global.{Global}
 use Rattle.phase_script.specs.Commands.{WholeCommand}
 use Rattle.phase_replay.specs.declared.any_phaser.AnyPhaser.{AnyPhaser}
 use Rattle.phase_replay.specs.Scripts.{ScriptState, after_line, state_from, state_after, start, after_command}
-use Rattle.phase_replay.specs.Session.{SessionState, session_of, MaybeStandsFor, Stands, IsSession}
+use Rattle.phase_replay.specs.Session.{SessionState, session_of, MaybeStandsFor, SessionStands, IsSession}
 
 pub state_from-push : (state : ScriptState) (lines : List (List ℕ)) (line : List ℕ)
     → state_from state (lines ++ line ∷ []) ≡ after_line (state_from state lines) line
@@ -27,7 +27,7 @@ session_goes_on old new (Err fault) command after same is =
 
 -- a session has come as far as some state
 pub session_stands : (alloc : Global) (phaser : Option AnyPhaser) (session : SessionState)
-    → session_of alloc phaser ≡ session → IsSession phaser → (state : ScriptState) × Stands session state
-unfolding Stands
+    → session_of alloc phaser ≡ session → IsSession phaser → (state : ScriptState) × SessionStands session state
+unfolding SessionStands
 session_stands alloc phaser session view is =
     (is.0, rw (← view) is.1)

@@ -55,7 +55,7 @@ use Rattle.phase_replay.specs.declared.any_phaser.AnyPhaser.{AnyPhaser}
 use Rattle.phase_replay.specs.declared.any_phaser.AnyPhaser.TheVariants as phaser
 use Rattle.phase_core.specs.Blocks.{one_each}
 use Rattle.phase_replay.specs.Scripts.{ScriptState, NoPhaser, OnePhaser, Held, held_by, done_unless, script_reply, taken_reply, refused_or_reply, block_refusal, value_reply, phaser_reply, command_reply, reply_of_line, reply_line_of}
-use Rattle.phase_replay.specs.Session.{PhaserStandsFor, AnyStandsFor, MaybeStandsFor}
+use Rattle.phase_replay.specs.Session.{ScriptPhaserStandsFor, AnyStandsFor, MaybeStandsFor}
 
 -- ---- replies without a phase
 
@@ -213,7 +213,7 @@ phaser_is_reply op laws limits h held legal (Wait task) fits =
 phaser_is_reply op laws limits h held legal (Drop task) fits = dropped_is_reply (drop_refusal h task) task
 
 legal_at : {A : Type 0} (op : Operation A) (p : ScriptPhaser A) (limits : Limits) (h : History) (held : Held)
-    → PhaserStandsFor op p limits h held → IsLegal limits h
+    → ScriptPhaserStandsFor op p limits h held → IsLegal limits h
 legal_at op p limits h held stands =
     rw stands.limits_are at stands.core.legal
 

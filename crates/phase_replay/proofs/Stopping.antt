@@ -16,8 +16,8 @@ use Rattle.phase_core.specs.phase_base.Lists.{without_cr}
 use Rattle.phase_replay.specs.Inside.{IsFirstLine, begins_as_refusal}
 use Rattle.phase_replay.specs.Scripts.{ScriptState, after_line, reply_line_of, reply_of_line, start}
 use Rattle.phase_replay.specs.Scripts.{state_after, state_from}
-use Rattle.phase_replay.specs.Session.{SessionState, Stands}
-use Rattle.phase_replay.specs.Stops.{AreTaken, StopsAt, is_refusal, is_refused}
+use Rattle.phase_replay.specs.Session.{SessionState, SessionStands}
+use Rattle.phase_replay.specs.Stops.{AreLinesTaken, ScriptStopsAt, is_refusal, is_refused}
 use Rattle.phase_replay.proofs.Scripted.{state_after_push}
 
 -- ---- replies
@@ -45,8 +45,8 @@ begins-refused state line reply begins is told =
     told ∙ ap begins_as_refusal is ∙ begins-text (reply_of_line state (command_of line))
 
 -- one more line that is taken
-taken-push : (state : ScriptState) (lines : List (List ℕ)) (line : List ℕ) → AreTaken state lines
-    → is_refused (state_from state lines) line ≡ false → AreTaken state (lines ++ line ∷ [])
+taken-push : (state : ScriptState) (lines : List (List ℕ)) (line : List ℕ) → AreLinesTaken state lines
+    → is_refused (state_from state lines) line ≡ false → AreLinesTaken state (lines ++ line ∷ [])
 taken-push state [] line taken here = (here, tt)
 taken-push state (first ∷ lines) line taken here =
     (taken.0, taken-push (after_line state first) lines line taken.1 here)
@@ -96,10 +96,10 @@ pub record Searches (script : List ℕ) (end number : ℕ) (session : SessionSta
       → lines_of (take end script ++ later) ≡ lines_of (take end script) ++ lines_of later
   pub count : length (lines_of (take end script)) ≡ number
   pub few : number ≤ end
-  pub stands : Stands session (state_after (lines_of (take end script)))
-  pub taken : AreTaken start (lines_of (take end script))
+  pub stands : SessionStands session (state_after (lines_of (take end script)))
+  pub taken : AreLinesTaken start (lines_of (take end script))
 
-pub searches-start : (script : List ℕ) (session : SessionState) → Stands session start
+pub searches-start : (script : List ℕ) (session : SessionState) → SessionStands session start
     → Searches script 0 0 session
 unfolding lines_of
 searches-start script session stands = record {
@@ -134,7 +134,7 @@ lines-further script line end number used session searches less first =
 pub searches-next : (script line : List ℕ) (end number used : ℕ) (old new : SessionState)
     → Searches script end number old → end < length script → IsFirstLine (drop end script) line used
     → is_refused (state_after (lines_of (take end script))) line ≡ false
-    → Stands new (after_line (state_after (lines_of (take end script))) line)
+    → SessionStands new (after_line (state_after (lines_of (take end script))) line)
     → Searches script (end + used) (number + 1) new
 searches-next script line end number used old new searches less first here stands =
     let before = lines_of (take end script) in
@@ -152,8 +152,8 @@ searches-next script line end number used old new searches less first here stand
       count = ap length lines ∙ (length-append before (line ∷ []) ∙ ap (λ n. n + 1) searches.count);
       few = omega (arith, searches.few, first.some);
       stands =
-          subst (Stands new) (sym (ap state_after lines ∙ state_after_push before line)) stands;
-      taken = subst (AreTaken start) (sym lines) (taken-push start before line searches.taken here);
+          subst (SessionStands new) (sym (ap state_after lines ∙ state_after_push before line)) stands;
+      taken = subst (AreLinesTaken start) (sym lines) (taken-push start before line searches.taken here);
     }
 
 -- what is behind the first line
@@ -172,7 +172,7 @@ pub searches-stop : (script line : List ℕ) (end number used : ℕ) (session : 
     → Searches script end number session → end < length script
     → IsFirstLine (drop end script) line used
     → is_refused (state_after (lines_of (take end script))) line ≡ true
-    → StopsAt script (take (end + used) script) (number + 1)
+    → ScriptStopsAt script (take (end + used) script) (number + 1)
 searches-stop script line end number used session searches less first here =
     let before = lines_of (take end script) in
     let rest = behind-first (drop end script) line used first in
@@ -191,7 +191,7 @@ searches-stop script line end number used session searches less first here =
 -- no line is left
 pub searches-end : (script : List ℕ) (end number : ℕ) (session : SessionState)
     → Searches script end number session → (end < length script → ⊥)
-    → AreTaken start (lines_of script)
+    → AreLinesTaken start (lines_of script)
 searches-end script end number session searches none =
-    subst (λ (text : List ℕ). AreTaken start (lines_of text))
+    subst (λ (text : List ℕ). AreLinesTaken start (lines_of text))
     (take_all end script (omega (arith, none))) searches.taken

@@ -23,7 +23,7 @@ MayFail file file_fault.ReadFault = MayBeRefused SCRIPT_MAX file
 MayFail file file_fault.OutOfMemory = MayNeedMemory SCRIPT_MAX file
 
 -- so nothing was written, and the fault was told
-pub record IsUnread (file : Option (List ℕ)) (status : Status)
+pub record IsFileUnread (file : Option (List ℕ)) (status : Status)
     (old new before after : WriterState) : Type 0 where
   pub fault : FileFault
   pub may_fail : MayFail file fault
@@ -49,10 +49,10 @@ pub record IsReplayedStrictly (file : Option (List ℕ)) (status : Status)
 abbrev pub FileReplayEnds : Option (List ℕ) → Status
     → WriterState → WriterState → WriterState → WriterState → Type 0
 FileReplayEnds file status old new before after =
-    IsUnread file status old new before after ⊎ IsReplayed file status old new before after
+    IsFileUnread file status old new before after ⊎ IsReplayed file status old new before after
 
 -- and a strict one
 abbrev pub StrictFileReplayEnds : Option (List ℕ) → Status
     → WriterState → WriterState → WriterState → WriterState → Type 0
 StrictFileReplayEnds file status old new before after =
-    IsUnread file status old new before after ⊎ IsReplayedStrictly file status old new before after
+    IsFileUnread file status old new before after ⊎ IsReplayedStrictly file status old new before after

@@ -8,7 +8,7 @@ use Rattle.watched_io.specs.declared.fault.IoFault.TheVariants.{ReadFault, Write
 use Rattle.phase_script.specs.Lines.{lines_after}
 use Rattle.phase_replay.specs.Replies.{replies}
 use Rattle.phase_replay.specs.Scripts.{ScriptState}
-use Rattle.phase_replay.specs.Session.{Stands}
+use Rattle.phase_replay.specs.Session.{SessionStands}
 use Rattle.phase_replay.specs.declared.replayer.Replayer.{Replayer}
 use Rattle.phase_replay.specs.declared.line_prefix.TheConstants.{PREFIX_MAX}
 
@@ -17,10 +17,10 @@ abbrev pub waiting_of : Replayer → List ℕ
 waiting_of replayer = replayer.out.items
 
 -- with `later` still to be read, `owed` is still to be written
-pub record Owes (replayer : Replayer) (later owed : List ℕ) : Type 0 where
+pub record ReplayerOwes (replayer : Replayer) (later owed : List ℕ) : Type 0 where
   pub state : ScriptState
   pub prefix : List ℕ
-  pub stands : Stands replayer.session state
+  pub stands : SessionStands replayer.session state
   pub kept : replayer.kept ≡ take PREFIX_MAX prefix
   pub owed_is : owed ≡ waiting_of replayer ++ replies state (lines_after prefix later)
 
@@ -31,7 +31,7 @@ pub record Goes (old new : Option (List ℕ)) (replayer : Replayer) (later owed 
   pub rest : List ℕ
   pub whole : owed ≡ sent ++ rest
   pub appends : Appends old new sent
-  pub owes : Owes replayer later rest
+  pub owes : ReplayerOwes replayer later rest
 
 -- the note of a failed write, before and after, at a fault of a call that writes and reads nothing
 abbrev pub FaultIsNoted : IoFault → Bool → Bool → Type 0

@@ -156,8 +156,8 @@ abbrev pub block_call : ℕ → List ℤ → Call
 block_call task values = call.Signal task (one_each values) None
 
 -- the refusals of a block by a member that holds these sends, before those of its signal
-abbrev pub block_rows : List ℤ → Entry → List (Bool × Refusal)
-block_rows sends entry =
+abbrev pub script_block_rows : List ℤ → Entry → List (Bool × Refusal)
+script_block_rows sends entry =
     (not (mode_signals entry.mode), no.NoSignal)
     ∷ (nat_lt 0 (length sends), no.Held)
     ∷ []
@@ -165,7 +165,7 @@ block_rows sends entry =
 -- the refusal of a block before its signal, where there is one
 abbrev pub block_refusal : History → Held → ℕ → Option Refusal
 block_refusal h held task =
-    refusal_at (entry_of (members_of h) task) no.NoTask (block_rows (held_by held task))
+    refusal_at (entry_of (members_of h) task) no.NoTask (script_block_rows (held_by held task))
 
 -- the refusal, or else the reply
 abbrev pub refused_or_reply : Option Refusal → WholeReply → WholeReply

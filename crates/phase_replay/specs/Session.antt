@@ -20,7 +20,7 @@ use Rattle.phase_replay.specs.HeldSends.{held_at}
 use Rattle.phase_replay.specs.Scripts.{ScriptState, NoPhaser, OnePhaser, Held, held_by, state_after}
 
 -- the phaser has this history, and of each task's sends it keeps what they are
-pub record PhaserStandsFor {A : Type 0} (op : Operation A) (phaser : ScriptPhaser A)
+pub record ScriptPhaserStandsFor {A : Type 0} (op : Operation A) (phaser : ScriptPhaser A)
     (limits : Limits) (h : History) (held : Held) : Type 0 where
   pub limits_are : phaser.core.limits ≡ limits
   pub core : StandsFor op phaser.core h
@@ -28,13 +28,13 @@ pub record PhaserStandsFor {A : Type 0} (op : Operation A) (phaser : ScriptPhase
 
 -- the phaser is one under the operation, and has this history and these sends
 unfoldable pub AnyStandsFor : AnyPhaser → Op → Limits → History → Held → Type 0
-AnyStandsFor (phaser.Sum p) Sum limits h held = PhaserStandsFor sum_operation p limits h held
+AnyStandsFor (phaser.Sum p) Sum limits h held = ScriptPhaserStandsFor sum_operation p limits h held
 AnyStandsFor (phaser.Product p) Product limits h held =
-    PhaserStandsFor product_operation p limits h held
-AnyStandsFor (phaser.Least p) Least limits h held = PhaserStandsFor least_operation p limits h held
+    ScriptPhaserStandsFor product_operation p limits h held
+AnyStandsFor (phaser.Least p) Least limits h held = ScriptPhaserStandsFor least_operation p limits h held
 AnyStandsFor (phaser.Greatest p) Greatest limits h held =
-    PhaserStandsFor greatest_operation p limits h held
-AnyStandsFor (phaser.Any p) Any limits h held = PhaserStandsFor any_operation p limits h held
+    ScriptPhaserStandsFor greatest_operation p limits h held
+AnyStandsFor (phaser.Any p) Any limits h held = ScriptPhaserStandsFor any_operation p limits h held
 AnyStandsFor p operation limits h held = ⊥
 
 -- both have no phaser, or the phaser has the state's operation, history and sends
@@ -53,8 +53,8 @@ abbrev pub session_of : Global → Option AnyPhaser → SessionState
 session_of alloc phaser = record { alloc = alloc; phaser = phaser }
 
 -- the session has come as far as the state
-unfoldable pub Stands : SessionState → ScriptState → Type 0
-Stands session state = MaybeStandsFor session.phaser state
+unfoldable pub SessionStands : SessionState → ScriptState → Type 0
+SessionStands session state = MaybeStandsFor session.phaser state
 
 -- for the code: a phaser or none that some state has
 abbrev pub IsSession : Option AnyPhaser → Type 0
@@ -62,4 +62,4 @@ IsSession phaser = (state : ScriptState) × MaybeStandsFor phaser state
 
 -- the session has answered these lines of a script
 abbrev pub StandsForLines : SessionState → List (List ℕ) → Type 0
-StandsForLines session lines = Stands session (state_after lines)
+StandsForLines session lines = SessionStands session (state_after lines)

@@ -30,20 +30,20 @@ abbrev pub is_refused : ScriptState → List ℕ → Bool
 is_refused state line = is_refusal (reply_of_line state (command_of line))
 
 -- none of the lines is
-abbrev pub AreTaken : ScriptState → List (List ℕ) → Type 0
-AreTaken state [] = ⊤
-AreTaken state (line ∷ lines) =
-    (is_refused state line ≡ false) × AreTaken (after_line state line) lines
+abbrev pub AreLinesTaken : ScriptState → List (List ℕ) → Type 0
+AreLinesTaken state [] = ⊤
+AreLinesTaken state (line ∷ lines) =
+    (is_refused state line ≡ false) × AreLinesTaken (after_line state line) lines
 
 -- the script's line of this number, counted from 1, is the first that is refused, and the front is
 -- the script through that line
-pub record StopsAt (script front : List ℕ) (number : ℕ) : Type 0 where
+pub record ScriptStopsAt (script front : List ℕ) (number : ℕ) : Type 0 where
   pub before : List (List ℕ)
   pub line : List ℕ
   pub behind : List (List ℕ)
   pub lines_are : lines_of script ≡ before ++ line ∷ behind
   pub front_lines : lines_of front ≡ before ++ line ∷ []
-  pub taken : AreTaken start before
+  pub taken : AreLinesTaken start before
   pub refused : is_refused (state_after before) line ≡ true
   pub number_is : number ≡ length before + 1
 
@@ -69,14 +69,14 @@ pub record TextEnds (script : List ℕ) (status : Status)
 
 -- no line of the script is refused, and the output grew by the replies
 pub record StrictReplays (script : List ℕ) (old new : WriterState) : Type 0 where
-  pub taken : AreTaken start (lines_of script)
+  pub taken : AreLinesTaken start (lines_of script)
   pub written : Appends old.written new.written (replies_of script)
 
 -- a line is: the output grew by the replies through that line, and its number was told
 pub record StrictRefusal (script : List ℕ) (old new before after : WriterState) : Type 0 where
   pub front : List ℕ
   pub number : ℕ
-  pub stops : StopsAt script front number
+  pub stops : ScriptStopsAt script front number
   pub written : Appends old.written new.written (replies_of front)
   pub says : Says (script_line number) before after
 
@@ -85,7 +85,7 @@ pub record StrictRefusal (script : List ℕ) (old new before after : WriterState
 pub record StrictStops (script : List ℕ) (old new before after : WriterState) : Type 0 where
   pub front : List ℕ
   pub number : ℕ
-  pub through : (front ≡ script) ⊎ StopsAt script front number
+  pub through : (front ≡ script) ⊎ ScriptStopsAt script front number
   pub stops : TextStops (replies_of front) old new before after
 
 -- how a strict replay of a text ends, by its status

@@ -5,7 +5,7 @@ ghost use Rattle.std.specs.Io.KnownBytes.{Appends};
 ghost use Rattle.phase_script.specs.Cuts.{HasNoLf};
 ghost use Rattle.watched_io.specs.Prefix.{AppendsPrefix};
 ghost use Rattle.phase_replay.specs.Scripts.{ScriptState, reply_line_of, after_line};
-ghost use Rattle.phase_replay.specs.Session.{Stands};
+ghost use Rattle.phase_replay.specs.Session.{SessionStands};
 
 use crate::Session;
 use crate::line_prefix::LinePrefix;
@@ -24,11 +24,11 @@ fn answer_line(
     reply: &mut ReplyLine,
     out: &mut Vec<u8>,
 ) -> Result<(), AllocError>
-    ensures reply { OnOk result ((state : ScriptState) → Stands session.old state
+    ensures reply { OnOk result ((state : ScriptState) → SessionStands session.old state
         → out.new.items ≡ out.old.items ++ reply_line_of state line.now) }
 
-    ensures after { OnOk result ((state : ScriptState) → Stands session.old state
-        → Stands session.new (after_line state line.now)) }
+    ensures after { OnOk result ((state : ScriptState) → SessionStands session.old state
+        → SessionStands session.new (after_line state line.now)) }
 
     ensures err { OnErr result (out.new.items ≡ out.old.items) }
 {
@@ -47,13 +47,13 @@ pub struct Replayer {
 }
 
 impl Replayer {
-    ghost use Rattle.phase_replay.specs.Replayer.{Owes, Goes, waiting_of, FaultIsNoted, IsNoted};
+    ghost use Rattle.phase_replay.specs.Replayer.{ReplayerOwes, Goes, waiting_of, FaultIsNoted, IsNoted};
     ghost use Rattle.phase_replay.specs.Replies.{replies_of};
     ghost use Rattle.watched_io.specs.Watched.{inner_of, has_failed_of};
 
     /// Makes a replay of which no byte has been read.
     pub fn new(alloc: Global) -> Replayer
-        ensures { (script : List ℕ) → Owes result script (replies_of script) }
+        ensures { (script : List ℕ) → ReplayerOwes result script (replies_of script) }
     {
         Replayer {
             session: Session::new(alloc),
@@ -66,8 +66,8 @@ impl Replayer {
     // Answers the line that `end` ends, and begins the next one.
     fn answer(&mut self, end: &[u8]) -> Result<(), AllocError>
         requires { HasNoLf end.now }
-        ensures ok { OnOk result ((later owed : List ℕ) → Owes self.old (end.now ++ 10 ∷ later) owed
-            → Owes self.new later owed) }
+        ensures ok { OnOk result ((later owed : List ℕ) → ReplayerOwes self.old (end.now ++ 10 ∷ later) owed
+            → ReplayerOwes self.new later owed) }
 
         ensures begun { OnOk result (self.new.kept ≡ []) }
         ensures err { OnErr result (waiting_of self.new ≡ waiting_of self.old) }
@@ -94,11 +94,11 @@ impl Replayer {
 
     /// Hands the replies that wait to the writer.
     pub fn hand_over<W: Write>(&mut self, writer: &mut Watched<W>) -> Result<(), WriteFailed>
-        ensures ok { OnOk result ((later owed : List ℕ) → Owes self.old later owed
+        ensures ok { OnOk result ((later owed : List ℕ) → ReplayerOwes self.old later owed
             → Goes (W.contents (inner_of writer.old)) (W.contents (inner_of writer.new))
             self.new later owed) }
 
-        ensures err { OnErr result ((later owed : List ℕ) → Owes self.old later owed
+        ensures err { OnErr result ((later owed : List ℕ) → ReplayerOwes self.old later owed
             → AppendsPrefix (W.contents (inner_of writer.old)) (W.contents (inner_of writer.new))
             owed) }
 
@@ -114,7 +114,7 @@ impl Replayer {
     // Hands over the replies that wait, where memory ran out for the next one, and gives the fault
     // to tell: a write that fails then is told in place of the want of memory.
     fn stop<W: Write>(&self, writer: &mut Watched<W>) -> IoFault
-        ensures prefix { (before : Replayer) (later owed : List ℕ) → Owes before later owed
+        ensures prefix { (before : Replayer) (later owed : List ℕ) → ReplayerOwes before later owed
             → waiting_of self.now ≡ waiting_of before
             → AppendsPrefix (W.contents (inner_of writer.old)) (W.contents (inner_of writer.new))
             owed }
@@ -128,11 +128,11 @@ impl Replayer {
 
     // Hands the replies over where many wait.
     fn make_room<W: Write>(&mut self, writer: &mut Watched<W>) -> Result<(), WriteFailed>
-        ensures ok { OnOk result ((later owed : List ℕ) → Owes self.old later owed
+        ensures ok { OnOk result ((later owed : List ℕ) → ReplayerOwes self.old later owed
             → Goes (W.contents (inner_of writer.old)) (W.contents (inner_of writer.new))
             self.new later owed) }
 
-        ensures err { OnErr result ((later owed : List ℕ) → Owes self.old later owed
+        ensures err { OnErr result ((later owed : List ℕ) → ReplayerOwes self.old later owed
             → AppendsPrefix (W.contents (inner_of writer.old)) (W.contents (inner_of writer.new))
             owed) }
 
@@ -148,12 +148,12 @@ impl Replayer {
 
     /// Reads a piece of the script, and hands replies over as they grow many.
     pub fn piece<W: Write>(&mut self, piece: &[u8], writer: &mut Watched<W>) -> Result<(), IoFault>
-        ensures ok { OnOk result ((later owed : List ℕ) → Owes self.old (piece.now ++ later) owed
+        ensures ok { OnOk result ((later owed : List ℕ) → ReplayerOwes self.old (piece.now ++ later) owed
             → Goes (W.contents (inner_of writer.old)) (W.contents (inner_of writer.new))
             self.new later owed) }
 
         ensures err { OnErr result ((later owed : List ℕ)
-            → Owes self.old (piece.now ++ later) owed
+            → ReplayerOwes self.old (piece.now ++ later) owed
             → AppendsPrefix (W.contents (inner_of writer.old)) (W.contents (inner_of writer.new))
             owed) }
 
@@ -173,7 +173,7 @@ impl Replayer {
 
     // Answers a last line with no LF, where its prefix is not empty.
     fn last(&mut self) -> Result<(), AllocError>
-        ensures ok { OnOk result ((owed : List ℕ) → Owes self.old [] owed
+        ensures ok { OnOk result ((owed : List ℕ) → ReplayerOwes self.old [] owed
             → owed ≡ waiting_of self.new) }
         ensures err { OnErr result (waiting_of self.new ≡ waiting_of self.old) }
     {
@@ -186,10 +186,10 @@ impl Replayer {
 
     /// Ends the script, and hands over the replies that are left.
     pub fn finish<W: Write>(&mut self, writer: &mut Watched<W>) -> Result<(), IoFault>
-        ensures ok { OnOk result ((owed : List ℕ) → Owes self.old [] owed
+        ensures ok { OnOk result ((owed : List ℕ) → ReplayerOwes self.old [] owed
             → Appends (W.contents (inner_of writer.old)) (W.contents (inner_of writer.new)) owed) }
 
-        ensures err { OnErr result ((owed : List ℕ) → Owes self.old [] owed
+        ensures err { OnErr result ((owed : List ℕ) → ReplayerOwes self.old [] owed
             → AppendsPrefix (W.contents (inner_of writer.old)) (W.contents (inner_of writer.new))
             owed) }
 

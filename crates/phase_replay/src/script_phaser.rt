@@ -99,11 +99,11 @@ fn keep(places: &[Outcome], outcomes: &mut Outcomes)
 
 impl<A: Accumulate> ScriptPhaser<A> {
     ghost use Rattle.phase_core.specs.phase_history.declared.event.Event.TheVariants.{Made};
-    ghost use Rattle.phase_replay.specs.Session.{PhaserStandsFor};
+    ghost use Rattle.phase_replay.specs.Session.{ScriptPhaserStandsFor};
 
     /// Makes a phaser whose founder, task 0, holds no sends.
     pub fn new(alloc: Global, spec: Spec) -> Result<ScriptPhaser<A>, AllocError>
-        ensures { IfOk result (λ phaser. PhaserStandsFor A.operation phaser spec (Made 0 ∷ []) []) }
+        ensures { IfOk result (λ phaser. ScriptPhaserStandsFor A.operation phaser spec (Made 0 ∷ []) []) }
     {
         Ok(ScriptPhaser {
             core: PhaserCore::new(alloc, spec, 0)?,
@@ -121,17 +121,17 @@ impl<A: Accumulate> ScriptPhaser<A> {
     ) -> Result<Reply, AllocError>
         requires { IsCommand (whole_command values.now command) }
         ensures reply { IfOk result (λ reply. (limits : Limits) (h : History) (held : Held)
-            → PhaserStandsFor A.operation self.old limits h held
+            → ScriptPhaserStandsFor A.operation self.old limits h held
             → whole_reply outcomes.new reply ≡ phaser_reply A.operation.value limits h held
             (whole_command values.now command)) }
         ensures after { OnOk result ((limits : Limits) (h : History) (held : Held)
-            → PhaserStandsFor A.operation self.old limits h held
-            → PhaserStandsFor A.operation self.new limits
+            → ScriptPhaserStandsFor A.operation self.old limits h held
+            → ScriptPhaserStandsFor A.operation self.new limits
             (history_after A.operation.value limits h held (whole_command values.now command))
             (held_after limits h held (whole_command values.now command))) }
         ensures err { OnErr result (self.new ≡ self.old) }
         ensures memory { OnErr result ((limits : Limits) (h : History) (held : Held)
-            → PhaserStandsFor A.operation self.old limits h held
+            → ScriptPhaserStandsFor A.operation self.old limits h held
             → IsOkReply (phaser_reply A.operation.value limits h held
             (whole_command values.now command))) }
         ensures asks { OnErr result (MayWantMemory (Some (whole_command values.now command))) }
@@ -156,16 +156,16 @@ impl<A: Accumulate> ScriptPhaser<A> {
     // Registers the child.
     fn add(&mut self, parent: u64, child: u64, mode: Mode) -> Result<Reply, AllocError>
         ensures reply { IfOk result (λ reply. (limits : Limits) (h : History) (held : Held)
-            → PhaserStandsFor A.operation self.old limits h held
+            → ScriptPhaserStandsFor A.operation self.old limits h held
             → Tells reply (script_reply
             (reply_to A.operation.value limits h (call.Register parent child mode)))) }
         ensures after { OnOk result ((limits : Limits) (h : History) (held : Held)
-            → PhaserStandsFor A.operation self.old limits h held
-            → PhaserStandsFor A.operation self.new limits
+            → ScriptPhaserStandsFor A.operation self.old limits h held
+            → ScriptPhaserStandsFor A.operation self.new limits
             (after_call A.operation.value limits h (call.Register parent child mode)) held) }
         ensures err { OnErr result (self.new ≡ self.old) }
         ensures memory { OnErr result ((limits : Limits) (h : History) (held : Held)
-            → PhaserStandsFor A.operation self.old limits h held
+            → ScriptPhaserStandsFor A.operation self.old limits h held
             → IsOkReply (script_reply
             (reply_to A.operation.value limits h (call.Register parent child mode)))) }
     {
@@ -178,16 +178,16 @@ impl<A: Accumulate> ScriptPhaser<A> {
     // Registers the child as a waiter that joins now.
     fn add_now(&mut self, parent: u64, child: u64) -> Result<Reply, AllocError>
         ensures reply { IfOk result (λ reply. (limits : Limits) (h : History) (held : Held)
-            → PhaserStandsFor A.operation self.old limits h held
+            → ScriptPhaserStandsFor A.operation self.old limits h held
             → Tells reply (script_reply
             (reply_to A.operation.value limits h (call.RegisterNow parent child)))) }
         ensures after { OnOk result ((limits : Limits) (h : History) (held : Held)
-            → PhaserStandsFor A.operation self.old limits h held
-            → PhaserStandsFor A.operation self.new limits
+            → ScriptPhaserStandsFor A.operation self.old limits h held
+            → ScriptPhaserStandsFor A.operation self.new limits
             (after_call A.operation.value limits h (call.RegisterNow parent child)) held) }
         ensures err { OnErr result (self.new ≡ self.old) }
         ensures memory { OnErr result ((limits : Limits) (h : History) (held : Held)
-            → PhaserStandsFor A.operation self.old limits h held
+            → ScriptPhaserStandsFor A.operation self.old limits h held
             → IsOkReply (script_reply
             (reply_to A.operation.value limits h (call.RegisterNow parent child)))) }
     {
@@ -201,15 +201,15 @@ impl<A: Accumulate> ScriptPhaser<A> {
     fn send(&mut self, task: u64, value: i64) -> Result<Reply, AllocError>
         requires { IsSend value }
         ensures reply { IfOk result (λ reply. (limits : Limits) (h : History) (held : Held)
-            → PhaserStandsFor A.operation self.old limits h held
+            → ScriptPhaserStandsFor A.operation self.old limits h held
             → Tells reply (send_reply h held task)) }
         ensures after { OnOk result ((limits : Limits) (h : History) (held : Held)
-            → PhaserStandsFor A.operation self.old limits h held
-            → PhaserStandsFor A.operation self.new limits h
+            → ScriptPhaserStandsFor A.operation self.old limits h held
+            → ScriptPhaserStandsFor A.operation self.new limits h
             (held_after_send (send_reply h held task) held task value)) }
         ensures err { OnErr result (self.new ≡ self.old) }
         ensures memory { OnErr result ((limits : Limits) (h : History) (held : Held)
-            → PhaserStandsFor A.operation self.old limits h held
+            → ScriptPhaserStandsFor A.operation self.old limits h held
             → IsOkReply (send_reply h held task)) }
     {
         let Some(entry) = self.core.view(task) else {
@@ -232,12 +232,12 @@ impl<A: Accumulate> ScriptPhaser<A> {
     // Makes the task's signal, with the sends that it holds.
     fn signal(&mut self, task: u64, single: Option<Single>) -> Reply
         ensures reply { (limits : Limits) (h : History) (held : Held)
-            → PhaserStandsFor A.operation self.old limits h held
+            → ScriptPhaserStandsFor A.operation self.old limits h held
             → Tells result (script_reply
             (reply_to A.operation.value limits h (held_signal held task single))) }
         ensures after { (limits : Limits) (h : History) (held : Held)
-            → PhaserStandsFor A.operation self.old limits h held
-            → PhaserStandsFor A.operation self.new limits
+            → ScriptPhaserStandsFor A.operation self.old limits h held
+            → ScriptPhaserStandsFor A.operation self.new limits
             (after_call A.operation.value limits h (held_signal held task single))
             (held_after_signal (signal_reply limits h task (held_by held task ∷ []) single)
             held task) }
@@ -255,12 +255,12 @@ impl<A: Accumulate> ScriptPhaser<A> {
     // Waits for the task's next phase.
     fn wait(&mut self, task: u64) -> Reply
         ensures reply { (limits : Limits) (h : History) (held : Held)
-            → PhaserStandsFor A.operation self.old limits h held
+            → ScriptPhaserStandsFor A.operation self.old limits h held
             → Tells result (script_reply
             (reply_to A.operation.value limits h (call.Wait task))) }
         ensures after { (limits : Limits) (h : History) (held : Held)
-            → PhaserStandsFor A.operation self.old limits h held
-            → PhaserStandsFor A.operation self.new limits
+            → ScriptPhaserStandsFor A.operation self.old limits h held
+            → ScriptPhaserStandsFor A.operation self.new limits
             (after_call A.operation.value limits h (call.Wait task)) held }
     {
         match self.core.wait(task) {
@@ -274,11 +274,11 @@ impl<A: Accumulate> ScriptPhaser<A> {
     fn block(&mut self, task: u64, values: &Values) -> Reply
         requires { IsBlock values.now }
         ensures reply { (limits : Limits) (h : History) (held : Held)
-            → PhaserStandsFor A.operation self.old limits h held
+            → ScriptPhaserStandsFor A.operation self.old limits h held
             → Tells result (block_reply A.operation.value limits h held task values.now) }
         ensures after { (limits : Limits) (h : History) (held : Held)
-            → PhaserStandsFor A.operation self.old limits h held
-            → PhaserStandsFor A.operation self.new limits
+            → ScriptPhaserStandsFor A.operation self.old limits h held
+            → ScriptPhaserStandsFor A.operation self.new limits
             (after_block A.operation.value limits h held task values.now) held }
     {
         let Some(entry) = self.core.view(task) else {
@@ -302,12 +302,12 @@ impl<A: Accumulate> ScriptPhaser<A> {
     fn take(&mut self, task: u64, phases: u64, outcomes: &mut Outcomes) -> Reply
         requires { phases ≤ VALUES_MAX }
         ensures reply { (limits : Limits) (h : History) (held : Held)
-            → PhaserStandsFor A.operation self.old limits h held
+            → ScriptPhaserStandsFor A.operation self.old limits h held
             → whole_reply outcomes.new result
             ≡ take_reply A.operation.value limits h task phases }
         ensures after { (limits : Limits) (h : History) (held : Held)
-            → PhaserStandsFor A.operation self.old limits h held
-            → PhaserStandsFor A.operation self.new limits
+            → ScriptPhaserStandsFor A.operation self.old limits h held
+            → ScriptPhaserStandsFor A.operation self.new limits
             (after_call A.operation.value limits h (call.WaitBlock task phases)) held }
     {
         let mut places = [Outcome::Empty; VALUES_MAX];
@@ -324,12 +324,12 @@ impl<A: Accumulate> ScriptPhaser<A> {
     // Drops the task's registration, and gives up its sends.
     fn drop_task(&mut self, task: u64) -> Reply
         ensures reply { (limits : Limits) (h : History) (held : Held)
-            → PhaserStandsFor A.operation self.old limits h held
+            → ScriptPhaserStandsFor A.operation self.old limits h held
             → Tells result (script_reply
             (reply_to A.operation.value limits h (call.Drop task))) }
         ensures after { (limits : Limits) (h : History) (held : Held)
-            → PhaserStandsFor A.operation self.old limits h held
-            → PhaserStandsFor A.operation self.new limits
+            → ScriptPhaserStandsFor A.operation self.old limits h held
+            → ScriptPhaserStandsFor A.operation self.new limits
             (after_call A.operation.value limits h (call.Drop task))
             (held_after_drop (drop_refusal h task) held task) }
     {

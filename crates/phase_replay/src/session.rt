@@ -104,13 +104,13 @@ impl Model for Session {
     ghost invariant = { λ s. IsSession s.phaser };
 }
 
-#[tactic(auto, unfolding(crate::specs::Session::Stands, crate::specs::Session::MaybeStandsFor, crate::specs::Scripts::start, crate::specs::Scripts::reply_line_of, crate::specs::Scripts::after_line))]
+#[tactic(auto, unfolding(crate::specs::Session::SessionStands, crate::specs::Session::MaybeStandsFor, crate::specs::Scripts::start, crate::specs::Scripts::reply_line_of, crate::specs::Scripts::after_line))]
 impl Session {
-    ghost use Rattle.phase_replay.specs.Session.{Stands, StandsForLines};
+    ghost use Rattle.phase_replay.specs.Session.{SessionStands, StandsForLines};
 
     /// Makes a session before its first line. It takes no memory.
     pub fn new(alloc: Global) -> Session
-        ensures { Stands result start }
+        ensures { SessionStands result start }
     {
         Session {
             alloc,
@@ -124,22 +124,22 @@ impl Session {
     ///
     /// Want of memory comes only from a `make`, `add`, `now` or `send` that would be answered `ok`,
     /// and leaves the session unchanged.
-    #[tactic(auto, using(crate::proofs::Scripted::state_after_push), unfolding(crate::specs::Session::Stands, crate::specs::Scripts::reply_line_of, crate::specs::Scripts::after_line))]
+    #[tactic(auto, using(crate::proofs::Scripted::state_after_push), unfolding(crate::specs::Session::SessionStands, crate::specs::Scripts::reply_line_of, crate::specs::Scripts::after_line))]
     pub fn line(&mut self, line: &[u8]) -> Result<ReplyLine, AllocError>
-        ensures reply { IfOk result (λ reply. (state : ScriptState) → Stands self.old state
+        ensures reply { IfOk result (λ reply. (state : ScriptState) → SessionStands self.old state
             → reply ≡ reply_line_of state line.now) }
-        ensures after { OnOk result ((state : ScriptState) → Stands self.old state
-            → Stands self.new (after_line state line.now)) }
+        ensures after { OnOk result ((state : ScriptState) → SessionStands self.old state
+            → SessionStands self.new (after_line state line.now)) }
         ensures err { OnErr result (self.new ≡ self.old) }
         // Memory is wanted only where the line would be answered `ok`.
-        ensures memory { OnErr result ((state : ScriptState) → Stands self.old state
+        ensures memory { OnErr result ((state : ScriptState) → SessionStands self.old state
             → IsOkReply (reply_of_line state (command_of line.now))) }
         // Only a `make`, an `add`, a `now` or a `send` wants it.
         ensures asks { OnErr result (MayWantMemory (command_of line.now)) }
         // A reply is one line, of at most 363 bytes.
         ensures one_line { IfOk result (λ reply. IsOneLine reply × (length reply ≤ REPLY_MAX)) }
         // A session stands for some state, whatever was done with it before.
-        ensures stands { (state : ScriptState) × Stands self.old state }
+        ensures stands { (state : ScriptState) × SessionStands self.old state }
         // The same over the lines so far: the session then stands for them with this one.
         ensures script { IfOk result (λ reply. (lines : List (List ℕ))
             → StandsForLines self.old lines → (reply ≡ reply_line_of (state_after lines) line.now)
@@ -152,18 +152,18 @@ impl Session {
 
     /// The same as `line`, with the reply in place of the line that `reply` had. Want of memory
     /// leaves that line too.
-    #[tactic(auto, unfolding(crate::specs::Session::Stands, crate::specs::Scripts::reply_line_of, crate::specs::Scripts::after_line))]
+    #[tactic(auto, unfolding(crate::specs::Session::SessionStands, crate::specs::Scripts::reply_line_of, crate::specs::Scripts::after_line))]
     pub fn answer(&mut self, line: &[u8], reply: &mut ReplyLine) -> Result<(), AllocError>
-        ensures reply { OnOk result ((state : ScriptState) → Stands self.old state
+        ensures reply { OnOk result ((state : ScriptState) → SessionStands self.old state
             → reply.new ≡ reply_line_of state line.now) }
-        ensures after { OnOk result ((state : ScriptState) → Stands self.old state
-            → Stands self.new (after_line state line.now)) }
+        ensures after { OnOk result ((state : ScriptState) → SessionStands self.old state
+            → SessionStands self.new (after_line state line.now)) }
         ensures err { OnErr result ((self.new ≡ self.old) × (reply.new ≡ reply.old)) }
-        ensures memory { OnErr result ((state : ScriptState) → Stands self.old state
+        ensures memory { OnErr result ((state : ScriptState) → SessionStands self.old state
             → IsOkReply (reply_of_line state (command_of line.now))) }
         ensures asks { OnErr result (MayWantMemory (command_of line.now)) }
         ensures one_line { OnOk result (IsOneLine reply.new × (length reply.new ≤ REPLY_MAX)) }
-        ensures stands { (state : ScriptState) × Stands self.old state }
+        ensures stands { (state : ScriptState) × SessionStands self.old state }
     {
         let Some(command) = read(line, &mut self.values) else {
             reply.write(Reply::BadLine, &self.outcomes);

@@ -3,7 +3,7 @@ ghost use Rattle.std.specs.Prelude.{◌≡◌, ◌≤◌, ◌<◌, length, take,
 ghost use Rattle.phase_script.specs.Lines.{lines_of};
 ghost use Rattle.phase_replay.specs.Inside.{begins_as_refusal};
 ghost use Rattle.phase_replay.specs.Scripts.{start};
-ghost use Rattle.phase_replay.specs.Stops.{AreTaken, StopsAt};
+ghost use Rattle.phase_replay.specs.Stops.{AreLinesTaken, ScriptStopsAt};
 
 use crate::Session;
 use crate::first_line::first_line;
@@ -29,8 +29,8 @@ fn is_refusal(reply: &[u8]) -> bool
 /// Finds the first line of a script that is refused, or that is no command.
 pub fn first_refused(alloc: Global, script: &[u8]) -> Result<Option<Stop>, AllocError>
     ensures some { IfOk result (λ found. IfSome found (λ stop. (stop.end ≤ length script.now)
-        × StopsAt script.now (take stop.end script.now) stop.number)) }
-    ensures none { IfOk result (λ found. found ≡ None → AreTaken start (lines_of script.now)) }
+        × ScriptStopsAt script.now (take stop.end script.now) stop.number)) }
+    ensures none { IfOk result (λ found. found ≡ None → AreLinesTaken start (lines_of script.now)) }
 {
     let mut session = Session::new(alloc);
     let mut reply = ReplyLine::new();

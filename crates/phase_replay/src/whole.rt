@@ -8,7 +8,7 @@ ghost use Rattle.watched_io.specs.Watched.{inner_of, has_failed_of};
 ghost use Rattle.phase_replay.specs.Inside.{StopsReading};
 ghost use Rattle.phase_replay.specs.Replay.{HasCause, RepliesPrefix, RepliesWhole};
 ghost use Rattle.phase_replay.specs.Replay.{ReplaysAll, ReplaysPrefix};
-ghost use Rattle.phase_replay.specs.Replayer.{Owes};
+ghost use Rattle.phase_replay.specs.Replayer.{ReplayerOwes};
 ghost use Rattle.phase_replay.specs.Replies.{replies_of};
 
 use crate::replayer::Replayer;
@@ -54,7 +54,7 @@ fn replay_by<R: Read, W: Write>(
     reader: &mut Watched<R>,
     writer: &mut Watched<W>,
 ) -> Result<(), IoFault>
-    requires begun { (script : List ℕ) → Owes replayer.old script (replies_of script) }
+    requires begun { (script : List ℕ) → ReplayerOwes replayer.old script (replies_of script) }
     requires room { length piece.old ≡ PIECE_MAX }
     ensures all { OnOk result (ReplaysAll
         (reader_state R.remaining reader.old) (reader_state R.remaining reader.new)

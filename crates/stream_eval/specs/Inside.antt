@@ -24,7 +24,7 @@ member_option None = None
 member_option (Some list) = Some (member_of list)
 
 -- a task that took so many lists puts something on its output number j
-pub record MayPut (task : TaskLine) (lists j : ℕ) : Type 0 where
+pub record LineMayPut (task : TaskLine) (lists j : ℕ) : Type 0 where
   pub ends : HasEnds task.kind lists (length task.outputs.items)
   pub turn : task.kind ≡ Split → j < length task.outputs.items
   pub taps : HasTaps task.kind task.taps.items task.shift

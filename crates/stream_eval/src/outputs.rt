@@ -5,7 +5,7 @@ ghost use Rattle.stream_lists.specs.phase_accum.Sends.{AreSends};
 ghost use Rattle.stream_lists.specs.graph_base.Inside.{task_of};
 ghost use Rattle.stream_lists.specs.Lists.{mixed, output_list};
 ghost use Rattle.stream_lists.specs.Ranges.{is_out_of_range, list_fault};
-ghost use Rattle.stream_eval.specs.Inside.{MayPut};
+ghost use Rattle.stream_eval.specs.Inside.{LineMayPut};
 
 use crate::list::{ListFault, every_list, fir_list, in_turn_list, mixed_list};
 use crate::taken_values::part_of;
@@ -75,7 +75,7 @@ pub(crate) fn list_put(
     steps: u128,
     j: usize,
 ) -> Result<Vec<i64>, ListFault>
-    requires task { MayPut task.now (length taken.now) j }
+    requires task { LineMayPut task.now (length taken.now) j }
     requires samples { AreSends samples.now }
     requires sends { All (λ list. AreSends list.now) taken.now }
     ensures ok { IfOk result (λ list. list.items ≡ output_list samples.now

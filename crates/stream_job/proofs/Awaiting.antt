@@ -14,7 +14,7 @@ use Rattle.stream_eval.specs.stream_lists.Jobs.{Job, samples_in, with_samples}
 use Rattle.graph_runs.specs.Moments.{Moment}
 use Rattle.stream_job.specs.Machines.{IsMachineAt, MayHaveCome}
 use Rattle.stream_job.specs.Plans.{IsPlan}
-use Rattle.stream_job.specs.Streams.{AreInputs, AreKept, Keeps}
+use Rattle.stream_job.specs.Streams.{AreInputs, AreKept, InputKeeps}
 use Rattle.stream_job.specs.declared.input.Input.{Input}
 use Rattle.stream_job.specs.declared.machine.Machine.{Machine}
 use Rattle.stream_job.specs.declared.plan.Plan.{Plan}
@@ -135,7 +135,7 @@ pub of_source : (job : Job) (machine : Machine) (inputs : List Input) (s : List 
     → t < length job.graph.tasks → is_source (task_at job.graph t).kind ≡ true
     → state ≡ get_or machine.tasks.items t state
     → slice_get inputs (source_number job.graph.tasks t) ≡ Some input
-    → ((xs : List ℤ) → Keeps input state.begun xs → rest ≡ drop state.begun xs)
+    → ((xs : List ℤ) → InputKeeps input state.begun xs → rest ≡ drop state.begun xs)
     → IsMachineAt (with_samples s job) m machine → AreKept job s m inputs
     → MayHaveCome job machine t rest s
 of_source job machine inputs s m t state input rest there source read found awaits at kept =
@@ -153,7 +153,7 @@ of_source job machine inputs s m t state input rest there source read found awai
         (slice_get_read machine.tasks.items (length machine.tasks.items) t state refl (omega arith)
         read)).stands.begun
 
-    keeps : Keeps input state.begun (samples_in job s t)
+    keeps : InputKeeps input state.begun (samples_in job s t)
     keeps =
-        subst (λ n. Keeps input n (samples_in job s t)) (begun m at)
+        subst (λ n. InputKeeps input n (samples_in job s t)) (begun m at)
         (kept t input there (source_kind (task_at job.graph t).kind source) found)

@@ -14,9 +14,9 @@ use Rattle.stream_eval.specs.stream_lists.Lists.{is_sink_at, sinks_of}
 use Rattle.stream_eval.specs.declared.whole.Lines.{Lines}
 use Rattle.graph_runs.specs.Beginnings.{opening, root_number}
 use Rattle.graph_runs.specs.Moments.{Moment, input_at}
-use Rattle.stream_job.specs.SinkLines.{begins_at}
+use Rattle.stream_job.specs.SinkLines.{sink_begins_at}
 use Rattle.stream_job.specs.Machines.{IsMachineAt, HasRoom, kept_behind}
-use Rattle.stream_job.specs.Inside.{begins_with, HasBegun}
+use Rattle.stream_job.specs.Inside.{begins_with, LineHasBegun}
 use Rattle.stream_job.specs.declared.machine.Machine.{Machine}
 use Rattle.stream_job.specs.declared.task_state.TaskState.{TaskState}
 use Rattle.stream_job.proofs.SinkLines.{line_stays, map_same, one_set, filter_ascends}
@@ -46,7 +46,7 @@ pub lines_begin : (job : Job) (m : Moment) (machine : Machine) (c phase : ℕ) (
     → c < length job.graph.tasks → slice_get machine.tasks.items c ≡ Some state
     → (task_at job.graph c).joins_now ≡ true → lines ≡ machine.lines.items
     → read ≡ get_or lines state.sink read
-    → HasBegun job m c phase machine.lines.items
+    → LineHasBegun job m c phase machine.lines.items
     (set lines state.sink (record read { start = Some phase }))
 lines_begin job m machine c phase state lines read at there found now same is =
     let i = state.sink in
@@ -60,8 +60,8 @@ lines_begin job m machine c phase state lines read at there found now same is =
       starts = λ starts. map-set (λ line. line.start) lines i new
           ∙ ap (λ l. set (map (λ line. line.start) l) i (Some phase)) same
           ∙ ap (λ starts. set starts i (Some phase)) starts
-          ∙ ap (λ o. set (map (begins_at job m) (sinks_of job)) i o) (sym here)
-          ∙ one_set (begins_at job m) (begins_with job m c phase) c 0 i (sinks_of job)
+          ∙ ap (λ o. set (map (sink_begins_at job m) (sinks_of job)) i o) (sym here)
+          ∙ one_set (sink_begins_at job m) (begins_with job m c phase) c 0 i (sinks_of job)
           (filter_ascends (is_sink_at job) 0 (length job.graph.tasks)) place
           (λ u apart. sym (other u apart));
       own = λ room all.
@@ -74,25 +74,25 @@ lines_begin job m machine c phase state lines read at there found now same is =
     here : begins_with job m c phase c ≡ Some phase
     here = let yes = eq-eqb c c refl in rw now (rw yes refl)
 
-    other : (u : ℕ) → u ≢ c → begins_with job m c phase u ≡ begins_at job m u
+    other : (u : ℕ) → u ≢ c → begins_with job m c phase u ≡ sink_begins_at job m u
     other u apart = let no = ne_eqb u c apart in rw now (rw no refl)
 
 -- where the child does not join now, the lines are as they were
 pub lines_plain : (job : Job) (m : Moment) (machine : Machine) (c phase : ℕ) (lines : List Lines)
     → (task_at job.graph c).joins_now ≡ false
-    → lines ≡ machine.lines.items → HasBegun job m c phase machine.lines.items lines
+    → lines ≡ machine.lines.items → LineHasBegun job m c phase machine.lines.items lines
 lines_plain job m machine c phase lines now same = record {
   values = λ given. ap (map (kept_behind given)) same;
   starts = λ starts. ap (map (λ line. line.start)) same ∙ starts
-      ∙ map_same (begins_at job m) (begins_with job m c phase) (sinks_of job) (λ u. sym (plain u));
+      ∙ map_same (sink_begins_at job m) (begins_with job m c phase) (sinks_of job) (λ u. sym (plain u));
   own = λ room all. subst (All (HasRoom room)) (sym same) all;
 }
   where
-    plain : (u : ℕ) → begins_with job m c phase u ≡ begins_at job m u
+    plain : (u : ℕ) → begins_with job m c phase u ≡ sink_begins_at job m u
     plain u = rw now refl
 
 -- at the opening no sink that joins now has begun
-pub opened_begins : (job : Job) (t : ℕ) → IsGraph job.graph → begins_at job (opening job) t ≡ None
+pub opened_begins : (job : Job) (t : ℕ) → IsGraph job.graph → sink_begins_at job (opening job) t ≡ None
 opened_begins job t is = by (task_at job.graph t).joins_now refl
   where
     q : ℕ
@@ -113,7 +113,7 @@ opened_begins job t is = by (task_at job.graph t).joins_now refl
         ap (λ task. task.joins_now) (get_or_past job.graph.tasks t no_task past) in
         absurd (let wrong : true ≡ false = sym now ∙ none in cc)
 
-    by : (b : Bool) → (task_at job.graph t).joins_now ≡ b → begins_at job (opening job) t ≡ None
+    by : (b : Bool) → (task_at job.graph t).joins_now ≡ b → sink_begins_at job (opening job) t ≡ None
     by false now = rw now refl
     by true now =
         let number : root_number job q t ≡ None =

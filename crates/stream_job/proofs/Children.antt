@@ -32,11 +32,11 @@ use Rattle.graph_runs.proofs.Standing.{missing}
 use Rattle.graph_runs.proofs.PlacesFollow.{child_follows, parent_follows}
 use Rattle.graph_runs.proofs.TurnRegistering.{due_child}
 use Rattle.graph_runs.proofs.PlacesLemmas.{on_ends}
-use Rattle.stream_job.specs.Places.{IsTaskAt, place_of}
+use Rattle.stream_job.specs.Places.{IsTaskAt, place_in_state}
 use Rattle.stream_job.specs.Machines.{IsMachineAt, HasCores, UsesFew, KeepsLines, kept_behind, none_given}
-use Rattle.stream_job.specs.SinkLines.{begins_at}
-use Rattle.stream_job.specs.Turning.{HadTurn, Shows, phaser_of}
-use Rattle.stream_job.specs.Inside.{IsNextIn, add_refusal, add_event, begins_with, HasBegun}
+use Rattle.stream_job.specs.SinkLines.{sink_begins_at}
+use Rattle.stream_job.specs.Turning.{HadTurn, MadeShows, phaser_of}
+use Rattle.stream_job.specs.Inside.{IsNextIn, child_refusal, add_event, begins_with, LineHasBegun}
 use Rattle.stream_eval.specs.declared.whole.Lines.{Lines}
 use Rattle.stream_job.specs.declared.machine.Machine.{Machine}
 use Rattle.stream_job.specs.declared.task_state.TaskState.{TaskState}
@@ -114,7 +114,7 @@ child_at job machine m t c state next at found =
     let d = due_child job m t c at.graph due in
     let below = (found_below (is_due job m t) (length job.graph.tasks) c due).1 in
     let it = (at.tasks c state found).stands in
-    let miss = missing job m c (place_of state) it in
+    let miss = missing job m c (place_in_state state) it in
     let few = within (cases_lt (length state.numbers.items) (length (registrations_at job c)))
     (sym (ap is_some miss) ∙ d.missing) in
     record {
@@ -155,7 +155,7 @@ pub child_so : (job : Job) (machine : Machine) (m : Moment) (t c p n a : ℕ) (m
     → number_on m t p ≡ n → greatest_used (m.history p) + 1 ≡ a
     → answer_of_turn job m t
     ≡ accepted_answer (child_event job t p n c a mode)
-    (add_refusal job c (m.history p) n a mode)
+    (child_refusal job c (m.history p) n a mode)
 child_so job machine m t c p n a mode state next at found phaser in_mode numbered new =
     (child_at job machine m t c state next at found).answer ∙ by (task_at job.graph c).joins_now refl
   where
@@ -165,12 +165,12 @@ child_so job machine m t c p n a mode state next at found phaser in_mode numbere
     by : (b : Bool) → (task_at job.graph c).joins_now ≡ b
         → register_answer m t c r (task_at job.graph c).joins_now
         ≡ accepted_answer (child_event job t p n c a mode)
-        (add_refusal job c (m.history p) n a mode)
+        (child_refusal job c (m.history p) n a mode)
     by true now =
         let there : register_answer m t c r (task_at job.graph c).joins_now
         ≡ register_answer m t c r true = ap (register_answer m t c r) now in
         let here : accepted_answer (child_event job t p n c a mode)
-        (add_refusal job c (m.history p) n a mode)
+        (child_refusal job c (m.history p) n a mode)
         ≡ accepted_answer (child_now t p n c a) (register_now_refusal (m.history p) n a) =
         rw now refl in
         there
@@ -185,7 +185,7 @@ child_so job machine m t c p n a mode state next at found phaser in_mode numbere
         let there : register_answer m t c r (task_at job.graph c).joins_now
         ≡ register_answer m t c r false = ap (register_answer m t c r) now in
         let here : accepted_answer (child_event job t p n c a mode)
-        (add_refusal job c (m.history p) n a mode)
+        (child_refusal job c (m.history p) n a mode)
         ≡ accepted_answer (child t p n c a mode) (register_refusal (m.history p) n a mode) =
         rw now refl in
         there
@@ -206,7 +206,7 @@ pub refused_child : (job : Job) (machine : Machine) (t c p n a : ℕ) (mode : Mo
     → ((m : Moment) → IsMachineAt job m machine → number_on m t p ≡ n)
     → ((m : Moment) → IsMachineAt job m machine → greatest_used (m.history p) + 1 ≡ a)
     → ((m : Moment) → IsMachineAt job m machine
-    → add_refusal job c (m.history p) n a mode ≡ Some e) → ⊥
+    → child_refusal job c (m.history p) n a mode ≡ Some e) → ⊥
 refused_child job machine t c p n a mode state e next found phaser in_mode numbered new refused =
     let m = next.some.0 in
     let at = next.some.1 in
@@ -257,20 +257,20 @@ own_same job m (child_now t p n d a) at c e = refl
 begins_plain : (job : Job) (m : Moment) (t p n c a : ℕ) (mode : Mode) (u : ℕ)
     → (task_at job.graph c).joins_now ≡ false
     → begins_with job m c (done_of (m.history p)) u
-    ≡ begins_at job (after_turn job (child t p n c a mode) m) u
+    ≡ sink_begins_at job (after_turn job (child t p n c a mode) m) u
 begins_plain job m t p n c a mode u now = by (eqb u c) refl
   where
-    plain : begins_with job m c (done_of (m.history p)) u ≡ begins_at job m u
+    plain : begins_with job m c (done_of (m.history p)) u ≡ sink_begins_at job m u
     plain = rw now refl
 
     by : (b : Bool) → eqb u c ≡ b
         → begins_with job m c (done_of (m.history p)) u
-        ≡ begins_at job (after_turn job (child t p n c a mode) m) u
+        ≡ sink_begins_at job (after_turn job (child t p n c a mode) m) u
     by true e =
         let its : (task_at job.graph u).joins_now ≡ false =
         ap (λ x. (task_at job.graph x).joins_now) (eqb-true u c e) ∙ now in
-        let was : begins_at job m u ≡ None = rw its refl in
-        let is : begins_at job (after_turn job (child t p n c a mode) m) u ≡ None = rw its refl in
+        let was : sink_begins_at job m u ≡ None = rw its refl in
+        let is : sink_begins_at job (after_turn job (child t p n c a mode) m) u ≡ None = rw its refl in
         plain ∙ was ∙ sym is
     by false e =
         let number : (after_turn job (child t p n c a mode) m).number
@@ -284,7 +284,7 @@ begins_plain job m t p n c a mode u now = by (eqb u c) refl
 begins_now : (job : Job) (m : Moment) (t p n c a u : ℕ) → (task_at job.graph c).joins_now ≡ true
     → input_at (task_at job.graph c) 0 ≡ p
     → begins_with job m c (done_of (m.history p)) u
-    ≡ begins_at job (after_turn job (child_now t p n c a) m) u
+    ≡ sink_begins_at job (after_turn job (child_now t p n c a) m) u
 begins_now job m t p n c a u now input = by (eqb u c) refl
   where
     after : Moment
@@ -293,7 +293,7 @@ begins_now job m t p n c a u now input = by (eqb u c) refl
     d : ℕ
     d = done_of (m.history p)
 
-    by : (b : Bool) → eqb u c ≡ b → begins_with job m c d u ≡ begins_at job after u
+    by : (b : Bool) → eqb u c ≡ b → begins_with job m c d u ≡ sink_begins_at job after u
     by true e =
         let same : u ≡ c = eqb-true u c e in
         let its : (task_at job.graph u).joins_now ≡ true =
@@ -306,7 +306,7 @@ begins_now job m t p n c a u now input = by (eqb u c) refl
         ∙ ap (λ b. cond b (Some a) (m.number p u)) e in
         let offset : after.offset u ≡ d = ap (λ b. cond b d (m.offset u)) e in
         let old : begins_with job m c d u ≡ Some d = rw now (rw e refl) in
-        let new : begins_at job after u ≡ Some d =
+        let new : sink_begins_at job after u ≡ Some d =
         ap (λ b. cond b (option_map (λ x. after.offset u)
         (after.number (input_at (task_at job.graph u) 0) u)) None) its
         ∙ ap (option_map (λ x. after.offset u)) number ∙ ap (λ x. Some x) offset in
@@ -316,7 +316,7 @@ begins_now job m t p n c a u now input = by (eqb u c) refl
         ≡ m.number (input_at (task_at job.graph u) 0) u =
         number_same p (input_at (task_at job.graph u) 0) c u a m e in
         let offset : after.offset u ≡ m.offset u = ap (λ b. cond b d (m.offset u)) e in
-        let old : begins_with job m c d u ≡ begins_at job m u = rw now (rw e refl) in
+        let old : begins_with job m c d u ≡ sink_begins_at job m u = rw now (rw e refl) in
         old
         ∙ ap (λ o. cond (task_at job.graph u).joins_now (option_map (λ x. m.offset u) o) None)
         (sym number)
@@ -365,7 +365,7 @@ record ChildEvent (job : Job) (m : Moment) (t p n c a : ℕ) (mode : Mode) (even
       ≡ with_at p (add_event job c n a mode ∷ m.history p) m.history
   taken : (u k : ℕ) → (after_turn job event m).taken u k ≡ m.taken u k
   begins : (u : ℕ) → begins_with job m c (done_of (m.history p)) u
-      ≡ begins_at job (after_turn job event m) u
+      ≡ sink_begins_at job (after_turn job event m) u
 
 -- of a child whose line has this input
 child_event_is : (job : Job) (m : Moment) (t p n c a : ℕ) (mode : Mode)
@@ -416,17 +416,17 @@ pub child_turn : (job : Job) (old new : Machine) (t c p n a : ℕ) (mode : Mode)
     → (registration_at job c (length state.numbers.items)).mode ≡ mode
     → ((m : Moment) → IsMachineAt job m old → number_on m t p ≡ n)
     → ((m : Moment) → IsMachineAt job m old → greatest_used (m.history p) + 1 ≡ a)
-    → ((m : Moment) → IsMachineAt job m old → add_refusal job c (m.history p) n a mode ≡ None)
+    → ((m : Moment) → IsMachineAt job m old → child_refusal job c (m.history p) n a mode ≡ None)
     → ((m : Moment) → IsMachineAt job m old
     → HasCores job (with_at p (add_event job c n a mode ∷ m.history p) m.history) new.cores.items)
     → numbers.items ≡ state.numbers.items ++ a ∷ [] → numbers.capacity ≡ state.numbers.capacity
     → new.tasks.items ≡ set old.tasks.items c (with_numbers state numbers)
     → ((m : Moment) → IsMachineAt job m old
-    → HasBegun job m c (done_of (m.history p)) old.lines.items new.lines.items)
+    → LineHasBegun job m c (done_of (m.history p)) old.lines.items new.lines.items)
     → HadTurn job old new t (Event p Moved)
 child_turn job old new t c p n a mode state numbers next found phaser in_mode numbered fresh accepted cores items capacity tasks lines =
     record {
-      shows = λ m at. subst (λ x. Shows job m t x (Event p Moved)) (sym (answer m at))
+      shows = λ m at. subst (λ x. MadeShows job m t x (Event p Moved)) (sym (answer m at))
           ((it m at).on, (it m at).told);
       after = λ m at none. after m at;
       lines = λ given m at none kept.
@@ -438,7 +438,7 @@ child_turn job old new t c p n a mode state numbers next found phaser in_mode nu
                 (child_quiet job event c (it m at).of_child);
             starts = begun.starts kept.starts
                 ∙ map_same (begins_with job m c (done_of (m.history p)))
-                (begins_at job (after_turn job event m)) (sinks_of job) (it m at).begins;
+                (sink_begins_at job (after_turn job event m)) (sinks_of job) (it m at).begins;
           });
       own = (lines next.some.0 next.some.1).own;
     }
@@ -468,8 +468,8 @@ child_turn job old new t c p n a mode state numbers next found phaser in_mode nu
         let e = it m at in
         record {
           stands = subst (λ ns. StandsAt job (after_turn job event m) c
-              (record (place_of state) { numbers = ns })) (sym items)
-              (child_follows job m c a event (place_of state) at.graph at.reached.ran (made m at).next
+              (record (place_in_state state) { numbers = ns })) (sym items)
+              (child_follows job m c a event (place_in_state state) at.graph at.reached.ran (made m at).next
               (made m at).order e.of_child e.number its.stands);
           room = (let room = its.room in omega arith);
           filter = subst (HasFilter (task_at job.graph c) state.filter) (sym (e.taken c 0)) its.filter;
@@ -497,9 +497,9 @@ child_turn job old new t c p n a mode state numbers next found phaser in_mode nu
         by true f =
             let same : u ≡ t = eqb-true u t f in
             record {
-              stands = subst (λ v. StandsAt job (after_turn job event m) v (place_of s)) (sym same)
-                  (parent_stays job m t c event (place_of s) (made m at) e.of_child
-                  (subst (λ v. StandsAt job m v (place_of s)) same its.stands));
+              stands = subst (λ v. StandsAt job (after_turn job event m) v (place_in_state s)) (sym same)
+                  (parent_stays job m t c event (place_in_state s) (made m at) e.of_child
+                  (subst (λ v. StandsAt job m v (place_in_state s)) same its.stands));
               room = its.room;
               filter = subst (HasFilter (task_at job.graph u) s.filter) (sym (e.taken u 0)) its.filter;
               made_room = its.made_room;
@@ -581,12 +581,12 @@ pub number_is : (job : Job) (machine : Machine) (m : Moment) (t p k : ℕ) (stat
     → (k < length numbers) × (number_on m t p ≡ get_or numbers k 0)
 number_is job machine m t p k state numbers at live found same few phaser =
     let it = (at.tasks t state found).stands in
-    let all = all_numbered job m t (place_of state) it live in
+    let all = all_numbered job m t (place_in_state state) it live in
     let long : length numbers ≡ length state.numbers.items = ap length same in
     let lt : k < length state.numbers.items = omega arith in (
       omega arith,
       ap (λ q. number_on m t q) (sym phaser)
-          ∙ ap (λ o. unwrap_or o 0) (number-at job m t k (place_of state) it lt)
+          ∙ ap (λ o. unwrap_or o 0) (number-at job m t k (place_in_state state) it lt)
           ∙ sym (ap (λ ns. get_or ns k 0) same),
     )
 

@@ -16,8 +16,8 @@ use Rattle.graph_runs.proofs.Whose.{task_of}
 use Rattle.stream_job.proofs.Makes.{makes_event}
 use Rattle.graph_runs.proofs.PlacesFollow.{others_follow}
 use Rattle.graph_runs.specs.Steps.{HasFilter}
-use Rattle.stream_job.specs.SinkLines.{begins_at}
-use Rattle.stream_job.specs.Places.{IsTaskAt, place_of}
+use Rattle.stream_job.specs.SinkLines.{sink_begins_at}
+use Rattle.stream_job.specs.Places.{IsTaskAt, place_in_state}
 use Rattle.stream_job.specs.Machines.{IsMachineAt, HasCores, UsesFew}
 use Rattle.stream_job.specs.declared.machine.Machine.{Machine}
 use Rattle.stream_job.specs.declared.task_state.TaskState.{TaskState}
@@ -37,7 +37,7 @@ taken_other job m (child_now t p n c a) u k apart = refl
 
 -- an event that registers no child leaves where each sink begins
 pub begins_same : (job : Job) (m : Moment) (event : TaskEvent) (u : ℕ) → child_of event ≡ None
-    → begins_at job m u ≡ begins_at job (after_turn job event m) u
+    → sink_begins_at job m u ≡ sink_begins_at job (after_turn job event m) u
 begins_same job m (sample t j p n vs) u none = refl
 begins_same job m (signal t j p n vs) u none = refl
 begins_same job m (first_wait t i p n outcomes) u none = refl
@@ -57,7 +57,7 @@ keeps_other job m t u event state is reached answer there apart another at =
     let taken : (after_turn job event m).taken u 0 ≡ m.taken u 0 =
     taken_other job m event u 0 (λ same. apart (same ∙ own)) in
     record {
-      stands = others_follow job m u event (place_of state) is reached.ran made.next there
+      stands = others_follow job m u event (place_in_state state) is reached.ran made.next there
           (λ same. apart (same ∙ own)) another at.stands;
       room = at.room;
       filter = subst (HasFilter (task_at job.graph u) state.filter) (sym taken) at.filter;

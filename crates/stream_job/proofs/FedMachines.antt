@@ -9,7 +9,7 @@ use Rattle.graph_runs.specs.Moments.{Moment}
 use Rattle.graph_runs.proofs.FedNexts.{stands_fed}
 use Rattle.graph_runs.proofs.FedRuns.{reachable_fed}
 use Rattle.stream_job.specs.Machines.{IsMachineAt}
-use Rattle.stream_job.specs.Places.{IsTaskAt, place_of}
+use Rattle.stream_job.specs.Places.{IsTaskAt, place_in_state}
 use Rattle.stream_job.specs.declared.machine.Machine.{Machine}
 use Rattle.stream_job.specs.declared.task_state.TaskState.{TaskState}
 
@@ -18,7 +18,7 @@ task_fed : (job : Job) (m : Moment) (more : List (List ℤ)) (t : ℕ) (state : 
     → IsTaskAt (with_samples more job) m t state
 task_fed job m more t state goes there it = record {
   stands =
-      stands_fed (task_at job.graph t).block job m more t (place_of state) (goes t there) it.stands;
+      stands_fed (task_at job.graph t).block job m more t (place_in_state state) (goes t there) it.stands;
   room = it.room;
   filter = it.filter;
   made_room = it.made_room;

@@ -10,7 +10,7 @@ use Rattle.stream_eval.specs.stream_lists.Jobs.{Job, samples_in, with_samples}
 use Rattle.stream_eval.specs.stream_lists.Ranges.{Where}
 use Rattle.graph_runs.specs.Moments.{Moment}
 use Rattle.graph_runs.proofs.FedFeeds.{feed_continues}
-use Rattle.stream_job.specs.Streams.{StreamState, AreInputs, AreKept, IsApart, IsInputOf, IsStreamAt, HasInputRoom, FeedTakes, Keeps, feed_takes, ended_at, fed, has_ended}
+use Rattle.stream_job.specs.Streams.{StreamState, AreInputs, AreKept, IsApart, IsInputOf, IsStreamAt, HasInputRoom, FeedTakes, InputKeeps, feed_takes, ended_at, fed, has_ended}
 use Rattle.stream_job.specs.Worlds.{HasMet}
 use Rattle.stream_job.specs.declared.input.Input.{Input}
 use Rattle.stream_job.specs.declared.task_state.TaskState.{TaskState}
@@ -33,7 +33,7 @@ kept_set : (stream : StreamState) (s more : List (List ℤ)) (m : Moment) (sourc
     → AreKept stream.job s m stream.inputs → source < length stream.inputs
     → ((t : ℕ) → t < length stream.job.graph.tasks → (task_at stream.job.graph t).kind ≡ Source
     → source_number stream.job.graph.tasks t ≡ source
-    → Keeps new (m.begun t) (samples_in stream.job more t))
+    → InputKeeps new (m.begun t) (samples_in stream.job more t))
     → ((t : ℕ) → source_number stream.job.graph.tasks t ≢ source
     → samples_in stream.job more t ≡ samples_in stream.job s t)
     → AreKept stream.job more m (set stream.inputs source new)
@@ -43,16 +43,16 @@ kept_set stream s more m source new kept lt its others t input there is found =
     k : ℕ
     k = source_number stream.job.graph.tasks t
 
-    by : (b : Bool) → eqb k source ≡ b → Keeps input (m.begun t) (samples_in stream.job more t)
+    by : (b : Bool) → eqb k source ≡ b → InputKeeps input (m.begun t) (samples_in stream.job more t)
     by true e =
         let same : k ≡ source = eqb-true k source e in
         let G : ℕ → Type 0 = λ n. slice_get (set stream.inputs source new) n ≡ Some input in
-        subst (λ one. Keeps one (m.begun t) (samples_in stream.job more t))
+        subst (λ one. InputKeeps one (m.begun t) (samples_in stream.job more t))
         (slice_get-set_same stream.inputs source new input lt (subst G same found))
         (its t there is same)
     by false e =
         let not : k ≢ source = λ same. (let no = sym (eq-eqb k source same) ∙ e in cc) in
-        subst (Keeps input (m.begun t)) (sym (others t not))
+        subst (InputKeeps input (m.begun t)) (sym (others t not))
         (kept t input there is (slice_get-set_other stream.inputs source k new input not found))
 
 -- all samples are few, where the inputs keep them
@@ -72,7 +72,7 @@ pub stream_fed : (stream : StreamState) (s : List (List ℤ)) (m : Moment) (give
     → slice_get stream.inputs source ≡ Some input → input.ended ≡ false → new.ended ≡ input.ended
     → ((t : ℕ) → t < length stream.job.graph.tasks → (task_at stream.job.graph t).kind ≡ Source
     → source_number stream.job.graph.tasks t ≡ source
-    → Keeps new (m.begun t) (samples_in stream.job s t ++ xs))
+    → InputKeeps new (m.begun t) (samples_in stream.job s t ++ xs))
     → IsStreamAt (with_input stream source new) (fed s source xs) m given
 stream_fed stream s m given source xs input new at apart many none found opens same its =
     let job = with_samples s stream.job in
@@ -110,7 +110,7 @@ stream_fed stream s m given source xs input new at apart many none found opens s
         let each = at.each in
         let long : source < length s = omega arith in
         kept_set stream s (fed s source xs) m source new at.kept lt
-        (λ t there is number. subst (Keeps new (m.begun t))
+        (λ t there is number. subst (InputKeeps new (m.begun t))
         (sym (samples_fed stream.job s source t xs long number)) (its t there is number))
         (λ t not. samples_others stream.job s source t xs not)
 
@@ -128,11 +128,11 @@ pub kept_input : (stream : StreamState) (s : List (List ℤ)) (m : Moment) (give
     → IsStreamAt stream s m given → IsInputOf stream.job source input
     → slice_get stream.inputs source ≡ Some input
     → slice_get stream.machine.tasks.items input.task ≡ Some state
-    → Keeps input state.begun (samples_in stream.job s input.task)
+    → InputKeeps input state.begun (samples_in stream.job s input.task)
 kept_input stream s m given source input state at is found read =
     let begun : m.begun input.task ≡ state.begun =
     (at.machine.tasks input.task state read).stands.begun in
-    subst (λ n. Keeps input n (samples_in stream.job s input.task)) begun
+    subst (λ n. InputKeeps input n (samples_in stream.job s input.task)) begun
     (at.kept input.task input is.there is.kind
     (subst (λ k. slice_get stream.inputs k ≡ Some input) (sym is.number) found))
 
@@ -179,7 +179,7 @@ pub feed_took : (stream : StreamState) (s : List (List ℤ)) (m : Moment) (given
     → slice_get stream.inputs source ≡ Some input
     → slice_get stream.machine.tasks.items input.task ≡ Some state
     → is_some stream.met ≡ false → input.ended ≡ false
-    → ((xs : List ℤ) → Keeps input state.begun xs
+    → ((xs : List ℤ) → InputKeeps input state.begun xs
     → took ≡ feed_takes (length xs) state.begun many)
     → FeedTakes stream s m source many took
 feed_took stream s m given source many took input state at is found read none opens told t there
@@ -214,7 +214,7 @@ pub stream_takes : (stream : StreamState) (s : List (List ℤ)) (m : Moment) (gi
     → IsInputOf stream.job source input → slice_get stream.inputs source ≡ Some input
     → slice_get stream.machine.tasks.items input.task ≡ Some state
     → is_some stream.met ≡ false → input.ended ≡ false → new.ended ≡ input.ended
-    → ((xs : List ℤ) → Keeps input state.begun xs → Keeps new state.begun (xs ++ vs))
+    → ((xs : List ℤ) → InputKeeps input state.begun xs → InputKeeps new state.begun (xs ++ vs))
     → IsStreamAt (with_input stream source new) (fed s source vs) m given
 stream_takes stream s m given source vs input new state at apart many is found read none opens same
     takes =
@@ -224,8 +224,8 @@ stream_takes stream s m given source vs input new state at apart many is found r
     (is.number ∙ sym number) in
     let begun : m.begun input.task ≡ state.begun =
     (at.machine.tasks input.task state read).stands.begun in
-    subst (λ u. Keeps new (m.begun u) (samples_in stream.job s u ++ vs)) one
-    (subst (λ n. Keeps new n (samples_in stream.job s input.task ++ vs)) (sym begun)
+    subst (λ u. InputKeeps new (m.begun u) (samples_in stream.job s u ++ vs)) one
+    (subst (λ n. InputKeeps new n (samples_in stream.job s input.task ++ vs)) (sym begun)
     (takes (samples_in stream.job s input.task)
     (kept_input stream s m given source input state at is found read)))))
 

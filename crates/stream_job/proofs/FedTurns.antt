@@ -30,7 +30,7 @@ use Rattle.graph_runs.proofs.Signalling.{signalled}
 use Rattle.graph_runs.proofs.Turning.{turn_makes_next}
 use Rattle.stream_job.specs.Inside.{HasRoomNext}
 use Rattle.stream_job.specs.Machines.{IsMachineAt}
-use Rattle.stream_job.specs.Streams.{AreKept, GoesOn, IsStreamAt, Keeps, StreamState, ended_at, is_hungry}
+use Rattle.stream_job.specs.Streams.{AreKept, StreamGoesOn, IsStreamAt, InputKeeps, StreamState, ended_at, is_hungry}
 use Rattle.stream_job.specs.Turning.{HadTurn, met_by, told_of}
 use Rattle.stream_job.specs.Tellings.{told_by}
 use Rattle.stream_job.specs.Worlds.{HasMet}
@@ -213,7 +213,7 @@ pub kept_after : (job : Job) (s : List (List ℤ)) (m : Moment) (answer : Answer
     → HasRun (with_samples s job) (after_answer (with_samples s job) answer m)
     → AreKept job s m inputs → AreKept job s (after_answer (with_samples s job) answer m) inputs
 kept_after job s m answer inputs ran kept = λ t input there kind found.
-    (let was : Keeps input (m.begun t) (samples_in job s t) = kept t input there kind found in
+    (let was : InputKeeps input (m.begun t) (samples_in job s t) = kept t input there kind found in
     let after = after_answer (with_samples s job) answer m in
     let grown : m.begun t ≤ after.begun t = answer_further (with_samples s job) m answer t in
     let early : input.from ≤ m.begun t = was.early in
@@ -285,14 +285,14 @@ turns_twice job m [] us = refl
 turns_twice job m (t ∷ ts) us =
     turns_twice job (after_answer job (answer_of_turn job m t) m) ts us
 
-pub goes_on_none : (stream : StreamState) → GoesOn stream stream
+pub goes_on_none : (stream : StreamState) → StreamGoesOn stream stream
 goes_on_none stream = record {
   later = λ s m given at. ([], at);
   job = refl;
   inputs = refl;
 }
 
-pub goes_on_twice : (a b c : StreamState) → GoesOn a b → GoesOn b c → GoesOn a c
+pub goes_on_twice : (a b c : StreamState) → StreamGoesOn a b → StreamGoesOn b c → StreamGoesOn a c
 goes_on_twice a b c first then = record {
   later = λ s m given at.
       (let one = first.later s m given at in

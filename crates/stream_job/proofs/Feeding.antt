@@ -15,7 +15,7 @@ use Rattle.graph_lang.specs.graph_base.declared.line.Kind.TheVariants.{Source}
 use Rattle.stream_eval.specs.stream_lists.Jobs.{Job, samples_in, with_samples}
 use Rattle.graph_runs.specs.Feeds.{IsFed}
 use Rattle.graph_runs.proofs.Entries.{IsPrefix-refl}
-use Rattle.stream_job.specs.Streams.{Keeps, fed, has_ended, ended_with}
+use Rattle.stream_job.specs.Streams.{InputKeeps, fed, has_ended, ended_with}
 use Rattle.stream_job.specs.declared.input.Input.{Input}
 use Rattle.stream_eval.specs.stream_lists.declared.sample_counts.TheConstants.{COUNT_MAX}
 
@@ -26,9 +26,9 @@ sends_taken n xs sends =
     AreSends-append_left (take n xs) (drop n xs)
     (subst AreSends (sym (take-append-drop n xs)) sends)
 
-pub keeps_more : (input new : Input) (begun : ℕ) (xs vs : List ℤ) → Keeps input begun xs
+pub keeps_more : (input new : Input) (begun : ℕ) (xs vs : List ℤ) → InputKeeps input begun xs
     → AreSends vs → length xs + length vs ≤ COUNT_MAX → new.from ≡ input.from
-    → new.values.items ≡ input.values.items ++ vs → Keeps new begun (xs ++ vs)
+    → new.values.items ≡ input.values.items ++ vs → InputKeeps new begun (xs ++ vs)
 keeps_more input new begun xs vs keeps sends few from items =
     let early = keeps.early in
     let begun_few = keeps.begun_few in

@@ -13,7 +13,7 @@ use Rattle.graph_runs.specs.Moments.{Moment}
 use Rattle.graph_runs.specs.Turned.{with_at}
 use Rattle.graph_runs.proofs.Turned.{at_same, at_other}
 use Rattle.stream_job.specs.Machines.{HasRoom, KeepsLines, kept_behind}
-use Rattle.stream_job.specs.SinkLines.{kept_by, begins_at}
+use Rattle.stream_job.specs.SinkLines.{kept_by, sink_begins_at}
 use Rattle.stream_job.proofs.SinkLines.{filter_ascends, line_stays, one_place}
 
 -- ---- a sink by its number among the sinks
@@ -98,14 +98,14 @@ line_values job given m lines sink line keeps lt value =
 
 pub line_start : (job : Job) (given : ℕ → List ℤ) (m : Moment) (lines : List Lines) (sink : ℕ)
     (line : Lines) → KeepsLines job given m lines → sink < length (sinks_of job)
-    → line ≡ get_or lines sink line → begins_at job m (sink_at job sink) ≡ line.start
+    → line ≡ get_or lines sink line → sink_begins_at job m (sink_at job sink) ≡ line.start
 line_start job given m lines sink line keeps lt value =
     let many = lines_many job given m lines keeps in
     let within : sink < length lines = omega arith in
     sym (ap (λ (l : Lines). l.start) value
     ∙ sym (get_or-map (λ (l : Lines). l.start) lines sink line None within)
     ∙ ap (λ l. get_or l sink None) keeps.starts
-    ∙ get_or-map (begins_at job m) (sinks_of job) sink 0 None lt)
+    ∙ get_or-map (sink_begins_at job m) (sinks_of job) sink 0 None lt)
 
 -- ---- a sink hands over all
 

@@ -12,9 +12,9 @@ use Rattle.graph_runs.specs.Answers as answers
 use Rattle.graph_runs.specs.Answers.{makes, answer_of_turn, after_answer, accepted_answer, told_event}
 use Rattle.graph_runs.specs.TaskPlaces.{StandsAt, registration_at}
 use Rattle.graph_runs.proofs.PlacesFollow.{leave_follows}
-use Rattle.stream_job.specs.Places.{IsTaskAt, place_of}
+use Rattle.stream_job.specs.Places.{IsTaskAt, place_in_state}
 use Rattle.stream_job.specs.Machines.{IsMachineAt, HasCores}
-use Rattle.stream_job.specs.Turning.{HadTurn, Shows, told_of}
+use Rattle.stream_job.specs.Turning.{HadTurn, MadeShows, told_of}
 use Rattle.stream_job.specs.Inside.{IsNextIn}
 use Rattle.stream_job.specs.declared.machine.Machine.{Machine}
 use Rattle.stream_job.specs.declared.task_state.TaskState.{TaskState}
@@ -56,8 +56,8 @@ left_turn job old new t p number state told next found phaser numbered accepted 
     is : (m : Moment) → IsMachineAt job m old → IsTaskAt job m t state
     is m at = at.tasks t state found
 
-    place : (m : Moment) → IsMachineAt job m old → LeavesAt job m t (place_of state)
-    place m at = leaves_at job m t (place_of state) at.graph (is m at).stands (next.is m at)
+    place : (m : Moment) → IsMachineAt job m old → LeavesAt job m t (place_in_state state)
+    place m at = leaves_at job m t (place_in_state state) at.graph (is m at).stands (next.is m at)
 
     answer : (m : Moment) → IsMachineAt job m old
         → answer_of_turn job m t ≡ makes (leave t p number)
@@ -72,25 +72,25 @@ left_turn job old new t p number state told next found phaser numbered accepted 
     made m at = makes_event job m t (leave t p number) at.graph at.reached (answer m at)
 
     stands : (m : Moment) → IsMachineAt job m old
-        → StandsAt job (after_turn job (leave t p number) m) t (place_of (left_once state))
+        → StandsAt job (after_turn job (leave t p number) m) t (place_in_state (left_once state))
     stands m at =
         let one : state.left + 1 ≡ suc state.left = omega arith in
         subst (λ k. StandsAt job (after_turn job (leave t p number) m) t
-        (record (place_of state) { left = k })) (sym one)
-        (leave_follows job m t p number (place_of state) at.graph (made m at).live (made m at).next
+        (record (place_in_state state) { left = k })) (sym one)
+        (leave_follows job m t p number (place_in_state state) at.graph (made m at).live (made m at).next
         (made m at).order (is m at).stands)
 
     shows : (m : Moment) (at : IsMachineAt job m old)
-        → Shows job m t (answer_of_turn job m t) (Event p told)
+        → MadeShows job m t (answer_of_turn job m t) (Event p told)
     shows m at =
         let after = after_turn job (leave t p number) m in
         let l = place m at in
         let live : is_live job after t ≡ nat_lt (state.left + 1) (length state.numbers.items) =
-        live_by job after t (place_of (left_once state)) (stands m at) l.there
+        live_by job after t (place_in_state (left_once state)) (stands m at) l.there
         (let all = l.all in omega arith) in
         let word : told_event job m (leave t p number) ≡ told_of told =
         ap (λ b. cond b answers.Moved answers.Ended) live ∙ tells in
-        subst (λ a. Shows job m t a (Event p told)) (sym (answer m at)) (refl, word)
+        subst (λ a. MadeShows job m t a (Event p told)) (sym (answer m at)) (refl, word)
 
     after : (m : Moment) (at : IsMachineAt job m old)
         → IsMachineAt job (after_answer job (answer_of_turn job m t) m) new

@@ -23,7 +23,7 @@ use Rattle.graph_runs.proofs.PlacesFollow.{others_follow}
 use Rattle.graph_runs.proofs.Signalling.{live-is}
 use Rattle.graph_runs.proofs.Whose.{IsInOrder, task_of}
 use Rattle.stream_job.specs.Machines.{IsMachineAt}
-use Rattle.stream_job.specs.Places.{place_of}
+use Rattle.stream_job.specs.Places.{place_in_state}
 use Rattle.stream_job.specs.Turning.{phaser_of}
 use Rattle.stream_job.specs.declared.machine.Machine.{Machine}
 use Rattle.stream_job.proofs.Makes.{makes_event}
@@ -185,8 +185,8 @@ lives_on job m machine t u event at answer apart other live =
     let found = some_at machine.tasks.items u (omega arith) in
     let stands = (at.tasks u found.0 found.1).stands in
     let made = makes_event job m t event at.graph at.reached answer in
-    let after = others_follow job m u event (place_of found.0) at.graph at.reached.ran made.next
+    let after = others_follow job m u event (place_in_state found.0) at.graph at.reached.ran made.next
     there (λ same. apart (same ∙ made.own)) other stands in
-    let all = complete job m u (place_of found.0) stands (ap is_some living.all) in
-    live_by job (after_turn job event m) u (place_of found.0) after there all
-    ∙ sym (live_by job m u (place_of found.0) stands there all) ∙ live
+    let all = complete job m u (place_in_state found.0) stands (ap is_some living.all) in
+    live_by job (after_turn job event m) u (place_in_state found.0) after there all
+    ∙ sym (live_by job m u (place_in_state found.0) stands there all) ∙ live

@@ -13,7 +13,7 @@ use Rattle.graph_runs.specs.TaskEvents.{TaskEvent, after_turn}
 use Rattle.graph_runs.specs.TaskPlaces.{child_of}
 use Rattle.graph_runs.specs.Answers.{makes, answer_of_turn, after_answer}
 use Rattle.stream_job.specs.Machines.{HasRoom, IsMachineAt, KeepsLines, kept_behind, none_given}
-use Rattle.stream_job.specs.SinkLines.{begins_at, kept_by}
+use Rattle.stream_job.specs.SinkLines.{sink_begins_at, kept_by}
 use Rattle.stream_job.specs.declared.machine.Machine.{Machine}
 use Rattle.stream_job.proofs.Begins.{opened_begins}
 use Rattle.stream_job.proofs.Events.{begins_same}
@@ -34,10 +34,10 @@ same_rooms old new lines room all = subst (λ l. All (HasRoom room) l.items) (sy
 
 -- where each sink begins after an event that registers no child
 pub starts_stay : (job : Job) (m : Moment) (event : TaskEvent) → child_of event ≡ None
-    → map (begins_at job m) (sinks_of job)
-    ≡ map (begins_at job (after_turn job event m)) (sinks_of job)
+    → map (sink_begins_at job m) (sinks_of job)
+    ≡ map (sink_begins_at job (after_turn job event m)) (sinks_of job)
 starts_stay job m event none =
-    map_same (begins_at job m) (begins_at job (after_turn job event m)) (sinks_of job)
+    map_same (sink_begins_at job m) (sink_begins_at job (after_turn job event m)) (sinks_of job)
     (λ u. begins_same job m event u none)
 
 -- the lines after an event by which no sink waits and no child comes
@@ -74,6 +74,6 @@ opened_keep job lines is none starts = record {
       ∙ map_same (λ t. (t, [])) (λ t. (t, kept_by job (opening job) t)) (sinks_of job)
       (λ t. ap (λ l. (t, l)) (sym (opened_kept job t)));
   starts = starts
-      ∙ map_same (λ t. None) (begins_at job (opening job)) (sinks_of job)
+      ∙ map_same (λ t. None) (sink_begins_at job (opening job)) (sinks_of job)
       (λ t. sym (opened_begins job t is));
 }

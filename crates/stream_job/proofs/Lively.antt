@@ -16,7 +16,7 @@ use Rattle.graph_runs.specs.TaskPlaces.{TaskPlace, StandsAt, registration_at}
 use Rattle.graph_runs.proofs.Signalling.{live-is}
 use Rattle.graph_runs.proofs.Standing.{kept}
 use Rattle.graph_runs.proofs.TurnRegistering.{is_for}
-use Rattle.stream_job.specs.Places.{place_of}
+use Rattle.stream_job.specs.Places.{place_in_state}
 use Rattle.stream_job.specs.Machines.{IsMachineAt}
 use Rattle.stream_job.specs.Inside.{IsNextIn}
 use Rattle.stream_job.specs.declared.machine.Machine.{Machine}
@@ -96,9 +96,9 @@ state_read {machine = machine} {t = t} {state = state} is never read =
 -- where a task leaves next, by the state that was read
 pub leaves_now : (job : Job) (machine : Machine) (m : Moment) (t : ℕ) (state : TaskState)
     → IsNextIn job machine t leaves → IsMachineAt job m machine
-    → slice_get machine.tasks.items t ≡ Some state → LeavesAt job m t (place_of state)
+    → slice_get machine.tasks.items t ≡ Some state → LeavesAt job m t (place_in_state state)
 leaves_now job machine m t state next at found =
-    leaves_at job m t (place_of state) at.graph (at.tasks t state found).stands (next.is m at)
+    leaves_at job m t (place_in_state state) at.graph (at.tasks t state found).stands (next.is m at)
 
 -- how many phasers it has left fits the machine's words
 pub few_left : (job : Job) (machine : Machine) (t : ℕ) (state : TaskState) (numbers : List ℕ)

@@ -12,7 +12,7 @@ use Rattle.graph_runs.specs.Steps.{owed_of}
 use Rattle.graph_runs.specs.TaskPlaces as places
 use Rattle.graph_runs.specs.TaskPlaces.{Owes, nothing, values, exchange, StandsAt}
 use Rattle.stream_job.specs.Machines.{IsMachineAt}
-use Rattle.stream_job.specs.Places.{IsTaskAt, owed_in, place_of}
+use Rattle.stream_job.specs.Places.{IsTaskAt, owed_in, place_in_state}
 use Rattle.stream_job.specs.declared.machine.Machine.{Machine}
 use Rattle.stream_job.specs.declared.task_state.TaskState.{TaskState}
 
@@ -58,7 +58,7 @@ owing_next job m t (exchange x) live owes =
 
 -- a live task that has made values signals them
 pub made_next : (job : Job) (m : Moment) (t : ℕ) (state : TaskState)
-    → StandsAt job m t (place_of state) → is_live job m t ≡ true → length state.made.items ≢ 0
+    → StandsAt job m t (place_in_state state) → is_live job m t ≡ true → length state.made.items ≢ 0
     → next_of job m t ≡ signals 0
 made_next job m t state stands live some =
     owing_next job m t (owed_in state.owed state.made.items) live stands.owes
@@ -71,7 +71,7 @@ made_next job m t state stands live some =
 
 -- another one does what it owes
 pub owed_next : (job : Job) (m : Moment) (t : ℕ) (state : TaskState)
-    → StandsAt job m t (place_of state) → is_live job m t ≡ true → length state.made.items ≡ 0
+    → StandsAt job m t (place_in_state state) → is_live job m t ≡ true → length state.made.items ≡ 0
     → next_of job m t ≡ next_for job m t (owed_of state.owed)
 owed_next job m t state stands live none =
     owing_next job m t (owed_in state.owed state.made.items) live stands.owes

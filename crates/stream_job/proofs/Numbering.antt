@@ -19,7 +19,7 @@ use Rattle.graph_runs.proofs.JoinsNow.{next_child_now_is}
 use Rattle.graph_runs.proofs.Turned.{exchange_wait_is, next_leave_is, next_child_is}
 use Rattle.graph_runs.specs.TaskEvents.{TaskEvent, IsNext, sample, signal, first_wait, exchange_wait, leave, child, child_now, after_turn}
 use Rattle.graph_runs.specs.Answers.{Answer, makes, is_blocked, is_gone, has_made, is_refused, answer_of_turn, after_answer}
-use Rattle.graph_runs.specs.Beginnings.{opening, root_mode, root_number, roots_joined, number_after, with_root}
+use Rattle.graph_runs.specs.Beginnings.{opening, root_mode, root_number, roots_joined, number_after_founder, with_root}
 use Rattle.graph_runs.specs.Reached.{IsReachable}
 use Rattle.graph_runs.proofs.Turning.{turn_makes_next}
 use Rattle.graph_runs.proofs.Whose.{IsInOrder, made_by}
@@ -204,7 +204,7 @@ roots_use job p (suc n) = by (root_mode job n p) (roots_use job p n)
     by : (o : Option Mode)
         → greatest_used (roots_joined job p n) ≡ numbered (root_number job p) n
         → greatest_used (with_root (roots_joined job p n) o)
-        ≡ numbered (root_number job p) n + one_of (number_after (roots_joined job p n) o)
+        ≡ numbered (root_number job p) n + one_of (number_after_founder (roots_joined job p n) o)
     by None e =
         let none : numbered (root_number job p) n ≡ numbered (root_number job p) n + 0 = omega arith in
         e ∙ none

@@ -8,7 +8,7 @@ use Rattle.std.proofs.lemmas.List.Sums.{count_by_more_yes, count_by_more_no}
 use Rattle.std.proofs.lemmas.Option.{same_Some}
 use Rattle.graph_lang.specs.graph_base.Graphs.{no_task, task_at, is_source, source_number, sources_among}
 use Rattle.stream_eval.specs.stream_lists.Jobs.{Job}
-use Rattle.stream_job.specs.Streams.{AreInputs, HasInputRoom, IsInputOf, Keeps}
+use Rattle.stream_job.specs.Streams.{AreInputs, HasInputRoom, IsInputOf, InputKeeps}
 use Rattle.stream_job.specs.declared.input.Input.{Input}
 use Rattle.stream_job.proofs.Ending.{source_is}
 
@@ -16,7 +16,7 @@ use Rattle.stream_job.proofs.Ending.{source_is}
 pub record AreInputsBefore (job : Job) (n : ℕ) (inputs : List Input) : Type 0 where
   pub many : length inputs ≡ source_number job.graph.tasks n
   pub each : (k : ℕ) (input : Input) → slice_get inputs k ≡ Some input → IsInputOf job k input
-  pub empty : All (λ input. Keeps input 0 []) inputs
+  pub empty : All (λ input. InputKeeps input 0 []) inputs
   pub opens : All (λ input. input.ended ≡ false) inputs
 
 -- what is found in a longer list is the last one or was there
@@ -35,13 +35,13 @@ push_found (z ∷ xs) x y (suc k) found = by (push_found xs x y k found)
 pub inputs_more : (job : Job) (n : ℕ) (inputs : List Input) (input : Input)
     → AreInputsBefore job n inputs → n < length job.graph.tasks
     → is_source (task_at job.graph n).kind ≡ true → input.task ≡ n → HasInputRoom input
-    → Keeps input 0 [] → input.ended ≡ false
+    → InputKeeps input 0 [] → input.ended ≡ false
     → AreInputsBefore job (n + 1) (inputs ++ input ∷ [])
 inputs_more job n inputs input before there is task room empty opens = record {
   many = length_push inputs input ∙ ap (λ k. k + 1) before.many
       ∙ sym (count_by_more_yes (λ task. is_source task.kind) job.graph.tasks n no_task there is);
   each = λ k one found. by k one (push_found inputs input one k found);
-  empty = All-push (λ one. Keeps one 0 []) inputs input before.empty empty;
+  empty = All-push (λ one. InputKeeps one 0 []) inputs input before.empty empty;
   opens = All-push (λ one. one.ended ≡ false) inputs input before.opens opens;
 }
   where
@@ -81,6 +81,6 @@ pub inputs_none : (job : Job) → AreInputsBefore job 0 []
 inputs_none job = record {
   many = refl;
   each = λ k input found. absurd (cc);
-  empty = All-nil (λ input. Keeps input 0 []);
+  empty = All-nil (λ input. InputKeeps input 0 []);
   opens = All-nil (λ input. input.ended ≡ false);
 }

@@ -12,8 +12,8 @@ use Rattle.graph_runs.proofs.AnsweredInTurn.{opening_answers_none}
 use Rattle.graph_runs.proofs.AtOpening.{opening_has_begun}
 use Rattle.graph_runs.proofs.Opened.{none_dropped}
 use Rattle.stream_job.specs.Machines.{IsMachineAt, none_given}
-use Rattle.stream_job.specs.SinkLines.{begins_at, kept_by}
-use Rattle.stream_job.specs.Streams.{IsStreamAt, Keeps, has_ended, none_came}
+use Rattle.stream_job.specs.SinkLines.{sink_begins_at, kept_by}
+use Rattle.stream_job.specs.Streams.{IsStreamAt, InputKeeps, has_ended, none_came}
 use Rattle.stream_job.specs.declared.input.Input.{Input}
 use Rattle.stream_job.specs.declared.machine.Machine.{Machine}
 use Rattle.stream_job.proofs.BareLists.{all_bare, bare-length}
@@ -33,7 +33,7 @@ pub stream_opens : (job : Job) (machine : Machine) (inputs : List Input)
     → job.samples ≡ none_came job → IsMachineAt job (opening job) machine
     → map sink_values machine.lines.items ≡ map (λ t. (t, [])) (sinks_of job)
     → map (λ (line : Lines). line.start) machine.lines.items ≡ map (λ t. None) (sinks_of job)
-    → All (λ input. Keeps input 0 []) inputs
+    → All (λ input. InputKeeps input 0 []) inputs
     → IsStreamAt record { job = job; machine = machine; inputs = inputs; met = None }
     (none_came job) (opening job) none_given
 stream_opens job machine inputs none at values starts empty =
@@ -46,14 +46,14 @@ stream_opens job machine inputs none at values starts empty =
             ∙ map_same (λ t. (t, [])) (λ t. (t, kept_by job (opening job) t)) (sinks_of job)
             (λ t. ap (λ l. (t, l)) (sym (opened_kept job t)));
         starts = starts
-            ∙ map_same (λ t. None) (begins_at job (opening job)) (sinks_of job)
+            ∙ map_same (λ t. None) (sink_begins_at job (opening job)) (sinks_of job)
             (λ t. sym (opened_begins job t at.graph));
       };
       kept = λ t input there kind found.
           (let k = source_number job.graph.tasks t in
           let lt = slice_get_within inputs k input found in
-          subst (Keeps input 0) (sym (all_bare (range_with_len 0 (sources_of job.graph)) k))
-          (subst (λ one. Keeps one 0 []) (get_or_from_slice_get inputs k input input found)
+          subst (InputKeeps input 0) (sym (all_bare (range_with_len 0 (sources_of job.graph)) k))
+          (subst (λ one. InputKeeps one 0 []) (get_or_from_slice_get inputs k input input found)
           (empty k input lt)));
       stays_open = λ t p n there pp kind over number gone. absurd
           (let q = (opening_has_begun job at.graph).opened.phasers p pp in

@@ -17,7 +17,7 @@ use Rattle.graph_runs.proofs.OnLines.{on_phaser}
 use Rattle.graph_runs.specs.Openings.{PhaserOpened}
 use Rattle.graph_runs.proofs.Opened.{none_dropped}
 use Rattle.graph_runs.proofs.Lacking.{none_put, nothing_lacks}
-use Rattle.graph_runs.specs.Beginnings.{mode_on, root_mode, root_number, number_after, roots_joined, opening}
+use Rattle.graph_runs.specs.Beginnings.{mode_on, root_mode, root_number, number_after_founder, roots_joined, opening}
 use Rattle.graph_runs.specs.Nexts.{registrations_at, number_on, has_left, is_owed, first_owed}
 use Rattle.graph_runs.specs.TaskPlaces.{registration_at, StandsAt, at_start}
 use Rattle.graph_runs.proofs.AtOpening.{phaser_opened, opening_has_begun}
@@ -46,7 +46,7 @@ root_numbered job t k root lt =
         ≡ Some (greatest_used (roots_joined job (registration_at job t k).phaser t) + 1)
     by (Some r) f =
         let on : root_mode job t p ≡ mode_on job t p = rw root refl in
-        ap (number_after (roots_joined job p t)) (on ∙ ap (option_map (λ s. s.mode)) f)
+        ap (number_after_founder (roots_joined job p t)) (on ∙ ap (option_map (λ s. s.mode)) f)
     by None f =
         let no : eqb p p ≡ false =
         find-none (λ r. eqb r.phaser p) (registrations_at job t) k no_registration f lt in

@@ -50,10 +50,10 @@ use Rattle.graph_runs.proofs.Signalling.{owed, live-is, sendable, values_few}
 use Rattle.graph_runs.proofs.Stepping.{signal_follows, sample_follows}
 use Rattle.stream_job.specs.Blocking.{called_on}
 use Rattle.stream_job.specs.Inside as inside
-use Rattle.stream_job.specs.Inside.{IsNextIn, OwesMade, is_over}
+use Rattle.stream_job.specs.Inside.{IsNextIn, OwesMade, is_value_out}
 use Rattle.stream_job.specs.Machines.{IsMachineAt, HasCores, KeepsLines}
-use Rattle.stream_job.specs.Places.{IsTaskAt, owed_in, place_of}
-use Rattle.stream_job.specs.Turning.{HadTurn, Shows, phaser_of}
+use Rattle.stream_job.specs.Places.{IsTaskAt, owed_in, place_in_state}
+use Rattle.stream_job.specs.Turning.{HadTurn, MadeShows, phaser_of}
 use Rattle.stream_job.specs.declared.machine.Machine.{Machine}
 use Rattle.stream_job.specs.declared.made.Made.TheVariants.{Event, Blocked, OutOfRange}
 use Rattle.stream_job.specs.declared.task_state.TaskState.{TaskState}
@@ -75,7 +75,7 @@ pub blocked_turn : (job : Job) (old new : Machine) (t p : ℕ) (next : Next)
     → HadTurn job old new t (Blocked p)
 blocked_turn job old new t p next is called answer same lines = record {
   shows = λ m at.
-      subst (λ a. Shows job m t a (Blocked p)) (sym (answer m at))
+      subst (λ a. MadeShows job m t a (Blocked p)) (sym (answer m at))
       (ap (called_on job t) (is.is m at) ∙ called);
   after = λ m at none.
       subst (λ a. IsMachineAt job (after_answer job a m) new) (sym (answer m at)) (same m at);
@@ -160,7 +160,7 @@ pub record OverAt (zs : List ℤ) (a b k : ℕ) : Type 0 where
 
 -- the first value out of range stands where the first of the ranges that is over does
 pub first_over : (zs : List ℤ) (rs : List (Result ℤ TooBigValue)) (a b k : ℕ)
-    → map ranged zs ≡ rs → position_from is_over a rs ≡ Some k → OverAt zs a b k
+    → map ranged zs ≡ rs → position_from is_value_out a rs ≡ Some k → OverAt zs a b k
 first_over [] [] a b k e found = absurd (cc)
 first_over [] (r ∷ rs) a b k e found = absurd (cc)
 first_over (z ∷ zs) [] a b k e found = absurd (cc)
@@ -168,8 +168,8 @@ first_over (z ∷ zs) (r ∷ rs) a b k e found =
     let both = cons_parts (ranged z) r (map ranged zs) rs e in
     by r both.0 found (λ more. first_over zs rs (a + 1) (b + 1) k both.1 more)
   where
-    by : (r : Result ℤ TooBigValue) → ranged z ≡ r → position_from is_over a (r ∷ rs) ≡ Some k
-        → (position_from is_over (a + 1) rs ≡ Some k → OverAt zs (a + 1) (b + 1) k)
+    by : (r : Result ℤ TooBigValue) → ranged z ≡ r → position_from is_value_out a (r ∷ rs) ≡ Some k
+        → (position_from is_value_out (a + 1) rs ≡ Some k → OverAt zs (a + 1) (b + 1) k)
         → OverAt (z ∷ zs) a b k
     by (Err out) e found rest =
         let here : a ≡ k = same_Some a k found in
@@ -320,7 +320,7 @@ pub moved_turn : (job : Job) (old new : Machine) (t p : ℕ) (next : Next) (even
     → HadTurn job old new t (Event p Moved)
 moved_turn job old new t p next event left is there none quiet phaser told answer stands cores tasks lines =
     record {
-      shows = λ m at. subst (λ a. Shows job m t a (Event p Moved)) (sym (answer m at))
+      shows = λ m at. subst (λ a. MadeShows job m t a (Event p Moved)) (sym (answer m at))
           (phaser, told m);
       after = λ m at good.
           after_own job m old new t event left at (answer m at) none there (is.stays m at)
@@ -363,7 +363,7 @@ signals_at job machine m t j state next at found =
     let is = next.is m at in
     let live = live_next job m t (turns.signals j) is (λ e. absurd (cc)) in
     let few = (owed job m t j (signals_owes job m t j is)).0 in
-    let out = number_of_output job m t j (place_of state) at.graph (at.tasks t state found).stands
+    let out = number_of_output job m t j (place_in_state state) at.graph (at.tasks t state found).stands
     live few in
     record {
       there = (live-is job m t live).there;
@@ -453,8 +453,8 @@ signalled_turn job old new t j number p phase vs state owed made next found phas
         record {
           stands =
               subst (λ o. StandsAt job (after_turn job (signal t j p number vs) m) t
-              (record (place_of state) { owed = o })) (sym has.owes)
-              (signal_follows job m t j p number vs (place_of state) at.graph at.reached.ran
+              (record (place_in_state state) { owed = o })) (sym has.owes)
+              (signal_follows job m t j p number vs (place_in_state state) at.graph at.reached.ran
               made_so.live made_so.next made_so.owes it.stands);
           room = it.room;
           filter = it.filter;
@@ -618,7 +618,7 @@ pub record MadeOver (job : Job) (m : Moment) (t j at : ℕ) (state : TaskState)
 pub made_over : (job : Job) (machine : Machine) (m : Moment) (t j at : ℕ) (state : TaskState)
     (vs : List (Result ℤ TooBigValue)) → IsNextIn job machine t (turns.signals j)
     → IsMachineAt job m machine → slice_get machine.tasks.items t ≡ Some state
-    → OwesHere job m t j state vs → position_from is_over 0 vs ≡ Some at
+    → OwesHere job m t j state vs → position_from is_value_out 0 vs ≡ Some at
     → MadeOver job m t j at state vs
 made_over job machine m t j at state vs next stands found owes over =
     by (are_made (task_at job.graph t).kind j) refl
@@ -684,7 +684,7 @@ over_turn job old t j at step state vs next over count = record {
       let it = over m stands in
       let begun = it.begun in
       let steps : length (m.put t j) + at ≡ step = omega arith in
-      subst (λ a. Shows job m t a (OutOfRange step)) (sym it.answer)
+      subst (λ a. MadeShows job m t a (OutOfRange step)) (sym it.answer)
       (ap (λ n. (place.Task t, n)) steps);
   after = λ m stands good.
       subst (λ a. IsMachineAt job (after_answer job a m) old) (sym (over m stands).answer) stands;
@@ -718,7 +718,7 @@ samples_at_place job machine m t state next at found =
     let s = samples_begins job m t is in
     let one = source_ends job t at.graph there s.kind in
     let few : 0 < length (signalled_by (task_at job.graph t)) = omega arith in
-    let out = number_of_output job m t 0 (place_of state) at.graph it live few in
+    let out = number_of_output job m t 0 (place_in_state state) at.graph it live few in
     let more : nat_le (length (samples_at job t)) (m.begun t) ≡ false =
     ap (turns.has_input_ended job m t) (sym s.kind) ∙ s.step.more in
     let less = leb-false (length (samples_at job t)) (m.begun t) more in
@@ -818,8 +818,8 @@ sampled_turn job old new t number p phase many vs state next found phaser number
         record {
           stands =
               subst (λ n. StandsAt job (after_turn job event m) t
-              (record (place_of state) { begun = n })) steps
-              (sample_follows job m t 0 p number vs (place_of state) at.graph at.reached.ran
+              (record (place_in_state state) { begun = n })) steps
+              (sample_follows job m t 0 p number vs (place_in_state state) at.graph at.reached.ran
               made.next ran made.owes it.stands);
           room = it.room;
           filter = it.filter;

@@ -7,7 +7,7 @@ use Rattle.std.proofs.Math.Seq.{map-set_same}
 use Rattle.std.proofs.lemmas.List.{map-set, get_or-map}
 use Rattle.std.proofs.lemmas.Option.{slice_get_read, slice_get_within, get_or_from_slice_get, same_Some}
 use Rattle.stream_eval.specs.declared.whole.Lines.{Lines}
-use Rattle.stream_job.specs.Inside.{HasRoomIn, more, with_line}
+use Rattle.stream_job.specs.Inside.{HasRoomIn, more, with_more}
 use Rattle.stream_job.specs.Machines.{kept_behind}
 
 -- a line that is written keeps what it had of this
@@ -33,14 +33,14 @@ pub kept_line : (given : ℕ → List ℤ) (lines : List Lines) (i : ℕ) (read 
     (xs : List ℤ) (sink : Option ℕ) → sink ≡ Some i → IfSome sink (λ k. k < length lines)
     → read ≡ get_or lines i read → kept_behind given new ≡ more xs (kept_behind given read)
     → map (kept_behind given) (set lines i new)
-    ≡ with_line sink xs (map (kept_behind given) lines)
+    ≡ with_more sink xs (map (kept_behind given) lines)
 kept_line given lines i read new xs sink is there value longer =
     let keeps = kept_behind given in
     let lt = line_there lines i sink is there in
     map-set keeps lines i new
     ∙ ap (set (map keeps lines) i) (longer
     ∙ ap (more xs) (ap keeps value ∙ sym (get_or-map keeps lines i read (0, []) lt)))
-    ∙ sym (ap (λ o. with_line o xs (map keeps lines)) is)
+    ∙ sym (ap (λ o. with_more o xs (map keeps lines)) is)
 
 pub map_same : {X Y : Type 0} (f g : X → Y) (xs : List X) → ((x : X) → f x ≡ g x)
     → map f xs ≡ map g xs
@@ -117,7 +117,7 @@ one_set f g t from (suc i) (x ∷ xs) up found same =
 pub one_line : (test : ℕ → Bool) (n i t : ℕ) (xs : List ℤ) (before after : ℕ → List ℤ)
     → slice_get (filter test (range_with_len 0 n)) i ≡ Some t
     → after t ≡ before t ++ xs → ((u : ℕ) → u ≢ t → before u ≡ after u)
-    → with_line (Some i) xs (map (λ u. (u, before u)) (filter test (range_with_len 0 n)))
+    → with_more (Some i) xs (map (λ u. (u, before u)) (filter test (range_with_len 0 n)))
     ≡ map (λ u. (u, after u)) (filter test (range_with_len 0 n))
 one_line test n i t xs before after found longer same =
     let us = filter test (range_with_len 0 n) in

@@ -29,7 +29,7 @@ use Rattle.graph_runs.specs.Beginnings.{opening, root_mode, root_number, roots_j
 use Rattle.graph_runs.proofs.Answered.{met_none}
 use Rattle.graph_runs.proofs.StepsLemmas.{has_inputs}
 use Rattle.graph_runs.proofs.Turning.{turn_makes_next}
-use Rattle.stream_job.specs.Inside.{with_line}
+use Rattle.stream_job.specs.Inside.{with_more}
 use Rattle.stream_job.specs.Machines.{IsMachineAt}
 use Rattle.stream_job.specs.SinkLines.{kept_by, kept_of, kept_on}
 use Rattle.stream_job.specs.declared.machine.Machine.{Machine}
@@ -338,7 +338,7 @@ pub lines_keep : (job : Job) (m : Moment) (machine : Machine) (t k p n i : ℕ)
     (outcomes : List Outcome) → IsMachineAt job m machine → HasAnsweredNone job m
     → answer_of_turn job m t ≡ makes (first_wait t k p n outcomes) → k ≡ 0
     → slice_get (sinks_of job) i ≡ Some t
-    → with_line (Some i) (kept_of outcomes) (map (λ u. (u, kept_by job m u)) (sinks_of job))
+    → with_more (Some i) (kept_of outcomes) (map (λ u. (u, kept_by job m u)) (sinks_of job))
     ≡ map (λ u. (u, kept_by job (after_turn job (first_wait t k p n outcomes) m) u)) (sinks_of job)
 lines_keep job m machine t k p n i outcomes at none answer first sink =
     let f : ℕ → List ℤ = λ u. cond (eqb u t) (kept_by job after u) (kept_by job m u) in

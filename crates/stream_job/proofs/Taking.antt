@@ -13,7 +13,7 @@ use Rattle.graph_runs.specs.Steps.{HasFilter, owed_of}
 use Rattle.graph_runs.specs.TaskPlaces as places
 use Rattle.graph_runs.specs.TaskPlaces.{owed_after_wait, outputs_of_block}
 use Rattle.graph_runs.specs.declared.owed.Owed.TheVariants.{Nothing}
-use Rattle.stream_job.specs.Places.{HasTaken, owed_in}
+use Rattle.stream_job.specs.Places.{StateHasTaken, owed_in}
 use Rattle.stream_job.specs.declared.task_state.TaskState.{TaskState}
 
 -- a state after its task took these numbers, of which there may be none
@@ -176,7 +176,7 @@ took_other task many xs ys x old mid new more took other block few owes filters 
 -- ---- all of them
 
 pub took_all : (task : Task) (xs : List ℤ) (old new : TaskState) → TookSoFar task xs old new
-    → 1 ≤ length xs → HasTaken task xs old new
+    → 1 ≤ length xs → StateHasTaken task xs old new
 took_all task xs old new took some = record {
   numbers = took.numbers;
   left = took.left;

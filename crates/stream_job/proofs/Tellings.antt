@@ -21,7 +21,7 @@ use Rattle.graph_runs.proofs.Turning.{turn_makes_next}
 use Rattle.graph_runs.proofs.Outputs.{output_there}
 use Rattle.stream_job.specs.Machines.{IsMachineAt, KeepsLines, none_given}
 use Rattle.stream_job.specs.Blocking.{called_on, AreBlocked}
-use Rattle.stream_job.specs.Turning.{Shows, HadTurn, after_turn_of, met_by, phaser_of, parked_after, parked_by, told_of}
+use Rattle.stream_job.specs.Turning.{MadeShows, HadTurn, after_turn_of, met_by, phaser_of, parked_after, parked_by, told_of}
 use Rattle.stream_job.specs.Parking.{with_task}
 use Rattle.stream_job.specs.Worlds.{WorldState, HasMet, IsWorldAt}
 use Rattle.stream_job.specs.Tellings.{told_by, parked_with, IsOnPhaser}
@@ -39,7 +39,7 @@ use Rattle.stream_job.proofs.Stepping.{sample_output, signal_output, wait_input,
 -- ---- what is word_of_answer
 
 pub tells_so : (job : Job) (m : Moment) (t : ℕ) (answer : Answer) (it : Made)
-    → Shows job m t answer it → word_of_answer job m answer ≡ Some (told_of (told_by it t))
+    → MadeShows job m t answer it → word_of_answer job m answer ≡ Some (told_of (told_by it t))
 tells_so job m t (makes event) (made.Event p word) s = ap (λ w. Some w) s.1
 tells_so job m t (makes event) (made.Blocked p) s = absurd s
 tells_so job m t (makes event) (made.OutOfRange step) s = absurd s
@@ -64,7 +64,7 @@ tells_so job m t is_refused made.Nothing s = absurd s
 -- ---- the lists of blocked tasks
 
 pub parks_so : (job : Job) (m : Moment) (t : ℕ) (answer : Answer) (it : Made)
-    (parked : List (List ℕ)) → Shows job m t answer it
+    (parked : List (List ℕ)) → MadeShows job m t answer it
     → parked_with it t parked ≡ parked_after job t (next_of job m t) answer parked
 parks_so job m t (makes event) (made.Event p word) parked s =
     ap (λ q. parked_with (made.Event q word) t parked) (sym s.0)
@@ -140,12 +140,12 @@ blocked_there job m t is blocked = by (next_of job m t) refl blocked
         (input_there job t 1 is lt (exchange_input job m t is lt e), small lt)
 
 pub made_there : (job : Job) (m : Moment) (t : ℕ) (it : Made) → IsGraph job.graph
-    → IsReachable job m → Shows job m t (answer_of_turn job m t) it
+    → IsReachable job m → MadeShows job m t (answer_of_turn job m t) it
     → IsOnPhaser it t (length job.graph.phasers)
 made_there job m t it is reached s = by (answer_of_turn job m t) refl it s
   where
     by : (answer : Answer) → answer_of_turn job m t ≡ answer → (it : Made)
-        → Shows job m t answer it → IsOnPhaser it t (length job.graph.phasers)
+        → MadeShows job m t answer it → IsOnPhaser it t (length job.graph.phasers)
     by (makes event) e (made.Event p word) s =
         let P : ℕ → Type 0 = λ q. q < length job.graph.phasers in
         subst P s.0 (event_there job m event
@@ -183,8 +183,8 @@ gone_turn job machine t gone = record {
     answer m at = ap (answer_to job m t) (gone m at)
 
     shows : (m : Moment) → IsMachineAt job m machine
-        → Shows job m t (answer_of_turn job m t) made.Nothing
-    shows m at = subst (λ a. Shows job m t a made.Nothing) (sym (answer m at)) tt
+        → MadeShows job m t (answer_of_turn job m t) made.Nothing
+    shows m at = subst (λ a. MadeShows job m t a made.Nothing) (sym (answer m at)) tt
 
     after : (m : Moment) → (at : IsMachineAt job m machine)
         → IsMachineAt job (after_answer job (answer_of_turn job m t) m) machine
@@ -194,7 +194,7 @@ gone_turn job machine t gone = record {
 -- ---- a turn of a world
 
 pub turn_tells_so : (job : Job) (met : Option Where) (m : Moment) (t : ℕ) (it : Made)
-    (word : Turned) → met ≡ None → Shows job m t (answer_of_turn job m t) it
+    (word : Turned) → met ≡ None → MadeShows job m t (answer_of_turn job m t) it
     → word ≡ told_by it t → turn_tells job met m t ≡ Some (told_of word)
 turn_tells_so job met m t it word none s same =
     ap (λ o. turn_tells job o m t) none ∙ tells_so job m t (answer_of_turn job m t) it s
@@ -202,7 +202,7 @@ turn_tells_so job met m t it word none s same =
 
 pub turn_parks_so : (world : WorldState) (m : Moment) (t : ℕ) (it : Made)
     (parked : List (List ℕ)) → world.met ≡ None
-    → Shows world.job m t (answer_of_turn world.job m t) it
+    → MadeShows world.job m t (answer_of_turn world.job m t) it
     → parked ≡ parked_with it t world.parked → parked ≡ parked_by world m t
 turn_parks_so world m t it parked none s same =
     same ∙ parks_so world.job m t (answer_of_turn world.job m t) it world.parked s

@@ -59,10 +59,10 @@ use Rattle.graph_runs.specs.Steps.{owed_of, HasFilter}
 use Rattle.graph_runs.specs.declared.owed.Owed.{Owed}
 use Rattle.graph_runs.specs.declared.owed.Owed.TheVariants as code
 use Rattle.stream_job.specs.Buffers.{HasPlaces}
-use Rattle.stream_job.specs.Inside.{with_line, IsNextIn}
-use Rattle.stream_job.specs.Places.{place_of, owed_in, HasTaken}
+use Rattle.stream_job.specs.Inside.{with_more, IsNextIn}
+use Rattle.stream_job.specs.Places.{place_in_state, owed_in, StateHasTaken}
 use Rattle.stream_job.specs.Machines.{IsMachineAt, HasCores, KeepsLines, HasRoom, kept_behind}
-use Rattle.stream_job.specs.Turning.{HadTurn, Shows, told_of}
+use Rattle.stream_job.specs.Turning.{HadTurn, MadeShows, told_of}
 use Rattle.stream_job.specs.declared.machine.Machine.{Machine}
 use Rattle.stream_job.specs.declared.task_state.TaskState.{TaskState}
 use Rattle.stream_job.specs.declared.made.Made.{Made}
@@ -231,7 +231,7 @@ waits_by : (job : Job) (machine : Machine) (m : Moment) (t k : ℕ) (state : Tas
     → IsMachineAt job m machine → slice_get machine.tasks.items t ≡ Some state
     → is_live job m t ≡ true → k < length (task_at job.graph t).inputs → WaitsAt job m t k state
 waits_by job machine m t k state at found live few =
-    let it = number_of_input job m t k (place_of state) at.graph (at.tasks t state found).stands live
+    let it = number_of_input job m t k (place_in_state state) at.graph (at.tasks t state found).stands live
     few in
     record {
       there = (live-is job m t live).there;
@@ -439,9 +439,9 @@ exchanged_turn job old new t n p phase x outcome state owed told next found phas
         ∙ ap (wait_answer (exchange_wait t p n)) (reply m at)
 
     shows : (m : Moment) → IsMachineAt job m old
-        → Shows job m t (answer_of_turn job m t) (Event p told)
+        → MadeShows job m t (answer_of_turn job m t) (Event p told)
     shows m at =
-        subst (λ a. Shows job m t a (Event p told)) (sym (answer m at)) (
+        subst (λ a. MadeShows job m t a (Event p told)) (sym (answer m at)) (
           refl,
           told_is m p n phase (outcome ∷ []) (phase_is (value_at job p) (limits_at job p) (m.history p) n
               phase outcome (reply m at)) ∙ sym tells,
@@ -477,9 +477,9 @@ exchanged_turn job old new t n p phase x outcome state owed told next found phas
         (number outcome) ≡ owed_in owed state.made.items =
         ap (λ o. owed_after_exchange (task_at job.graph t) o (number outcome)) is
         ∙ sym (ap (owed_in owed) made ∙ after_owes) in
-        let stands : StandsAt job (after_turn job event m) t (place_of (with_owed state owed)) =
-        subst (λ o. StandsAt job (after_turn job event m) t (record (place_of state) { owed = o }))
-        after_is (exchange_stands job m t p n outcome (place_of state) at.graph at.reached
+        let stands : StandsAt job (after_turn job event m) t (place_in_state (with_owed state owed)) =
+        subst (λ o. StandsAt job (after_turn job event m) t (record (place_in_state state) { owed = o }))
+        after_is (exchange_stands job m t p n outcome (place_in_state state) at.graph at.reached
         (ran m at) (answer m at) it.stands) in
         after_own job m old new t event (with_owed state owed) at (answer m at) refl
         (exchange_waits_at job old m t state next at found).there (next.stays m at) (next.few m at)
@@ -566,12 +566,12 @@ zero_first task b k kind is not first = first ∙ by kind is not
 
 -- the place of a state that took these
 taken_place : (job : Job) (after : Moment) (t : ℕ) (outcomes : List Outcome) (taken : List ℤ)
-    (old new : TaskState) → HasTaken (task_at job.graph t) (map number outcomes) old new
+    (old new : TaskState) → StateHasTaken (task_at job.graph t) (map number outcomes) old new
     → HasFilter (task_at job.graph t) old.filter taken
-    → StandsAt job after t (record (place_of old) {
+    → StandsAt job after t (record (place_in_state old) {
       begun = further old.begun outcomes;
       owed = places.owed_after_wait (task_at job.graph t) old.begun taken (map number outcomes);
-    }) → StandsAt job after t (place_of new)
+    }) → StandsAt job after t (place_in_state new)
 taken_place job after t outcomes taken old new took has stands =
     let owes = places.owed_after_wait (task_at job.graph t) old.begun taken (map number outcomes) in
     let many : further old.begun outcomes ≡ old.begun + length outcomes =
@@ -579,14 +579,14 @@ taken_place job after t outcomes taken old new took has stands =
     let all : new.begun ≡ old.begun + length (map number outcomes) = took.begun in
     let long : length (map number outcomes) ≡ length outcomes = length-map outcomes number in
     let steps : further old.begun outcomes ≡ new.begun = omega arith in
-    subst (λ o. StandsAt job after t (record (place_of new) { owed = o })) (sym (took.owed taken has))
-    (subst (λ b. StandsAt job after t (record (place_of new) { begun = b; owed = owes })) steps
-    (subst (λ l. StandsAt job after t (record (place_of new) {
+    subst (λ o. StandsAt job after t (record (place_in_state new) { owed = o })) (sym (took.owed taken has))
+    (subst (λ b. StandsAt job after t (record (place_in_state new) { begun = b; owed = owes })) steps
+    (subst (λ l. StandsAt job after t (record (place_in_state new) {
       left = l;
       begun = further old.begun outcomes;
       owed = owes;
     })) (sym took.left)
-    (subst (λ v. StandsAt job after t (record (place_of old) {
+    (subst (λ v. StandsAt job after t (record (place_in_state old) {
       numbers = v.items;
       begun = further old.begun outcomes;
       owed = owes;
@@ -664,14 +664,14 @@ may_take job old m t k n p steps phase count outcomes state asks at all there =
 pub first_turn : (job : Job) (old new : Machine) (t k n p steps phase count : ℕ)
     (outcomes : List Outcome) (state took : TaskState) (sink : Option ℕ) (told : Turned)
     → AsksFirst job old t k n p steps state
-    → HasTaken (task_at job.graph t) (map number outcomes) state took
+    → StateHasTaken (task_at job.graph t) (map number outcomes) state took
     → sink ≡ cond (is_sink_at job t) (Some state.sink) None
     → ((m : Moment) → IsMachineAt job m old → GotAll job m p n steps phase count outcomes)
     → ((m : Moment) → IsMachineAt job m old
     → HasCores job (with_at p (Waited n count ∷ m.history p) m.history) new.cores.items)
     → new.tasks.items ≡ set old.tasks.items t took
     → ((given : ℕ → List ℤ) → map (kept_behind given) new.lines.items
-    ≡ with_line sink (kept_of outcomes) (map (kept_behind given) old.lines.items))
+    ≡ with_more sink (kept_of outcomes) (map (kept_behind given) old.lines.items))
     → map (λ line. line.start) new.lines.items ≡ map (λ line. line.start) old.lines.items
     → ((room : ℕ → ℕ) → All (HasRoom room) old.lines.items → All (HasRoom room) new.lines.items)
     → told_of told ≡ told_got p phase outcomes
@@ -684,8 +684,8 @@ first_turn job old new t k n p steps phase count outcomes state took sink told a
           subst (λ a. KeepsLines job given (after_answer job a m) new.lines.items)
           (sym (answer m at)) record {
             values = lines given
-                ∙ ap (with_line sink (kept_of outcomes)) kept.values
-                ∙ ap (λ o. with_line o (kept_of outcomes)
+                ∙ ap (with_more sink (kept_of outcomes)) kept.values
+                ∙ ap (λ o. with_more o (kept_of outcomes)
                 (map (λ u. (u, kept_by job m u)) (sinks_of job))) sinks
                 ∙ sink_lines m at none (is_sink_at job t) refl;
             starts = starts ∙ kept.starts ∙ starts_stay job m event refl;
@@ -701,9 +701,9 @@ first_turn job old new t k n p steps phase count outcomes state took sink told a
         first_answer job old m t k n p steps phase count outcomes state asks at (all m at)
 
     shows : (m : Moment) → IsMachineAt job m old
-        → Shows job m t (answer_of_turn job m t) (Event p told)
+        → MadeShows job m t (answer_of_turn job m t) (Event p told)
     shows m at =
-        subst (λ a. Shows job m t a (Event p told)) (sym (answer m at))
+        subst (λ a. MadeShows job m t a (Event p told)) (sym (answer m at))
         (refl, told_is m p n phase outcomes (all m at).first ∙ sym tells)
 
     first : (m : Moment) → IsMachineAt job m old
@@ -720,7 +720,7 @@ first_turn job old new t k n p steps phase count outcomes state took sink told a
 
     sink_lines : (m : Moment) (at : IsMachineAt job m old) → HasAnsweredNone job m → (b : Bool)
         → is_sink_at job t ≡ b
-        → with_line (cond b (Some state.sink) None) (kept_of outcomes)
+        → with_more (cond b (Some state.sink) None) (kept_of outcomes)
         (map (λ u. (u, kept_by job m u)) (sinks_of job))
         ≡ map (λ u. (u, kept_by job (after_turn job event m) u)) (sinks_of job)
     sink_lines m at none true e =
@@ -743,7 +743,7 @@ first_turn job old new t k n p steps phase count outcomes state took sink told a
         let ran = (subst (λ a. IsReachable job (after_answer job a m)) (answer m at)
         (asks.next.stays m at)).ran in
         let stands = taken_place job (after_turn job event m) t outcomes (m.taken t 0) state took has
-        it.filter (first_stands job m t k p n outcomes (place_of state) at.graph at.reached ran
+        it.filter (first_stands job m t k p n outcomes (place_in_state state) at.graph at.reached ran
         (answer m at) it.stands) in
         after_own job m old new t event took at (answer m at) refl
         (first_waits_at job old m t k state asks.next at asks.found).there (asks.next.stays m at)

@@ -26,7 +26,7 @@ use Rattle.phase_any.specs.phase_history.declared.refusal.RegisterRefusal.{Regis
 use Rattle.graph_lang.specs.graph_base.Graphs.{task_at}
 use Rattle.stream_eval.specs.stream_lists.Lists.{is_sink_at, sinks_of}
 use Rattle.stream_job.specs.Machines.{IsMachine, IsMachineAt, UsesFew, HasRoom, kept_behind}
-use Rattle.stream_job.specs.SinkLines.{begins_at}
+use Rattle.stream_job.specs.SinkLines.{sink_begins_at}
 use Rattle.stream_job.specs.declared.task_state.TaskState.{TaskState}
 use Rattle.stream_job.specs.declared.machine.Machine.{Machine}
 use Rattle.stream_job.specs.declared.made.Made.{Made}
@@ -37,9 +37,9 @@ abbrev pub more : List ℤ → ℕ × List ℤ → ℕ × List ℤ
 more xs line = (line.0, line.1 ++ xs)
 
 -- the lines, where the sink of this place, if there is one, has these more
-abbrev pub with_line : Option ℕ → List ℤ → List (ℕ × List ℤ) → List (ℕ × List ℤ)
-with_line None xs lines = lines
-with_line (Some i) xs lines = set lines i (more xs (get_or lines i (0, [])))
+abbrev pub with_more : Option ℕ → List ℤ → List (ℕ × List ℤ) → List (ℕ × List ℤ)
+with_more None xs lines = lines
+with_more (Some i) xs lines = set lines i (more xs (get_or lines i (0, [])))
 
 -- line i has room for so many more values
 abbrev pub HasRoomIn : List Lines → ℕ → ℕ → Type 0
@@ -127,15 +127,15 @@ OwesMade machine t = (state : TaskState) → slice_get machine.tasks.items t ≡
     → state.made.items ≢ []
 
 -- whether a value is out of range
-abbrev pub is_over : Result ℤ TooBigValue → Bool
-is_over (Ok v) = false
-is_over (Err out) = true
+abbrev pub is_value_out : Result ℤ TooBigValue → Bool
+is_value_out (Ok v) = false
+is_value_out (Err out) = true
 
 -- ---- a child's registration, as a sink that joins now or in this mode
 
 -- the refusal
-abbrev pub add_refusal : Job → ℕ → History → ℕ → ℕ → Mode → Option RegisterRefusal
-add_refusal job c h parent child mode =
+abbrev pub child_refusal : Job → ℕ → History → ℕ → ℕ → Mode → Option RegisterRefusal
+child_refusal job c h parent child mode =
     if (task_at job.graph c).joins_now then register_now_refusal h parent child
     else register_refusal h parent child mode
 
@@ -148,11 +148,11 @@ add_event job c parent child mode =
 -- where each sink begins after it, where the registration is at this phase
 abbrev pub begins_with : Job → Moment → ℕ → ℕ → ℕ → Option ℕ
 begins_with job m c phase t =
-    if (task_at job.graph c).joins_now && t == c then Some phase else begins_at job m t
+    if (task_at job.graph c).joins_now && t == c then Some phase else sink_begins_at job m t
 
 -- the lines after it
-pub record HasBegun (job : Job) (m : Moment) (c phase : ℕ) (old new : List Lines) : Type 0 where
+pub record LineHasBegun (job : Job) (m : Moment) (c phase : ℕ) (old new : List Lines) : Type 0 where
   pub values : (given : ℕ → List ℤ) → map (kept_behind given) new ≡ map (kept_behind given) old
-  pub starts : map (λ line. line.start) old ≡ map (begins_at job m) (sinks_of job)
+  pub starts : map (λ line. line.start) old ≡ map (sink_begins_at job m) (sinks_of job)
       → map (λ line. line.start) new ≡ map (begins_with job m c phase) (sinks_of job)
   pub own : (room : ℕ → ℕ) → All (HasRoom room) old → All (HasRoom room) new

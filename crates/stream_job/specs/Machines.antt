@@ -16,7 +16,7 @@ use Rattle.phase_any.specs.declared.any_phaser.AnyPhaser.{AnyPhaser}
 use Rattle.graph_runs.specs.Reached.{IsReachable}
 use Rattle.graph_runs.specs.Nexts as turns
 use Rattle.stream_job.specs.Places.{IsTaskAt}
-use Rattle.stream_job.specs.SinkLines.{kept_by, begins_at}
+use Rattle.stream_job.specs.SinkLines.{kept_by, sink_begins_at}
 use Rattle.stream_job.specs.declared.machine.Machine.{Machine}
 use Rattle.stream_job.specs.declared.step.Step.{Step}
 use Rattle.stream_job.specs.declared.step.Step.TheVariants as step
@@ -100,7 +100,7 @@ none_given t = []
 pub record KeepsLines (job : Job) (given : ℕ → List ℤ) (m : Moment) (lines : List Lines) : Type 0
   where
     pub values : map (kept_behind given) lines ≡ map (λ t. (t, kept_by job m t)) (sinks_of job)
-    pub starts : map (λ line. line.start) lines ≡ map (begins_at job m) (sinks_of job)
+    pub starts : map (λ line. line.start) lines ≡ map (sink_begins_at job m) (sinks_of job)
 
 -- a sink's line has so much room
 pub record HasRoom (needs : ℕ → ℕ) (line : Lines) : Type 0 where

@@ -19,8 +19,8 @@ owed_in owed [] = owed_of owed
 owed_in owed (v ∷ vs) = turns.values 0 (v ∷ vs)
 
 -- the place of a task in this state
-abbrev pub place_of : TaskState → TaskPlace
-place_of state = record {
+abbrev pub place_in_state : TaskState → TaskPlace
+place_in_state state = record {
   numbers = state.numbers.items;
   left = state.left;
   begun = state.begun;
@@ -29,7 +29,7 @@ place_of state = record {
 
 -- task t stands in this state at a moment
 pub record IsTaskAt (job : Job) (m : Moment) (t : ℕ) (state : TaskState) : Type 0 where
-  pub stands : StandsAt job m t (place_of state)
+  pub stands : StandsAt job m t (place_in_state state)
   -- a number for each registration fits without an allocation
   pub room : 9 ≤ state.numbers.capacity
   pub filter : HasFilter (task_at job.graph t) state.filter (m.taken t 0)
@@ -40,7 +40,7 @@ pub record IsTaskAt (job : Job) (m : Moment) (t : ℕ) (state : TaskState) : Typ
   pub sink : (task_at job.graph t).kind ≡ Sink → slice_get (sinks_of job) state.sink ≡ Some t
 
 -- a state after its task took these numbers by the first wait of its next steps
-pub record HasTaken (task : Task) (xs : List ℤ) (old new : TaskState) : Type 0 where
+pub record StateHasTaken (task : Task) (xs : List ℤ) (old new : TaskState) : Type 0 where
   pub numbers : new.numbers ≡ old.numbers
   pub left : new.left ≡ old.left
   pub sink : new.sink ≡ old.sink

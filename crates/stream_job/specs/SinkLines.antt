@@ -31,7 +31,7 @@ KeepsBeginnings job m = (t : ℕ) → t < length job.graph.tasks → is_sink_at 
     → IsPrefix (kept_by job m t) (m.taken t 0)
 
 -- where a sink that joins now begins, once it is registered
-abbrev pub begins_at : Job → Moment → ℕ → Option ℕ
-begins_at job m t =
+abbrev pub sink_begins_at : Job → Moment → ℕ → Option ℕ
+sink_begins_at job m t =
     let task = task_at job.graph t in
     if task.joins_now then option_map (λ n. m.offset t) (m.number (input_at task 0) t) else None

@@ -13,6 +13,6 @@ entry_in h None = None
 entry_in h (Some number) = entry_of (members_of h) number
 
 -- the mode and the phases of task t on the phaser of its registration k, while it is registered
-abbrev pub standing : Job → Moment → ℕ → ℕ → Option Entry
-standing job m t k =
+abbrev pub standing_on : Job → Moment → ℕ → ℕ → Option Entry
+standing_on job m t k =
     let p = (registration_at job t k).phaser in entry_in (m.history p) (m.number p t)

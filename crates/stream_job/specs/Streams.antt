@@ -54,7 +54,7 @@ abbrev pub ended_at : StreamState → ℕ → Bool
 ended_at stream t = has_ended stream.inputs (source_number stream.job.graph.tasks t)
 
 -- an input keeps of these samples those that are still to be signalled after so many steps
-pub record Keeps (input : Input) (begun : ℕ) (xs : List ℤ) : Type 0 where
+pub record InputKeeps (input : Input) (begun : ℕ) (xs : List ℤ) : Type 0 where
   pub early : input.from ≤ begun
   pub kept : input.values.items ≡ drop input.from xs
   pub sends : AreSends xs
@@ -66,7 +66,7 @@ abbrev pub AreKept : Job → List (List ℤ) → Moment → List Input → Type 
 AreKept job s m inputs = (t : ℕ) (input : Input) → t < length job.graph.tasks
     → (task_at job.graph t).kind ≡ Source
     → slice_get inputs (source_number job.graph.tasks t) ≡ Some input
-    → Keeps input (m.begun t) (samples_in job s t)
+    → InputKeeps input (m.begun t) (samples_in job s t)
 
 -- how many samples a feed takes, where so many came, of which so many were signalled, and so many
 -- are fed
@@ -186,10 +186,10 @@ pub record MayMove (stream : StreamState) (s : List (List ℤ)) (m : Moment) (gi
 
 -- it stops so at a moment: a sink without room is told first, and then a source that waits for a
 -- sample
-abbrev pub StopsAt : StreamState → List (List ℤ) → Moment → (ℕ → List ℤ) → Stopped → Type 0
-StopsAt stream s m given (stopped.TooBig place phase) = stream.met ≡ Some (place, phase)
-StopsAt stream s m given stopped.Paused = MayMove stream s m given
-StopsAt stream s m given stop =
+abbrev pub StreamStopsAt : StreamState → List (List ℤ) → Moment → (ℕ → List ℤ) → Stopped → Type 0
+StreamStopsAt stream s m given (stopped.TooBig place phase) = stream.met ≡ Some (place, phase)
+StreamStopsAt stream s m given stopped.Paused = MayMove stream s m given
+StreamStopsAt stream s m given stop =
     let job = with_samples s stream.job in
     Rests stream s m given
     × stop_by job (first_full job m given) (first_hungry job (ended_at stream) m)
@@ -198,7 +198,7 @@ StopsAt stream s m given stop =
 -- a stream went on by turns: for whatever samples came, whatever moment it stood at, and whatever
 -- the sinks had handed over, it stands for the same samples at a moment that turns lead to, and no
 -- sink has handed over more
-pub record GoesOn (old new : StreamState) : Type 0 where
+pub record StreamGoesOn (old new : StreamState) : Type 0 where
   pub later : (s : List (List ℤ)) (m : Moment) (given : ℕ → List ℤ) → IsStreamAt old s m given
       → (turns : List ℕ)
       × IsStreamAt new s (after_turns (with_samples s old.job) m turns) given

@@ -53,21 +53,21 @@ abbrev pub IsRegistration : turns.Next → Type 0
 IsRegistration next = (c : ℕ) × (next ≡ turns.registers c)
 
 -- the code tells of this answer so
-abbrev pub Shows : Job → Moment → ℕ → Answer → Made → Type 0
-Shows job m t (answers.makes event) (made.Event phaser told) =
+abbrev pub MadeShows : Job → Moment → ℕ → Answer → Made → Type 0
+MadeShows job m t (answers.makes event) (made.Event phaser told) =
     (phaser_of event ≡ phaser) × (answers.told_event job m event ≡ told_of told)
-Shows job m t answers.is_blocked (made.Blocked phaser) =
+MadeShows job m t answers.is_blocked (made.Blocked phaser) =
     called_on job t (turns.next_of job m t) ≡ phaser
-Shows job m t (answers.has_made at) (made.OutOfRange step) = at ≡ (place.Task t, step)
-Shows job m t answers.is_gone made.Nothing = Unit {0}
-Shows job m t answer it = ⊥
+MadeShows job m t (answers.has_made at) (made.OutOfRange step) = at ≡ (place.Task t, step)
+MadeShows job m t answers.is_gone made.Nothing = Unit {0}
+MadeShows job m t answer it = ⊥
 
 -- the machine had a turn of task t, of which the code tells so: at each moment that the machine
 -- stood for it tells the answer of the table, and the machine stands for the moment after, where no
 -- wait was answered a value too big before. The lines have kept what the sinks received, and have
 -- the room that they had
 pub record HadTurn (job : Job) (old new : Machine) (t : ℕ) (it : Made) : Type 0 where
-  pub shows : (m : Moment) → IsMachineAt job m old → Shows job m t (answer_of_turn job m t) it
+  pub shows : (m : Moment) → IsMachineAt job m old → MadeShows job m t (answer_of_turn job m t) it
   pub after : (m : Moment) → IsMachineAt job m old → HasAnsweredNone job m
       → IsMachineAt job (after_answer job (answer_of_turn job m t) m) new
   pub lines : (given : ℕ → List ℤ) (m : Moment) → IsMachineAt job m old → HasAnsweredNone job m

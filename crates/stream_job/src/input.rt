@@ -1,7 +1,7 @@
 //! The samples of a source that are still to be signalled.
 ghost use Rattle.std.specs.Prelude.{◌≡◌, ◌≤◌, ◌-◌, ◌+◌, ◌++◌, ℤ, List, [], length, take, drop, vec_capacity, IfOk, false, true};
 ghost use Rattle.phase_any.specs.phase_accum.Sends.{AreSends};
-ghost use Rattle.stream_job.specs.Streams.{Keeps, feed_takes};
+ghost use Rattle.stream_job.specs.Streams.{InputKeeps, feed_takes};
 
 use std::alloc::{AllocError, Global};
 use stream_eval::stream_lists::COUNT_MAX;
@@ -26,7 +26,7 @@ impl Input {
     /// An input to which nothing came. It takes memory for twice the samples that may wait.
     pub fn new(alloc: Global, task: usize) -> Result<Input, AllocError>
         ensures task { IfOk result (λ input. input.task ≡ task) }
-        ensures kept { IfOk result (λ input. Keeps input 0 []) }
+        ensures kept { IfOk result (λ input. InputKeeps input 0 []) }
         ensures open { IfOk result (λ input. input.ended ≡ false) }
         ensures room { IfOk result (λ input.
             INPUT_ROOM + INPUT_ROOM ≤ vec_capacity input.values) }
@@ -41,7 +41,7 @@ impl Input {
 
     /// The samples that come after so many.
     pub fn awaits(&self, begun: u64) -> &[i64]
-        ensures { (xs : List ℤ) → Keeps self.now begun xs → result.now ≡ drop begun xs }
+        ensures { (xs : List ℤ) → InputKeeps self.now begun xs → result.now ≡ drop begun xs }
     {
         let gone = begun.saturating_sub(self.from);
         if gone >= self.values.len() as u64 {
@@ -54,12 +54,12 @@ impl Input {
     /// many it took.
     pub fn take(&mut self, begun: u64, samples: &[i64]) -> usize
         requires sends { AreSends samples.now }
-        requires kept { (xs : List ℤ) × Keeps self.old begun xs }
+        requires kept { (xs : List ℤ) × InputKeeps self.old begun xs }
         requires room { INPUT_ROOM + INPUT_ROOM ≤ vec_capacity self.old.values }
-        ensures took { (xs : List ℤ) → Keeps self.old begun xs
+        ensures took { (xs : List ℤ) → InputKeeps self.old begun xs
             → result ≡ feed_takes (length xs) begun (length samples.now) }
-        ensures kept { (xs : List ℤ) → Keeps self.old begun xs
-            → Keeps self.new begun (xs ++ take result samples.now) }
+        ensures kept { (xs : List ℤ) → InputKeeps self.old begun xs
+            → InputKeeps self.new begun (xs ++ take result samples.now) }
         ensures ended { (self.new.ended ≡ self.old.ended) × (self.new.task ≡ self.old.task) }
         ensures room { INPUT_ROOM + INPUT_ROOM ≤ vec_capacity self.new.values }
     {
@@ -79,8 +79,8 @@ impl Input {
 
     /// Lets go of the samples that were signalled, where they are as many as may wait.
     fn forget(&mut self, begun: u64)
-        requires { (xs : List ℤ) × Keeps self.old begun xs }
-        ensures kept { (xs : List ℤ) → Keeps self.old begun xs → Keeps self.new begun xs }
+        requires { (xs : List ℤ) × InputKeeps self.old begun xs }
+        ensures kept { (xs : List ℤ) → InputKeeps self.old begun xs → InputKeeps self.new begun xs }
         ensures ended { (self.new.ended ≡ self.old.ended) × (self.new.task ≡ self.old.task) }
         ensures room { vec_capacity self.new.values ≡ vec_capacity self.old.values }
         ensures few { begun - self.new.from ≤ INPUT_ROOM }

@@ -4,7 +4,7 @@ ghost use Rattle.graph_runs.specs.Moments.{Moment};
 ghost use Rattle.graph_runs.specs.Nexts.{registrations_at};
 ghost use Rattle.stream_eval.specs.stream_lists.Jobs.{with_samples};
 ghost use Rattle.stream_job.specs.Machines.{IsMachineAt, IsSome};
-ghost use Rattle.stream_job.specs.Standing.{standing};
+ghost use Rattle.stream_job.specs.Standing.{standing_on};
 
 use crate::machine::Machine;
 use phase_any::phase_base::Entry;
@@ -18,7 +18,7 @@ impl Machine {
         requires task { t < length job.now.graph.tasks }
         requires registration { k < length (registrations_at job.now t) }
         ensures { (s : List (List ℤ)) (m : Moment) → IsMachineAt (with_samples s job.now) m self.now
-            → standing job.now m t k ≡ result }
+            → standing_on job.now m t k ≡ result }
     {
         let numbers = &self.state(job, t).numbers;
         if k >= numbers.len() {

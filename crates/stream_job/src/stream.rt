@@ -15,7 +15,7 @@ ghost use Rattle.graph_runs.specs.Settled.{IsReady};
 ghost use Rattle.graph_runs.specs.Turned.{with_at};
 ghost use Rattle.stream_eval.specs.stream_lists.Inside.{items_of};
 ghost use Rattle.stream_job.specs.Machines.{none_given};
-ghost use Rattle.stream_job.specs.Streams.{AreInputs, IsApart, IsStreamAt, Keeps, has_ended, most_of, none_came};
+ghost use Rattle.stream_job.specs.Streams.{AreInputs, IsApart, IsStreamAt, InputKeeps, has_ended, most_of, none_came};
 
 use crate::buffers::Buffers;
 use crate::input::Input;
@@ -83,7 +83,7 @@ impl Model for Stream {
 }
 
 impl Stream {
-    ghost use Rattle.stream_job.specs.SinkLines.{kept_by, begins_at};
+    ghost use Rattle.stream_job.specs.SinkLines.{kept_by, sink_begins_at};
     ghost use Rattle.stream_job.specs.Streams.{FeedTakes, IsSameBut, ended_at, ended_with, fed};
 
     /// Makes a run of a graph at its opening, to which no samples came.
@@ -201,7 +201,7 @@ impl Stream {
         requires { sink < length (sinks_of self.now.job) }
         ensures { (s : List (List ℤ)) (m : Moment) (given : ℕ → List ℤ)
             → IsStreamAt self.now s m given
-            → begins_at self.now.job m (get_or (sinks_of self.now.job) sink 0) ≡ result }
+            → sink_begins_at self.now.job m (get_or (sinks_of self.now.job) sink 0) ≡ result }
     {
         self.machine.lines[sink].start
     }
@@ -277,7 +277,7 @@ fn bare_lists(alloc: Global, many: usize) -> Result<Vec<Vec<i64>>, AllocError>
 /// An input for each source, to which nothing came.
 fn new_inputs(alloc: Global, job: &Job) -> Result<Vec<Input>, AllocError>
     ensures inputs { IfOk result (λ inputs. AreInputs job.now inputs.items) }
-    ensures empty { IfOk result (λ inputs. All (λ input. Keeps input 0 []) inputs.items) }
+    ensures empty { IfOk result (λ inputs. All (λ input. InputKeeps input 0 []) inputs.items) }
     ensures open { IfOk result (λ inputs. All (λ input. input.ended ≡ false) inputs.items) }
 {
     let mut inputs = Vec::with_capacity(alloc, job.graph().sources())?;

@@ -25,12 +25,12 @@ use graph_runs::{is_cut, until_of};
 use stream_eval::stream_lists::Job;
 
 impl Stream {
-    ghost use Rattle.stream_job.specs.Streams.{IsStreamAt, StopsAt, all_tasks, ended_at, first_full, first_hungry, is_full, is_hungry, line_room, rests};
+    ghost use Rattle.stream_job.specs.Streams.{IsStreamAt, StreamStopsAt, all_tasks, ended_at, first_full, first_hungry, is_full, is_hungry, line_room, rests};
 
     /// Why no task can move, or that one can.
     pub fn stop(&self) -> Stopped
         ensures { (s : List (List ℤ)) (m : Moment) (given : ℕ → List ℤ)
-            → IsStreamAt self.now s m given → StopsAt self.now s m given result }
+            → IsStreamAt self.now s m given → StreamStopsAt self.now s m given result }
     {
         if let Some((place, phase)) = self.met {
             return Stopped::TooBig { place, phase };

@@ -19,7 +19,7 @@ const TURNS: usize = 64;
 
 impl Stream {
     ghost use Rattle.stream_job.specs.Machines.{kept_behind};
-    ghost use Rattle.stream_job.specs.Streams.{GoesOn, IsStreamAt, StopsAt, ended_at};
+    ghost use Rattle.stream_job.specs.Streams.{StreamGoesOn, IsStreamAt, StreamStopsAt, ended_at};
     ghost use Rattle.stream_job.specs.declared.stopped.Stopped.TheVariants.{Done, TooBig};
 
     /// Gives turns to the tasks until none can move, and returns why.
@@ -32,10 +32,10 @@ impl Stream {
     /// A child's registration may ask for memory, and nothing else does. Where there is none, no
     /// value is lost, and the call can be made again.
     pub fn run(&mut self) -> Result<Stopped, AllocError>
-        ensures goes_on { GoesOn self.old self.new }
+        ensures goes_on { StreamGoesOn self.old self.new }
         ensures stops { IfOk result (λ stop. (s : List (List ℤ)) (m : Moment)
             (given : ℕ → List ℤ) → IsStreamAt self.new s m given
-            → StopsAt self.new s m given stop) }
+            → StreamStopsAt self.new s m given stop) }
         ensures done { IfOk result (λ stop. stop ≡ Done → (s : List (List ℤ)) (m : Moment)
             (given : ℕ → List ℤ) → IsStreamAt self.new s m given
             → answer_of (started (with_samples s self.new.job) m)
@@ -54,7 +54,7 @@ impl Stream {
 
     /// Gives rounds of turns until no task moves in one, or so many as one call makes at most.
     fn rounds(&mut self) -> Result<(), AllocError>
-        ensures { GoesOn self.old self.new }
+        ensures { StreamGoesOn self.old self.new }
     {
         for _ in 0..u32::MAX {
             if !self.round()? {
@@ -67,7 +67,7 @@ impl Stream {
     /// Gives turns to each task, in the order of their lines, and to each of them while it moves.
     /// Returns whether some task moved.
     fn round(&mut self) -> Result<bool, AllocError>
-        ensures { GoesOn self.old self.new }
+        ensures { StreamGoesOn self.old self.new }
     {
         let mut moved = false;
         for t in 0..self.job.graph().tasks() {
@@ -79,7 +79,7 @@ impl Stream {
     /// Gives turns to a task while it moves, and returns whether it did.
     fn turns(&mut self, t: usize) -> Result<bool, AllocError>
         requires { t < length self.old.job.graph.tasks }
-        ensures { GoesOn self.old self.new }
+        ensures { StreamGoesOn self.old self.new }
     {
         for made in 0..TURNS {
             if !self.turn(t)? {
@@ -93,7 +93,7 @@ impl Stream {
     /// moved.
     fn turn(&mut self, t: usize) -> Result<bool, AllocError>
         requires { t < length self.old.job.graph.tasks }
-        ensures { GoesOn self.old self.new }
+        ensures { StreamGoesOn self.old self.new }
     {
         if self.met.is_some() || self.is_hungry(t) || self.is_full(t) {
             return Ok(false);

@@ -38,14 +38,14 @@ pub struct TaskState {
 }
 
 impl TaskState {
-    ghost use Rattle.stream_job.specs.Places.{place_of, owed_in, HasTaken};
+    ghost use Rattle.stream_job.specs.Places.{place_in_state, owed_in, StateHasTaken};
     ghost use Rattle.stream_job.specs.Inside.{are_in_range, owed_many};
 
     /// Whether task number `t` is registered on all phasers of its line.
     pub fn is_registered(&self, job: &Job, t: usize) -> bool
         requires { t < length job.now.graph.tasks }
         ensures { (s : List (List ℤ)) (m : Moment)
-            → StandsAt (with_samples s job.now) m t (place_of self.now)
+            → StandsAt (with_samples s job.now) m t (place_in_state self.now)
             → is_some (first_missing job.now m t) ≡ not result }
     {
         self.numbers.len() >= job.graph().registrations(t)
@@ -55,7 +55,7 @@ impl TaskState {
     pub fn is_live(&self, job: &Job, t: usize) -> bool
         requires { t < length job.now.graph.tasks }
         ensures { (s : List (List ℤ)) (m : Moment)
-            → StandsAt (with_samples s job.now) m t (place_of self.now)
+            → StandsAt (with_samples s job.now) m t (place_in_state self.now)
             → is_live job.now m t ≡ result }
     {
         self.is_registered(job, t) && self.left < self.numbers.len()
@@ -72,7 +72,7 @@ impl TaskState {
         requires nothing { (self.old.owed ≡ Nothing) × (self.old.made.items ≡ []) }
         requires room { (task_at job.now.graph t).kind ≡ filters
             → length outcomes.now ≤ vec_capacity self.old.made }
-        ensures { HasTaken (task_at job.now.graph t) (map number outcomes.now) self.old self.new }
+        ensures { StateHasTaken (task_at job.now.graph t) (map number outcomes.now) self.old self.new }
     {
         for outcome in outcomes {
             let x = number_taken(*outcome);

@@ -11,7 +11,7 @@ ghost use Rattle.graph_runs.specs.Turned.{with_at};
 ghost use Rattle.graph_runs.specs.Nexts as turns;
 ghost use Rattle.graph_runs.specs.Nexts.{is_live, number_on};
 ghost use Rattle.stream_job.specs.Turning.{IsRegistration, HadTurn, told_of};
-ghost use Rattle.stream_job.specs.Inside.{HasDone, HasRoomIn, HasRoomNext, IsNextIn, MayDo, OwesMade, is_over, with_line, add_refusal, add_event, HasBegun};
+ghost use Rattle.stream_job.specs.Inside.{HasDone, HasRoomIn, HasRoomNext, IsNextIn, MayDo, OwesMade, is_value_out, with_more, child_refusal, add_event, LineHasBegun};
 ghost use Rattle.stream_job.specs.Buffers.{HasPlaces};
 ghost use Rattle.stream_job.specs.Plans.{IsPlan};
 ghost use Rattle.stream_job.specs.SinkLines.{kept_of};
@@ -288,7 +288,7 @@ impl Machine {
         requires there { IfSome sink (λ i. i < length self.old.lines.items) }
         requires room { IfSome sink (HasRoomIn self.old.lines.items (length outcomes.now)) }
         ensures lines { (given : ℕ → List ℤ) → map (kept_behind given) self.new.lines.items
-            ≡ with_line sink (kept_of outcomes.now) (map (kept_behind given) self.old.lines.items) }
+            ≡ with_more sink (kept_of outcomes.now) (map (kept_behind given) self.old.lines.items) }
         ensures starts { map (λ line. line.start) self.new.lines.items
             ≡ map (λ line. line.start) self.old.lines.items }
         ensures own { (room : ℕ → ℕ) → All (HasRoom room) self.old.lines.items
@@ -373,15 +373,15 @@ impl Machine {
             × (c < length job.now.graph.tasks) }
         ensures refused { IfErr result (λ e. e ≢ RegisterRefusal.OutOfMemory
             → (h : ℕ → History) → HasCores job.now h self.old.cores.items
-            → add_refusal job.now c (h p) parent child mode ≡ Some e) }
+            → child_refusal job.now c (h p) parent child mode ≡ Some e) }
         ensures ok { OnOk result ((h : ℕ → History) → HasCores job.now h self.old.cores.items
-            → add_refusal job.now c (h p) parent child mode ≡ None) }
+            → child_refusal job.now c (h p) parent child mode ≡ None) }
         ensures cores { OnOk result ((h : ℕ → History) → HasCores job.now h self.old.cores.items
             → HasCores job.now (with_at p (add_event job.now c parent child mode ∷ h p) h)
             self.new.cores.items) }
         ensures lines { OnOk result ((s : List (List ℤ)) (m : Moment)
             → IsMachineAt (with_samples s job.now) m self.old
-            → HasBegun (with_samples s job.now) m c (done_of (m.history p)) self.old.lines.items
+            → LineHasBegun (with_samples s job.now) m c (done_of (m.history p)) self.old.lines.items
             self.new.lines.items) }
         ensures err { OnErr result (self.new ≡ self.old) }
         ensures tasks { self.new.tasks ≡ self.old.tasks }
@@ -428,7 +428,7 @@ fn keep_values(values: &mut Vec<i64>, outcomes: &[Outcome])
 /// out of range, where one is.
 fn put_values(made: &[Result<i64, TooBigValue>], values: &mut Vec<i64>) -> Option<usize>
     requires room { length made.now ≤ vec_capacity values.old }
-    ensures some { result ≡ position_from is_over 0 made.now }
+    ensures some { result ≡ position_from is_value_out 0 made.now }
     ensures none { result ≡ None → map (λ x. Ok x) values.new.items ≡ made.now }
     ensures room { vec_capacity values.new ≡ vec_capacity values.old }
 {

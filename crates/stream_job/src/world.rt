@@ -72,8 +72,8 @@ impl<'a> Model for World<'a> {
 impl<'a> World<'a> {
     ghost use Rattle.stream_job.specs.Machines.{next_by};
     ghost use Rattle.stream_job.specs.Worlds.{IsWorldAt};
-    ghost use Rattle.stream_job.specs.Standing.{standing};
-    ghost use Rattle.stream_job.specs.SinkLines.{kept_by, begins_at};
+    ghost use Rattle.stream_job.specs.Standing.{standing_on};
+    ghost use Rattle.stream_job.specs.SinkLines.{kept_by, sink_begins_at};
     ghost use Rattle.stream_job.specs.Turning.{told_of, met_by, after_turn_of, parked_by, IsRegistration};
 
     /// Makes a run of a job at its opening: on each phaser a founder has registered the tasks
@@ -142,7 +142,7 @@ impl<'a> World<'a> {
             → ((t : ℕ) → is_live self.now.job m t ≡ false)
             → answer_of (started self.now.job m) ≡ Ok (map sink_values result.now) }
         ensures starts { (m : Moment) → IsWorldAt self.now m → map (λ line. line.start) result.now
-            ≡ map (begins_at self.now.job m) (sinks_of self.now.job) }
+            ≡ map (sink_begins_at self.now.job m) (sinks_of self.now.job) }
     {
         moments::takes();
         outcomes::all_gone();
@@ -163,7 +163,7 @@ impl<'a> World<'a> {
     pub fn standing(&self, task: usize, k: usize) -> Option<Entry>
         requires task { task < length self.now.job.graph.tasks }
         requires registration { k < length (registrations_at self.now.job task) }
-        ensures { (m : Moment) → IsWorldAt self.now m → result ≡ standing self.now.job m task k }
+        ensures { (m : Moment) → IsWorldAt self.now m → result ≡ standing_on self.now.job m task k }
     {
         self.machine.standing(self.job, task, k)
     }

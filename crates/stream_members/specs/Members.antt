@@ -32,13 +32,13 @@ abbrev pub Spot : Type 0
 Spot = Place (Terms NoRule)
 
 -- the limits of the phaser at a spot
-abbrev pub limits_of : Option (Terms NoRule) → Limits
-limits_of None = limits 1 1
-limits_of (Some terms) = terms.limits
+abbrev pub spot_limits : Option (Terms NoRule) → Limits
+spot_limits None = limits 1 1
+spot_limits (Some terms) = terms.limits
 
 -- the limits of the phaser that a spot is on
 abbrev pub limits_on : Spot → Limits
-limits_on at = limits_of at.1
+limits_on at = spot_limits at.1
 
 -- a member: its phaser, its number, its mode, and the history that it has seen
 pub record MemberState : Type 0 where

@@ -17,9 +17,9 @@ use Rattle.graph_runs.specs.TaskEnds.{TaskEnd, HasLeftAt}
 use Rattle.graph_runs.specs.RunEnds.{Ends, HasCome}
 use Rattle.stream_tasks.specs.declared.ending.task_left.TaskKnowledge.{TaskKnowledge}
 use Rattle.stream_tasks.specs.declared.ending.task_left.TaskLeft.{TaskLeft}
-use Rattle.stream_tasks.specs.Joinings.{IsAt, HasPlaceFor, HasGrownTo, HaveGrown, IsTakenIn}
-use Rattle.stream_tasks.specs.Gatherings.{Tells, AreGathered}
-use Rattle.stream_tasks.specs.TaskLefts.{IsLeftOf, IsTaskLeft, end_of}
+use Rattle.stream_tasks.specs.Joinings.{IsPlaced, HasPlaceFor, HasGrownTo, HaveGrown, IsTakenIn}
+use Rattle.stream_tasks.specs.Gatherings.{TellsEnd, AreGathered}
+use Rattle.stream_tasks.specs.TaskLefts.{HasLeftAs, IsTaskLeft, task_end_of}
 use Rattle.stream_tasks.proofs.TakingIn.{grown_to_refl}
 use Rattle.stream_tasks.proofs.Gathered.{in_longer, below_length, gathered_absent, IsAllTaken, gathered_more}
 
@@ -58,14 +58,14 @@ none_gathered job founders = record {
 tells_more : (parts : List (Option TaskKnowledge)) (ends : Ends) (part : Option TaskKnowledge)
     (end : Option TaskEnd) → length parts ≡ length ends
     → ((t : ℕ) (a : Option TaskKnowledge) (b : Option TaskEnd) → slice_get parts t ≡ Some a
-    → slice_get ends t ≡ Some b → Tells a b) → Tells part end
+    → slice_get ends t ≡ Some b → TellsEnd a b) → TellsEnd part end
     → (t : ℕ) (a : Option TaskKnowledge) (b : Option TaskEnd) → slice_get (parts ++ part ∷ []) t ≡ Some a
-    → slice_get (ends ++ end ∷ []) t ≡ Some b → Tells a b
+    → slice_get (ends ++ end ∷ []) t ≡ Some b → TellsEnd a b
 tells_more parts ends part end long tells last t a b one two =
     by (in_longer parts part a t one) (in_longer ends end b t two)
   where
     by : (slice_get parts t ≡ Some a) ⊎ ((t ≡ length parts) × (part ≡ a))
-        → (slice_get ends t ≡ Some b) ⊎ ((t ≡ length ends) × (end ≡ b)) → Tells a b
+        → (slice_get ends t ≡ Some b) ⊎ ((t ≡ length ends) × (end ≡ b)) → TellsEnd a b
     by (inl f) (inl g) = tells t a b f g
     by (inr f) (inr g) =
         rw f.1 at (rw g.1 at last)
@@ -112,18 +112,18 @@ seen_at (l ∷ lefts) zero h e = (l, refl, same_Some (left_in l).seen h e)
 seen_at (l ∷ lefts) (suc i) h e = seen_at lefts i h e
 
 module _ (job : Job) (spots : ℕ → Spot) (t : ℕ) (part : TaskKnowledge) (lefts : List AnyLeft)
-    (there : t < length job.graph.tasks) (m : Moment) (left_at : HasLeftAt job m (end_of t part lefts))
+    (there : t < length job.graph.tasks) (m : Moment) (left_at : HasLeftAt job m (task_end_of t part lefts))
     (members : (i n : ℕ) (one : AnyLeft) → slice_get part.numbers.items i ≡ Some n
-    → slice_get lefts i ≡ Some one → IsLeftOf job spots (registration_at job t i).phaser (n ∷ []) one) where
+    → slice_get lefts i ≡ Some one → HasLeftAs job spots (registration_at job t i).phaser (n ∷ []) one) where
   pub lefts_long : length lefts ≡ length (registrations_at job t)
   lefts_long = sym (length-map lefts (λ l. (left_in l).seen)) ∙ left_at.long
 
   -- there is a place for each of its members
   pub have_places : (founders joined : List (Option AnyLeft)) → IsGraph job.graph
-      → ((p : ℕ) → p < length job.graph.phasers → (founder : AnyLeft) × IsAt founders p founder
-      × IsLeftOf job spots p (0 ∷ []) founder)
-      → ((p : ℕ) (founder : AnyLeft) → IsAt founders p founder
-      → (all : AnyLeft) × IsAt joined p all × HasGrownTo founder all)
+      → ((p : ℕ) → p < length job.graph.phasers → (founder : AnyLeft) × IsPlaced founders p founder
+      × HasLeftAs job spots p (0 ∷ []) founder)
+      → ((p : ℕ) (founder : AnyLeft) → IsPlaced founders p founder
+      → (all : AnyLeft) × IsPlaced joined p all × HasGrownTo founder all)
       → (i : ℕ) (one : AnyLeft) → slice_get lefts i ≡ Some one
       → HasPlaceFor joined (registration_at job t i).phaser one
   have_places founders joined is founded grown i one e =
@@ -148,7 +148,7 @@ module _ (job : Job) (spots : ℕ → Spot) (t : ℕ) (part : TaskKnowledge) (le
   all_taken : (old new : List (Option AnyLeft))
       → ((i : ℕ) (one : AnyLeft) → slice_get lefts i ≡ Some one
       → IsTakenIn old new (registration_at job t i).phaser one)
-      → IsAllTaken job (end_of t part lefts) t old new
+      → IsAllTaken job (task_end_of t part lefts) t old new
   all_taken old new taken = record {
     taken = λ i n seen few number saw.
         (let s = seen_at lefts i seen saw in
@@ -161,30 +161,30 @@ module _ (job : Job) (spots : ℕ → Spot) (t : ℕ) (part : TaskKnowledge) (le
       → ((i : ℕ) (one : AnyLeft) → slice_get lefts i ≡ Some one
       → IsTakenIn old new (registration_at job t i).phaser one)
       → AreGathered job founders new (parts ++ Some part ∷ [])
-      (ends ++ Some (end_of t part lefts) ∷ [])
+      (ends ++ Some (task_end_of t part lefts) ∷ [])
   add_came founders old new parts ends here so long grown taken = record {
-    long = longer parts ends (Some part) (Some (end_of t part lefts)) so.long;
+    long = longer parts ends (Some part) (Some (task_end_of t part lefts)) so.long;
     joined_long = long ∙ so.joined_long;
-    tasks = λ u end has. known u end (in_longer ends (Some (end_of t part lefts)) (Some end) u has);
-    tells = tells_more parts ends (Some part) (Some (end_of t part lefts)) so.long so.tells
+    tasks = λ u end has. known u end (in_longer ends (Some (task_end_of t part lefts)) (Some end) u has);
+    tells = tells_more parts ends (Some part) (Some (task_end_of t part lefts)) so.long so.tells
         (refl, refl, refl, refl, λ c. refl);
     phasers = λ p founder is.
         (let g = so.phasers p founder is in
         let now = grown p g.0 g.1 in (
           now.0,
           now.1,
-          gathered_more job ends (end_of t part lefts) p old new founder g.0 now.0 g.1 now.1 g.2
+          gathered_more job ends (task_end_of t part lefts) p old new founder g.0 now.0 g.1 now.1 g.2
               now.2 (rw here (all_taken old new taken)),
         ));
   }
     where
       known : (u : ℕ) (end : TaskEnd)
           → (slice_get ends u ≡ Some (Some end))
-          ⊎ ((u ≡ length ends) × (Some (end_of t part lefts) ≡ Some end))
+          ⊎ ((u ≡ length ends) × (Some (task_end_of t part lefts) ≡ Some end))
           → (end.task ≡ u) × (u < length job.graph.tasks) × ((m : Moment) × HasLeftAt job m end)
       known u end (inl has) = so.tasks u end has
       known u end (inr new) =
-          let same : end_of t part lefts ≡ end = same_Some (end_of t part lefts) end new.1 in
+          let same : task_end_of t part lefts ≡ end = same_Some (task_end_of t part lefts) end new.1 in
           let at : u ≡ t = new.0 ∙ here in (
             ap (λ (e : TaskEnd). e.task) (sym same) ∙ sym at,
             omega arith,
@@ -198,10 +198,10 @@ pub record IsLeftAs (job : Job) (spots : ℕ → Spot) (t : ℕ) (part : TaskKno
     : Type 0 where
   pub there : t < length job.graph.tasks
   pub moment : Moment
-  pub has_left : HasLeftAt job moment (end_of t part lefts)
+  pub has_left : HasLeftAt job moment (task_end_of t part lefts)
   pub members : (i n : ℕ) (one : AnyLeft) → slice_get part.numbers.items i ≡ Some n
       → slice_get lefts i ≡ Some one
-      → IsLeftOf job spots (registration_at job t i).phaser (n ∷ []) one
+      → HasLeftAs job spots (registration_at job t i).phaser (n ∷ []) one
 
 pub left_as : (job : Job) (spots : ℕ → Spot) (t : ℕ) (left : TaskLeft) → IsTaskLeft job spots left
     → left.task ≡ t → IsLeftAs job spots t left.part left.lefts.items
@@ -215,7 +215,7 @@ left_as job spots t left is same =
 
 -- what is taken out of a place stood there
 pub taken_out : {X : Type 0} (xs : List (Option X)) (t : ℕ) (now r : Option X) (x : X)
-    → now ≡ get_or xs t now → r ≡ now → r ≡ Some x → t < length xs → IsAt xs t x
+    → now ≡ get_or xs t now → r ≡ now → r ≡ Some x → t < length xs → IsPlaced xs t x
 taken_out xs t now r x at same is lt =
     slice_get-get_or xs t now lt ∙ ap (λ o. Some o) (sym at ∙ (sym same ∙ is))
 

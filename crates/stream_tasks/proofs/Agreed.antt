@@ -9,14 +9,14 @@ use Rattle.graph_runs.specs.graph_base.declared.line.Parent.{Parent}
 use Rattle.graph_runs.specs.graph_base.Graphs.{task_at}
 use Rattle.stream_eval.specs.stream_lists.Jobs.{Job}
 use Rattle.stream_tasks.specs.declared.ending.task_left.TaskKnowledge.{TaskKnowledge}
-use Rattle.stream_tasks.specs.Joinings.{IsAt}
+use Rattle.stream_tasks.specs.Joinings.{IsPlaced}
 use Rattle.stream_tasks.specs.TaskLefts.{given_to}
 use Rattle.stream_tasks.specs.Agreeing.{Agrees}
 use Rattle.stream_tasks.proofs.TakingIn.{same_at}
 
 -- a root that came
 pub agreed_root : (job : Job) (parts : List (Option TaskKnowledge)) (c : ℕ) (part : TaskKnowledge)
-    → (task_at job.graph c).parent ≡ None → IsAt parts c part → Agrees job parts c
+    → (task_at job.graph c).parent ≡ None → IsPlaced parts c part → Agrees job parts c
 agreed_root job parts c part root is = record {
   root = λ e. (part, is);
   parent = λ u own has e. absurd (let no : None ≡ Some u = sym root ∙ e in cc);
@@ -25,18 +25,18 @@ agreed_root job parts c part root is = record {
 
 -- a child that came with the numbers that it was given
 pub agreed_child : (job : Job) (parts : List (Option TaskKnowledge)) (c : ℕ) (u : Parent) (own above : TaskKnowledge)
-    → (task_at job.graph c).parent ≡ Some u → IsAt parts c own → IsAt parts u.task above
+    → (task_at job.graph c).parent ≡ Some u → IsPlaced parts c own → IsPlaced parts u.task above
     → u.at ≤ above.begun → given_to above.given.items c ≡ own.numbers.items → Agrees job parts c
 agreed_child job parts c u own above has is_own is_above enough same = record {
   root = λ e. absurd (let no : None ≡ Some u = sym e ∙ has in cc);
   parent = λ v part at e.
       (let one : u ≡ v = same_Some u v (sym has ∙ e) in
       let P : Parent → Type 0 = λ x.
-      (other : TaskKnowledge) × IsAt parts x.task other × (x.at ≤ other.begun) in
+      (other : TaskKnowledge) × IsPlaced parts x.task other × (x.at ≤ other.begun) in
       subst P one (above, is_above, enough));
   given = λ v part e at.
       (let one : u ≡ v = same_Some u v (sym has ∙ e) in
-      let at_u : IsAt parts u.task part = rw one at in
+      let at_u : IsPlaced parts u.task part = rw one at in
       let it : above ≡ part = same_at parts u.task above part is_above at_u in
       inr (own, is_own, sym same ∙ ap (λ (x : TaskKnowledge). given_to x.given.items c) it));
 }

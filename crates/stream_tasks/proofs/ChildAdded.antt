@@ -28,7 +28,7 @@ use Rattle.graph_runs.specs.TaskEnds.{IsChildOf, HasNumbers, HasOwnCalls}
 use Rattle.graph_runs.specs.Steps.{HasFilter}
 use Rattle.stream_tasks.specs.Holds.{HasMade}
 use Rattle.stream_tasks.specs.Registering.{HasFirstHolds}
-use Rattle.stream_tasks.specs.Tasks.{IsOn, IsHeldOn, HasGivenNumbers, IsTaskAt, IsWhole, place_of}
+use Rattle.stream_tasks.specs.Tasks.{IsOn, IsHeldOn, HasGivenNumbers, IsOwnTaskAt, IsWhole, place_of_state}
 use Rattle.stream_tasks.specs.declared.child.Child.{Child}
 use Rattle.stream_tasks.specs.declared.hold.Hold.{Hold}
 use Rattle.stream_tasks.specs.declared.hold.Hold.TheVariants.{On, Gone}
@@ -94,7 +94,7 @@ pub record HasAddedOne (job : Job) (before after : Moment) (t c p a : ℕ) (numb
 module _ (job : Job) (spots : ℕ → Spot) (m after : Moment) (s : TaskState) (c k p : ℕ)
     (numbers : List ℕ) (child_holds : List Hold) (event : ℕ → Event) (old new child : AnyMember)
     (before : History) (kids : Vec Child Global) (whole : IsWhole job s)
-    (at : IsTaskAt job spots m s) (first_holds : HasFirstHolds job spots m c numbers child_holds)
+    (at : IsOwnTaskAt job spots m s) (first_holds : HasFirstHolds job spots m c numbers child_holds)
     (of_task : IsChildOf job c s.number) (going : s.over ≡ false)
     (room : length numbers < length (registrations_at job c))
     (next : (registration_at job c (length numbers)).phaser ≡ p)
@@ -174,7 +174,7 @@ module _ (job : Job) (spots : ℕ → Spot) (m after : Moment) (s : TaskState) (
           numbers_same job m after kid.task kid.numbers.items
           (λ q. has.other_numbers q kid.task (inr task)) (at.given i kid was)
 
-  pub first_holds_add : IsTaskAt job spots after
+  pub first_holds_add : IsOwnTaskAt job spots after
       (record s { holds = with_item s.holds k (On new); children = kids })
       × HasFirstHolds job spots after c (numbers ++ a ∷ []) (child_holds ++ On child ∷ [])
   first_holds_add =
@@ -183,7 +183,7 @@ module _ (job : Job) (spots : ℕ → Spot) (m after : Moment) (s : TaskState) (
           part = has.part;
           own = has.own.0;
           knows = has.knows;
-          place = has.place s.most (place_of s) at.place;
+          place = has.place s.most (place_of_state s) at.place;
           start = λ joins. has.same.offset ∙ at.start joins;
           holds = holds_go job spots m after t k p s.holds.items s.lefts.items (On new) whole.graph
               whole.there few here whole.holds (omega arith)

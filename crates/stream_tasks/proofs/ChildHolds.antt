@@ -27,7 +27,7 @@ use Rattle.graph_runs.proofs.CallsFollow.{calls_begin, calls_wait}
 use Rattle.graph_runs.specs.Steps.{HasFilter}
 use Rattle.stream_tasks.specs.Holds.{HasSeenOthers}
 use Rattle.stream_tasks.specs.Registering.{HasFirstHolds}
-use Rattle.stream_tasks.specs.Tasks.{IsOn, HasLeftOn, IsHeldOn, HasHolds, IsTaskAt, IsWhole, OwesNothing, owed_by, place_of}
+use Rattle.stream_tasks.specs.Tasks.{IsOn, HasLeftOn, IsHeldOn, HasHolds, IsOwnTaskAt, IsWhole, OwesNothing, owed_by, place_of_state}
 use Rattle.stream_tasks.specs.declared.child.Child.{Child}
 use Rattle.stream_tasks.specs.declared.hold.Hold.{Hold}
 use Rattle.stream_tasks.specs.declared.hold.Hold.TheVariants.{On, Gone}
@@ -111,11 +111,11 @@ holds_go job spots m after t k p holds lefts new is there few here long kept num
 -- ---- the child begins
 
 pub first_holds_begin : (job : Job) (spots : ℕ → Spot) (m : Moment) (s : TaskState) (c : ℕ)
-    → IsWhole job s → IsTaskAt job spots m s
+    → IsWhole job s → IsOwnTaskAt job spots m s
     → (child : IsChildOf job c s.number) → s.begun ≡ child.parent.at → s.over ≡ false
     → ((p : ℕ) → m.number p c ≡ None)
     → HasNewChild job m (with_child c m) s.number c []
-    × IsTaskAt job spots (with_child c m) s × HasFirstHolds job spots (with_child c m) c [] []
+    × IsOwnTaskAt job spots (with_child c m) s × HasFirstHolds job spots (with_child c m) c [] []
 first_holds_begin job spots m s c whole at child boundary going nowhere =
     let t = s.number in
     let after = with_child c m in
@@ -129,7 +129,7 @@ first_holds_begin job spots m s c whole at child boundary going nowhere =
         part = new.part;
         own = calls.0;
         knows = known_begins job m after t c new at.knows;
-        place = new.place s.most (place_of s) at.place;
+        place = new.place s.most (place_of_state s) at.place;
         start = λ joins. new.offset t ∙ at.start joins;
         holds = record {
           on = λ i lt le.
@@ -157,13 +157,13 @@ first_holds_begin job spots m s c whole at child boundary going nowhere =
 
 pub first_holds_wait : (job : Job) (spots : ℕ → Spot) (m : Moment) (s : TaskState) (c k p : ℕ)
     (numbers : List ℕ) (child_holds : List Hold) (old new : AnyMember) → IsWhole job s
-    → IsTaskAt job spots m s → HasFirstHolds job spots m c numbers child_holds
+    → IsOwnTaskAt job spots m s → HasFirstHolds job spots m c numbers child_holds
     → IsChildOf job c s.number → s.over ≡ false → k < length (registrations_at job s.number)
     → (registration_at job s.number k).phaser ≡ p → m.number p c ≡ None
     → IsOn job spots m s.number p old → HasSeenOthers old new
     → HasSeenBoth job m (with_history p (member_in new).seen m) s.number c p numbers
     (member_in new).seen
-    × IsTaskAt job spots (with_history p (member_in new).seen m)
+    × IsOwnTaskAt job spots (with_history p (member_in new).seen m)
     (record s { holds = with_item s.holds k (On new) })
     × HasFirstHolds job spots (with_history p (member_in new).seen m) c numbers child_holds
 first_holds_wait job spots m s c k p numbers child_holds old new whole at first_holds child going few here nowhere on goes =
@@ -183,7 +183,7 @@ first_holds_wait job spots m s c k p numbers child_holds old new whole at first_
         part = moved.part;
         own = calls.0;
         knows = known_moved job m after t p now moved at.knows;
-        place = both.place s.most (place_of s) at.place;
+        place = both.place s.most (place_of_state s) at.place;
         start = λ joins. moved.offset t ∙ at.start joins;
         holds = holds_go job spots m after t k p s.holds.items s.lefts.items (On new) whole.graph
             whole.there few here whole.holds (omega arith) (λ q. moved.numbers q t)
@@ -266,7 +266,7 @@ pub child_goes_alone : (job : Job) (spots : ℕ → Spot) (m : Moment) (parent :
     → HasFilter (task_at job.graph child.number) child.filter []
     → ((i : ℕ) (kid : Child) → slice_get child.children.items i ≡ Some kid
     → (kid.numbers.items ≡ []) × IsChildOf job kid.task child.number)
-    → IsTaskAt job spots m child
+    → IsOwnTaskAt job spots m child
 child_goes_alone job spots m parent child numbers child_holds is of_task knows first_holds all same_numbers same_holds no_lefts begun owes going no_lines start filter kids =
     let d = child.number in
     let place_is = start_made numbers child.numbers.items (length child.lefts.items) child.begun

@@ -23,8 +23,8 @@ use Rattle.graph_runs.proofs.PartsLemmas.{with_history}
 use Rattle.graph_runs.proofs.TurnRegistering.{is_for}
 use Rattle.graph_runs.specs.TaskEnds.{IsChildOf}
 use Rattle.graph_runs.proofs.CallsFollow.{calls_registered_now}
-use Rattle.stream_tasks.specs.Registering.{HasAddedNow, HasFirstHolds, registration_now_of}
-use Rattle.stream_tasks.specs.Tasks.{IsOn, IsTaskAt, IsWhole, OwesNothing, place_of}
+use Rattle.stream_tasks.specs.Registering.{MemberHasAddedNow, HasFirstHolds, registration_now_of}
+use Rattle.stream_tasks.specs.Tasks.{IsOn, IsOwnTaskAt, IsWhole, OwesNothing, place_of_state}
 use Rattle.stream_tasks.specs.declared.child.Child.{Child}
 use Rattle.stream_tasks.specs.declared.hold.Hold.{Hold}
 use Rattle.stream_tasks.specs.declared.hold.Hold.TheVariants.{On}
@@ -35,7 +35,7 @@ use Rattle.stream_tasks.proofs.ChildAdded.{HasGivenOne, HasAddedOne, first_holds
 
 module _ (job : Job) (spots : ℕ → Spot) (m : Moment) (s : TaskState) (c k : ℕ)
     (child_holds : List Hold) (old new child : AnyMember) (start : ℕ)
-    (kids : Vec Child Global) (whole : IsWhole job s) (at : IsTaskAt job spots m s)
+    (kids : Vec Child Global) (whole : IsWhole job s) (at : IsOwnTaskAt job spots m s)
     (first_holds : HasFirstHolds job spots m c [] child_holds)
     (of_task : IsChildOf job c s.number) (boundary : s.begun ≡ of_task.parent.at)
     (going : s.over ≡ false) (owes : OwesNothing s)
@@ -43,7 +43,7 @@ module _ (job : Job) (spots : ℕ → Spot) (m : Moment) (s : TaskState) (c k : 
     (few : k < length (registrations_at job s.number))
     (here : (registration_at job s.number k).phaser ≡ (registration_at job c 0).phaser)
     (on : IsOn job spots m s.number (registration_at job c 0).phaser old)
-    (added : HasAddedNow old new child start)
+    (added : MemberHasAddedNow old new child start)
     (given : HasGivenOne s.children.items kids.items c (member_in child).number []) where
   abbrev t : ℕ
   t = s.number
@@ -69,7 +69,7 @@ module _ (job : Job) (spots : ℕ → Spot) (m : Moment) (s : TaskState) (c k : 
   has : places.HasAddedNow job m after t c p a (done_of added.before)
       (RegisteredNow n a ∷ added.before)
   has =
-      child_is_added_now job m t c n a of_task.parent (place_of s) s.most [] added.before
+      child_is_added_now job m t c n a of_task.parent (place_of_state s) s.most [] added.before
       whole.graph whole.there of_task.there at.part at.place (owed_none s owes) boundary of_task.has of_task.by
       first_holds.joining room
       (record { numbered = sees.numbered; others = sees.others; legal = sees.legal.0 })
@@ -97,7 +97,7 @@ module _ (job : Job) (spots : ℕ → Spot) (m : Moment) (s : TaskState) (c k : 
   }
 
   -- and it is known where the child begins
-  pub first_holds_register_now : IsTaskAt job spots after
+  pub first_holds_register_now : IsOwnTaskAt job spots after
       (record s { holds = with_item s.holds k (On new); children = kids })
       × HasFirstHolds job spots after c (a ∷ []) (child_holds ++ On child ∷ [])
       × (after.offset c ≡ start)

@@ -23,8 +23,8 @@ use Rattle.graph_runs.proofs.PartsLemmas.{with_history}
 use Rattle.graph_runs.proofs.TurnRegistering.{is_for}
 use Rattle.graph_runs.specs.TaskEnds.{IsChildOf}
 use Rattle.graph_runs.proofs.CallsFollow.{calls_registered}
-use Rattle.stream_tasks.specs.Registering.{HasAdded, HasFirstHolds, registration_of}
-use Rattle.stream_tasks.specs.Tasks.{IsOn, IsTaskAt, IsWhole, OwesNothing, place_of}
+use Rattle.stream_tasks.specs.Registering.{MemberHasAdded, HasFirstHolds, registration_of}
+use Rattle.stream_tasks.specs.Tasks.{IsOn, IsOwnTaskAt, IsWhole, OwesNothing, place_of_state}
 use Rattle.stream_tasks.specs.declared.child.Child.{Child}
 use Rattle.stream_tasks.specs.declared.hold.Hold.{Hold}
 use Rattle.stream_tasks.specs.declared.hold.Hold.TheVariants.{On}
@@ -35,7 +35,7 @@ use Rattle.stream_tasks.proofs.ChildAdded.{HasGivenOne, HasAddedOne, first_holds
 
 module _ (job : Job) (spots : ℕ → Spot) (m : Moment) (s : TaskState) (c k : ℕ)
     (numbers : List ℕ) (child_holds : List Hold) (old new child : AnyMember)
-    (kids : Vec Child Global) (whole : IsWhole job s) (at : IsTaskAt job spots m s)
+    (kids : Vec Child Global) (whole : IsWhole job s) (at : IsOwnTaskAt job spots m s)
     (first_holds : HasFirstHolds job spots m c numbers child_holds)
     (of_task : IsChildOf job c s.number) (boundary : s.begun ≡ of_task.parent.at)
     (going : s.over ≡ false) (owes : OwesNothing s)
@@ -45,7 +45,7 @@ module _ (job : Job) (spots : ℕ → Spot) (m : Moment) (s : TaskState) (c k : 
     (here : (registration_at job s.number k).phaser
     ≡ (registration_at job c (length numbers)).phaser)
     (on : IsOn job spots m s.number (registration_at job c (length numbers)).phaser old)
-    (added : HasAdded (registration_at job c (length numbers)).mode old new child)
+    (added : MemberHasAdded (registration_at job c (length numbers)).mode old new child)
     (given : HasGivenOne s.children.items kids.items c (member_in child).number numbers) where
   abbrev t : ℕ
   t = s.number
@@ -70,7 +70,7 @@ module _ (job : Job) (spots : ℕ → Spot) (m : Moment) (s : TaskState) (c k : 
 
   has : HasAddedChild job m after t c p a numbers (Registered n a mode ∷ added.before)
   has =
-      child_is_added job m t c n a of_task.parent (place_of s) s.most numbers added.before
+      child_is_added job m t c n a of_task.parent (place_of_state s) s.most numbers added.before
       whole.graph whole.there of_task.there at.part at.place (owed_none s owes) boundary of_task.has of_task.by
       first_holds.joining room
       (record { numbered = sees.numbered; others = sees.others; legal = sees.legal.0 })
@@ -99,7 +99,7 @@ module _ (job : Job) (spots : ℕ → Spot) (m : Moment) (s : TaskState) (c k : 
         added.before sees nowhere has at.own first_holds.own;
   }
 
-  pub first_holds_register : IsTaskAt job spots after
+  pub first_holds_register : IsOwnTaskAt job spots after
       (record s { holds = with_item s.holds k (On new); children = kids })
       × HasFirstHolds job spots after c (numbers ++ a ∷ []) (child_holds ++ On child ∷ [])
   first_holds_register =

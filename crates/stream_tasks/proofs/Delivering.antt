@@ -7,8 +7,8 @@ use Rattle.graph_runs.specs.graph_base.Graphs.{task_at}
 use Rattle.graph_runs.specs.Nexts.{registrations_at}
 use Rattle.graph_runs.proofs.ChildMoments.{has_registration}
 use Rattle.graph_runs.specs.TaskEnds.{IsChildOf}
-use Rattle.stream_tasks.specs.Tasks.{IsTask, IsTaskAt, IsWhole}
-use Rattle.stream_tasks.specs.Seeds.{IsReady}
+use Rattle.stream_tasks.specs.Tasks.{IsTask, IsOwnTaskAt, IsWhole}
+use Rattle.stream_tasks.specs.Seeds.{IsReadySeed}
 use Rattle.stream_tasks.specs.Registering.{HasFirstHolds, IsRegistering}
 use Rattle.stream_tasks.specs.Deliveries.{IsRegisteredChild, HasDelivered}
 use Rattle.stream_tasks.specs.declared.child.Child.{Child}
@@ -69,7 +69,7 @@ goes_on job spots i seed old new child task has = subst (IsTask job spots) (sym 
 -- the child is a task of the run
 module _ (job : Job) (spots : ℕ → Spot) (i : ℕ) (seed old new child : TaskState)
     (whole : IsWhole job old) (registering : IsRegistering job spots old i)
-    (registered : IsRegisteredChild job old i seed.number) (ready : IsReady job spots 0 seed)
+    (registered : IsRegisteredChild job old i seed.number) (ready : IsReadySeed job spots 0 seed)
     (has : HasDelivered i seed old new child) where
   abbrev kid : Child
   kid = registering.kid
@@ -111,7 +111,7 @@ module _ (job : Job) (spots : ℕ → Spot) (i : ℕ) (seed old new child : Task
       (rw task_is at registering.start) joins (omega arith)
       ∙ ap (λ (x : Child). x.start) (same_Some kid has.kid (sym registering.found ∙ has.found))
 
-  at : IsTaskAt job spots registering.moment made
+  at : IsOwnTaskAt job spots registering.moment made
   at =
       child_goes_alone job spots registering.moment old.number made kid.numbers.items
       old.child_holds.items whole.graph (subst (λ c. IsChildOf job c old.number) task_is registering.child)

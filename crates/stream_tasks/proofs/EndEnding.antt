@@ -19,13 +19,13 @@ use Rattle.stream_members.specs.AnyMembers.{left_in}
 use Rattle.stream_members.specs.declared.any_left.AnyLeft.{AnyLeft}
 use Rattle.graph_runs.specs.Nexts.{registrations_at}
 use Rattle.graph_runs.specs.TaskEnds.{TaskEnd, FounderEnd}
-use Rattle.graph_runs.specs.RunEnds.{Ends, HasCome, IsRegisteredOn, HasWhole, IsRunEnd, HasAnswer, lines_in, start_in_end}
+use Rattle.graph_runs.specs.RunEnds.{Ends, HasCome, IsRegisteredOn, HasWholeRun, IsRunEnd, HasAnswer, lines_in, start_in_end}
 use Rattle.stream_tasks.specs.declared.ending.task_left.TaskKnowledge.{TaskKnowledge}
-use Rattle.stream_tasks.specs.Joinings.{IsAt}
-use Rattle.stream_tasks.specs.Gatherings.{Tells, AreGathered}
+use Rattle.stream_tasks.specs.Joinings.{IsPlaced}
+use Rattle.stream_tasks.specs.Gatherings.{TellsEnd, AreGathered}
 use Rattle.stream_tasks.specs.RunAnswers.{AreLinesOf}
-use Rattle.stream_tasks.specs.TaskLefts.{given_to, AreFounders, part_lines, lines_at, part_start}
-use Rattle.stream_tasks.specs.Agreeing.{Agrees, IsOfTask, AreOfTasks}
+use Rattle.stream_tasks.specs.TaskLefts.{given_to, AreFoundersLeft, part_lines, lines_at, part_start}
+use Rattle.stream_tasks.specs.Agreeing.{Agrees, IsNumberOfTask, AreOfTasks}
 use Rattle.stream_tasks.proofs.Gathered.{below_length}
 
 map-filtered : {Y : Type 0} (f h : ℕ → Y) (test : ℕ → Bool) (a n : ℕ)
@@ -51,15 +51,15 @@ module _ (job : Job) (spots : ℕ → Spot) (founders joined : List (Option AnyL
     (g : AreGathered job founders joined parts ends)
     (many : length ends ≡ length job.graph.tasks)
     (agree : (c : ℕ) → c < length job.graph.tasks → Agrees job parts c)
-    (founded : AreFounders job spots founders gave)
+    (founded : AreFoundersLeft job spots founders gave)
     (known : (p : ℕ) → p < length job.graph.phasers → AreOfTasks job parts p (gave p)) where
   -- the end of a part
   record HasEnd (t : ℕ) (part : TaskKnowledge) : Type 0 where
     end : TaskEnd
     has : HasCome ends t end
-    tells : Tells (Some part) (Some end)
+    tells : TellsEnd (Some part) (Some end)
 
-  end_of_part : (t : ℕ) (part : TaskKnowledge) → IsAt parts t part → HasEnd t part
+  end_of_part : (t : ℕ) (part : TaskKnowledge) → IsPlaced parts t part → HasEnd t part
   end_of_part t part at =
       let low : t < length parts = below_length parts t (Some part) at in
       let same : length parts ≡ length ends = g.long in
@@ -67,14 +67,14 @@ module _ (job : Job) (spots : ℕ → Spot) (founders joined : List (Option AnyL
       slice_get-get_or ends t None (omega arith) in
       by (get_or ends t None) is (g.tells t (Some part) (get_or ends t None) at is)
     where
-      by : (o : Option TaskEnd) → slice_get ends t ≡ Some o → Tells (Some part) o → HasEnd t part
+      by : (o : Option TaskEnd) → slice_get ends t ≡ Some o → TellsEnd (Some part) o → HasEnd t part
       by None is tells = absurd tells
       by (Some end) is tells = record { end = end; has = is; tells = tells }
 
   record HasPartOf (t : ℕ) (end : TaskEnd) : Type 0 where
     part : TaskKnowledge
-    at : IsAt parts t part
-    tells : Tells (Some part) (Some end)
+    at : IsPlaced parts t part
+    tells : TellsEnd (Some part) (Some end)
 
   part_of_end : (t : ℕ) (end : TaskEnd) → HasCome ends t end → HasPartOf t end
   part_of_end t end has =
@@ -84,12 +84,12 @@ module _ (job : Job) (spots : ℕ → Spot) (founders joined : List (Option AnyL
       slice_get-get_or parts t None (omega arith) in
       by (get_or parts t None) is (g.tells t (get_or parts t None) (Some end) is has)
     where
-      by : (o : Option TaskKnowledge) → slice_get parts t ≡ Some o → Tells o (Some end) → HasPartOf t end
+      by : (o : Option TaskKnowledge) → slice_get parts t ≡ Some o → TellsEnd o (Some end) → HasPartOf t end
       by None is tells = absurd tells
       by (Some part) is tells = record { part = part; at = is; tells = tells }
 
   whole_of : (p : ℕ) → p < length job.graph.phasers
-      → (founder : FounderEnd) × (whole : History) × HasWhole job ends p founder whole
+      → (founder : FounderEnd) × (whole : History) × HasWholeRun job ends p founder whole
   whole_of p pp =
       let f = founded p pp in
       let s = g.phasers p f.0 f.1 in
@@ -118,7 +118,7 @@ module _ (job : Job) (spots : ℕ → Spot) (founders joined : List (Option AnyL
           ap (λ k. is_in k (left_in left).numbers) same ∙ ap (is_in 0) numbers in
           let wrong : true ≡ false = sym inside ∙ none in cc
 
-      of_task : (p a : ℕ) → IsOfTask job parts p a
+      of_task : (p a : ℕ) → IsNumberOfTask job parts p a
           → (t : ℕ) × (i : ℕ) × (seen : History) × IsRegisteredOn job ends t i p a seen
       of_task p a of =
           let e = end_of_part of.task of.part of.came in
@@ -165,7 +165,7 @@ module _ (job : Job) (spots : ℕ → Spot) (founders joined : List (Option AnyL
       children : (c : ℕ) (end : TaskEnd) {t : ℕ} (above : HasPartOf t end)
           → end.given c ≡ given_to above.part.given.items c
           → (given_to above.part.given.items c ≡ [])
-          ⊎ ((other : TaskKnowledge) × IsAt parts c other
+          ⊎ ((other : TaskKnowledge) × IsPlaced parts c other
           × (other.numbers.items ≡ given_to above.part.given.items c))
           → (end.given c ≡ [])
           ⊎ ((other : TaskEnd) × HasCome ends c other × (other.numbers ≡ end.given c))
@@ -184,7 +184,7 @@ module _ (job : Job) (spots : ℕ → Spot) (founders joined : List (Option AnyL
       ap lines_in is ∙ by (get_or ends t None) (get_or parts t None)
       (g.tells t (get_or parts t None) (get_or ends t None) at is)
     where
-      by : (o : Option TaskEnd) (p : Option TaskKnowledge) → Tells p o → lines_in (Some o) ≡ part_lines p
+      by : (o : Option TaskEnd) (p : Option TaskKnowledge) → TellsEnd p o → lines_in (Some o) ≡ part_lines p
       by None None tells = refl
       by None (Some part) tells = absurd tells
       by (Some end) None tells = absurd tells
@@ -205,7 +205,7 @@ module _ (job : Job) (spots : ℕ → Spot) (founders joined : List (Option AnyL
       (g.tells t (get_or parts t None) (get_or ends t None) at is)
       ∙ ap (λ o. start_in_end joins o) (sym is)
     where
-      by : (joins : Bool) (o : Option TaskEnd) (p : Option TaskKnowledge) → Tells p o
+      by : (joins : Bool) (o : Option TaskEnd) (p : Option TaskKnowledge) → TellsEnd p o
           → part_start joins p ≡ start_in_end joins (Some o)
       by true None None tells = refl
       by true None (Some part) tells = absurd tells

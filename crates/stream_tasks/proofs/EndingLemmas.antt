@@ -38,8 +38,8 @@ use Rattle.graph_runs.proofs.TellsNext.{staying_at, none_due_at, ended_no_input}
 use Rattle.graph_runs.proofs.CallsFollow.{calls_left}
 use Rattle.graph_runs.specs.Steps.{HasFilter}
 use Rattle.stream_tasks.specs.Holds as holds
-use Rattle.stream_tasks.specs.Holds.{GoesOn, HasRunOut, Leaves}
-use Rattle.stream_tasks.specs.Tasks.{IsOn, HasLeftOn, IsHeldOn, HasHolds, IsTaskAt, IsWhole, IsTask, HasAllNow, OwesNothing, owed_by, place_of}
+use Rattle.stream_tasks.specs.Holds.{HoldGoesOn, HasRunOut, HoldLeaves}
+use Rattle.stream_tasks.specs.Tasks.{IsOn, HasLeftOn, IsHeldOn, HasHolds, IsOwnTaskAt, IsWhole, IsTask, HasAllNow, OwesNothing, owed_by, place_of_state}
 use Rattle.stream_tasks.specs.Inside.{HasChildrenNow}
 use Rattle.stream_tasks.specs.declared.hold.Hold.{Hold}
 use Rattle.stream_tasks.specs.declared.hold.Hold.TheVariants.{On, Gone}
@@ -119,7 +119,7 @@ over_whole job s whole = record {
 -- a task that has ended makes no further step
 pub at_end : (job : Job) (spots : ℕ → Spot) (s : TaskState) → s.met ≡ false → OwesNothing s
     → HasChildrenNow job s
-    → ((m : Moment) → IsTaskAt job spots m s → HasEnded job m s.number)
+    → ((m : Moment) → IsOwnTaskAt job spots m s → HasEnded job m s.number)
     → IsTask job spots s → IsTask job spots (record s { over = true })
 at_end job spots s met owes children ended task = record {
   whole = over_whole job s task.whole;
@@ -157,7 +157,7 @@ pub runs_out : (job : Job) (spots : ℕ → Spot) (s : TaskState) (k p : ℕ) (o
     → k < length (registrations_at job s.number) → (registration_at job s.number k).phaser ≡ p
     → old ≡ get_or s.holds.items k old → lines.items ≡ s.lines.items
     → length outcomes.items ≡ length s.outcomes.items
-    → HasChildrenNow job s → GoesOn HasRunOut old new → IsTask job spots s
+    → HasChildrenNow job s → HoldGoesOn HasRunOut old new → IsTask job spots s
     → IsTask job spots
     (record s {
       over = true;
@@ -189,7 +189,7 @@ runs_out job spots s k p old new lines entered outcomes met going owes never fir
     (with_history q now m) (task_at job.graph t) t k) input
     (sees_end job m t k n now whole.graph whole.there at.part
     (subst (λ q. SeesOthers job m t q n now) (sym input) sees)
-    (staying_at job m t (place_of s) whole.graph whole.there at.part.ran at.place none)
+    (staying_at job m t (place_of_state s) whole.graph whole.there at.part.ran at.place none)
     input_there
     (subst (λ q. wait_reply (value_at job q) (limits_at job q) now n ≡ Ok Ended) (sym input) reply)) in
     let then = state_sees job spots m after s k p x y lines entered outcomes s.places whole few (omega arith) here same at on
@@ -230,7 +230,7 @@ runs_out job spots s k p old new lines entered outcomes met going owes never fir
           lines = then.lines;
           given = then.given;
           at_end = λ over. record {
-            ended = ended_no_input job after t (place_of s) whole.there then.part then.place owed_is never
+            ended = ended_no_input job after t (place_of_state s) whole.there then.part then.place owed_is never
                 (let R : ℕ → Type 0 = λ i. RanOut after (task_at job.graph t) t i in subst R first ended.1);
             nothing_owed = owed_is;
             children = children_stay job m after t p s.begun now ended.0.moved (children spots m at);
@@ -293,7 +293,7 @@ pub task_leaves : (job : Job) (spots : ℕ → Spot) (s : TaskState) (p : ℕ) (
     (left : AnyLeft) (lefts : Vec AnyLeft Global) → s.met ≡ false → s.over ≡ true
     → length s.lefts.items < length (registrations_at job s.number)
     → (registration_at job s.number (length s.lefts.items)).phaser ≡ p
-    → old ≡ get_or s.holds.items (length s.lefts.items) old → Leaves old new left
+    → old ≡ get_or s.holds.items (length s.lefts.items) old → HoldLeaves old new left
     → lefts.items ≡ s.lefts.items ++ left ∷ [] → s.lefts.cap ≤ lefts.cap → IsTask job spots s
     → IsTask job spots
     (record s { holds = with_item s.holds (length s.lefts.items) new; lefts = lefts })
@@ -318,7 +318,7 @@ task_leaves job spots s p old new left lefts met over few here looked g more roo
           (subst (λ l. IsLegal l (left_in left).seen) (ap limits_on on.at ∙ on.limits) one.legal);
     } in
     let gone = left_phaser job m t p n one.before whole.graph whole.there at.part sees end.ended
-    (none_due_at job m t p (place_of s) whole.graph at.part at.place end.children) in
+    (none_due_at job m t p (place_of_state s) whole.graph at.part at.place end.children) in
     let is_off : HasLeftOn job spots after t p left = record {
       op = one.op ∙ on.op;
       at = one.at ∙ on.at;
@@ -361,7 +361,7 @@ task_leaves job spots s p old new left lefts met over few here looked g more roo
             owed = owed_by s.owed s.made.items;
           }))
               (sym count)
-              (left_follows job m after t p n (place_of s) one.before whole.graph whole.there at.place
+              (left_follows job m after t p n (place_of_state s) one.before whole.graph whole.there at.place
               (omega arith) here on.numbered gone);
           start = λ joins. gone.moved.offset t ∙ at.start joins;
           holds = subst (λ ls. HasHolds job spots after t (set s.holds.items k new) ls) (sym more)
@@ -382,7 +382,7 @@ task_leaves job spots s p old new left lefts met over few here looked g more roo
     }
   where
     leaver : (job : Job) (spots : ℕ → Spot) (m : Moment) (t p : ℕ) (old new : Hold) (left : AnyLeft)
-        → Leaves old new left → IsHeldOn job spots m t p old
+        → HoldLeaves old new left → IsHeldOn job spots m t p old
         → (x : AnyMember) × ((old ≡ On x) × (new ≡ Gone) × holds.LeavesHold x left × IsOn job spots m t p x)
     leaver job spots m t p (On x) new left g on = (x, (refl, g.0, g.1, on))
     leaver job spots m t p Gone new left g on = absurd on

@@ -18,7 +18,7 @@ use Rattle.stream_members.specs.declared.any_member.AnyMember.{AnyMember}
 use Rattle.stream_members.specs.declared.any_left.AnyLeft.{AnyLeft}
 use Rattle.graph_runs.specs.Places.{AreRegistrations}
 use Rattle.graph_runs.specs.TaskEnds.{HasNoSignal, HasFoundedAndLeft}
-use Rattle.stream_tasks.specs.Founders.{founder_state, OnlyFounds, IsFounder, IsRoot, IsLeftOf}
+use Rattle.stream_tasks.specs.Founders.{founder_state, OnlyFounds, IsFounder, IsRoot, IsLeftOfFounder}
 
 -- its own events are the same later
 events_stay : (old new : History) → OthersCame (0 ∷ []) old new → events_of 0 new ≡ events_of 0 old
@@ -161,7 +161,7 @@ leaves_last gave before is = record {
 
 pub leaves : (member : AnyMember) (left : AnyLeft) (gave : List ℕ)
     → IsFounder (member_in member) gave → HasLeftPhaser (member_in member) (left_in left)
-    → left_op left ≡ member_op member → IsLeftOf (founder_state member gave) left
+    → left_op left ≡ member_op member → IsLeftOfFounder (founder_state member gave) left
 leaves member left gave is has op =
     let before = has.leaves.before in
     let seen : (left_in left).seen ≡ Dropped 0 ∷ before =

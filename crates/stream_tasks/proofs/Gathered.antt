@@ -14,7 +14,7 @@ use Rattle.graph_runs.specs.Nexts.{registrations_at}
 use Rattle.graph_runs.specs.TaskPlaces.{registration_at}
 use Rattle.graph_runs.specs.TaskEnds.{TaskEnd}
 use Rattle.graph_runs.specs.RunEnds.{Ends, IsRegisteredOn}
-use Rattle.stream_tasks.specs.Joinings.{IsAt, HasGrownTo, IsTakenIn}
+use Rattle.stream_tasks.specs.Joinings.{IsPlaced, HasGrownTo, IsTakenIn}
 use Rattle.stream_tasks.specs.Gatherings.{HasGathered}
 use Rattle.stream_tasks.proofs.TakingIn.{same_at, grown_to_trans}
 
@@ -92,7 +92,7 @@ record IsNewAt (n : ℕ) (seen : History) (all now : AnyLeft) : Type 0 where
   apart : is_in n (left_in all).numbers ≡ false
 
 module _ (job : Job) (ends : Ends) (end : TaskEnd) (p : ℕ) (old new : List (Option AnyLeft))
-    (founder all now : AnyLeft) (is_old : IsAt old p all) (is_new : IsAt new p now)
+    (founder all now : AnyLeft) (is_old : IsPlaced old p all) (is_new : IsPlaced new p now)
     (g : HasGathered job ends p founder all) (grown : HasGrownTo all now)
     (taken : IsAllTaken job end (length ends) old new) where
   -- a registration is one of before, or of this task

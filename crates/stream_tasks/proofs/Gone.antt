@@ -13,7 +13,7 @@ use Rattle.graph_runs.specs.Nexts.{registrations_at}
 use Rattle.graph_runs.specs.TaskPlaces.{registration_at}
 use Rattle.graph_runs.specs.TaskEnds.{HasNumbers}
 use Rattle.stream_tasks.specs.TaskLefts.{IsGone, IsTaskLeft, left_by, given_to}
-use Rattle.stream_tasks.specs.Tasks.{HasLeftOn, HasHolds, IsTask, place_of}
+use Rattle.stream_tasks.specs.Tasks.{HasLeftOn, HasHolds, IsTask, place_of_state}
 use Rattle.stream_tasks.specs.declared.hold.Hold.{Hold}
 use Rattle.stream_tasks.specs.declared.child.Child.{Child}
 use Rattle.stream_tasks.specs.declared.task_state.TaskState.{TaskState}
@@ -81,7 +81,7 @@ gone_left job spots s gone task =
         part = at.part;
         own = at.own;
         most = s.most;
-        at = place_of s;
+        at = place_of_state s;
         stands = at.place;
         begun = refl;
         start = at.start;

@@ -19,7 +19,7 @@ use Rattle.graph_runs.specs.Nexts.{registrations_at}
 use Rattle.graph_runs.specs.TaskPlaces.{registration_at}
 use Rattle.graph_runs.proofs.Reaching.{one_registration}
 use Rattle.graph_runs.specs.Parts.{SeesOthers, SeesOwn, HasMovedOn}
-use Rattle.stream_tasks.specs.Holds.{IsSame, HasSeenOthers, HasMade}
+use Rattle.stream_tasks.specs.Holds.{IsSameRegistration, HasSeenOthers, HasMade}
 use Rattle.stream_tasks.specs.Tasks.{IsOn, HasLeftOn, IsHeldOn, HasHolds}
 use Rattle.stream_tasks.specs.declared.hold.Hold.{Hold}
 use Rattle.stream_tasks.specs.declared.hold.Hold.TheVariants.{On, Gone}
@@ -58,7 +58,7 @@ sees_own job spots m t p event old new before on s = record {
 
 -- it is on its phaser still
 pub on_after : (job : Job) (spots : ℕ → Spot) (m after : Moment) (t p : ℕ) (now : History)
-    (old new : AnyMember) → IsOn job spots m t p old → IsSame old new
+    (old new : AnyMember) → IsOn job spots m t p old → IsSameRegistration old new
     → HasMovedOn job m after t p now → (member_in new).seen ≡ now → IsOn job spots after t p new
 on_after job spots m after t p now old new on same moved is = record {
   op = same.op ∙ on.op;

@@ -7,7 +7,7 @@ use Rattle.graph_runs.specs.Places.{IsMost}
 use Rattle.graph_runs.specs.TaskPlaces as turns
 use Rattle.graph_runs.specs.declared.owed.Owed.TheVariants.{Nothing}
 use Rattle.stream_eval.specs.stream_lists.Jobs.{Job}
-use Rattle.stream_tasks.specs.Tasks.{HasPlaces, OwesNothing, SignalsBlocks, owed_by, sends_room}
+use Rattle.stream_tasks.specs.Tasks.{HasStepPlaces, OwesNothing, SignalsBlocks, owed_by, sends_room}
 use Rattle.stream_tasks.specs.declared.task_state.TaskState.{TaskState}
 
 -- a task that owes nothing does so by the definitions
@@ -19,7 +19,7 @@ owed_none s owes =
 pub places_stay : (job : Job) (s after : TaskState) → after.number ≡ s.number → after.most ≡ s.most
     → after.own ≡ s.own → after.made ≡ s.made → after.places ≡ s.places
     → length after.outcomes.items ≡ length s.outcomes.items
-    → HasPlaces job s → HasPlaces job after
+    → HasStepPlaces job s → HasStepPlaces job after
 places_stay job s after number most own same_made same_places many places =
     let few = places.own_few in
     let block = places.block in

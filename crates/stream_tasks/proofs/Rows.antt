@@ -21,7 +21,7 @@ use Rattle.stream_members.specs.declared.any_member.AnyMember.{AnyMember}
 use Rattle.graph_runs.specs.TaskPlaces.{registration_at}
 use Rattle.graph_runs.specs.TaskEnds.{HasFoundedAndLeft}
 use Rattle.stream_tasks.specs.Openings.{IsOfLine, ArePhasers, AreFoundersFrom, spot_at, IsFounderOn, AreFounders, IsRootMember, HaveFoundersLeft}
-use Rattle.stream_tasks.specs.Founders.{FounderState, IsRoot, IsLeftOf}
+use Rattle.stream_tasks.specs.Founders.{FounderState, IsRoot, IsLeftOfFounder}
 use Rattle.stream_tasks.specs.declared.opening.founder.FounderLeft.{FounderLeft}
 
 -- ---- lists
@@ -166,7 +166,7 @@ pub record AreLeftOf (founders : List FounderState) (lefts : List FounderLeft) :
   pub many : length lefts ≡ length founders
   pub each : (p : ℕ) (founder : FounderState) (left : FounderLeft)
       → slice_get founders p ≡ Some founder → slice_get lefts p ≡ Some left
-      → IsLeftOf founder left.left × (left.gave.items ≡ founder.gave)
+      → IsLeftOfFounder founder left.left × (left.gave.items ≡ founder.gave)
 
 -- these have left, and the rest stand behind them
 pub record HaveLeft (all : List FounderState) (lefts : List FounderLeft)
@@ -185,7 +185,7 @@ none_left all = record {
 
 -- one more has left
 pub one_left : (all rest : List FounderState) (lefts : List FounderLeft) (founder : FounderState)
-    (left : FounderLeft) → HaveLeft all lefts (founder ∷ rest) → IsLeftOf founder left.left
+    (left : FounderLeft) → HaveLeft all lefts (founder ∷ rest) → IsLeftOfFounder founder left.left
     → left.gave.items ≡ founder.gave → HaveLeft all (lefts ++ left ∷ []) rest
 one_left all rest lefts founder left have is gave =
     let one = length-append lefts (left ∷ []) in
@@ -201,7 +201,7 @@ one_left all rest lefts founder left have is gave =
     }
   where
     IsGone : FounderState → FounderLeft → Type 0
-    IsGone f l = IsLeftOf f l.left × (l.gave.items ≡ f.gave)
+    IsGone f l = IsLeftOfFounder f l.left × (l.gave.items ≡ f.gave)
 
 -- all have left
 pub all_left : (all : List FounderState) (lefts : List FounderLeft) → HaveLeft all lefts []

@@ -23,8 +23,8 @@ use Rattle.stream_tasks.specs.declared.child.Child.{Child}
 use Rattle.stream_tasks.specs.declared.hold.Hold.{Hold}
 use Rattle.stream_tasks.specs.declared.hold.Hold.TheVariants.{On, Gone}
 use Rattle.stream_tasks.specs.declared.task_state.TaskState.{TaskState}
-use Rattle.stream_tasks.specs.Tasks.{IsTask, IsTaskAt, IsWhole, KnowsChildren, AreApart, IsHeldOn, owed_by, place_of}
-use Rattle.stream_tasks.specs.Seeds.{HasNoRegistration, AreChildrenBelow, IsSeed, HasRegistration, HasReceived}
+use Rattle.stream_tasks.specs.Tasks.{IsTask, IsOwnTaskAt, IsWhole, KnowsChildren, AreDistinctChildren, IsHeldOn, owed_by, place_of_state}
+use Rattle.stream_tasks.specs.Seeds.{HasNoRegistration, AreChildrenBelow, IsSeed, HasRegistration, HasReceivedFirst}
 
 -- ---- lists
 
@@ -75,8 +75,8 @@ no_children job t = record {
 
 -- with one more behind those below it no two are the same
 apart-push : (children : List Child) (child : Child) (n : ℕ)
-    → ((i : ℕ) (x : Child) → slice_get children i ≡ Some x → x.task < n) → AreApart children
-    → child.task ≡ n → AreApart (children ++ child ∷ [])
+    → ((i : ℕ) (x : Child) → slice_get children i ≡ Some x → x.task < n) → AreDistinctChildren children
+    → child.task ≡ n → AreDistinctChildren (children ++ child ∷ [])
 apart-push children child n under apart is i j x y e f same =
     by (in_push children child i x e) (in_push children child j y f)
   where
@@ -201,7 +201,7 @@ receives job spots t holds numbers x long each root i lt =
 
 -- a seed has received nothing
 pub nothing_received : (job : Job) (spots : ℕ → Spot) (s : TaskState) → s.holds.items ≡ []
-    → s.numbers.items ≡ [] → HasReceived job spots s
+    → s.numbers.items ≡ [] → HasReceivedFirst job spots s
 nothing_received job spots s no_holds no_numbers =
     let none : length s.holds.items ≡ 0 = ap length no_holds in
     record {
@@ -251,7 +251,7 @@ seen_at (On y ∷ holds) (suc i) x e = seen_at holds i x e
 seen_at (Gone ∷ holds) (suc i) x e = seen_at holds i x e
 
 -- a founder's registrations are those of a root
-pub are_roots : (job : Job) (spots : ℕ → Spot) (s : TaskState) → HasReceived job spots s
+pub are_roots : (job : Job) (spots : ℕ → Spot) (s : TaskState) → HasReceivedFirst job spots s
     → length s.holds.items ≡ length (registrations_at job s.number)
     → (i : ℕ) → i < length (registrations_at job s.number)
     → IsRootOn job (registration_at job s.number i) (get_or s.numbers.items i 0)
@@ -283,10 +283,10 @@ not_now job t is there root now = differ (subst IsSome root ((is.tasks t there).
 
 -- a root stands at its first moment
 pub stands_first : (job : Job) (spots : ℕ → Spot) (s : TaskState) (m : Moment) → IsGraph job.graph
-    → (task_at job.graph s.number).parent ≡ None → IsSeed job s → HasReceived job spots s
+    → (task_at job.graph s.number).parent ≡ None → IsSeed job s → HasReceivedFirst job spots s
     → length s.holds.items ≡ length (registrations_at job s.number)
     → IsFirstMoment job m s.number s.numbers.items (seen_by s.holds.items)
-    → HasOwnCalls job m s.number → IsTaskAt job spots m s
+    → HasOwnCalls job m s.number → IsOwnTaskAt job spots m s
 stands_first job spots s m is root seed has all first own = record {
   part = first.part;
   own = own;
@@ -327,7 +327,7 @@ stands_first job spots s m is root seed has all first own = record {
     owes_nothing : owed_by s.owed s.made.items ≡ nothing
     owes_nothing = ap (λ o. owed_by o s.made.items) seed.owed ∙ ap (owed_by Nothing) seed.made
 
-    place : StandsUpTo s.most job m s.number (place_of s)
+    place : StandsUpTo s.most job m s.number (place_of_state s)
     place =
         subst (λ (o : Owed). StandsUpTo s.most job m s.number (record {
           numbers = s.numbers.items;
@@ -385,7 +385,7 @@ knows_children job t children are = record {
 
 -- what holds of it always
 pub is_whole : (job : Job) (spots : ℕ → Spot) (s : TaskState) → IsGraph job.graph → IsSeed job s
-    → HasReceived job spots s → length s.holds.items ≡ length (registrations_at job s.number)
+    → HasReceivedFirst job spots s → length s.holds.items ≡ length (registrations_at job s.number)
     → length (registrations_at job s.number) ≤ s.lefts.cap → IsWhole job s
 is_whole job spots s is seed has all room = record {
   graph = is;
@@ -403,7 +403,7 @@ is_whole job spots s is seed has all room = record {
 
 -- a root that has received all its registrations is a task of its run
 pub begins : (job : Job) (spots : ℕ → Spot) (s : TaskState) → IsGraph job.graph
-    → (task_at job.graph s.number).parent ≡ None → IsSeed job s → HasReceived job spots s
+    → (task_at job.graph s.number).parent ≡ None → IsSeed job s → HasReceivedFirst job spots s
     → length s.holds.items ≡ length (registrations_at job s.number)
     → length (registrations_at job s.number) ≤ s.lefts.cap
     → (m : Moment) × IsFirstMoment job m s.number s.numbers.items (seen_by s.holds.items)

@@ -23,10 +23,10 @@ use Rattle.graph_runs.proofs.ChildMoments.{with_child}
 use Rattle.graph_runs.proofs.KnownOthers.{known_nowhere}
 use Rattle.graph_runs.proofs.PartsLemmas.{with_history}
 use Rattle.graph_runs.specs.TaskEnds.{IsChildOf}
-use Rattle.stream_tasks.specs.Holds.{GoesOn, HasSeenOthers}
+use Rattle.stream_tasks.specs.Holds.{HoldGoesOn, HasSeenOthers}
 use Rattle.stream_tasks.specs.Inside.{IsNextOn, IsNextNow}
-use Rattle.stream_tasks.specs.Registering.{HasAdded, AddsTo, HasAddedNow, AddsNowTo, HasFirstHolds, IsRegistering}
-use Rattle.stream_tasks.specs.Tasks.{IsDue, IsTask, IsTaskAt, IsTaskChild, IsWhole}
+use Rattle.stream_tasks.specs.Registering.{MemberHasAdded, AddsTo, MemberHasAddedNow, AddsNowTo, HasFirstHolds, IsRegistering}
+use Rattle.stream_tasks.specs.Tasks.{IsDue, IsTask, IsOwnTaskAt, IsTaskChild, IsWhole}
 use Rattle.stream_tasks.specs.declared.child.Child.{Child}
 use Rattle.stream_tasks.specs.declared.hold.Hold.{Hold}
 use Rattle.stream_tasks.specs.declared.hold.Hold.TheVariants.{On, Gone}
@@ -121,7 +121,7 @@ next_now job spots s i k r whole n joins =
 
 -- a hold that has added a child has gone on
 pub adds_goes : (mode : Mode) (old new : Hold) (child : AnyMember) → AddsTo mode old new child
-    → GoesOn (λ x y. HasAdded mode x y child) old new
+    → HoldGoesOn (λ x y. MemberHasAdded mode x y child) old new
 adds_goes mode (On old) (On new) child added = added
 adds_goes mode (On old) Gone child added = absurd added
 adds_goes mode Gone new child added = absurd added
@@ -133,7 +133,7 @@ pub registering_waits : (job : Job) (spots : ℕ → Spot) (s : TaskState) (i k 
     → k < length (registrations_at job s.number)
     → (registration_at job s.number k).phaser
     ≡ (registration_at job n.kid.task (length n.kid.numbers.items)).phaser
-    → old ≡ get_or s.holds.items k old → GoesOn HasSeenOthers old new
+    → old ≡ get_or s.holds.items k old → HoldGoesOn HasSeenOthers old new
     → IsRegistering job spots (record s { holds = with_item s.holds k new }) i
 registering_waits job spots s i k old new whole n room few here looked g =
     let p = (registration_at job n.kid.task (length n.kid.numbers.items)).phaser in
@@ -161,7 +161,7 @@ registering_waits job spots s i k old new whole n room few here looked g =
 
 -- a hold that has added a child that joins now has gone on
 pub adds_now_goes : (old new : Hold) (child : AnyMember) (start : ℕ) → AddsNowTo old new child start
-    → GoesOn (λ x y. HasAddedNow x y child start) old new
+    → HoldGoesOn (λ x y. MemberHasAddedNow x y child start) old new
 adds_now_goes (On old) (On new) child start added = added
 adds_now_goes (On old) Gone child start added = absurd added
 adds_now_goes Gone new child start added = absurd added
@@ -169,7 +169,7 @@ adds_now_goes Gone new child start added = absurd added
 -- such a call that registered nothing
 pub registering_waits_now : (job : Job) (spots : ℕ → Spot) (s : TaskState) (i k p : ℕ)
     (old new : Hold) → IsWhole job s → IsNextNow job spots s i k p
-    → old ≡ get_or s.holds.items k old → GoesOn HasSeenOthers old new
+    → old ≡ get_or s.holds.items k old → HoldGoesOn HasSeenOthers old new
     → IsRegistering job spots (record s { holds = with_item s.holds k new }) i
 registering_waits_now job spots s i k p old new whole next looked g =
     let n = next.registering in
@@ -202,7 +202,7 @@ module _ (job : Job) (spots : ℕ → Spot) (s : TaskState) (i : ℕ) (a : ℕ) 
 
   -- the moment after serves both
   registering_more : (k : ℕ) (new : Hold) (child_holds : Vec Hold Global) (after : Moment)
-      → IsTaskAt job spots after (record s { holds = with_item s.holds k new; children = kids })
+      → IsOwnTaskAt job spots after (record s { holds = with_item s.holds k new; children = kids })
       → HasFirstHolds job spots after n.kid.task kid.numbers.items child_holds.items
       → ((task_at job.graph n.kid.task).joins_now ≡ true → after.offset n.kid.task ≡ kid.start)
       → IsRegistering job spots
@@ -246,7 +246,7 @@ pub registering_adds : (job : Job) (spots : ℕ → Spot) (s : TaskState) (i k :
     → (registration_at job s.number k).phaser
     ≡ (registration_at job n.kid.task (length n.kid.numbers.items)).phaser
     → old ≡ get_or s.holds.items k old
-    → GoesOn (λ x y. HasAdded
+    → HoldGoesOn (λ x y. MemberHasAdded
     (registration_at job n.kid.task (length n.kid.numbers.items)).mode x y child) old new
     → kids.items ≡ set s.children.items i kid → kid.task ≡ n.kid.task
     → kid.numbers.items ≡ n.kid.numbers.items ++ (member_in child).number ∷ []
@@ -261,11 +261,11 @@ registering_adds job spots s i k old new child kid kids child_holds whole n stay
     let p = (registration_at job c (length numbers)).phaser in
     let mode = (registration_at job c (length numbers)).mode in
     let none : length s.lefts.items ≡ 0 = whole.staying n.going in
-    let both = goes (λ x y. HasAdded mode x y child) job spots n.moment s.number p old new g
+    let both = goes (λ x y. MemberHasAdded mode x y child) job spots n.moment s.number p old new g
     (held job spots n.moment s k p old whole n.at few here (omega arith) looked) in
     let x = both.0 in
     let y = both.1.0 in
-    let added : HasAdded mode x y child = both.1.3 in
+    let added : MemberHasAdded mode x y child = both.1.3 in
     let then = first_holds_register job spots n.moment s c k numbers s.child_holds.items x y child
     kids whole n.at n.first_holds n.child n.boundary n.going n.owes stays room few here both.1.4 added
     (given_one job spots s i a kid kids n whole is_kids same_task same_numbers) in
@@ -280,7 +280,7 @@ registering_adds job spots s i k old new child kid kids child_holds whole n stay
 pub registering_adds_now : (job : Job) (spots : ℕ → Spot) (s : TaskState) (i k p : ℕ)
     (old new : Hold) (child : AnyMember) (start : ℕ) (kid : Child) (kids : Vec Child Global)
     (child_holds : Vec Hold Global) → IsWhole job s → (next : IsNextNow job spots s i k p)
-    → old ≡ get_or s.holds.items k old → GoesOn (λ x y. HasAddedNow x y child start) old new
+    → old ≡ get_or s.holds.items k old → HoldGoesOn (λ x y. MemberHasAddedNow x y child start) old new
     → kids.items ≡ set s.children.items i kid → kid.task ≡ next.registering.kid.task
     → kid.numbers.items ≡ next.registering.kid.numbers.items ++ (member_in child).number ∷ []
     → kid.start ≡ start → child_holds.items ≡ s.child_holds.items ++ On child ∷ []
@@ -294,11 +294,11 @@ registering_adds_now job spots s i k p old new child start kid kids child_holds 
     let q = (registration_at job c 0).phaser in
     let here : (registration_at job s.number k).phaser ≡ q = next.on.here ∙ sym next.first in
     let none : length s.lefts.items ≡ 0 = whole.staying n.going in
-    let both = goes (λ x y. HasAddedNow x y child start) job spots n.moment s.number q old new g
+    let both = goes (λ x y. MemberHasAddedNow x y child start) job spots n.moment s.number q old new g
     (held job spots n.moment s k q old whole n.at next.on.few here (omega arith) looked) in
     let x = both.0 in
     let y = both.1.0 in
-    let added : HasAddedNow x y child start = both.1.3 in
+    let added : MemberHasAddedNow x y child start = both.1.3 in
     let then = first_holds_register_now job spots n.moment s c k s.child_holds.items x y child start
     kids whole n.at (rw (← next.none) n.first_holds) n.child n.boundary n.going n.owes next.now
     next.on.few here both.1.4 added

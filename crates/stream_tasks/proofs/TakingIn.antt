@@ -12,7 +12,7 @@ use Rattle.graph_runs.specs.TaskPlaces.{registration_at}
 use Rattle.stream_members.specs.Members.{limits_on}
 use Rattle.stream_members.specs.AnyMembers.{left_in}
 use Rattle.stream_members.specs.declared.any_left.AnyLeft.{AnyLeft}
-use Rattle.stream_tasks.specs.Joinings.{IsAt, HasPlaceFor, HasGrownTo, HaveGrown, IsTakenIn}
+use Rattle.stream_tasks.specs.Joinings.{IsPlaced, HasPlaceFor, HasGrownTo, HaveGrown, IsTakenIn}
 use Rattle.stream_tasks.specs.EndsInside.{HasTakenIn}
 
 -- ---- lists of numbers
@@ -52,7 +52,7 @@ apart_in (x ∷ xs) ys n d e =
 
 -- ---- one place
 
-pub same_at : {X : Type 0} (xs : List (Option X)) (p : ℕ) (a b : X) → IsAt xs p a → IsAt xs p b
+pub same_at : {X : Type 0} (xs : List (Option X)) (p : ℕ) (a b : X) → IsPlaced xs p a → IsPlaced xs p b
     → a ≡ b
 same_at xs p a b x y = same_Some a b (same_Some (Some a) (Some b) (sym x ∙ y))
 
@@ -94,13 +94,13 @@ pub grown_by : (old new : List (Option AnyLeft)) (p : ℕ) (left : AnyLeft)
     → HasTakenIn old new p left → HaveGrown old new
 grown_by old new p left s q one is = by (eq_case q p)
   where
-    by : (q ≡ p) ⊎ (q ≢ p) → (all : AnyLeft) × IsAt new q all × HasGrownTo one all
+    by : (q ≡ p) ⊎ (q ≢ p) → (all : AnyLeft) × IsPlaced new q all × HasGrownTo one all
     by (inr other) = (one, s.elsewhere q other ∙ is, grown_to_refl one)
     by (inl e) =
-        let was : IsAt old p one = subst (λ x. IsAt old x one) e is in
+        let was : IsPlaced old p one = subst (λ x. IsPlaced old x one) e is in
         let same : s.one ≡ one = same_at old p s.one one s.was was in (
           s.all,
-          subst (λ x. IsAt new x s.all) (sym e) s.is,
+          subst (λ x. IsPlaced new x s.all) (sym e) s.is,
           rw (← same) (record {
             at = s.join.at;
             op = s.op;

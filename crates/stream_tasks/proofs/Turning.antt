@@ -37,8 +37,8 @@ use Rattle.graph_runs.specs.Turned.{after_signals}
 use Rattle.graph_runs.specs.Steps.{HasFilter}
 use Rattle.graph_runs.specs.declared.owed.Owed.{Owed}
 use Rattle.graph_runs.specs.declared.owed.Owed.TheVariants.{Value, Nothing}
-use Rattle.stream_tasks.specs.Holds.{GoesOn, HasSeenOthers, HasSendPlaces, HasSignalled, signal_of}
-use Rattle.stream_tasks.specs.Tasks.{IsOn, IsHeldOn, HasGivenNumbers, HasPlaces, IsTaskAt, IsWhole, IsTask, SignalsBlocks, owed_by, place_of, sends_room}
+use Rattle.stream_tasks.specs.Holds.{HoldGoesOn, HasSeenOthers, HasSendPlaces, MemberHasSignalled, signal_event}
+use Rattle.stream_tasks.specs.Tasks.{IsOn, IsHeldOn, HasGivenNumbers, HasStepPlaces, IsOwnTaskAt, IsWhole, IsTask, SignalsBlocks, owed_by, place_of_state, sends_room}
 use Rattle.stream_tasks.specs.declared.child.Child.{Child}
 use Rattle.stream_tasks.specs.declared.hold.Hold.{Hold}
 use Rattle.stream_tasks.specs.declared.hold.Hold.TheVariants.{On, Gone}
@@ -133,9 +133,9 @@ pub state_sees : (job : Job) (spots : ℕ → Spot) (m after : Moment) (s : Task
     (places : Places) → IsWhole job s
     → k < length (registrations_at job s.number) → length s.lefts.items ≤ k
     → (registration_at job s.number k).phaser ≡ p → lines.items ≡ s.lines.items
-    → IsTaskAt job spots m s → IsOn job spots m s.number p old → HasSeenOthers old new
+    → IsOwnTaskAt job spots m s → IsOn job spots m s.number p old → HasSeenOthers old new
     → HasSeen job m after s.number p (member_in new).seen
-    → IsTaskAt job spots after
+    → IsOwnTaskAt job spots after
     (record s { lines = lines; entered = entered; outcomes = outcomes; places = places; holds = with_item s.holds k (On new) })
 state_sees job spots m after s k p old new lines entered outcomes places whole few kept here same at on goes is_seen =
     let t = s.number in
@@ -146,7 +146,7 @@ state_sees job spots m after s k p old new lines entered outcomes places whole f
       own = calls_seen job m after t p whole.graph whole.there (member_in old).number now s_o
           is_seen at.own;
       knows = known_moved job m after t p now is_seen.moved at.knows;
-      place = seen_follows job m after t p (place_of s) now at.place is_seen;
+      place = seen_follows job m after t p (place_of_state s) now at.place is_seen;
       start = λ joins. is_seen.moved.offset t ∙ at.start joins;
       holds = holds_move job spots m after t k p now s.holds.items s.lefts.items (On new)
           whole.graph whole.there few here whole.holds kept is_seen.moved at.holds
@@ -168,14 +168,14 @@ state_sees job spots m after s k p old new lines entered outcomes places whole f
 pub state_moves : (job : Job) (spots : ℕ → Spot) (m after : Moment) (s : TaskState) (k p : ℕ)
     (now : History) (new : AnyMember) (x : Changes) → IsWhole job s
     → k < length (registrations_at job s.number) → length s.lefts.items ≤ k
-    → (registration_at job s.number k).phaser ≡ p → s.over ≡ false → IsTaskAt job spots m s
+    → (registration_at job s.number k).phaser ≡ p → s.over ≡ false → IsOwnTaskAt job spots m s
     → HasMovedOn job m after s.number p now → HasOwnCalls job after s.number
     → StandsUpTo s.most job after s.number
-    (place_of (changed s x (with_item s.holds k (On new))))
+    (place_of_state (changed s x (with_item s.holds k (On new))))
     → IsOn job spots after s.number p new
     → HasFilter (task_at job.graph s.number) x.filter (after.taken s.number 0)
     → ((task_at job.graph s.number).kind ≡ Sink → x.lines.items ≡ after.taken s.number 0)
-    → IsTaskAt job spots after (changed s x (with_item s.holds k (On new)))
+    → IsOwnTaskAt job spots after (changed s x (with_item s.holds k (On new)))
 state_moves job spots m after s k p now new x whole few kept here going at moved own place on has taken =
     let t = s.number in record {
       part = moved.part;
@@ -199,10 +199,10 @@ pub state_puts : (job : Job) (spots : ℕ → Spot) (m : Moment) (s : TaskState)
     → output_at job s.number j ≡ p → s.over ≡ false
     → owed_by s.owed s.made.items ≡ turns.values j (map (λ v. Ok v) vs)
     → owed_by owed made.items ≡ owed_after_signal (task_at job.graph s.number) j vs
-    → IsTaskAt job spots m s → IsOn job spots m s.number p old
-    → HasSignalled vs (phaser_at job.graph p).single old new
+    → IsOwnTaskAt job spots m s → IsOn job spots m s.number p old
+    → MemberHasSignalled vs (phaser_at job.graph p).single old new
     → (after : Moment)
-    × IsTaskAt job spots after
+    × IsOwnTaskAt job spots after
     (record s { owed = owed; made = made; places = places; holds = with_item s.holds k (On new) })
 state_puts job spots m s j k p vs old new owed made places whole few here out going owes then at on is_made =
     let t = s.number in
@@ -212,8 +212,8 @@ state_puts job spots m s j k p vs old new owed made places whole few here out go
     let after = after_signals job t j p n vs (m.begun t) (with_history p before m) in
     let left : length s.lefts.items ≡ 0 = whole.staying going in
     let next = subst (λ q. AreNextValues job m t j q vs) out
-    (next_values_are job m t j s.most vs (place_of s) whole.graph whole.there at.part whole.places.most at.place left owes) in
-    let sees = sees_own job spots m t p (signal_of vs (phaser_at job.graph p).single) old new before on is_made.1 in
+    (next_values_are job m t j s.most vs (place_of_state s) whole.graph whole.there at.part whole.places.most at.place left owes) in
+    let sees = sees_own job spots m t p (signal_event vs (phaser_at job.graph p).single) old new before on is_made.1 in
     let put : HasPut job m after t j p vs (m.begun t) now =
     puts_values job m t p n before whole.graph whole.there at.part j vs sees next in (
       after,
@@ -223,7 +223,7 @@ state_puts job spots m s j k p vs old new owed made places whole few here out go
           (calls_put job m after t p whole.graph whole.there j n (m.begun t) vs before sees put at.own)
           (subst (λ o. StandsUpTo s.most job after t (record { numbers = s.numbers.items; left = length s.lefts.items; begun = s.begun; owed = o }))
           (sym then)
-          (put_follows job m after t j p s.most vs (place_of s) now whole.graph whole.there at.part whole.places.most at.place left owes put))
+          (put_follows job m after t j p s.most vs (place_of_state s) now whole.graph whole.there at.part whole.places.most at.place left owes put))
           (on_after job spots m after t p now old new on is_made.1.same put.moved is_made.1.seen)
           (subst (λ taken. HasFilter (task_at job.graph t) s.filter taken) (sym (put.taken 0)) at.filter)
           (λ sink. at.lines sink ∙ sym (put.taken 0)),
@@ -277,7 +277,7 @@ fits job s lines entered outcomes places many sends whole = record {
 
 -- the registrations of a hold that has gone on
 pub goes : (P : AnyMember → AnyMember → Type 0) (job : Job) (spots : ℕ → Spot) (m : Moment)
-    (t p : ℕ) (old new : Hold) → GoesOn P old new → IsHeldOn job spots m t p old
+    (t p : ℕ) (old new : Hold) → HoldGoesOn P old new → IsHeldOn job spots m t p old
     → (x : AnyMember) × ((y : AnyMember) × (old ≡ On x) × (new ≡ On y) × P x y
     × IsOn job spots m t p x)
 goes P job spots m t p (On x) (On y) g on = (x, (y, refl, refl, g, on))
@@ -286,7 +286,7 @@ goes P job spots m t p Gone new g on = absurd on
 
 -- the hold of registration k
 pub held : (job : Job) (spots : ℕ → Spot) (m : Moment) (s : TaskState) (k p : ℕ) (old : Hold)
-    → IsWhole job s → IsTaskAt job spots m s → k < length (registrations_at job s.number)
+    → IsWhole job s → IsOwnTaskAt job spots m s → k < length (registrations_at job s.number)
     → (registration_at job s.number k).phaser ≡ p → length s.lefts.items ≤ k
     → old ≡ get_or s.holds.items k old → IsHeldOn job spots m s.number p old
 held job spots m s k p old whole at few here kept looked =
@@ -298,7 +298,7 @@ held job spots m s k p old whole at few here kept looked =
 -- the hold of an output has places for as many sends as a task makes steps in one event
 pub has_send_places : (job : Job) (spots : ℕ → Spot) (m : Moment) (s : TaskState) (p count : ℕ)
     (hold : Hold) → IsHeldOn job spots m s.number p hold → p ≡ output_at job s.number 0
-    → SignalsBlocks job s.number → HasPlaces job s → count ≤ s.most
+    → SignalsBlocks job s.number → HasStepPlaces job s → count ≤ s.most
     → HasSendPlaces hold count s.places
 has_send_places job spots m s p count (On x) on out signals places few =
     let room : s.most ≤ sends_room job s.number s.places = places.sends signals in
@@ -313,7 +313,7 @@ pub task_sees : (job : Job) (spots : ℕ → Spot) (s : TaskState) (k p : ℕ) (
     → length outcomes.items ≡ length s.outcomes.items → StayPlaces s.places places
     → k < length (registrations_at job s.number) → (registration_at job s.number k).phaser ≡ p
     → length s.lefts.items ≤ k → old ≡ get_or s.holds.items k old → lines.items ≡ s.lines.items
-    → GoesOn HasSeenOthers old new → IsTask job spots s
+    → HoldGoesOn HasSeenOthers old new → IsTask job spots s
     → IsTask job spots
     (record s { lines = lines; entered = entered; outcomes = outcomes; places = places; holds = with_item s.holds k new })
 task_sees job spots s k p old new lines entered outcomes places many sends few here kept looked same g task = record {
@@ -333,7 +333,7 @@ task_sees job spots s k p old new lines entered outcomes places many sends few h
       (sees_others job spots m s.number p both.0 both.1.0 both.1.4 both.1.3)
       task.whole.graph task.whole.there at.part) in (
         after,
-        subst (λ h. IsTaskAt job spots after
+        subst (λ h. IsOwnTaskAt job spots after
             (record s { lines = lines; entered = entered; outcomes = outcomes; places = places; holds = with_item s.holds k h }))
             (sym both.1.2) then,
       );
@@ -348,7 +348,7 @@ pub task_puts : (job : Job) (spots : ℕ → Spot) (s : TaskState) (j k p : ℕ)
     → owed_by owed made.items ≡ owed_after_signal (task_at job.graph s.number) j vs
     → FitPlaces job s (record (as_it_is s) { owed = owed; made = made; places = places })
     → old ≡ get_or s.holds.items k old
-    → GoesOn (HasSignalled vs (phaser_at job.graph p).single) old new → IsTask job spots s
+    → HoldGoesOn (MemberHasSignalled vs (phaser_at job.graph p).single) old new → IsTask job spots s
     → IsTask job spots
     (record s { owed = owed; made = made; places = places; holds = with_item s.holds k new })
 task_puts job spots s j k p vs old new owed made places few here out going owes then fit looked g task = record {
@@ -358,12 +358,12 @@ task_puts job spots s j k p vs old new owed made places few here out going owes 
       let m = (task.stands met).0 in
       let at = (task.stands met).1 in
       let none : length s.lefts.items ≡ 0 = task.whole.staying going in
-      let both = goes (HasSignalled vs (phaser_at job.graph p).single) job spots m s.number p old new g
+      let both = goes (MemberHasSignalled vs (phaser_at job.graph p).single) job spots m s.number p old new g
       (held job spots m s k p old task.whole at few here (omega arith) looked) in
       let next = state_puts job spots m s j k p vs both.0 both.1.0 owed made places task.whole few here out going owes then
       at both.1.4 both.1.3 in (
         next.0,
-        subst (λ h. IsTaskAt job spots next.0
+        subst (λ h. IsOwnTaskAt job spots next.0
             (record s { owed = owed; made = made; places = places; holds = with_item s.holds k h })) (sym both.1.2) next.1,
       );
 }
@@ -376,7 +376,7 @@ owed_output job spots s j vs met owes task =
     let m = (task.stands met).0 in
     let at = (task.stands met).1 in
     (owed job m s.number j
-    (owes_as job m s.number (place_of s) (turns.values j (map (λ v. Ok v) vs)) at.place owes).0).0
+    (owes_as job m s.number (place_of_state s) (turns.values j (map (λ v. Ok v) vs)) at.place owes).0).0
 
 -- the registration of an output
 pub output_on : (job : Job) (s : TaskState) (j k p : ℕ) → IsWhole job s

@@ -35,8 +35,8 @@ use Rattle.graph_runs.proofs.CallsFollow.{calls_put, calls_got}
 use Rattle.graph_runs.specs.Steps.{HasFilter}
 use Rattle.graph_runs.specs.declared.owed.Owed.{Owed}
 use Rattle.graph_runs.specs.declared.owed.Owed.TheVariants.{Nothing, Exchange}
-use Rattle.stream_tasks.specs.Holds.{GoesOn, HasSignalled, HasWaited, signal_of, wait_of}
-use Rattle.stream_tasks.specs.Tasks.{IsOn, IsTaskAt, IsWhole, IsTask, OwesNothing, owed_by, place_of}
+use Rattle.stream_tasks.specs.Holds.{HoldGoesOn, MemberHasSignalled, MemberHasWaited, signal_event, wait_event}
+use Rattle.stream_tasks.specs.Tasks.{IsOn, IsOwnTaskAt, IsWhole, IsTask, OwesNothing, owed_by, place_of_state}
 use Rattle.stream_tasks.specs.Inside.{MayStep}
 use Rattle.stream_tasks.specs.declared.hold.Hold.{Hold}
 use Rattle.stream_tasks.specs.declared.hold.Hold.TheVariants.{On}
@@ -55,10 +55,10 @@ pub state_samples : (job : Job) (spots : ℕ → Spot) (m : Moment) (s : TaskSta
     → output_at job s.number 0 ≡ p → s.over ≡ false → OwesNothing s
     → (task_at job.graph s.number).kind ≡ kind.Source → begun ≡ s.begun + length vs
     → AreNextSamples job m s.number 0 (output_at job s.number 0) vs
-    → IsTaskAt job spots m s → IsOn job spots m s.number p old
-    → HasSignalled vs (phaser_at job.graph p).single old new
+    → IsOwnTaskAt job spots m s → IsOn job spots m s.number p old
+    → MemberHasSignalled vs (phaser_at job.graph p).single old new
     → (after : Moment)
-    × IsTaskAt job spots after
+    × IsOwnTaskAt job spots after
     (record s { begun = begun; entered = entered; places = places; holds = with_item s.holds k (On new) })
 state_samples job spots m s k p begun vs old new entered places whole few here out going owes source more next at on made =
     let t = s.number in
@@ -68,7 +68,7 @@ state_samples job spots m s k p begun vs old new entered places whole few here o
     let after = after_signals job t 0 p n vs (further (m.begun t) vs) (with_history p before m) in
     let left : length s.lefts.items ≡ 0 = whole.staying going in
     let owed_is = owes_none s owes in
-    let sees = sees_own job spots m t p (signal_of vs (phaser_at job.graph p).single) old new before on made.1 in
+    let sees = sees_own job spots m t p (signal_event vs (phaser_at job.graph p).single) old new before on made.1 in
     let put : HasPut job m after t 0 p vs (m.begun t + length vs) now =
     puts_samples job m t p n before whole.graph whole.there at.part 0 vs sees
     (subst (λ q. AreNextSamples job m t 0 q vs) out next) in (
@@ -81,7 +81,7 @@ state_samples job spots m s k p begun vs old new entered places whole few here o
           (sym more)
           (subst (λ o. StandsUpTo s.most job after t (record { numbers = s.numbers.items; left = length s.lefts.items; begun = s.begun + length vs; owed = o }))
           (sym owed_is)
-          (sampled_follows job m after t p vs (place_of s) now whole.graph whole.there at.part at.place left owed_is source put)))
+          (sampled_follows job m after t p vs (place_of_state s) now whole.graph whole.there at.part at.place left owed_is source put)))
           (on_after job spots m after t p now old new on made.1.same put.moved made.1.seen)
           (subst (λ taken. HasFilter (task_at job.graph t) s.filter taken) (sym (put.taken 0)) at.filter)
           (λ sink. at.lines sink ∙ sym (put.taken 0)),
@@ -89,7 +89,7 @@ state_samples job spots m s k p begun vs old new entered places whole few here o
 
 -- what a wait was answered, in words of the phaser's line
 pub answered_on : (job : Job) (spots : ℕ → Spot) (m : Moment) (t p : ℕ) (outcomes : List Outcome)
-    (old new : AnyMember) → IsOn job spots m t p old → (w : HasWaited outcomes old new)
+    (old new : AnyMember) → IsOn job spots m t p old → (w : MemberHasWaited outcomes old new)
     → IsAnsweredBy job p (member_in old).number outcomes w.before
 answered_on job spots m t p outcomes old new on w =
     let n = (member_in old).number in
@@ -118,8 +118,8 @@ pub state_takes : (job : Job) (spots : ℕ → Spot) (m : Moment) (s : TaskState
     → ((task_at job.graph s.number).kind ≡ kind.Sink
     → x.lines.items ≡ s.lines.items ++ map number os)
     → BeginsSteps job m s.number k p (length os) → 1 ≤ length os → length os ≤ s.most
-    → IsTaskAt job spots m s → IsOn job spots m s.number p old → HasWaited os old new
-    → (after : Moment) × IsTaskAt job spots after (changed s x (with_item s.holds k (On new)))
+    → IsOwnTaskAt job spots m s → IsOn job spots m s.number p old → MemberHasWaited os old new
+    → (after : Moment) × IsOwnTaskAt job spots after (changed s x (with_item s.holds k (On new)))
 state_takes job spots m s k p os old new x whole few here going owes first more fit then follows keeps next some room at on w =
     let t = s.number in
     let n = (member_in old).number in
@@ -127,7 +127,7 @@ state_takes job spots m s k p os old new x whole few here going owes first more 
     let after = after_waits t k p n os (further (m.begun t) os) (with_history p w.before m) in
     let left : length s.lefts.items ≡ 0 = whole.staying going in
     let owed_is = owes_none s owes in
-    let sees = sees_own job spots m t p (wait_of (length os)) old new w.before on w.made in
+    let sees = sees_own job spots m t p (wait_event (length os)) old new w.before on w.made in
     let answer = answered_on job spots m t p os old new on w in
     let got : HasGot job m after t k p os (m.begun t + length os) now =
     gets_first job m t p n w.before whole.graph whole.there at.part os sees answer k next in
@@ -141,7 +141,7 @@ state_takes job spots m s k p os old new x whole few here going owes first more 
           (sym more)
           (subst (λ o. StandsUpTo s.most job after t (record { numbers = s.numbers.items; left = length s.lefts.items; begun = s.begun + length os; owed = o }))
           (sym owed_then)
-          (first_wait_follows job m after t k p s.most os (place_of s) now whole.graph whole.there at.part at.place left owed_is next some room got)))
+          (first_wait_follows job m after t k p s.most os (place_of_state s) now whole.graph whole.there at.part at.place left owed_is next some room got)))
           (on_after job spots m after t p now old new on w.made.same got.moved w.made.seen)
           (λ fir. subst (λ taken. HasFilter (task_at job.graph t) x.filter taken)
           (sym (took (first ∙ first_zero (task_at job.graph t) s.begun fir))) (follows (m.taken t 0) at.filter) fir)
@@ -158,9 +158,9 @@ pub state_exchanges : (job : Job) (spots : ℕ → Spot) (m : Moment) (s : TaskS
     → s.over ≡ false → owed_by s.owed s.made.items ≡ turns.exchange x → s.made.items ≡ []
     → owed_by owed [] ≡ owed_after_exchange (task_at job.graph s.number) (turns.exchange x) (number outcome)
     → is_too_big outcome ≡ false
-    → IsTaskAt job spots m s → IsOn job spots m s.number p old → HasWaited (outcome ∷ []) old new
+    → IsOwnTaskAt job spots m s → IsOn job spots m s.number p old → MemberHasWaited (outcome ∷ []) old new
     → (after : Moment)
-    × IsTaskAt job spots after
+    × IsOwnTaskAt job spots after
     (record s { owed = owed; outcomes = outcomes; holds = with_item s.holds 1 (On new) })
 state_exchanges job spots m s p x outcome old new owed outcomes whole few here input going owes none then fit at on w =
     let t = s.number in
@@ -168,10 +168,10 @@ state_exchanges job spots m s p x outcome old new owed outcomes whole few here i
     let now = Waited n 1 ∷ w.before in
     let after = after_waits t 1 p n (outcome ∷ []) (m.begun t) (with_history p w.before m) in
     let left : length s.lefts.items ≡ 0 = whole.staying going in
-    let sees = sees_own job spots m t p (wait_of 1) old new w.before on w.made in
+    let sees = sees_own job spots m t p (wait_event 1) old new w.before on w.made in
     let answer = answered_on job spots m t p (outcome ∷ []) old new on w in
     let next = subst (λ q. IsExchange job m t q) input
-    (next_exchange_is job m t x (place_of s) whole.graph whole.there at.part at.place left owes) in
+    (next_exchange_is job m t x (place_of_state s) whole.graph whole.there at.part at.place left owes) in
     let got : HasGot job m after t 1 p (outcome ∷ []) (m.begun t) now =
     gets_exchange job m t p n w.before whole.graph whole.there at.part outcome sees answer next in
     let stay : after.taken t 0 ≡ m.taken t 0 = got.other_takes 0 (λ clash. omega arith) in
@@ -186,7 +186,7 @@ state_exchanges job spots m s p x outcome old new owed outcomes whole few here i
           (calls_got job m after t p whole.graph whole.there 1 n (m.begun t) (outcome ∷ []) w.before sees answer (All-cons (λ o. is_too_big o ≡ false) outcome [] fit (All-nil (λ o. is_too_big o ≡ false))) got at.own)
           (subst (λ o. StandsUpTo s.most job after t (record { numbers = s.numbers.items; left = length s.lefts.items; begun = s.begun; owed = o }))
           (sym owed_then)
-          (exchanged_follows job m after t p s.most x outcome (place_of s) now whole.graph whole.there at.part whole.places.most at.place left owes got))
+          (exchanged_follows job m after t p s.most x outcome (place_of_state s) now whole.graph whole.there at.part whole.places.most at.place left owes got))
           (on_after job spots m after t p now old new on w.made.same got.moved w.made.seen)
           (subst (λ taken. HasFilter (task_at job.graph t) s.filter taken) (sym stay) at.filter)
           (λ sink. at.lines sink ∙ sym stay),
@@ -210,7 +210,7 @@ exchange_on job spots s x met going owes task =
     let whole = task.whole in
     let t = s.number in
     let at = (task.stands met).1 in
-    let next = next_exchange_is job (task.stands met).0 t x (place_of s) whole.graph whole.there at.part
+    let next = next_exchange_is job (task.stands met).0 t x (place_of_state s) whole.graph whole.there at.part
     at.place (whole.staying going) owes in
     let few : 1 < length (task_at job.graph t).inputs = next.few in
     let all : length (registrations_at job t) ≡ length (task_at job.graph t).inputs + length (task_at job.graph t).outputs =
@@ -225,7 +225,7 @@ pub task_exchanges : (job : Job) (spots : ℕ → Spot) (s : TaskState) (p : ℕ
     → owed_by owed [] ≡ owed_after_exchange (task_at job.graph s.number) (turns.exchange x) (number outcome)
     → is_too_big outcome ≡ false
     → FitPlaces job s (record (as_it_is s) { owed = owed; outcomes = outcomes })
-    → old ≡ get_or s.holds.items 1 old → GoesOn (HasWaited (outcome ∷ [])) old new
+    → old ≡ get_or s.holds.items 1 old → HoldGoesOn (MemberHasWaited (outcome ∷ [])) old new
     → IsTask job spots s
     → IsTask job spots
     (record s { owed = owed; outcomes = outcomes; holds = with_item s.holds 1 new })
@@ -240,12 +240,12 @@ task_exchanges job spots s p x outcome old new owed outcomes going owes_x nothin
       stands = λ again.
           let m = (task.stands met).0 in
           let at = (task.stands met).1 in
-          let both = goes (HasWaited (outcome ∷ [])) job spots m s.number p old new g
+          let both = goes (MemberHasWaited (outcome ∷ [])) job spots m s.number p old new g
           (held job spots m s 1 p old task.whole at few here (omega arith) looked) in
           let next = state_exchanges job spots m s p x outcome both.0 both.1.0 owed outcomes task.whole few here input
           going owes nothing_made then fit at both.1.4 both.1.3 in (
             next.0,
-            subst (λ h. IsTaskAt job spots next.0
+            subst (λ h. IsOwnTaskAt job spots next.0
                 (record s { owed = owed; outcomes = outcomes; holds = with_item s.holds 1 h })) (sym both.1.2) next.1,
           );
     }
@@ -285,7 +285,7 @@ pub task_samples : (job : Job) (spots : ℕ → Spot) (s : TaskState) (k p begun
     → vs ≡ take (length vs) (drop s.begun (samples_at job s.number))
     → MayMake job s.number s.begun (length vs)
     → old ≡ get_or s.holds.items k old
-    → GoesOn (HasSignalled vs (phaser_at job.graph p).single) old new → IsTask job spots s
+    → HoldGoesOn (MemberHasSignalled vs (phaser_at job.graph p).single) old new → IsTask job spots s
     → IsTask job spots
     (record s { begun = begun; entered = entered; places = places; holds = with_item s.holds k new })
 task_samples job spots s k p begun vs old new entered places sends few here out step source more samples may looked g task =
@@ -305,14 +305,14 @@ task_samples job spots s k p begun vs old new entered places sends few here out 
       stands = λ again.
           let m = (task.stands step.met).0 in
           let at = (task.stands step.met).1 in
-          let both = goes (HasSignalled vs (phaser_at job.graph p).single) job spots m s.number p old new g
+          let both = goes (MemberHasSignalled vs (phaser_at job.graph p).single) job spots m s.number p old new g
           (held job spots m s k p old task.whole at few here (omega arith) looked) in
-          let next_is = next_samples_at job m s.number vs (place_of s) task.whole.graph task.whole.there at.part at.place none
+          let next_is = next_samples_at job m s.number vs (place_of_state s) task.whole.graph task.whole.there at.part at.place none
           (owes_none s step.owed) source samples may (step.children spots m at) in
           let next = state_samples job spots m s k p begun vs both.0 both.1.0 entered places task.whole few here out
           step.over step.owed source more next_is at both.1.4 both.1.3 in (
             next.0,
-            subst (λ h. IsTaskAt job spots next.0
+            subst (λ h. IsOwnTaskAt job spots next.0
                 (record s { begun = begun; entered = entered; places = places; holds = with_item s.holds k h })) (sym both.1.2) next.1,
           );
     }
@@ -335,7 +335,7 @@ pub task_takes : (job : Job) (spots : ℕ → Spot) (s : TaskState) (k p allowed
     → ((task_at job.graph s.number).kind ≡ kind.Sink
     → x.lines.items ≡ s.lines.items ++ map number os)
     → FitPlaces job s x
-    → old ≡ get_or s.holds.items k old → GoesOn (HasWaited os) old new → IsTask job spots s
+    → old ≡ get_or s.holds.items k old → HoldGoesOn (MemberHasWaited os) old new → IsTask job spots s
     → IsTask job spots (changed s x (with_item s.holds k new))
 task_takes job spots s k p allowed os old new x few here input step never first more may some less room fit then follows keeps places looked g task =
     let none : length s.lefts.items ≡ 0 = task.whole.staying step.over in
@@ -344,16 +344,16 @@ task_takes job spots s k p allowed os old new x few here input step never first 
       stands = λ again.
           let m = (task.stands step.met).0 in
           let at = (task.stands step.met).1 in
-          let both = goes (HasWaited os) job spots m s.number p old new g
+          let both = goes (MemberHasWaited os) job spots m s.number p old new g
           (held job spots m s k p old task.whole at few here (omega arith) looked) in
           let next_is = subst (λ q. BeginsSteps job m s.number k q (length os)) input
           (rw first
-          (next_waits_at job m s.number s.most allowed (length os) (place_of s) task.whole.graph task.whole.there at.part
+          (next_waits_at job m s.number s.most allowed (length os) (place_of_state s) task.whole.graph task.whole.there at.part
           task.whole.places.most at.place none (owes_none s step.owed) never may (step.children spots m at) some less room)) in
           let next = state_takes job spots m s k p os both.0 both.1.0 x task.whole
           few here step.over step.owed first more fit then follows keeps next_is some room at both.1.4 both.1.3 in (
             next.0,
-            subst (λ h. IsTaskAt job spots next.0 (changed s x (with_item s.holds k h))) (sym both.1.2) next.1,
+            subst (λ h. IsOwnTaskAt job spots next.0 (changed s x (with_item s.holds k h))) (sym both.1.2) next.1,
           );
     }
 

@@ -7,20 +7,20 @@ use Rattle.stream_eval.specs.stream_lists.Jobs.{Job}
 use Rattle.graph_runs.specs.Nexts.{registrations_at}
 use Rattle.graph_runs.specs.TaskPlaces.{registration_at}
 use Rattle.stream_tasks.specs.declared.ending.task_left.TaskKnowledge.{TaskKnowledge}
-use Rattle.stream_tasks.specs.Joinings.{IsAt}
+use Rattle.stream_tasks.specs.Joinings.{IsPlaced}
 use Rattle.stream_tasks.specs.TaskLefts.{given_to}
 
 -- task c came where it has no parent; where it came, its parent did, and has begun the steps after
 -- which it comes; and where its parent gave it numbers, it came with just these
 pub record Agrees (job : Job) (parts : List (Option TaskKnowledge)) (c : ℕ) : Type 0 where
-  pub root : (task_at job.graph c).parent ≡ None → (part : TaskKnowledge) × IsAt parts c part
-  pub parent : (u : Parent) (part : TaskKnowledge) → IsAt parts c part
+  pub root : (task_at job.graph c).parent ≡ None → (part : TaskKnowledge) × IsPlaced parts c part
+  pub parent : (u : Parent) (part : TaskKnowledge) → IsPlaced parts c part
       → (task_at job.graph c).parent ≡ Some u
-      → (other : TaskKnowledge) × IsAt parts u.task other × (u.at ≤ other.begun)
+      → (other : TaskKnowledge) × IsPlaced parts u.task other × (u.at ≤ other.begun)
   pub given : (u : Parent) (part : TaskKnowledge) → (task_at job.graph c).parent ≡ Some u
-      → IsAt parts u.task part
+      → IsPlaced parts u.task part
       → (given_to part.given.items c ≡ [])
-      ⊎ ((other : TaskKnowledge) × IsAt parts c other
+      ⊎ ((other : TaskKnowledge) × IsPlaced parts c other
       × (other.numbers.items ≡ given_to part.given.items c))
 
 -- task t, which knows this of itself, has number a on phaser p
@@ -31,13 +31,13 @@ pub record HasNumberOn (job : Job) (part : TaskKnowledge) (t p a : ℕ) : Type 0
   pub number : slice_get part.numbers.items i ≡ Some a
 
 -- some task that came has number a on phaser p
-pub record IsOfTask (job : Job) (parts : List (Option TaskKnowledge)) (p a : ℕ) : Type 0 where
+pub record IsNumberOfTask (job : Job) (parts : List (Option TaskKnowledge)) (p a : ℕ) : Type 0 where
   pub task : ℕ
   pub there : task < length job.graph.tasks
   pub part : TaskKnowledge
-  pub came : IsAt parts task part
+  pub came : IsPlaced parts task part
   pub has : HasNumberOn job part task p a
 
 -- each of these numbers is a task's on phaser p
 abbrev pub AreOfTasks : Job → List (Option TaskKnowledge) → ℕ → List ℕ → Type 0
-AreOfTasks job parts p gave = (a : ℕ) → is_in a gave ≡ true → IsOfTask job parts p a
+AreOfTasks job parts p gave = (a : ℕ) → is_in a gave ≡ true → IsNumberOfTask job parts p a

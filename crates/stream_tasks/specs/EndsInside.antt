@@ -3,14 +3,14 @@ use Rattle.std.specs.Prelude.{◌≡◌, ◌≢◌, ℕ, List, length, slice_get
 use Rattle.stream_members.specs.Members.{HasJoined}
 use Rattle.stream_members.specs.AnyMembers.{left_in, left_op}
 use Rattle.stream_members.specs.declared.any_left.AnyLeft.{AnyLeft}
-use Rattle.stream_tasks.specs.Joinings.{IsAt}
+use Rattle.stream_tasks.specs.Joinings.{IsPlaced}
 
 -- the one at place p, and this, are one now, and the other places are as they were
 pub record HasTakenIn (old new : List (Option AnyLeft)) (p : ℕ) (left : AnyLeft) : Type 0 where
   pub one : AnyLeft
-  pub was : IsAt old p one
+  pub was : IsPlaced old p one
   pub all : AnyLeft
-  pub is : IsAt new p all
+  pub is : IsPlaced new p all
   pub join : HasJoined (left_in one) (left_in left) (left_in all)
   pub op : left_op all ≡ left_op one
   pub elsewhere : (q : ℕ) → q ≢ p → slice_get new q ≡ slice_get old q

@@ -59,7 +59,7 @@ pub record IsRoot (mode : Mode) (founder : FounderState) (member : AnyMember) : 
   pub registered : HasJustRegistered (member_in member).number mode (member_in member).seen
 
 -- what a founder that left has seen
-pub record IsLeftOf (founder : FounderState) (left : AnyLeft) : Type 0 where
+pub record IsLeftOfFounder (founder : FounderState) (left : AnyLeft) : Type 0 where
   pub op : left_op left ≡ founder.op
   pub at : (left_in left).at ≡ founder.at
   pub numbers : (left_in left).numbers ≡ 0 ∷ []

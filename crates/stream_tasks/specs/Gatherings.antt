@@ -10,7 +10,7 @@ use Rattle.stream_members.specs.declared.any_left.AnyLeft.{AnyLeft}
 use Rattle.graph_runs.specs.TaskEnds.{TaskEnd, HasLeftAt}
 use Rattle.graph_runs.specs.RunEnds.{Ends, HasCome, IsRegisteredOn}
 use Rattle.stream_tasks.specs.declared.ending.task_left.TaskKnowledge.{TaskKnowledge}
-use Rattle.stream_tasks.specs.Joinings.{IsAt, HasGrownTo}
+use Rattle.stream_tasks.specs.Joinings.{IsPlaced, HasGrownTo}
 use Rattle.stream_tasks.specs.TaskLefts.{given_to}
 
 -- what stands for phaser p has all that its founder and these tasks have seen of it, and no two of
@@ -25,12 +25,12 @@ pub record HasGathered (job : Job) (ends : Ends) (p : ℕ) (founder all : AnyLef
       → IsRegisteredOn job ends u j p n other → t ≡ u
 
 -- a task's part tells its end
-abbrev pub Tells : Option TaskKnowledge → Option TaskEnd → Type 0
-Tells None None = Unit {0}
-Tells (Some part) (Some end) =
+abbrev pub TellsEnd : Option TaskKnowledge → Option TaskEnd → Type 0
+TellsEnd None None = Unit {0}
+TellsEnd (Some part) (Some end) =
     (end.begun ≡ part.begun) × (end.start ≡ part.start) × (end.numbers ≡ part.numbers.items)
     × (end.lines ≡ part.lines.items) × ((c : ℕ) → end.given c ≡ given_to part.given.items c)
-Tells part end = ⊥
+TellsEnd part end = ⊥
 
 -- these ends are of the first tasks, whose parts are these, and stand put together
 pub record AreGathered (job : Job) (founders joined : List (Option AnyLeft))
@@ -40,6 +40,6 @@ pub record AreGathered (job : Job) (founders joined : List (Option AnyLeft))
   pub tasks : (t : ℕ) (end : TaskEnd) → HasCome ends t end
       → (end.task ≡ t) × (t < length job.graph.tasks) × ((m : Moment) × HasLeftAt job m end)
   pub tells : (t : ℕ) (part : Option TaskKnowledge) (end : Option TaskEnd)
-      → slice_get parts t ≡ Some part → slice_get ends t ≡ Some end → Tells part end
-  pub phasers : (p : ℕ) (founder : AnyLeft) → IsAt founders p founder
-      → (all : AnyLeft) × IsAt joined p all × HasGathered job ends p founder all
+      → slice_get parts t ≡ Some part → slice_get ends t ≡ Some end → TellsEnd part end
+  pub phasers : (p : ℕ) (founder : AnyLeft) → IsPlaced founders p founder
+      → (all : AnyLeft) × IsPlaced joined p all × HasGathered job ends p founder all

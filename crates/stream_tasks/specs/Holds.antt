@@ -24,7 +24,7 @@ use Rattle.stream_tasks.specs.declared.hold.Hold.{Hold}
 use Rattle.stream_tasks.specs.declared.hold.Hold.TheVariants.{On, Gone}
 
 -- the same registration of the same phaser
-pub record IsSame (old new : AnyMember) : Type 0 where
+pub record IsSameRegistration (old new : AnyMember) : Type 0 where
   pub op : member_op new ≡ member_op old
   pub at : (member_in new).at ≡ (member_in old).at
   pub number : (member_in new).number ≡ (member_in old).number
@@ -32,25 +32,25 @@ pub record IsSame (old new : AnyMember) : Type 0 where
 
 -- it has seen others' events
 pub record HasSeenOthers (old new : AnyMember) : Type 0 where
-  pub same : IsSame old new
+  pub same : IsSameRegistration old new
   pub others : OthersCame ((member_in old).number ∷ []) (member_in old).seen (member_in new).seen
 
 -- it has seen others' events up to this history, and then its own event
 pub record HasMade (event : ℕ → Event) (old new : AnyMember) (before : History) : Type 0 where
-  pub same : IsSame old new
+  pub same : IsSameRegistration old new
   pub others : OthersCame ((member_in old).number ∷ []) (member_in old).seen before
   pub seen : (member_in new).seen ≡ event (member_in old).number ∷ before
 
 -- ---- values
 
 -- its signal with these values, one a phase
-abbrev pub signal_of : List ℤ → Option Single → ℕ → Event
-signal_of values single n = Signalled n (map one values) single
+abbrev pub signal_event : List ℤ → Option Single → ℕ → Event
+signal_event values single n = Signalled n (map one values) single
 
 -- it has signalled with these values
-abbrev pub HasSignalled : List ℤ → Option Single → AnyMember → AnyMember → Type 0
-HasSignalled values single old new =
-    (before : History) × HasMade (signal_of values single) old new before
+abbrev pub MemberHasSignalled : List ℤ → Option Single → AnyMember → AnyMember → Type 0
+MemberHasSignalled values single old new =
+    (before : History) × HasMade (signal_event values single) old new before
 
 -- there are places for so many sends on the phaser of a hold
 abbrev pub HasSendPlaces : Hold → ℕ → Places → Type 0
@@ -58,13 +58,13 @@ HasSendPlaces (On member) count places = count ≤ room_for (member_op member) p
 HasSendPlaces Gone count places = ⊤
 
 -- its wait for so many phases
-abbrev pub wait_of : ℕ → ℕ → Event
-wait_of phases n = Waited n phases
+abbrev pub wait_event : ℕ → ℕ → Event
+wait_event phases n = Waited n phases
 
 -- it has waited, and was answered these outcomes
-pub record HasWaited (outcomes : List Outcome) (old new : AnyMember) : Type 0 where
+pub record MemberHasWaited (outcomes : List Outcome) (old new : AnyMember) : Type 0 where
   pub before : History
-  pub made : HasMade (wait_of (length outcomes)) old new before
+  pub made : HasMade (wait_event (length outcomes)) old new before
   pub answered : received_by (value_by (member_op old))
       (Waited (member_in old).number (length outcomes) ∷ before) (member_in old).number
       ≡ received_by (value_by (member_op old)) before (member_in old).number ++ outcomes
@@ -76,10 +76,10 @@ pub record HasRunOut (old new : AnyMember) : Type 0 where
       (member_in new).seen (member_in old).number ≡ Ok got.Ended
 
 -- what a wait gave, whose places have this now
-abbrev pub HasGot : Result Given Held → List Outcome → AnyMember → AnyMember → Type 0
-HasGot (Ok (given.Values count)) out old new = HasWaited (take count out) old new
-HasGot (Ok given.Ended) out old new = HasRunOut old new
-HasGot (Err held) out old new = HasSeenOthers old new
+abbrev pub WaitGave : Result Given Held → List Outcome → AnyMember → AnyMember → Type 0
+WaitGave (Ok (given.Values count)) out old new = MemberHasWaited (take count out) old new
+WaitGave (Ok given.Ended) out old new = HasRunOut old new
+WaitGave (Err held) out old new = HasSeenOthers old new
 
 -- so many values at most, and one at least, or the end
 abbrev pub IsAtMost : ℕ → Given → Type 0
@@ -89,10 +89,10 @@ IsAtMost most given.Ended = Unit {0}
 -- ---- holds
 
 -- the registration of a hold has gone on like this
-abbrev pub GoesOn : (AnyMember → AnyMember → Type 0) → Hold → Hold → Type 0
-GoesOn P (On old) (On new) = P old new
-GoesOn P (On old) Gone = ⊥
-GoesOn P Gone new = new ≡ Gone
+abbrev pub HoldGoesOn : (AnyMember → AnyMember → Type 0) → Hold → Hold → Type 0
+HoldGoesOn P (On old) (On new) = P old new
+HoldGoesOn P (On old) Gone = ⊥
+HoldGoesOn P Gone new = new ≡ Gone
 
 -- what it has seen of a phaser that it has left
 pub record LeavesHold (old : AnyMember) (left : AnyLeft) : Type 0 where
@@ -105,6 +105,6 @@ pub record LeavesHold (old : AnyMember) (left : AnyLeft) : Type 0 where
   pub seen : (left_in left).seen ≡ Dropped (member_in old).number ∷ before
 
 -- a hold that has left
-abbrev pub Leaves : Hold → Hold → AnyLeft → Type 0
-Leaves (On old) new left = (new ≡ Gone) × LeavesHold old left
-Leaves Gone new left = ⊥
+abbrev pub HoldLeaves : Hold → Hold → AnyLeft → Type 0
+HoldLeaves (On old) new left = (new ≡ Gone) × LeavesHold old left
+HoldLeaves Gone new left = ⊥

@@ -25,7 +25,7 @@ use Rattle.stream_tasks.specs.declared.child.Child.{Child}
 use Rattle.stream_tasks.specs.declared.task_state.TaskState.{TaskState}
 use Rattle.stream_tasks.specs.declared.hold.Hold.TheVariants.{On}
 use Rattle.stream_tasks.specs.Registering.{IsRegistering}
-use Rattle.stream_tasks.specs.Tasks.{IsTaskAt, IsTask, OwesNothing, owed_by}
+use Rattle.stream_tasks.specs.Tasks.{IsOwnTaskAt, IsTask, OwesNothing, owed_by}
 
 -- registration k of task t is on phaser p
 pub record IsPlaceOn (job : Job) (t p k : ℕ) : Type 0 where
@@ -77,7 +77,7 @@ TellsChild job t c None = (u : Parent) → (task_at job.graph c).parent ≡ Some
 
 -- the children of a task that come now are all there, whichever its moment
 abbrev pub HasChildrenNow : Job → TaskState → Type 0
-HasChildrenNow job s = (spots : ℕ → Spot) (m : Moment) → IsTaskAt job spots m s
+HasChildrenNow job s = (spots : ℕ → Spot) (m : Moment) → IsOwnTaskAt job spots m s
     → HasChildrenBy job m s.number s.begun
 
 -- a task at a boundary where no child comes first, and `until` allows a step
@@ -102,7 +102,7 @@ ChildrenAllow children begun steps = (i : ℕ) (child : Child) → slice_get chi
 
 -- task t, which began so many steps before, has taken these outcomes of the first wait of as many
 -- steps: none is out of range, and this is what the steps owe next
-pub record HasTaken (job : Job) (t begun : ℕ) (outcomes : List Outcome) (old new : Option FirState)
+pub record HasTakenFirst (job : Job) (t begun : ℕ) (outcomes : List Outcome) (old new : Option FirState)
     (owed : Owed) (made : List ℤ) : Type 0 where
   pub fit : All (λ outcome. is_too_big outcome ≡ false) outcomes
   pub owes : (taken : List ℤ) → HasFilter (task_at job.graph t) old taken

@@ -14,7 +14,7 @@ use Rattle.graph_runs.specs.Places.{IsJoining}
 use Rattle.graph_runs.specs.TaskEnds.{HasOwnCalls, IsChildOf}
 use Rattle.graph_runs.specs.graph_base.Graphs.{task_at}
 use Rattle.stream_tasks.specs.Holds.{HasMade}
-use Rattle.stream_tasks.specs.Tasks.{IsHeldOn, IsTaskAt, OwesNothing}
+use Rattle.stream_tasks.specs.Tasks.{IsHeldOn, IsOwnTaskAt, OwesNothing}
 use Rattle.stream_tasks.specs.declared.child.Child.{Child}
 use Rattle.stream_tasks.specs.declared.task_state.TaskState.{TaskState}
 use Rattle.stream_tasks.specs.declared.hold.Hold.{Hold}
@@ -25,7 +25,7 @@ abbrev pub registration_of : ℕ → Mode → ℕ → Event
 registration_of child mode n = Registered n child mode
 
 -- a registration has added a child on its phaser, which has seen what it has
-pub record HasAdded (mode : Mode) (old new child : AnyMember) : Type 0 where
+pub record MemberHasAdded (mode : Mode) (old new child : AnyMember) : Type 0 where
   pub before : History
   pub made : HasMade (registration_of (member_in child).number mode) old new before
   pub op : member_op child ≡ member_op old
@@ -34,7 +34,7 @@ pub record HasAdded (mode : Mode) (old new child : AnyMember) : Type 0 where
 
 -- the registration of a hold has added a child
 abbrev pub AddsTo : Mode → Hold → Hold → AnyMember → Type 0
-AddsTo mode (On old) (On new) child = HasAdded mode old new child
+AddsTo mode (On old) (On new) child = MemberHasAdded mode old new child
 AddsTo mode (On old) Gone child = ⊥
 AddsTo mode Gone new child = ⊥
 
@@ -44,7 +44,7 @@ registration_now_of child n = RegisteredNow n child
 
 -- a registration has added a child that joins now on its phaser, which has seen what it has, and
 -- begins at the first phase that was not complete
-pub record HasAddedNow (old new child : AnyMember) (start : ℕ) : Type 0 where
+pub record MemberHasAddedNow (old new child : AnyMember) (start : ℕ) : Type 0 where
   pub before : History
   pub made : HasMade (registration_now_of (member_in child).number) old new before
   pub start_is : start ≡ done_of before
@@ -54,7 +54,7 @@ pub record HasAddedNow (old new child : AnyMember) (start : ℕ) : Type 0 where
 
 -- the registration of a hold has added such a child
 abbrev pub AddsNowTo : Hold → Hold → AnyMember → ℕ → Type 0
-AddsNowTo (On old) (On new) child start = HasAddedNow old new child start
+AddsNowTo (On old) (On new) child start = MemberHasAddedNow old new child start
 AddsNowTo (On old) Gone child start = ⊥
 AddsNowTo Gone new child start = ⊥
 
@@ -78,7 +78,7 @@ pub record IsRegistering (job : Job) (spots : ℕ → Spot) (s : TaskState) (i :
   pub going : s.over ≡ false
   pub owes : OwesNothing s
   pub moment : Moment
-  pub at : IsTaskAt job spots moment s
+  pub at : IsOwnTaskAt job spots moment s
   pub first_holds : HasFirstHolds job spots moment kid.task kid.numbers.items s.child_holds.items
   -- a child that joins now and was registered knows where it begins
   pub start : (task_at job.graph kid.task).joins_now ≡ true → 0 < length kid.numbers.items

@@ -9,7 +9,7 @@ use Rattle.stream_members.specs.declared.any_member.AnyMember.{AnyMember}
 use Rattle.graph_runs.specs.Steps.{HasFilter}
 use Rattle.graph_runs.specs.declared.owed.Owed.TheVariants.{Nothing}
 use Rattle.stream_tasks.specs.Openings.{IsRootMember}
-use Rattle.stream_tasks.specs.Tasks.{AreApart, HasPlaces}
+use Rattle.stream_tasks.specs.Tasks.{AreDistinctChildren, HasStepPlaces}
 use Rattle.stream_tasks.specs.declared.child.Child.{Child}
 use Rattle.stream_tasks.specs.declared.hold.Hold.{Hold}
 use Rattle.stream_tasks.specs.declared.hold.Hold.TheVariants.{On}
@@ -35,7 +35,7 @@ pub record AreChildrenBelow (job : Job) (t n : ℕ) (children : List Child) : Ty
       → (i : ℕ) × ((child : Child) × (slice_get children i ≡ Some child) × (child.task ≡ c)
       × (child.at ≡ u.at))
   pub below : (i : ℕ) (child : Child) → slice_get children i ≡ Some child → child.task < n
-  pub apart : AreApart children
+  pub apart : AreDistinctChildren children
 
 -- ---- seeds
 
@@ -50,7 +50,7 @@ pub record IsSeed (job : Job) (s : TaskState) : Type 0 where
   pub begun : s.begun ≡ 0
   pub owed : s.owed ≡ Nothing
   pub made : s.made.items ≡ []
-  pub places : HasPlaces job s
+  pub places : HasStepPlaces job s
   pub filter : HasFilter (task_at job.graph s.number) s.filter []
   pub lines : s.lines.items ≡ []
   pub lefts : s.lefts.items ≡ []
@@ -59,7 +59,7 @@ pub record IsSeed (job : Job) (s : TaskState) : Type 0 where
   pub children : AreChildrenBelow job s.number (length job.graph.tasks) s.children.items
 
 -- there is room for so many registrations
-pub record HasRoom (n : ℕ) (s : TaskState) : Type 0 where
+pub record HasRegistrationRoom (n : ℕ) (s : TaskState) : Type 0 where
   pub holds : n ≤ s.holds.cap
   pub numbers : n ≤ s.numbers.capacity
   pub lefts : n ≤ s.lefts.cap
@@ -73,14 +73,14 @@ pub record HasRegistration (job : Job) (spots : ℕ → Spot) (t i : ℕ) (holds
   pub root : IsRootMember job spots t i member
 
 -- a root has received the first of its registrations
-pub record HasReceived (job : Job) (spots : ℕ → Spot) (s : TaskState) : Type 0 where
+pub record HasReceivedFirst (job : Job) (spots : ℕ → Spot) (s : TaskState) : Type 0 where
   pub long : length s.numbers.items ≡ length s.holds.items
   pub each : (i : ℕ) → i < length s.holds.items
       → HasRegistration job spots s.number i s.holds.items s.numbers.items
 
 -- a root has received its first n registrations, and there is room for the others
-pub record IsReady (job : Job) (spots : ℕ → Spot) (n : ℕ) (s : TaskState) : Type 0 where
+pub record IsReadySeed (job : Job) (spots : ℕ → Spot) (n : ℕ) (s : TaskState) : Type 0 where
   pub seed : IsSeed job s
-  pub room : HasRoom 9 s
-  pub received : HasReceived job spots s
+  pub room : HasRegistrationRoom 9 s
+  pub received : HasReceivedFirst job spots s
   pub many : length s.holds.items ≡ n

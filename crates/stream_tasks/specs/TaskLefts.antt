@@ -9,7 +9,7 @@ use Rattle.stream_members.specs.AnyMembers.{left_in, left_op}
 use Rattle.stream_members.specs.declared.any_left.AnyLeft.{AnyLeft}
 use Rattle.graph_runs.specs.TaskPlaces.{registration_at}
 use Rattle.graph_runs.specs.TaskEnds.{TaskEnd, HasLeftAt, HasFoundedAndLeft}
-use Rattle.stream_tasks.specs.Joinings.{IsAt}
+use Rattle.stream_tasks.specs.Joinings.{IsPlaced}
 use Rattle.stream_tasks.specs.declared.child.Child.{Child}
 use Rattle.stream_tasks.specs.declared.ending.task_left.TaskKnowledge.{TaskKnowledge}
 use Rattle.stream_tasks.specs.declared.ending.task_left.TaskLeft.{TaskLeft}
@@ -41,8 +41,8 @@ given_to [] c = []
 given_to (child ∷ more) c = if child.task == c then child.numbers.items else given_to more c
 
 -- the end of a task that knows this of itself, and has seen this
-abbrev pub end_of : ℕ → TaskKnowledge → List AnyLeft → TaskEnd
-end_of t part lefts = record {
+abbrev pub task_end_of : ℕ → TaskKnowledge → List AnyLeft → TaskEnd
+task_end_of t part lefts = record {
   task = t;
   begun = part.begun;
   start = part.start;
@@ -53,7 +53,7 @@ end_of t part lefts = record {
 }
 
 -- one that left phaser p, whose place this is, as these numbers
-pub record IsLeftOf (job : Job) (spots : ℕ → Spot) (p : ℕ) (numbers : List ℕ) (left : AnyLeft)
+pub record HasLeftAs (job : Job) (spots : ℕ → Spot) (p : ℕ) (numbers : List ℕ) (left : AnyLeft)
     : Type 0 where
   pub op : left_op left ≡ (phaser_at job.graph p).op
   pub at : (left_in left).at ≡ spots p
@@ -64,22 +64,22 @@ pub record IsLeftOf (job : Job) (spots : ℕ → Spot) (p : ℕ) (numbers : List
 pub record IsTaskLeft (job : Job) (spots : ℕ → Spot) (left : TaskLeft) : Type 0 where
   pub there : left.task < length job.graph.tasks
   pub moment : Moment
-  pub has_left : HasLeftAt job moment (end_of left.task left.part left.lefts.items)
+  pub has_left : HasLeftAt job moment (task_end_of left.task left.part left.lefts.items)
   pub members : (i n : ℕ) (one : AnyLeft) → slice_get left.part.numbers.items i ≡ Some n
       → slice_get left.lefts.items i ≡ Some one
-      → IsLeftOf job spots (registration_at job left.task i).phaser (n ∷ []) one
+      → HasLeftAs job spots (registration_at job left.task i).phaser (n ∷ []) one
 
 -- the founder of phaser p, number 0, gave these numbers and has left
 pub record IsFounderLeft (job : Job) (spots : ℕ → Spot) (p : ℕ) (gave : List ℕ) (left : AnyLeft)
     : Type 0 where
-  pub is_left : IsLeftOf job spots p (0 ∷ []) left
+  pub is_left : HasLeftAs job spots p (0 ∷ []) left
   pub legal : IsLegal (limits_at job p) (left_in left).seen
   pub founds : HasFoundedAndLeft (record { number = 0; gave = gave; seen = (left_in left).seen })
 
 -- the founders of all phasers, which gave these numbers, have left
-abbrev pub AreFounders : Job → (ℕ → Spot) → List (Option AnyLeft) → (ℕ → List ℕ) → Type 0
-AreFounders job spots founders gave = (p : ℕ) → p < length job.graph.phasers
-    → (founder : AnyLeft) × IsAt founders p founder × IsFounderLeft job spots p (gave p) founder
+abbrev pub AreFoundersLeft : Job → (ℕ → Spot) → List (Option AnyLeft) → (ℕ → List ℕ) → Type 0
+AreFoundersLeft job spots founders gave = (p : ℕ) → p < length job.graph.phasers
+    → (founder : AnyLeft) × IsPlaced founders p founder × IsFounderLeft job spots p (gave p) founder
 
 -- what a task has taken, and nothing where it never came
 abbrev pub part_lines : Option TaskKnowledge → List ℤ

@@ -70,8 +70,8 @@ pub record IsTaskChild (job : Job) (t : ℕ) (child : Child) : Type 0 where
   pub at : child.at ≡ of_task.parent.at
 
 -- no two of these children are the same task
-abbrev pub AreApart : List Child → Type 0
-AreApart children = (i j : ℕ) (x y : Child) → slice_get children i ≡ Some x
+abbrev pub AreDistinctChildren : List Child → Type 0
+AreDistinctChildren children = (i j : ℕ) (x y : Child) → slice_get children i ≡ Some x
     → slice_get children j ≡ Some y → x.task ≡ y.task → i ≡ j
 
 -- these are the children of task t, each of them once
@@ -81,7 +81,7 @@ pub record KnowsChildren (job : Job) (t : ℕ) (children : List Child) : Type 0 
       → (task_at job.graph c).parent ≡ Some u → u.task ≡ t
       → (i : ℕ) × ((child : Child) × (slice_get children i ≡ Some child) × (child.task ≡ c)
       × (child.at ≡ u.at))
-  pub apart : AreApart children
+  pub apart : AreDistinctChildren children
 
 -- each of these children has the numbers that its parent gave it, and no others
 abbrev pub HasGivenNumbers : Job → Moment → List Child → Type 0
@@ -102,8 +102,8 @@ OwesNothing s = (s.owed ≡ Nothing) × (s.made.items ≡ [])
 -- ---- the whole
 
 -- the place of a task in this state
-abbrev pub place_of : TaskState → TaskPlace
-place_of s = record {
+abbrev pub place_of_state : TaskState → TaskPlace
+place_of_state s = record {
   numbers = s.numbers.items;
   left = length s.lefts.items;
   begun = s.begun;
@@ -118,11 +118,11 @@ pub record IsAtEnd (job : Job) (m : Moment) (s : TaskState) : Type 0 where
   pub children : HasChildrenBy job m s.number s.begun
 
 -- a task in this state at a moment of its own
-pub record IsTaskAt (job : Job) (spots : ℕ → Spot) (m : Moment) (s : TaskState) : Type 0 where
+pub record IsOwnTaskAt (job : Job) (spots : ℕ → Spot) (m : Moment) (s : TaskState) : Type 0 where
   pub part : HasPart job m s.number
   pub own : HasOwnCalls job m s.number
   pub knows : KnowsOthers job m s.number
-  pub place : StandsUpTo s.most job m s.number (place_of s)
+  pub place : StandsUpTo s.most job m s.number (place_of_state s)
   pub start : (task_at job.graph s.number).joins_now ≡ true → m.offset s.number ≡ s.start
   pub holds : HasHolds job spots m s.number s.holds.items s.lefts.items
   pub filter : HasFilter (task_at job.graph s.number) s.filter (m.taken s.number 0)
@@ -141,7 +141,7 @@ sends_room job t places = room_for (phaser_at job.graph (output_at job t 0)).op 
 
 -- the places of a task for the steps of one event: for so many of its own accord, and for a block
 -- of its line. Each step finds a place for the outcome of a wait, and for the send of a signal
-pub record HasPlaces (job : Job) (s : TaskState) : Type 0 where
+pub record HasStepPlaces (job : Job) (s : TaskState) : Type 0 where
   pub most : IsMost job s.number s.most
   pub own : 1 ≤ s.own
   pub own_few : s.own ≤ s.most
@@ -162,7 +162,7 @@ pub record IsWhole (job : Job) (s : TaskState) : Type 0 where
   pub staying : s.over ≡ false → length s.lefts.items ≡ 0
   -- what it has seen of each phaser finds room
   pub room : length (registrations_at job s.number) ≤ s.lefts.cap
-  pub places : HasPlaces job s
+  pub places : HasStepPlaces job s
   -- a filter owes what it has made, and other tasks make nothing
   pub filters : (task_at job.graph s.number).kind ≡ Fir → s.owed ≡ Nothing
   pub others : (task_at job.graph s.number).kind ≢ Fir → s.made.items ≡ []
@@ -193,8 +193,8 @@ pub record IsDue (job : Job) (s : TaskState) (i : ℕ) : Type 0 where
 -- a task of a run in this state: it stands at a moment, but where it met what ends all
 pub record IsTask (job : Job) (spots : ℕ → Spot) (s : TaskState) : Type 0 where
   pub whole : IsWhole job s
-  pub stands : s.met ≡ false → (m : Moment) × IsTaskAt job spots m s
+  pub stands : s.met ≡ false → (m : Moment) × IsOwnTaskAt job spots m s
 
 -- a call of its code keeps it one of its run
-abbrev pub Keeps : Job → TaskState → TaskState → Type 0
-Keeps job old new = (spots : ℕ → Spot) → IsTask job spots old → IsTask job spots new
+abbrev pub KeepsTask : Job → TaskState → TaskState → Type 0
+KeepsTask job old new = (spots : ℕ → Spot) → IsTask job spots old → IsTask job spots new

@@ -1,6 +1,6 @@
 //! What a task holds of a phaser.
 ghost use Rattle.std.specs.Prelude.{◌≡◌, ◌≢◌, ◌↔◌, [], ◌∷◌, length, Err, IfOk, IsOk, OnErr, OnOk};
-ghost use Rattle.stream_tasks.specs.Holds.{GoesOn, HasSendPlaces, HasSignalled, HasGot, HasSeenOthers, IsAtMost, Leaves};
+ghost use Rattle.stream_tasks.specs.Holds.{HoldGoesOn, HasSendPlaces, MemberHasSignalled, WaitGave, HasSeenOthers, IsAtMost, HoldLeaves};
 ghost use Rattle.graph_runs.specs.phase_base.declared.operation.Op.{Op};
 ghost use Rattle.stream_members.specs.AnyMembers.{room_for};
 ghost use Rattle.stream_tasks.specs.Registering.{AddsTo, AddsNowTo};
@@ -40,8 +40,8 @@ impl<'a> Hold<'a> {
 
     /// Signals with one value.
     pub fn put(&mut self, value: i64, single: Option<Single>) -> Result<(), Held>
-        ensures ok { OnOk result (GoesOn (HasSignalled (value ∷ []) single) self.old self.new) }
-        ensures err { OnErr result (GoesOn HasSeenOthers self.old self.new) }
+        ensures ok { OnOk result (HoldGoesOn (MemberHasSignalled (value ∷ []) single) self.old self.new) }
+        ensures err { OnErr result (HoldGoesOn HasSeenOthers self.old self.new) }
     {
         laws::others_come();
         let Hold::On(member) = self else {
@@ -58,8 +58,8 @@ impl<'a> Hold<'a> {
         places: &mut Places,
     ) -> Result<(), Held>
         requires { HasSendPlaces self.old (length values.now) places.old }
-        ensures ok { OnOk result (GoesOn (HasSignalled values.now single) self.old self.new) }
-        ensures err { OnErr result (GoesOn HasSeenOthers self.old self.new) }
+        ensures ok { OnOk result (HoldGoesOn (MemberHasSignalled values.now single) self.old self.new) }
+        ensures err { OnErr result (HoldGoesOn HasSeenOthers self.old self.new) }
         ensures places { (op : Op) → room_for op places.new ≡ room_for op places.old }
     {
         laws::others_come();
@@ -71,7 +71,7 @@ impl<'a> Hold<'a> {
 
     /// Waits for the next values, as many as there are places at most, which get them.
     pub fn get(&mut self, out: &mut [Outcome]) -> Result<Given, Held>
-        ensures call { GoesOn (HasGot result out.new) self.old self.new }
+        ensures call { HoldGoesOn (WaitGave result out.new) self.old self.new }
         ensures few { IfOk result (IsAtMost (length out.old)) }
         ensures out { length out.new ≡ length out.old }
     {
@@ -92,7 +92,7 @@ impl<'a> Hold<'a> {
     /// Registers a child.
     pub fn add(&mut self, mode: Mode) -> Result<AnyMember<'a>, Held>
         ensures ok { IfOk result (AddsTo mode self.old self.new) }
-        ensures err { OnErr result (GoesOn HasSeenOthers self.old self.new) }
+        ensures err { OnErr result (HoldGoesOn HasSeenOthers self.old self.new) }
     {
         laws::others_come();
         let Hold::On(member) = self else {
@@ -109,7 +109,7 @@ impl<'a> Hold<'a> {
     /// Registers a child that joins now, and tells where it begins.
     pub fn add_now(&mut self) -> Result<(AnyMember<'a>, u64), Held>
         ensures ok { IfOk result (λ child. AddsNowTo self.old self.new child.0 child.1) }
-        ensures err { OnErr result (GoesOn HasSeenOthers self.old self.new) }
+        ensures err { OnErr result (HoldGoesOn HasSeenOthers self.old self.new) }
     {
         laws::others_come();
         let Hold::On(member) = self else {
@@ -123,9 +123,9 @@ impl<'a> Hold<'a> {
         }
     }
 
-    /// Leaves.
+    /// HoldLeaves.
     pub fn leave(&mut self) -> Result<AnyLeft<'a>, Held>
-        ensures ok { IfOk result (Leaves self.old self.new) }
+        ensures ok { IfOk result (HoldLeaves self.old self.new) }
         ensures err { OnErr result (self.new ≡ self.old) }
     {
         match mem::replace(self, Hold::Gone) {
@@ -140,7 +140,7 @@ impl<'a> Hold<'a> {
         }
     }
 
-    /// Leaves, by waiting, and forgets what it has seen.
+    /// HoldLeaves, by waiting, and forgets what it has seen.
     pub fn dismiss<W: Wait>(self, rt: &W) {
         match self {
             Hold::On(member) => drop(member.leave(rt)),

@@ -2,7 +2,7 @@
 ghost use Rattle.std.specs.Prelude.{◌≡◌, ◌+◌, ◌<◌, ℕ, length, IfOk};
 ghost use Rattle.stream_members.specs.Members.{Spot};
 ghost use Rattle.stream_tasks.specs.Openings.{IsRootMember};
-ghost use Rattle.stream_tasks.specs.Seeds.{seed_state, IsSeed, HasRoom, HasReceived, AreChildrenBelow};
+ghost use Rattle.stream_tasks.specs.Seeds.{seed_state, IsSeed, HasRegistrationRoom, HasReceivedFirst, AreChildrenBelow};
 ghost use Rattle.stream_tasks.specs.Inside.{TellsChild};
 ghost use Rattle.stream_eval.specs.stream_lists.Jobs.{Job as JobValue};
 
@@ -35,10 +35,10 @@ impl<'a> Seed<'a> {
         requires task { task < length job.now.graph.tasks }
         ensures number { IfOk result (λ seed. (seed_state seed).number ≡ task) }
         ensures seed { IfOk result (λ seed. IsSeed job.now (seed_state seed)) }
-        ensures room { IfOk result (λ seed. HasRoom 9 (seed_state seed)) }
+        ensures room { IfOk result (λ seed. HasRegistrationRoom 9 (seed_state seed)) }
         ensures many { IfOk result (λ seed. length (seed_state seed).holds.items ≡ 0) }
         ensures received { IfOk result (λ seed. (job : JobValue) (spots : ℕ → Spot)
-            → HasReceived job spots (seed_state seed)) }
+            → HasReceivedFirst job spots (seed_state seed)) }
     {
         let own = own_steps(job, task);
         let Ok(most) = usize::try_from(own.max(job.graph().task(task).block)) else {
@@ -90,18 +90,18 @@ impl<'a> Seed<'a> {
 
     /// Has been registered on the next of its phasers. It takes no memory.
     pub fn receive(&mut self, member: AnyMember<'a>)
-        requires room { HasRoom (length (seed_state self.old).holds.items + 1)
+        requires room { HasRegistrationRoom (length (seed_state self.old).holds.items + 1)
             (seed_state self.old) }
         requires long { length (seed_state self.old).numbers.items
             ≡ length (seed_state self.old).holds.items }
         ensures seed { (job : JobValue) → IsSeed job (seed_state self.old)
             → IsSeed job (seed_state self.new) }
         ensures received { (job : JobValue) (spots : ℕ → Spot)
-            → HasReceived job spots (seed_state self.old)
+            → HasReceivedFirst job spots (seed_state self.old)
             → IsRootMember job spots (seed_state self.old).number
             (length (seed_state self.old).holds.items) member.entry
-            → HasReceived job spots (seed_state self.new) }
-        ensures room { (n : ℕ) → HasRoom n (seed_state self.old) → HasRoom n (seed_state self.new) }
+            → HasReceivedFirst job spots (seed_state self.new) }
+        ensures room { (n : ℕ) → HasRegistrationRoom n (seed_state self.old) → HasRegistrationRoom n (seed_state self.new) }
         ensures many { length (seed_state self.new).holds.items
             ≡ length (seed_state self.old).holds.items + 1 }
         ensures number { (seed_state self.new).number ≡ (seed_state self.old).number }

@@ -3,7 +3,7 @@ ghost use Rattle.std.specs.Prelude.{◌≡◌, length, None, IfErr, IfOk};
 ghost use Rattle.stream_tasks.specs.TaskLefts.{IsTaskLeft};
 ghost use Rattle.graph_runs.specs.graph_base.Graphs.{task_at};
 ghost use Rattle.graph_runs.specs.Nexts.{registrations_at};
-ghost use Rattle.stream_tasks.specs.Seeds.{seed_state, IsSeed, HasRoom, HasReceived};
+ghost use Rattle.stream_tasks.specs.Seeds.{seed_state, IsSeed, HasRegistrationRoom, HasReceivedFirst};
 
 use crate::ending::task_left::TaskLeft;
 use crate::gate::Gate;
@@ -49,8 +49,8 @@ impl<'a, J: Run> Task<'a, J> {
         requires job { job.now ≡ J.job }
         requires root { (task_at job.now.graph (seed_state seed).number).parent ≡ None }
         requires seed { IsSeed job.now (seed_state seed) }
-        requires room { HasRoom 9 (seed_state seed) }
-        requires received { HasReceived job.now J.spots (seed_state seed) }
+        requires room { HasRegistrationRoom 9 (seed_state seed) }
+        requires received { HasReceivedFirst job.now J.spots (seed_state seed) }
         requires all { length (seed_state seed).holds.items
             ≡ length (registrations_at job.now (seed_state seed).number) }
         ensures { result ≡ (seed_state seed.entry).number }

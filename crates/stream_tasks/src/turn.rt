@@ -12,9 +12,9 @@ ghost use Rattle.graph_runs.specs.declared.owed.Owed.TheVariants.{Value, Exchang
 ghost use Rattle.graph_runs.specs.Moves.{IsBlock};
 ghost use Rattle.graph_runs.specs.Steps.{HasFilter};
 ghost use Rattle.graph_runs.specs.TaskPlaces.{outputs_of_block};
-ghost use Rattle.stream_tasks.specs.Holds.{GoesOn, HasGot, IsAtMost};
-ghost use Rattle.stream_tasks.specs.Tasks.{HasAllNow, HasNoneDue, IsTask, IsWhole, Keeps, OwesNothing};
-ghost use Rattle.stream_tasks.specs.Inside.{HasTaken, MayStep};
+ghost use Rattle.stream_tasks.specs.Holds.{HoldGoesOn, WaitGave, IsAtMost};
+ghost use Rattle.stream_tasks.specs.Tasks.{HasAllNow, HasNoneDue, IsTask, IsWhole, KeepsTask, OwesNothing};
+ghost use Rattle.stream_tasks.specs.Inside.{HasTakenFirst, MayStep};
 
 use crate::gate::Gate;
 use crate::held::Held;
@@ -36,7 +36,7 @@ impl<'a> TaskState<'a> {
         requires task { (spots : ℕ → Spot) × IsTask job.now spots self.old }
         requires met { self.old.met ≡ false }
         requires children { HasNoneDue job.now self.old }
-        ensures { Keeps job.now self.old self.new }
+        ensures { KeepsTask job.now self.old self.new }
     {
         if self.over {
             return self.leave_next(job);
@@ -70,7 +70,7 @@ impl<'a> TaskState<'a> {
         requires task { (spots : ℕ → Spot) × IsTask job.now spots self.old }
         requires met { self.old.met ≡ false }
         requires over { self.old.over ≡ true }
-        ensures { Keeps job.now self.old self.new }
+        ensures { KeepsTask job.now self.old self.new }
     {
         let k = self.lefts.len();
         if k >= self.holds.len() {
@@ -92,7 +92,7 @@ impl<'a> TaskState<'a> {
         requires met { self.old.met ≡ false }
         requires over { self.old.over ≡ false }
         requires made { self.old.made.items ≢ [] }
-        ensures { Keeps job.now self.old self.new }
+        ensures { KeepsTask job.now self.old self.new }
     {
         let (k, p) = output_of(job, self.number, 0);
         let single = job.graph().phaser(p).single;
@@ -112,7 +112,7 @@ impl<'a> TaskState<'a> {
         requires over { self.old.over ≡ false }
         requires owed { self.old.owed ≡ Value output (Ok value) }
         requires none_made { self.old.made.items ≡ [] }
-        ensures { Keeps job.now self.old self.new }
+        ensures { KeepsTask job.now self.old self.new }
     {
         let (k, p) = output_of(job, self.number, output);
         match self.holds[k].put(value, job.graph().phaser(p).single) {
@@ -131,7 +131,7 @@ impl<'a> TaskState<'a> {
         requires over { self.old.over ≡ false }
         requires owed { self.old.owed ≡ Exchange x }
         requires none_made { self.old.made.items ≡ [] }
-        ensures { Keeps job.now self.old self.new }
+        ensures { KeepsTask job.now self.old self.new }
     {
         let p = input_of(job, self.number, 1);
         match get_into(&mut self.holds[1], &mut self.outcomes, 1) {
@@ -155,7 +155,7 @@ impl<'a> TaskState<'a> {
         requires over { self.old.over ≡ false }
         requires owed { OwesNothing self.old }
         requires children { HasAllNow job.now self.old }
-        ensures { Keeps job.now self.old self.new }
+        ensures { KeepsTask job.now self.old self.new }
     {
         if is_cut(until_of(job, self.number), self.begun) {
             self.over = true;
@@ -172,7 +172,7 @@ impl<'a> TaskState<'a> {
     fn put_samples<G: Gate>(&mut self, job: &Job, gate: &G) -> Went
         requires step { MayStep job.now self.old }
         requires kind { (task_at job.now.graph self.old.number).kind ≡ kind.Source }
-        ensures { Keeps job.now self.old self.new }
+        ensures { KeepsTask job.now self.old self.new }
     {
         let samples = self.samples;
         let begun = self.begun;
@@ -199,7 +199,7 @@ impl<'a> TaskState<'a> {
     fn first_wait<G: Gate>(&mut self, job: &Job, gate: &G) -> Went
         requires step { MayStep job.now self.old }
         requires kind { (task_at job.now.graph self.old.number).kind ≢ kind.Source }
-        ensures { Keeps job.now self.old self.new }
+        ensures { KeepsTask job.now self.old self.new }
     {
         let steps = self.steps(job, gate) as usize;
         if self.begun.checked_add(steps as u64).is_none() {
@@ -237,7 +237,7 @@ impl<'a> TaskState<'a> {
 /// Waits for the next values, `most` at most, which come into the first of these places.
 fn get_first(hold: &mut Hold, places: &mut [Outcome], most: usize) -> Result<Given, Held>
     requires { most ≤ length places.old }
-    ensures call { GoesOn (HasGot result (take most places.new)) hold.old hold.new }
+    ensures call { HoldGoesOn (WaitGave result (take most places.new)) hold.old hold.new }
     ensures few { IfOk result (IsAtMost most) }
     ensures places { length places.new ≡ length places.old }
 {
@@ -247,7 +247,7 @@ fn get_first(hold: &mut Hold, places: &mut [Outcome], most: usize) -> Result<Giv
 /// The same into a list of places, which stays as long.
 fn get_into(hold: &mut Hold, places: &mut Vec<Outcome>, most: usize) -> Result<Given, Held>
     requires { most ≤ vec_len places.old }
-    ensures call { GoesOn (HasGot result (take most places.new.items)) hold.old hold.new }
+    ensures call { HoldGoesOn (WaitGave result (take most places.new.items)) hold.old hold.new }
     ensures few { IfOk result (IsAtMost most) }
     ensures places { length places.new.items ≡ length places.old.items }
 {
@@ -291,7 +291,7 @@ fn owed_after(
     requires block { (1 ≤ length got.now)
         × IsBlock (task_at job.now.graph t).kind (length got.now) }
     ensures taken { IfSome result (λ owed.
-        HasTaken job.now t begun got.now filter.old filter.new owed made.new.items) }
+        HasTakenFirst job.now t begun got.now filter.old filter.new owed made.new.items) }
     ensures others { (task_at job.now.graph t).kind ≢ kind.Fir → made.new.items ≡ [] }
     ensures room { (length made.new.items ≤ length got.now)
         × (vec_capacity made.new ≡ vec_capacity made.old) }
@@ -362,7 +362,7 @@ fn make_room(lines: &mut Vec<i64>, sink: bool, steps: usize) -> bool
     true
 }
 
-/// Keeps the numbers of what a sink got, for which there is room. Other tasks keep nothing.
+/// KeepsTask the numbers of what a sink got, for which there is room. Other tasks keep nothing.
 fn keep(lines: &mut Vec<i64>, sink: bool, outcomes: &[Outcome])
     requires { sink ≡ true → vec_len lines.old + length outcomes.now ≤ vec_capacity lines.old }
     ensures kept { sink ≡ true → lines.new.items ≡ lines.old.items ++ map number outcomes.now }
@@ -372,7 +372,7 @@ fn keep(lines: &mut Vec<i64>, sink: bool, outcomes: &[Outcome])
     }
 }
 
-/// Keeps the numbers of these outcomes, for which there is room.
+/// KeepsTask the numbers of these outcomes, for which there is room.
 fn keep_all(lines: &mut Vec<i64>, outcomes: &[Outcome])
     requires { vec_len lines.old + length outcomes.now ≤ vec_capacity lines.old }
     ensures { lines.new.items ≡ lines.old.items ++ map number outcomes.now }

@@ -1,6 +1,6 @@
 //! Tasks of a run before they are registered.
 ghost use Rattle.std.specs.Prelude.{◌≡◌, ◌<◌, length, IfOk};
-ghost use Rattle.stream_tasks.specs.Seeds.{IsReady};
+ghost use Rattle.stream_tasks.specs.Seeds.{IsReadySeed};
 
 use crate::run::Run;
 use crate::seed::Seed;
@@ -21,13 +21,13 @@ pub struct Unregistered<'a, J: Run> {
 
 impl<'a, J: Run> Model for Unregistered<'a, J> {
     ghost use Rattle.std.specs.Prelude.{ℕ};
-    ghost use Rattle.stream_tasks.specs.Seeds.{seed_state, IsReady};
+    ghost use Rattle.stream_tasks.specs.Seeds.{seed_state, IsReadySeed};
 
     ghost Value = { ℕ };
 
     ghost view = { λ u. (seed_state u.seed).number };
 
-    ghost invariant = { λ u. IsReady J.job J.spots 0 (seed_state u.seed) };
+    ghost invariant = { λ u. IsReadySeed J.job J.spots 0 (seed_state u.seed) };
 }
 
 impl<'a, J: Run> Unregistered<'a, J> {
@@ -63,7 +63,7 @@ impl<'a, J: Run> Unregistered<'a, J> {
     /// What is in it.
     pub(crate) fn open(self) -> TaskState<'a>
         ensures number { result.number ≡ self.entry }
-        ensures ready { IsReady J.job J.spots 0 result }
+        ensures ready { IsReadySeed J.job J.spots 0 result }
     {
         let Unregistered { seed, of: _ } = self;
         seed.open()

@@ -9,7 +9,7 @@ use Rattle.stream_tasks.specs.stream_members.declared.any_left.AnyLeft.{AnyLeft}
 use Rattle.stream_tasks.specs.graph_runs.TaskEnds.{HasFoundedAndLeft}
 use Rattle.stream_tasks.specs.Openings.{HaveFoundersLeft}
 use Rattle.stream_tasks.specs.declared.opening.founder.FounderLeft.{FounderLeft}
-use Rattle.stream_tasks.specs.TaskLefts.{AreFounders}
+use Rattle.stream_tasks.specs.TaskLefts.{AreFoundersLeft}
 
 -- ---- lists
 
@@ -38,7 +38,7 @@ some_at (y ∷ xs) (suc p) lt = some_at xs p (omega arith)
 -- the founders' lefts, with the numbers that they gave
 pub are_founders : (job : Job) (spots : ℕ → Spot) (founders : List FounderLeft)
     → HaveFoundersLeft job spots founders
-    → AreFounders job spots (map (λ founder. Some founder.left) founders)
+    → AreFoundersLeft job spots (map (λ founder. Some founder.left) founders)
     (λ p. get_or (map (λ founder. founder.gave.items) founders) p [])
 are_founders job spots founders have p lt =
     let many = have.many in
@@ -75,11 +75,11 @@ pub founders_are : (job same : Job) (spots : ℕ → Spot) (founders : List Foun
     (lefts : List (Option AnyLeft)) (gave : List (Vec ℕ Global)) → job ≡ same
     → lefts ≡ map (λ founder. Some founder.left) founders
     → gave ≡ map (λ founder. founder.gave) founders → HaveFoundersLeft same spots founders
-    → AreFounders job spots lefts (λ p. get_or (map (λ g. g.items) gave) p [])
+    → AreFoundersLeft job spots lefts (λ p. get_or (map (λ g. g.items) gave) p [])
 founders_are job same spots founders lefts gave e lefts_are gave_are have =
-    subst (λ j. AreFounders j spots lefts (λ p. get_or (map (λ g. g.items) gave) p [])) (sym e)
-    (subst (λ xs. AreFounders same spots xs (λ p. get_or (map (λ g. g.items) gave) p []))
+    subst (λ j. AreFoundersLeft j spots lefts (λ p. get_or (map (λ g. g.items) gave) p [])) (sym e)
+    (subst (λ xs. AreFoundersLeft same spots xs (λ p. get_or (map (λ g. g.items) gave) p []))
     (sym lefts_are)
-    (subst (λ xs. AreFounders same spots (map (λ founder. Some founder.left) founders)
+    (subst (λ xs. AreFoundersLeft same spots (map (λ founder. Some founder.left) founders)
     (λ p. get_or xs p [])) (sym (ap (map (λ g. g.items)) gave_are ∙ lists_of founders))
     (are_founders same spots founders have)))

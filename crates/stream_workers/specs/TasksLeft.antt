@@ -3,10 +3,10 @@ use Rattle.std.specs.Prelude.{ℕ, List, Option}
 use Rattle.stream_tasks.specs.stream_lists.Jobs.{Job}
 use Rattle.stream_tasks.specs.stream_members.Members.{Spot}
 use Rattle.stream_tasks.specs.declared.ending.task_left.TaskLeft.{TaskLeft}
-use Rattle.stream_tasks.specs.Joinings.{IsAt}
+use Rattle.stream_tasks.specs.Joinings.{IsPlaced}
 use Rattle.stream_tasks.specs.TaskLefts.{IsTaskLeft}
 
 -- each of these that came has left all its phasers
 abbrev pub AreTasksLeft : Job → (ℕ → Spot) → List (Option TaskLeft) → Type 0
-AreTasksLeft job spots tasks = (t : ℕ) (left : TaskLeft) → IsAt tasks t left
+AreTasksLeft job spots tasks = (t : ℕ) (left : TaskLeft) → IsPlaced tasks t left
     → IsTaskLeft job spots left

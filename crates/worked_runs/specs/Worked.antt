@@ -161,12 +161,12 @@ abbrev pub worked_end : Moment
 worked_end = after_turn worked late_leaves before_end
 
 -- the first moment after the opening: the source has signalled 5
-abbrev pub after_sample : Moment
-after_sample = after_turn worked (sample 0 0 0 1 (pos 5 ∷ [])) worked_opening
+abbrev pub worked_sample : Moment
+worked_sample = after_turn worked (sample 0 0 0 1 (pos 5 ∷ [])) worked_opening
 
 -- the peer has taken it from X
 abbrev pub after_first_wait : Moment
-after_first_wait = after_turn worked (first_wait 1 0 0 2 (Value (pos 5) ∷ [])) after_sample
+after_first_wait = after_turn worked (first_wait 1 0 0 2 (Value (pos 5) ∷ [])) worked_sample
 
 -- the peer has put it on E
 abbrev pub after_signal_on_e : Moment

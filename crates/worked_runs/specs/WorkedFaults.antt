@@ -12,9 +12,9 @@ use Rattle.graph_runs.specs.Moments.{Moment}
 use Rattle.worked_runs.specs.Runs.{TaskEvent, sample, first_wait, opened, after_all}
 use Rattle.worked_runs.specs.Worked.{bus, founded}
 
--- the greatest value, 2^63 - 1
-abbrev pub greatest : ℤ
-greatest = pos 9223372036854775807
+-- the greatest_value value, 2^63 - 1
+abbrev pub greatest_value : ℤ
+greatest_value = pos 9223372036854775807
 
 -- phaser X sum 4 / phaser W sum 4 / phaser Y sum 4 / source a a.csv -> X / source b b.csv -> X
 -- sink out X / source c c.csv -> W / fir f W -> Y shift 0 taps 2 / sink y Y
@@ -40,11 +40,11 @@ faulty_graph = record {
   files = codes "a.csv" ∷ codes "b.csv" ∷ codes "c.csv" ∷ [];
 }
 
--- each source has the greatest value
+-- each source has the greatest_value value
 abbrev pub faulty : Job
 faulty = record {
   graph = faulty_graph;
-  samples = (greatest ∷ []) ∷ (greatest ∷ []) ∷ (greatest ∷ []) ∷ [];
+  samples = (greatest_value ∷ []) ∷ (greatest_value ∷ []) ∷ (greatest_value ∷ []) ∷ [];
   starts = [];
 }
 
@@ -77,11 +77,11 @@ faulty_opening = opened faulty_histories faulty_numbers faulty_offsets
 -- much
 abbrev pub faulty_turns : List TaskEvent
 faulty_turns =
-    sample 0 0 0 1 (greatest ∷ [])
-    ∷ sample 1 0 0 2 (greatest ∷ [])
+    sample 0 0 0 1 (greatest_value ∷ [])
+    ∷ sample 1 0 0 2 (greatest_value ∷ [])
     ∷ first_wait 2 0 0 3 (TooBig ∷ [])
-    ∷ sample 3 0 1 1 (greatest ∷ [])
-    ∷ first_wait 4 0 1 2 (Value greatest ∷ [])
+    ∷ sample 3 0 1 1 (greatest_value ∷ [])
+    ∷ first_wait 4 0 1 2 (Value greatest_value ∷ [])
     ∷ []
 
 -- out has met the sum, and the filter has taken its value

@@ -7,12 +7,12 @@ use Rattle.graph_runs.specs.TaskPlaces.{TaskPlace, at_start}
 use Rattle.worked_runs.specs.Worked.{worked, worked_opening}
 
 -- the source is on X as 1
-abbrev pub source_at : TaskPlace
-source_at = at_start (1 ∷ [])
+abbrev pub source_start : TaskPlace
+source_start = at_start (1 ∷ [])
 
 -- the peer is on X as 2, and on E and Y as 1
-abbrev pub peer_at : TaskPlace
-peer_at = at_start (2 ∷ 1 ∷ 1 ∷ [])
+abbrev pub peer_start : TaskPlace
+peer_start = at_start (2 ∷ 1 ∷ 1 ∷ [])
 
 -- the source has signalled 5
 abbrev pub after_sample : Moment

@@ -6,15 +6,15 @@ ghost use Rattle.graph_runs.specs.phase_accum.declared.outcome.Outcome.TheVarian
 ghost use Rattle.graph_runs.specs.Moments.{HasRun, TaskRan, HasEnded};
 ghost use Rattle.graph_runs.specs.Moves.{Signals, Waits, Leaves, Registers, PartStays};
 ghost use Rattle.graph_runs.specs.Turned.{IsNextSample, IsNextSignal, IsFirstWait, IsNextLeave};
-ghost use Rattle.worked_runs.specs.Worked.{after_peer, after_samples, worked, worked_opening, after_sample, after_first_wait, after_signal_on_e, after_exchange, by_out, before_late, with_late, before_end, worked_end};
+ghost use Rattle.worked_runs.specs.Worked.{after_peer, after_samples, worked, worked_opening, worked_sample, after_first_wait, after_signal_on_e, after_exchange, by_out, before_late, with_late, before_end, worked_end};
 
 use crate::worked_run::a_run_from_its_opening_to_its_end;
 use graph_runs::moves as laws;
 
 /// The first events of the source and of the peer, that out registers late, and that late leaves.
 fn events_as_moves()
-    ensures sample { Signals worked worked_opening after_sample 0 0 0 1 (pos 5) }
-    ensures first_wait { Waits worked after_sample after_first_wait 1 0 0 2 (Value (pos 5)) }
+    ensures sample { Signals worked worked_opening worked_sample 0 0 0 1 (pos 5) }
+    ensures first_wait { Waits worked worked_sample after_first_wait 1 0 0 2 (Value (pos 5)) }
     ensures signal { Signals worked after_first_wait after_signal_on_e 1 0 1 1 (pos 5) }
     ensures exchange_wait { Waits worked after_signal_on_e after_exchange 1 1 1 1
         (Value (pos 5)) }
@@ -27,7 +27,7 @@ fn events_as_moves()
 
 /// They keep what the run has of the task whose events they are, and give what it has of late.
 fn events_keep_their_task()
-    ensures signal { TaskRan worked after_sample 0 }
+    ensures signal { TaskRan worked worked_sample 0 }
     ensures wait { TaskRan worked after_first_wait 1 }
     ensures leave { TaskRan worked worked_end 5 }
     ensures register { TaskRan worked with_late 4 }

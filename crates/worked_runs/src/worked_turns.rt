@@ -10,7 +10,7 @@ ghost use Rattle.graph_runs.specs.Nexts.{first_kept};
 ghost use Rattle.graph_runs.specs.TaskPlaces.{StandsAt, registration_at, values};
 ghost use Rattle.worked_runs.specs.Worked.{worked, worked_opening, worked_turns, worked_order, after_signal_on_e, with_late, before_end, worked_end, before_late, late_registers, founded, founded_exchange};
 ghost use Rattle.worked_runs.specs.WorkedFaults.{faulty, faulty_moment, before_fault};
-ghost use Rattle.worked_runs.specs.WorkedPlaces.{source_at, peer_at, after_sample, after_peer_wait};
+ghost use Rattle.worked_runs.specs.WorkedPlaces.{source_start, peer_start, after_sample, after_peer_wait};
 ghost use Rattle.worked_runs.specs.WorkedTurns.{late, late_after, with_child, child_after, crossed, crossed_after, six, seven, by_two, two_opening, two_order, two_answers};
 
 use crate::worked_run::a_run_from_its_opening_to_its_end;
@@ -72,12 +72,12 @@ fn the_run_begins()
 /// has begun a step after its sample, while the peer, which is registered as 2, 1 and 1, stays
 /// where it was; and once the peer has taken the sample 5, it owes 5 on E, its output 0.
 fn places_follow_the_run()
-    ensures source { StandsAt worked worked_opening 0 source_at }
-    ensures peer { StandsAt worked worked_opening 1 peer_at }
-    ensures begun { StandsAt worked after_sample 0 (record source_at { begun = 1 }) }
-    ensures waits { StandsAt worked after_sample 1 peer_at }
+    ensures source { StandsAt worked worked_opening 0 source_start }
+    ensures peer { StandsAt worked worked_opening 1 peer_start }
+    ensures begun { StandsAt worked after_sample 0 (record source_start { begun = 1 }) }
+    ensures waits { StandsAt worked after_sample 1 peer_start }
     ensures owes { StandsAt worked after_peer_wait 1
-        (record peer_at { begun = 1; owed = values 0 (Ok (pos 5) ∷ []) }) }
+        (record peer_start { begun = 1; owed = values 0 (Ok (pos 5) ∷ []) }) }
     ensures leaves_first { first_kept worked worked_opening 1 ≡ Some (registration_at worked 1 0) }
 {
     a_run_from_its_opening_to_its_end();

@@ -5,41 +5,41 @@ use Rattle.worker_pool.specs.declared.number_set.NumberSet.{NumberSet}
 use Rattle.worker_pool.specs.declared.places.Place.{Place}
 use Rattle.worker_pool.specs.declared.places.Place.TheVariants.{Ready, Waiting, Working}
 use Rattle.worker_pool.specs.NumberSets.{has, IsEmpty}
-use Rattle.worker_pool.specs.Places.{Tasks, place_of, freed, AreApart, IsPut}
+use Rattle.worker_pool.specs.Places.{Tasks, place_of_task, freed, AreApart, IsPut}
 use Rattle.worker_pool.proofs.Sets.{left_is, gone_is}
 
 -- those that are left wait as before, and the others are where the events put them
 pub record HasFreed (events rest : NumberSet) (old new : Tasks) : Type 0 where
   pub left : (t : ℕ) → t < 64 → has rest t ≡ true
-      → (has old.waiting t ≡ true) × (place_of new t ≡ place_of old t)
+      → (has old.waiting t ≡ true) × (place_of_task new t ≡ place_of_task old t)
   pub others : (t : ℕ) → t < 64 → has rest t ≡ false
-      → place_of new t ≡ freed events (place_of old t)
+      → place_of_task new t ≡ freed events (place_of_task old t)
 
 -- ---- one task
 
 -- a task that was put is at its place
 pub put_here : (old new : Tasks) (task : ℕ) (place : Option Place) → task < 64
-    → IsPut task place old new → place_of new task ≡ place
+    → IsPut task place old new → place_of_task new task ≡ place
 put_here old new task place small put =
     put task small
-    ∙ cond-true (task == task % 64) place (place_of old task) (eq-eqb _ _ (omega arith))
+    ∙ cond-true (task == task % 64) place (place_of_task old task) (eq-eqb _ _ (omega arith))
 
 -- the same of the remainder of a greater number
 pub put_at : (old new : Tasks) (task : ℕ) (place : Option Place) → IsPut task place old new
-    → place_of new (task % 64) ≡ place
+    → place_of_task new (task % 64) ≡ place
 put_at old new task place put =
     put (task % 64) (omega arith)
-    ∙ cond-true (task % 64 == task % 64) place (place_of old (task % 64)) (eq-eqb _ _ refl)
+    ∙ cond-true (task % 64 == task % 64) place (place_of_task old (task % 64)) (eq-eqb _ _ refl)
 
 -- another is where it was
 pub put_elsewhere : (old new : Tasks) (task : ℕ) (place : Option Place) → IsPut task place old new
-    → (t : ℕ) → t < 64 → t ≢ task % 64 → place_of new t ≡ place_of old t
+    → (t : ℕ) → t < 64 → t ≢ task % 64 → place_of_task new t ≡ place_of_task old t
 put_elsewhere old new task place put t within other =
-    put t within ∙ cond-false (t == task % 64) place (place_of old t) (ne_eqb _ _ other)
+    put t within ∙ cond-false (t == task % 64) place (place_of_task old t) (ne_eqb _ _ other)
 
 -- a task that waits is at that place
 pub waits_at : (tasks : Tasks) (t : ℕ) → t < 64 → AreApart tasks.ready tasks.waiting tasks.working
-    → has tasks.waiting t ≡ true → place_of tasks t ≡ Some (Waiting (get_or tasks.waits_on t 0))
+    → has tasks.waiting t ≡ true → place_of_task tasks t ≡ Some (Waiting (get_or tasks.waits_on t 0))
 waits_at tasks t small apart waits = at (has tasks.ready t) refl
   where
     at : (ready : Bool) → has tasks.ready t ≡ ready
@@ -51,7 +51,7 @@ waits_at tasks t small apart waits = at (has tasks.ready t) refl
     at false is = rw waits refl
 
 -- the phaser on which a task waits that is at this place
-pub phaser_at : (tasks : Tasks) (t phaser : ℕ) → place_of tasks t ≡ Some (Waiting phaser)
+pub phaser_at : (tasks : Tasks) (t phaser : ℕ) → place_of_task tasks t ≡ Some (Waiting phaser)
     → get_or tasks.waits_on t 0 ≡ phaser
 phaser_at tasks t phaser e = at (has tasks.ready t) (has tasks.waiting t) (has tasks.working t) e
   where
@@ -91,7 +91,7 @@ module _ (events rest less : NumberSet) (old now : Tasks) (task : ℕ)
     (here : has rest task ≡ true) (so_far : HasFreed events rest old now)
     (out : (m : ℕ) → m < 64 → has less m ≡ (has rest m && not (m == task % 64))) where
   -- the task waits, and on the phaser that stands there now
-  waits : place_of old task ≡ Some (Waiting (get_or now.waits_on task 0))
+  waits : place_of_task old task ≡ Some (Waiting (get_or now.waits_on task 0))
   waits =
       let was = so_far.left task small here in
       let is = waits_at old task small apart was.0 in
@@ -101,9 +101,9 @@ module _ (events rest less : NumberSet) (old now : Tasks) (task : ℕ)
   pub frees : (new : Tasks) → has events (get_or now.waits_on task 0 % 64) ≡ true
       → IsPut task (Some Ready) now new → HasFreed events less old new
   frees new found put =
-      let here_now : place_of new task ≡ freed events (place_of old task) =
+      let here_now : place_of_task new task ≡ freed events (place_of_task old task) =
       put_here now new task (Some Ready) small put ∙ rw (waits, found) refl in
-      let elsewhere : (t : ℕ) → t < 64 → t ≢ task → place_of new t ≡ place_of now t =
+      let elsewhere : (t : ℕ) → t < 64 → t ≢ task → place_of_task new t ≡ place_of_task now t =
       λ t within other.
       put_elsewhere now new task (Some Ready) put t within (λ same. other (omega arith)) in
       record {
@@ -121,7 +121,7 @@ module _ (events rest less : NumberSet) (old now : Tasks) (task : ℕ)
   -- a task that waits for others goes on waiting
   pub keeps : has events (get_or now.waits_on task 0 % 64) ≡ false → HasFreed events less old now
   keeps none =
-      let here_now : place_of now task ≡ freed events (place_of old task) =
+      let here_now : place_of_task now task ≡ freed events (place_of_task old task) =
       (so_far.left task small here).1 ∙ rw (waits, none) refl in
       record {
         left = λ t within is. so_far.left t within (left_is rest less task t small within out is).0;

@@ -5,8 +5,8 @@ use Rattle.worker_pool.specs.declared.event_counts.EventCounts.{EventCounts}
 use Rattle.worker_pool.specs.NumberSets.{has}
 
 -- the number of the time at which events are told next
-abbrev pub next_of : EventCounts → ℕ
-next_of counts = counts.next
+abbrev pub next_number : EventCounts → ℕ
+next_number counts = counts.next
 
 -- the number of the last time at which the phaser had events, and 0 where it had none
 abbrev pub last_of : EventCounts → ℕ → ℕ
@@ -18,11 +18,11 @@ had_none_since counts since phaser = nat_lt (last_of counts phaser) since
 
 -- events were told on these phasers
 pub record HasTold (events : NumberSet) (old new : EventCounts) : Type 0 where
-  pub had : (p : ℕ) → has events (p % 64) ≡ true → last_of new p ≡ next_of old
+  pub had : (p : ℕ) → has events (p % 64) ≡ true → last_of new p ≡ next_number old
   pub others : (p : ℕ) → has events (p % 64) ≡ false → last_of new p ≡ last_of old p
-  pub later : next_of old ≤ next_of new
+  pub later : next_number old ≤ next_number new
 
 -- no events were told
 pub record IsFresh (counts : EventCounts) : Type 0 where
-  pub next : next_of counts ≡ 1
+  pub next : next_number counts ≡ 1
   pub none : (p : ℕ) → last_of counts p ≡ 0

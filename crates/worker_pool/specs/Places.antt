@@ -13,8 +13,8 @@ pub record Tasks : Type 0 where
   pub waits_on : List ℕ
 
 -- where a task is, and nothing where it is not live
-abbrev pub place_of : Tasks → ℕ → Option Place
-place_of tasks t =
+abbrev pub place_of_task : Tasks → ℕ → Option Place
+place_of_task tasks t =
     if has tasks.ready t then Some Ready
     else (if has tasks.waiting t then Some (Waiting (get_or tasks.waits_on t 0))
     else (if has tasks.working t then Some Working else None))
@@ -40,7 +40,7 @@ StandsStill tasks = IsStill tasks × (IsEmpty tasks.waiting → ⊥)
 -- the task is at this place now, and the others are where they were
 abbrev pub IsPut : ℕ → Option Place → Tasks → Tasks → Type 0
 IsPut task place old new = (t : ℕ) → t < 64
-    → place_of new t ≡ (if t == task % 64 then place else place_of old t)
+    → place_of_task new t ≡ (if t == task % 64 then place else place_of_task old t)
 
 -- where a task is after events on these phasers: one that waited for such may go on
 abbrev pub freed : NumberSet → Option Place → Option Place

@@ -12,8 +12,8 @@ use Rattle.worker_pool.specs.declared.work.Fault.{Fault}
 use Rattle.worker_pool.specs.declared.work.Fault.TheVariants.{Stalled}
 use Rattle.worker_pool.specs.declared.work.Progress.{Progress}
 use Rattle.worker_pool.specs.declared.work.Progress.TheVariants as progress
-use Rattle.worker_pool.specs.EventCounts.{next_of, had_none_since, HasTold, IsFresh}
-use Rattle.worker_pool.specs.Places.{Tasks, place_of, freed, IsStill, StandsStill, IsPut}
+use Rattle.worker_pool.specs.EventCounts.{next_number, had_none_since, HasTold, IsFresh}
+use Rattle.worker_pool.specs.Places.{Tasks, place_of_task, freed, IsStill, StandsStill, IsPut}
 
 -- where the tasks are
 abbrev pub tasks_in : TaskSets → Tasks
@@ -21,7 +21,7 @@ tasks_in sets = sets.places
 
 -- where a task is, and nothing where it is not live
 abbrev pub place_in : TaskSets → ℕ → Option Place
-place_in sets t = place_of (tasks_in sets) t
+place_in sets t = place_of_task (tasks_in sets) t
 
 -- which phasers had events
 abbrev pub events_in : TaskSets → EventCounts
@@ -44,7 +44,7 @@ pub record IsSame (old new : TaskSets) : Type 0 where
   pub fault : fault_in new ≡ fault_in old
 
 -- only this task is elsewhere: at this place
-pub record HasPut (task : ℕ) (place : Option Place) (old new : TaskSets) : Type 0 where
+pub record HasPutAt (task : ℕ) (place : Option Place) (old new : TaskSets) : Type 0 where
   pub tasks : IsPut task place (tasks_in old) (tasks_in new)
   pub events : events_in new ≡ events_in old
   pub fault : fault_in new ≡ fault_in old
@@ -59,16 +59,16 @@ MayTake (choice.Beside takes) place =
     (place ≡ Some Ready) ⊎ ((phaser : ℕ) × (place ≡ Some (Waiting phaser)))
 
 -- a worker has taken this task, when the next events had this number
-pub record HasTaken (choice : Choice) (taken : Taken) (old new : TaskSets) : Type 0 where
+pub record WorkerHasTaken (choice : Choice) (taken : Taken) (old new : TaskSets) : Type 0 where
   pub below : taken.task < 64
   pub might : MayTake choice (place_in old taken.task)
-  pub puts : HasPut taken.task (Some Working) old new
-  pub since : taken.since ≡ next_of (events_in old)
+  pub puts : HasPutAt taken.task (Some Working) old new
+  pub since : taken.since ≡ next_number (events_in old)
 
 -- the run is over: there is a fault, or no task may go on and none is with a worker, as where none
 -- is live
-abbrev pub IsOver : TaskSets → Type 0
-IsOver sets = (fault_in sets ≢ None) ⊎ IsStill (tasks_in sets)
+abbrev pub IsRunOver : TaskSets → Type 0
+IsRunOver sets = (fault_in sets ≢ None) ⊎ IsStill (tasks_in sets)
 
 -- the first fault stays, and `Stalled` is told where every live task waits, and only there
 pub record TellsStalled (old new : TaskSets) : Type 0 where

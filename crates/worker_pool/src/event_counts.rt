@@ -1,6 +1,6 @@
 //! Which phasers had events since a task was taken.
 ghost use Rattle.std.specs.Prelude.{◌≡◌};
-ghost use Rattle.worker_pool.specs.EventCounts.{next_of, last_of, had_none_since, HasTold, IsFresh};
+ghost use Rattle.worker_pool.specs.EventCounts.{next_number, last_of, had_none_since, HasTold, IsFresh};
 
 use crate::number_set::NumberSet;
 
@@ -26,7 +26,7 @@ impl EventCounts {
 
     /// Returns the number of the time at which events are told next.
     pub fn next(&self) -> u64
-        ensures { result ≡ next_of self.now }
+        ensures { result ≡ next_number self.now }
     {
         self.next
     }

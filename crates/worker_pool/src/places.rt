@@ -1,7 +1,7 @@
 //! Where each task of a pool is.
 ghost use Rattle.std.specs.Prelude.{◌≡◌, ◌↔◌, ℕ, ◌<◌, ◌%◌, get_or, None, Some, true};
 ghost use Rattle.worker_pool.specs.NumberSets.{has};
-ghost use Rattle.worker_pool.specs.Places.{place_of, freed, AreApart, IsStill, IsPut};
+ghost use Rattle.worker_pool.specs.Places.{place_of_task, freed, AreApart, IsStill, IsPut};
 
 use crate::number_set::NumberSet;
 use std::marker::Model;
@@ -45,7 +45,7 @@ impl Model for Places {
 impl Places {
     /// Makes the places of no live task.
     pub fn new() -> Places
-        ensures { (t : ℕ) → t < 64 → place_of result t ≡ None }
+        ensures { (t : ℕ) → t < 64 → place_of_task result t ≡ None }
     {
         Places {
             ready: NumberSet::new(),
@@ -112,7 +112,7 @@ impl Places {
 
     /// Those that wait for an event on these phasers may go on.
     pub fn free(&mut self, events: NumberSet)
-        ensures { (t : ℕ) → t < 64 → place_of self.new t ≡ freed events (place_of self.old t) }
+        ensures { (t : ℕ) → t < 64 → place_of_task self.new t ≡ freed events (place_of_task self.old t) }
     {
         if events.is_empty() {
             return;

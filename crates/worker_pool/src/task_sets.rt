@@ -4,8 +4,8 @@
 ghost use Rattle.std.specs.Prelude.{◌≡◌, ◌↔◌, ℕ, ◌<◌, Some, None, true, IfSome};
 ghost use Rattle.worker_pool.specs.declared.places.Place.TheVariants as place;
 ghost use Rattle.worker_pool.specs.NumberSets.{has};
-ghost use Rattle.worker_pool.specs.EventCounts.{next_of};
-ghost use Rattle.worker_pool.specs.TaskSets.{tasks_in, place_in, events_in, fault_in, IsNew, IsSame, HasPut, MayTake, HasTaken, IsOver, TellsStalled, place_after, fault_after, HasPutBack};
+ghost use Rattle.worker_pool.specs.EventCounts.{next_number};
+ghost use Rattle.worker_pool.specs.TaskSets.{tasks_in, place_in, events_in, fault_in, IsNew, IsSame, HasPutAt, MayTake, WorkerHasTaken, IsRunOver, TellsStalled, place_after, fault_after, HasPutBack};
 
 use crate::event_counts::EventCounts;
 use crate::number_set::NumberSet;
@@ -115,7 +115,7 @@ impl TaskSets {
 
     /// Puts in a task that may go on, with the phasers of its line.
     pub fn admit(&mut self, task: usize, phasers: NumberSet)
-        ensures { HasPut task (Some place.Ready) self.old self.new }
+        ensures { HasPutAt task (Some place.Ready) self.old self.new }
     {
         self.places.put(task, Some(Place::Ready));
         self.phasers[task % 64] = phasers;
@@ -141,10 +141,10 @@ impl TaskSets {
     /// still.
     pub fn take(&mut self, choice: Choice) -> Next
         ensures take { (taken : Taken) → result ≡ Next.Take taken
-            → HasTaken choice taken self.old self.new }
+            → WorkerHasTaken choice taken self.old self.new }
         ensures wait { result ≡ Next.Wait → self.new ≡ self.old }
 
-        ensures over { (result ≡ Next.Over) ↔ IsOver self.old }
+        ensures over { (result ≡ Next.Over) ↔ IsRunOver self.old }
         ensures stalled { result ≡ Next.Over → TellsStalled self.old self.new }
         ensures end { result ≡ Next.Over → tasks_in self.new ≡ tasks_in self.old }
     {
@@ -166,8 +166,8 @@ impl TaskSets {
     /// Gives a worker a task.
     fn give(&mut self, task: usize) -> Taken
         ensures task { result.task ≡ task }
-        ensures since { result.since ≡ next_of (events_in self.old) }
-        ensures puts { HasPut task (Some place.Working) self.old self.new }
+        ensures since { result.since ≡ next_number (events_in self.old) }
+        ensures puts { HasPutAt task (Some place.Working) self.old self.new }
     {
         self.places.put(task, Some(Place::Working));
         self.takes = self.takes.wrapping_add(1);

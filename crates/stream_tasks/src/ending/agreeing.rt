@@ -2,7 +2,7 @@
 ghost use Rattle.std.specs.Prelude.{◌≡◌, ◌<◌, ℕ, true, length, slice_get, IfSome, None};
 ghost use Rattle.graph_runs.specs.graph_base.TaskLines.{IsGraph};
 ghost use Rattle.stream_tasks.specs.declared.ending.task_left.TaskKnowledge.{TaskKnowledge as TaskKnowledgeValue};
-ghost use Rattle.stream_tasks.specs.Joinings.{IsAt};
+ghost use Rattle.stream_tasks.specs.Joinings.{IsPlaced};
 ghost use Rattle.stream_tasks.specs.TaskLefts.{given_to};
 ghost use Rattle.stream_tasks.specs.Agreeing.{Agrees};
 
@@ -12,8 +12,8 @@ use stream_eval::stream_lists::Job;
 
 /// What task number `t` knows of itself, where it came.
 pub(crate) fn part_at(parts: &[Option<TaskKnowledge>], t: usize) -> Option<&TaskKnowledge>
-    ensures some { IfSome result (λ part. IsAt parts.now t part.now) }
-    ensures none { result ≡ None → (part : TaskKnowledgeValue) → IsAt parts.now t part → ⊥ }
+    ensures some { IfSome result (λ part. IsPlaced parts.now t part.now) }
+    ensures none { result ≡ None → (part : TaskKnowledgeValue) → IsPlaced parts.now t part → ⊥ }
 {
     match parts.get(t) {
         Some(Some(part)) => Some(part),

@@ -6,9 +6,9 @@ ghost use Rattle.stream_members.specs.declared.any_left.AnyLeft.{AnyLeft as Left
 ghost use Rattle.graph_runs.specs.TaskPlaces.{registration_at};
 ghost use Rattle.graph_runs.specs.RunEnds.{Ends};
 ghost use Rattle.stream_tasks.specs.declared.ending.task_left.TaskLeft.{TaskLeft as TaskLeftValue};
-ghost use Rattle.stream_tasks.specs.Joinings.{IsAt, HasPlaceFor, HaveGrown, IsTakenIn};
+ghost use Rattle.stream_tasks.specs.Joinings.{IsPlaced, HasPlaceFor, HaveGrown, IsTakenIn};
 ghost use Rattle.stream_tasks.specs.Gatherings.{AreGathered};
-ghost use Rattle.stream_tasks.specs.TaskLefts.{IsTaskLeft, IsLeftOf};
+ghost use Rattle.stream_tasks.specs.TaskLefts.{IsTaskLeft, HasLeftAs};
 
 use crate::ending::joining::take_all_in;
 use crate::ending::task_left::{TaskKnowledge, TaskLeft};
@@ -29,8 +29,8 @@ pub fn gather<'a>(
     requires tasks { length tasks.items ≡ length job.now.graph.tasks }
     requires left { (spots : ℕ → Spot)
         × ((p : ℕ) → p < length job.now.graph.phasers → (founder : LeftValue)
-        × IsAt joined.old.items p founder × IsLeftOf job.now spots p (0 ∷ []) founder)
-        × ((t : ℕ) (left : TaskLeftValue) → IsAt tasks.items t left
+        × IsPlaced joined.old.items p founder × HasLeftAs job.now spots p (0 ∷ []) founder)
+        × ((t : ℕ) (left : TaskLeftValue) → IsPlaced tasks.items t left
         → IsTaskLeft job.now spots left) }
     ensures { IfOk result (λ found. IfSome found (λ parts. (ends : Ends)
         × AreGathered job.now joined.old.items joined.new.items parts.items ends

@@ -2,7 +2,7 @@
 ghost use Rattle.std.specs.Prelude.{◌≡◌, ◌<◌, [], ℕ, true, length, get_or, map};
 ghost use Rattle.graph_runs.specs.Nexts.{registrations_at};
 ghost use Rattle.graph_runs.specs.TaskPlaces.{registration_at};
-ghost use Rattle.stream_tasks.specs.Agreeing.{IsOfTask, AreOfTasks, HasNumberOn};
+ghost use Rattle.stream_tasks.specs.Agreeing.{IsNumberOfTask, AreOfTasks, HasNumberOn};
 
 use crate::ending::agreeing::part_at;
 use crate::ending::task_left::TaskKnowledge;
@@ -24,7 +24,7 @@ fn has_number(job: &Job, part: &TaskKnowledge, t: usize, p: usize, number: u64) 
 
 /// Whether a task that came has this number on phaser `p`.
 fn is_of_task(job: &Job, parts: &[Option<TaskKnowledge>], p: usize, number: u64) -> bool
-    ensures { result ≡ true → IsOfTask job.now parts.now p number }
+    ensures { result ≡ true → IsNumberOfTask job.now parts.now p number }
 {
     for t in 0..job.graph().tasks() {
         let Some(part) = part_at(parts, t) else {

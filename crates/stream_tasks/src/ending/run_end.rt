@@ -2,9 +2,9 @@
 ghost use Rattle.std.specs.Prelude.{◌≡◌, [], ℕ, length, map, get_or, IfOk, IfSome};
 ghost use Rattle.stream_members.specs.Members.{Spot};
 ghost use Rattle.stream_tasks.specs.declared.ending.task_left.TaskLeft.{TaskLeft as TaskLeftValue};
-ghost use Rattle.stream_tasks.specs.Joinings.{IsAt};
+ghost use Rattle.stream_tasks.specs.Joinings.{IsPlaced};
 ghost use Rattle.stream_tasks.specs.RunAnswers.{AreLinesOf};
-ghost use Rattle.stream_tasks.specs.TaskLefts.{IsTaskLeft, AreFounders};
+ghost use Rattle.stream_tasks.specs.TaskLefts.{IsTaskLeft, AreFoundersLeft};
 
 use crate::ending::agreeing::all_agree;
 use crate::ending::gathering::gather;
@@ -34,8 +34,8 @@ pub fn finish<'a>(
     requires gave { length gave.now ≡ length job.now.graph.phasers }
     requires tasks { length tasks.items ≡ length job.now.graph.tasks }
     requires left { (spots : ℕ → Spot)
-        × AreFounders job.now spots founders.items (λ p. get_or (map (λ g. g.items) gave.now) p [])
-        × ((t : ℕ) (left : TaskLeftValue) → IsAt tasks.items t left
+        × AreFoundersLeft job.now spots founders.items (λ p. get_or (map (λ g. g.items) gave.now) p [])
+        × ((t : ℕ) (left : TaskLeftValue) → IsPlaced tasks.items t left
         → IsTaskLeft job.now spots left) }
     ensures { IfOk result (λ found. IfSome found (λ lines. AreLinesOf job.now lines.items)) }
 {

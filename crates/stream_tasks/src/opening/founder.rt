@@ -1,7 +1,7 @@
 //! The founder of a phaser, which registers the tasks that begin there and leaves.
 ghost use Rattle.std.specs.Prelude.{◌≡◌, [], IfOk};
 ghost use Rattle.stream_members.specs.AnyPhasers.{IsFounderOf, phaser_op, phaser_spot};
-ghost use Rattle.stream_tasks.specs.Founders.{IsRoot, IsLeftOf};
+ghost use Rattle.stream_tasks.specs.Founders.{IsRoot, IsLeftOfFounder};
 
 use graph_runs::phase_base::Mode;
 use std::marker::Model;
@@ -71,7 +71,7 @@ impl<'a> Founder<'a> {
 
     /// Leaves the phaser. It waits for its turn.
     pub fn leave<W: Wait>(self, rt: &W) -> FounderLeft<'a>
-        ensures left { IsLeftOf self.entry result.left }
+        ensures left { IsLeftOfFounder self.entry result.left }
         ensures gave { result.gave.items ≡ self.entry.gave }
     {
         let Founder { member, gave } = self;

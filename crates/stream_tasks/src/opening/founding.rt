@@ -3,7 +3,7 @@ ghost use Rattle.std.specs.Prelude.{◌≡◌, ◌<◌, length, IfOk, None};
 ghost use Rattle.graph_runs.specs.graph_base.Graphs.{task_at};
 ghost use Rattle.graph_runs.specs.Nexts.{registrations_at};
 ghost use Rattle.stream_tasks.specs.Openings.{AreFounders};
-ghost use Rattle.stream_tasks.specs.Seeds.{seed_state, IsReady};
+ghost use Rattle.stream_tasks.specs.Seeds.{seed_state, IsReadySeed};
 
 use crate::opening::founder::Founder;
 use crate::opening::founders::register_root;
@@ -24,9 +24,9 @@ fn register_all<'a, J: Run, W: Wait>(
     seed: Seed<'a>,
 ) -> Result<Seed<'a>, RegisterRefusal>
     requires founders { AreFounders job.now J.spots founders.old }
-    requires seed { IsReady job.now J.spots 0 (seed_state seed) }
+    requires seed { IsReadySeed job.now J.spots 0 (seed_state seed) }
     ensures founders { AreFounders job.now J.spots founders.new }
-    ensures seed { IfOk result (λ all. IsReady job.now J.spots
+    ensures seed { IfOk result (λ all. IsReadySeed job.now J.spots
         (length (registrations_at job.now (seed_state seed.entry).number)) (seed_state all)) }
     ensures number { IfOk result (λ all. (seed_state all).number ≡ (seed_state seed.entry).number) }
 {

@@ -1,7 +1,7 @@
 use Rattle.std.proofs.Common.{◌≡◌, ◌∙◌, sym, ap, Bor, [], ◌++◌, ◌∷◌, take, get_or, Some, is_some, refl}
 use Rattle.graph_text.specs.phase_base.Words.{Word, is_name}
 use Rattle.graph_base.specs.Names.{names_of, phaser_named}
-use Rattle.graph_lang.specs.WordValues.{or_zero, numbers_of}
+use Rattle.graph_lang.specs.WordValues.{or_zero, phaser_numbers}
 use Rattle.graph_lang.specs.Faults.{is_phaser}
 use Rattle.graph_text.specs.Plain.{plain}
 use Rattle.graph_lang.proofs.Alls.{words-first, words-pass, words-more}
@@ -33,6 +33,6 @@ loop-word-preserved c =
       rest = before.rest ∙ words-pass (is_phaser names) xs i nowhere lt (ap is_some is);
       made = c.in_ok-push.ensures.items
           ∙ ap (λ made. made ++ c.in-Some.number ∷ []) before.made
-          ∙ ap (λ n. numbers_of names (plain (take i xs)) ++ or_zero n ∷ []) (sym is)
+          ∙ ap (λ n. phaser_numbers names (plain (take i xs)) ++ or_zero n ∷ []) (sym is)
           ∙ sym (words-more number xs i nowhere lt);
     }

@@ -2,7 +2,7 @@ use Rattle.std.proofs.Common.{◌≤◌, [], length, take, inl, inr, refl}
 use Rattle.std.proofs.KnownBytes.{Appends-nil}
 use Rattle.watched_io.specs.declared.fault.IoFault.TheVariants.{OutOfMemory}
 use Rattle.phase_replay.specs.Replies.{replies_of}
-use Rattle.phase_replay.specs.Stops.{StopsAt}
+use Rattle.phase_replay.specs.Stops.{ScriptStopsAt}
 use Rattle.phase_replay.proofs.strict.replay_strictly.Goals as goal
 
 -- A line is refused.
@@ -11,7 +11,7 @@ returns-in-Ok-Some-clause-ends g c =
     let script = c.args.script.now in
     let end = c.in-Ok-Some.stop.end in
     let number = c.in-Ok-Some.stop.number in
-    let found : (end ≤ length script) × StopsAt script (take end script) number =
+    let found : (end ≤ length script) × ScriptStopsAt script (take end script) number =
     rw c.in-Ok-Some.field-0-is at c.in-Ok-Some.ensures.some in
     let stops = found.1 in
     record {

@@ -9,7 +9,7 @@ use Rattle.graph_runs.specs.TaskPlaces.{owed_after_wait}
 use Rattle.graph_runs.specs.declared.owed.Owed.{Owed}
 use Rattle.graph_runs.specs.declared.owed.Owed.TheVariants.{Nothing}
 use Rattle.stream_eval.specs.stream_lists.Lists.{number}
-use Rattle.stream_tasks.specs.Inside.{HasTaken}
+use Rattle.stream_tasks.specs.Inside.{HasTakenFirst}
 use Rattle.stream_tasks.specs.Tasks.{owed_by}
 use Rattle.stream_tasks.proofs.Taking.{filter_owes, others_owe}
 use Rattle.stream_tasks.proofs.turn.owed_after.Goals as goal
@@ -19,7 +19,7 @@ returns-in-Fir-clause-taken c =
     subst H (sym c.then_some.ensures) (by c.filter_all.result refl)
   where
     H : Option Owed → Type 0
-    H answer = IfSome answer (λ owed. HasTaken c.args.job.now c.args.t c.args.begun c.args.got.now
+    H answer = IfSome answer (λ owed. HasTakenFirst c.args.job.now c.args.t c.args.begun c.args.got.now
         c.args.filter.now c.filter_all.new.filter owed c.filter_all.new.made.items)
 
     by : (made : Bool) → c.filter_all.result ≡ made → H (then_some made Nothing)

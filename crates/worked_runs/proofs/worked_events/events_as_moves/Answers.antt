@@ -4,7 +4,7 @@ use Rattle.graph_runs.specs.phase_base.declared.mode.Mode.TheVariants.{Wait}
 use Rattle.graph_runs.specs.phase_accum.declared.outcome.Outcome.TheVariants.{Value}
 use Rattle.graph_runs.specs.Moments.{Moment, HasRun}
 use Rattle.worked_runs.specs.Runs.{exchange_wait}
-use Rattle.worked_runs.specs.Worked.{worked, worked_opening, after_sample, after_first_wait, after_signal_on_e, before_late, before_end, late_registers, late_leaves}
+use Rattle.worked_runs.specs.Worked.{worked, worked_opening, worked_sample, after_first_wait, after_signal_on_e, before_late, before_end, late_registers, late_leaves}
 use Rattle.worked_runs.proofs.NextTests.{Given, is_next_sample, is_next_signal, is_first_wait}
 use Rattle.worked_runs.proofs.BlockTests.{is_next}
 use Rattle.worked_runs.proofs.WorkedRun.{worked-is}
@@ -25,9 +25,9 @@ returns-clause-sample c =
 pub returns-clause-first_wait : goal.returns-clause-first_wait
 returns-clause-first_wait c =
     let ran = c.a_run_from_its_opening_to_its_end.ensures.through.1.0 in
-    c.next_events_are_moves.ensures.first_wait worked after_sample 1 0 0 2 (Value (pos 5))
-    ((is_first_wait worked after_sample 1 0 0 2 (Value (pos 5))).sound refl
-    (given after_sample 1 0 (omega arith) (omega arith) ran))
+    c.next_events_are_moves.ensures.first_wait worked worked_sample 1 0 0 2 (Value (pos 5))
+    ((is_first_wait worked worked_sample 1 0 0 2 (Value (pos 5))).sound refl
+    (given worked_sample 1 0 (omega arith) (omega arith) ran))
 
 pub returns-clause-signal : goal.returns-clause-signal
 returns-clause-signal c =

@@ -2,20 +2,20 @@
 use Rattle.std.proofs.Common.{arith, pos}
 use Rattle.graph_runs.specs.phase_base.declared.mode.Mode.TheVariants.{Wait}
 use Rattle.graph_runs.specs.phase_accum.declared.outcome.Outcome.TheVariants.{Value}
-use Rattle.worked_runs.specs.Worked.{worked, worked_opening, after_sample, after_first_wait, before_late, with_late, before_end, worked_end, late_registers, late_leaves, by_out}
+use Rattle.worked_runs.specs.Worked.{worked, worked_opening, worked_sample, after_first_wait, before_late, with_late, before_end, worked_end, late_registers, late_leaves, by_out}
 use Rattle.worked_runs.proofs.Histories.{turn_begins, grown}
 use Rattle.worked_runs.proofs.WorkedRun.{worked-is}
 use Rattle.worked_runs.proofs.worked_events.events_keep_their_task.Goals as goal
 
 pub returns-clause-signal : goal.returns-clause-signal
 returns-clause-signal c =
-    c.own_events_keep.ensures.signal worked worked_opening after_sample 0 0 0 1 (pos 5) worked-is
+    c.own_events_keep.ensures.signal worked worked_opening worked_sample 0 0 0 1 (pos 5) worked-is
     (omega arith) c.events_as_moves.ensures.sample
     (c.a_run_from_its_opening_to_its_end.ensures.opening.tasks 0 (omega arith))
 
 pub returns-clause-wait : goal.returns-clause-wait
 returns-clause-wait c =
-    c.own_events_keep.ensures.wait worked after_sample after_first_wait 1 0 0 2 (Value (pos 5))
+    c.own_events_keep.ensures.wait worked worked_sample after_first_wait 1 0 0 2 (Value (pos 5))
     worked-is (omega arith) c.events_as_moves.ensures.first_wait
     (c.a_run_from_its_opening_to_its_end.ensures.through.1.0.tasks 1 (omega arith))
 

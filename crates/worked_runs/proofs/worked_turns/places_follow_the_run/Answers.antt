@@ -8,7 +8,7 @@ use Rattle.graph_runs.specs.phase_accum.declared.outcome.Outcome.TheVariants.{Va
 use Rattle.graph_runs.specs.TaskEvents.{sample}
 use Rattle.graph_runs.specs.TaskPlaces.{StandsAt, TaskPlace, registration_at, lacking, nothing}
 use Rattle.worked_runs.specs.Worked.{worked, worked_opening}
-use Rattle.worked_runs.specs.WorkedPlaces.{source_at, peer_at, after_sample}
+use Rattle.worked_runs.specs.WorkedPlaces.{source_start, peer_start, after_sample}
 use Rattle.worked_runs.proofs.WorkedRun.{worked-is}
 use Rattle.worked_runs.proofs.worked_turns.places_follow_the_run.Goals as goal
 
@@ -26,7 +26,7 @@ LacksNone t j =
     length (made_now worked worked_opening t j)
     ≡ length (worked_opening.put t j) + lacking (task_at worked.graph t).kind nothing j
 
-source_stands : StandsAt worked worked_opening 0 source_at
+source_stands : StandsAt worked worked_opening 0 source_start
 source_stands = record {
   few = omega arith;
   few_left = omega arith;
@@ -37,11 +37,11 @@ source_stands = record {
   lacks = lacks;
 }
   where
-    numbered : (i : ℕ) → i < 1 → Numbered 0 source_at i
+    numbered : (i : ℕ) → i < 1 → Numbered 0 source_start i
     numbered zero lt = refl
     numbered (suc i) lt = absurd (omega arith)
 
-    leaves : (i : ℕ) → i < 1 → Leaves 0 source_at i
+    leaves : (i : ℕ) → i < 1 → Leaves 0 source_start i
     leaves zero lt = refl
     leaves (suc i) lt = absurd (omega arith)
 
@@ -49,7 +49,7 @@ source_stands = record {
     lacks zero lt = refl
     lacks (suc j) lt = absurd (omega arith)
 
-peer_stands : StandsAt worked worked_opening 1 peer_at
+peer_stands : StandsAt worked worked_opening 1 peer_start
 peer_stands = record {
   few = omega arith;
   few_left = omega arith;
@@ -60,13 +60,13 @@ peer_stands = record {
   lacks = lacks;
 }
   where
-    numbered : (i : ℕ) → i < 3 → Numbered 1 peer_at i
+    numbered : (i : ℕ) → i < 3 → Numbered 1 peer_start i
     numbered zero lt = refl
     numbered (suc zero) lt = refl
     numbered (suc (suc zero)) lt = refl
     numbered (suc (suc (suc i))) lt = absurd (omega arith)
 
-    leaves : (i : ℕ) → i < 3 → Leaves 1 peer_at i
+    leaves : (i : ℕ) → i < 3 → Leaves 1 peer_start i
     leaves zero lt = refl
     leaves (suc zero) lt = refl
     leaves (suc (suc zero)) lt = refl
@@ -85,20 +85,20 @@ returns-clause-peer c = peer_stands
 
 pub returns-clause-begun : goal.returns-clause-begun
 returns-clause-begun c =
-    c.places_follow.ensures.sample worked worked_opening 0 0 0 1 (pos 5 ∷ []) source_at worked-is
+    c.places_follow.ensures.sample worked worked_opening 0 0 0 1 (pos 5 ∷ []) source_start worked-is
     c.the_run_is_reached.ensures.opening refl source_stands
 
 pub returns-clause-waits : goal.returns-clause-waits
 returns-clause-waits c =
     c.places_follow.ensures.others worked worked_opening 0 1 (sample 0 0 0 1 (pos 5 ∷ []))
-    peer_at worked-is c.the_run_is_reached.ensures.opening refl (omega arith) (λ e. (cc)) (λ e. (cc))
+    peer_start worked-is c.the_run_is_reached.ensures.opening refl (omega arith) (λ e. (cc)) (λ e. (cc))
     peer_stands
 
 pub returns-clause-owes : goal.returns-clause-owes
 returns-clause-owes c =
-    c.places_follow.ensures.first_wait worked after_sample 1 0 0 2 (Value (pos 5) ∷ []) peer_at
+    c.places_follow.ensures.first_wait worked after_sample 1 0 0 2 (Value (pos 5) ∷ []) peer_start
     worked-is c.the_run_is_reached.ensures.turn refl (returns-clause-waits c)
 
 pub returns-clause-leaves_first : goal.returns-clause-leaves_first
 returns-clause-leaves_first c =
-    c.places_tell.ensures.kept worked worked_opening 1 peer_at peer_stands refl
+    c.places_tell.ensures.kept worked worked_opening 1 peer_start peer_stands refl

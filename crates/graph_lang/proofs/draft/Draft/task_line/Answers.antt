@@ -5,7 +5,7 @@ use Rattle.std.proofs.lemmas.List.Folds.{list_all-append}
 use Rattle.graph_text.specs.Lines.{body_of, ends_of, by_of}
 use Rattle.graph_base.specs.Graphs.{Graph, Named}
 use Rattle.graph_base.specs.Names.{names_of}
-use Rattle.graph_lang.specs.WordValues.{inputs_of, outputs_of, numbers_of, parent_of}
+use Rattle.graph_lang.specs.WordValues.{inputs_of, outputs_of, phaser_numbers, parent_of}
 use Rattle.graph_lang.specs.Faults.{is_phaser, is_parent_known, phasers_of}
 use Rattle.graph_lang.proofs.Ends.{task-built}
 use Rattle.graph_lang.proofs.Sound.{none-if, no-room}
@@ -52,16 +52,16 @@ returns-clause-line c =
     let same = ap (λ (graph : Graph). graph.names) c.self.view_is in
     let parent = cond_some (is_parent_known names ends.by) (option_map (parent_of names) ends.by)
     c.in-Some.parent (sym c.parent_of.ensures ∙ c.in-Some.is) in
-    let ins = subst (λ o. IfSome o (λ found. found.items ≡ numbers_of names (inputs_of body)))
+    let ins = subst (λ o. IfSome o (λ found. found.items ≡ phaser_numbers names (inputs_of body)))
     c.in-Some-2.is c.in_ok-inputs.ensures.numbers in
-    let outs = subst (λ o. IfSome o (λ found. found.items ≡ numbers_of names (outputs_of body)))
+    let outs = subst (λ o. IfSome o (λ found. found.items ≡ phaser_numbers names (outputs_of body)))
     c.in-Some-3.is c.in_ok-outputs.ensures.numbers in
     let fits : FitsSigned w64 c.args.numbers.factor = search rules in
     task-built c.args.self.now.names c.args.number body ends c.kind_of.result _ _ c.in-Some.parent
     c.args.steps.until _ c.args.numbers.shift _ c.args.steps.block c.joins_now.result
     c.kind_of.ensures
-    (ins ∙ ap (λ ns. numbers_of ns (inputs_of body)) same)
-    (outs ∙ ap (λ ns. numbers_of ns (outputs_of body)) same)
+    (ins ∙ ap (λ ns. phaser_numbers ns (inputs_of body)) same)
+    (outs ∙ ap (λ ns. phaser_numbers ns (outputs_of body)) same)
     (sym parent.1 ∙ ap (λ ns. option_map (parent_of ns) ends.by) same)
     (ap (λ steps. steps.until) c.requires.steps) c.requires.numbers.taps c.requires.numbers.shift
     (to_z-of_z fits ∙ c.requires.numbers.factor) (ap (λ steps. steps.block) c.requires.steps)

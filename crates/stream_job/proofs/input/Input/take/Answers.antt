@@ -2,7 +2,7 @@
 use Rattle.std.proofs.Common.{◌≡◌, ◌+◌, ◌++◌, ◌∷◌, [], ℤ, List, length, take, get_or, pos, FitsSigned, w64, rules, arith, sym, ap, ◌∙◌}
 use Rattle.std.proofs.lemmas.Int.{to_z-of_z}
 use Rattle.std.proofs.lemmas.List.{append_assoc, length-drop, length-take, take_more, take_all}
-use Rattle.stream_job.specs.Streams.{Keeps}
+use Rattle.stream_job.specs.Streams.{InputKeeps}
 use Rattle.stream_job.proofs.Feeding.{keeps_more, sends_taken}
 use Rattle.stream_job.proofs.input.Input.take.Goals as goal
 
@@ -27,7 +27,7 @@ loop-sample-preserved c =
     }
 
 -- so many had come
-came : (c : goal.After-loop-sample) → (xs : List ℤ) → Keeps c.forget.new.self c.args.begun xs
+came : (c : goal.After-loop-sample) → (xs : List ℤ) → InputKeeps c.forget.new.self c.args.begun xs
     → c.forget.new.self.from + c.len.result ≡ length xs
 came c xs keeps =
     let early = keeps.early in

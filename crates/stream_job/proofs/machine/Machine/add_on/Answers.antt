@@ -8,7 +8,7 @@ use Rattle.phase_any.specs.phase_history.Histories.{done_of}
 use Rattle.phase_any.specs.phase_history.declared.event.Event.TheVariants.{Registered, RegisteredNow}
 use Rattle.graph_runs.specs.Turned.{with_at}
 use Rattle.stream_eval.specs.stream_lists.Jobs.{with_samples}
-use Rattle.stream_job.specs.Inside.{HasBegun}
+use Rattle.stream_job.specs.Inside.{LineHasBegun}
 use Rattle.stream_job.specs.Machines.{HasCores}
 use Rattle.stream_job.proofs.Setting.{bare_cores, on_ok}
 use Rattle.stream_job.proofs.Begins.{now_line, lines_begin, lines_plain}
@@ -57,7 +57,7 @@ returns-clause-lines c = λ s m at.
     (c.index.ensures ∙ ap (λ v. get_or v.items c.args.c c.index.result.now) c.register_now_on.ensures.tasks) in
     let phase : c.in_ok-phase.phase ≡ done_of (m.history c.args.p) =
     (c.in_ok-phase.ensures.ok m.history (bare_cores s at.cores)).1 in
-    subst (λ d. HasBegun job m c.args.c d c.args.self.now.lines.items
+    subst (λ d. LineHasBegun job m c.args.c d c.args.self.now.lines.items
     (set c.register_now_on.new.self.lines.items c.index.result.now.sink
     (record c.index_mut.result.now { start = Some c.in_ok-phase.phase }))) phase
     (lines_begin job m c.args.self.now c.args.c c.in_ok-phase.phase c.index.result.now

@@ -8,7 +8,7 @@ use Rattle.stream_eval.specs.stream_lists.Jobs.{with_samples}
 use Rattle.graph_runs.specs.Moments.{first_input, input_at, limits_at}
 use Rattle.graph_runs.specs.Nexts.{has_input_ended}
 use Rattle.graph_runs.proofs.Signalling.{live-is}
-use Rattle.stream_job.specs.Places.{place_of}
+use Rattle.stream_job.specs.Places.{place_in_state}
 use Rattle.stream_job.proofs.Ending.{over_left, over_by_input, over_by_samples, number_of_input, cut_is, no_source, source_is}
 use Rattle.stream_job.proofs.machine.Machine.is_over.Goals as goal
 use Rattle.stream_job.proofs.machine.Machine.is_over.Goals.{then-state-gt0-via-then-state-gt0, then-state-gt0-via-else-state-gt0+then-is_cut}
@@ -18,11 +18,11 @@ returns-then-state-gt0 c = λ s m at awaits live.
     let job = with_samples s c.args.job.now in
     elim c.then-state-gt0.branch [
       | then-state-gt0-via-then-state-gt0 w ↦ over_left job m c.args.t
-          (place_of c.state-state.result.now) at.graph at.reached.ran
+          (place_in_state c.state-state.result.now) at.graph at.reached.ran
           (c.state-state.ensures s m at).stands live w.if-state-gt0.true
       | then-state-gt0-via-else-state-gt0+then-is_cut w ↦
           ap (λ b. b || has_input_ended job m c.args.t (task_at job.graph c.args.t).kind)
-          (cut_is job m c.args.t (place_of c.state-state.result.now)
+          (cut_is job m c.args.t (place_in_state c.state-state.result.now)
           (c.state-state.ensures s m at).stands w.until_of.result w.until_of.ensures
           ∙ sym w.is_cut.ensures ∙ w.if-is_cut.true)
     ]
@@ -35,7 +35,7 @@ returns-then-is_source c = λ s m at awaits live.
     ∙ sym c.is_source.ensures ∙ c.if-is_source.true in
     let source = source_is (task_at job.graph c.args.t).kind is in
     over_by_samples job m c.args.t c.args.awaits.now
-    (cut_is job m c.args.t (place_of c.state-state.result.now)
+    (cut_is job m c.args.t (place_in_state c.state-state.result.now)
     (c.state-state.ensures s m at).stands c.until_of.result c.until_of.ensures
     ∙ sym c.is_cut.ensures ∙ c.if-is_cut.false)
     source (awaits (live-is job m c.args.t live).there source)
@@ -52,7 +52,7 @@ bounds-deref-k c =
     let few = c.first_input_of-k.ensures.within
     (no_source (task_at job.graph c.args.t).kind none) in
     let in_numbers = (number_of_input job m c.args.t c.first_input_of-k.result
-    (place_of c.state-state.result.now) at.graph
+    (place_in_state c.state-state.result.now) at.graph
     (c.state-state.ensures c.requires.0 m at).stands c.requires.1.2 few).0 in
     omega (arith, ap length c.deref.ensures)
 
@@ -68,9 +68,9 @@ returns c = λ s m at awaits live.
     let p : c.input_of.result ≡ input_at (task_at job.graph c.args.t)
     c.first_input_of-k.result = c.input_of.ensures.phaser in
     over_by_input job m c.args.t c.first_input_of-k.result c.input_of.result
-    (place_of c.state-state.result.now) c.has_run_out.result at.graph at.reached.ran stands live
+    (place_in_state c.state-state.result.now) c.has_run_out.result at.graph at.reached.ran stands live
     (let left = c.if-state-gt0.false in omega arith)
-    (cut_is job m c.args.t (place_of c.state-state.result.now) stands c.until_of.result
+    (cut_is job m c.args.t (place_in_state c.state-state.result.now) stands c.until_of.result
     c.until_of.ensures ∙ sym c.is_cut.ensures ∙ c.if-is_cut.false)
     never
     (c.first_input_of-k.ensures.input ∙ ap (first_input (task_at job.graph c.args.t))

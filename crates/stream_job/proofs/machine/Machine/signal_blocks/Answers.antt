@@ -5,7 +5,7 @@ use Rattle.stream_eval.specs.stream_lists.Jobs.{with_samples}
 use Rattle.graph_runs.specs.Moments.{limits_at}
 use Rattle.graph_runs.specs.Nexts.{number_on}
 use Rattle.graph_runs.specs.Answers.{output_at}
-use Rattle.stream_job.specs.Places.{place_of}
+use Rattle.stream_job.specs.Places.{place_in_state}
 use Rattle.stream_job.specs.Inside.{blocks_signal}
 use Rattle.stream_job.proofs.Ending.{number_of_output}
 use Rattle.stream_job.proofs.machine.Machine.signal_blocks.Goals as goal
@@ -16,7 +16,7 @@ bounds-deref-k c =
     let m = c.requires.live.1.0 in
     let at = c.requires.live.1.1 in
     let in_numbers = (number_of_output job m c.args.t c.args.j
-    (place_of c.state.result.now) at.graph (c.state.ensures c.requires.live.0 m at).stands
+    (place_in_state c.state.result.now) at.graph (c.state.ensures c.requires.live.0 m at).stands
     c.requires.live.1.2 c.requires.output).0 in
     omega (arith, c.output_of-k.ensures.registration, ap length c.deref.ensures)
 
@@ -25,7 +25,7 @@ returns c = λ s m at live.
     let job = with_samples s c.args.job.now in
     let p = c.output_of-k.result.1 in
     let same : p ≡ output_at job c.args.t c.args.j = c.output_of-k.ensures.phaser in
-    let number = (number_of_output job m c.args.t c.args.j (place_of c.state.result.now) at.graph
+    let number = (number_of_output job m c.args.t c.args.j (place_in_state c.state.result.now) at.graph
     (c.state.ensures s m at).stands live c.requires.output).1 in
     sym (ap (λ q. blocks_signal (limits_at job q) (m.history q) (number_on m c.args.t q) c.args.many)
     same)

@@ -9,7 +9,7 @@ use Rattle.graph_runs.specs.Moments.{Moment}
 use Rattle.graph_runs.specs.Nexts.{signals}
 use Rattle.graph_runs.specs.TaskEvents.{signal}
 use Rattle.stream_eval.specs.stream_lists.Jobs.{with_samples}
-use Rattle.stream_job.specs.Inside.{is_over, IsNextIn}
+use Rattle.stream_job.specs.Inside.{is_value_out, IsNextIn}
 use Rattle.stream_job.specs.Machines.{IsMachineAt}
 use Rattle.stream_job.specs.Places.{owed_in}
 use Rattle.stream_job.proofs.Lively.{state_read, state_there}
@@ -50,7 +50,7 @@ over s c next has m at =
     made_over (with_samples s c.args.job.now) c.args.self.now m c.args.t 0 c.in-Some.place c.index-state.result.now
     c.index-state.result.now.made.items next at
     (state_read next (λ e. (cc)) c.index-state.ensures) (has m at).here
-    (ap (position_from is_over 0) (sym c.deref.ensures.value) ∙ sym c.in-Some.ensures.some)
+    (ap (position_from is_value_out 0) (sym c.deref.ensures.value) ∙ sym c.in-Some.ensures.some)
 
 -- or else these are all in range
 are : (s : List (List ℤ)) (c : After-deref-3)

@@ -8,7 +8,7 @@ use Rattle.phase_any.specs.phase_history.Histories.{members_of}
 use Rattle.stream_eval.specs.stream_lists.Jobs.{with_samples}
 use Rattle.graph_runs.specs.Moments.{limits_at}
 use Rattle.graph_runs.specs.TaskPlaces.{registration_at}
-use Rattle.stream_job.specs.Places.{place_of}
+use Rattle.stream_job.specs.Places.{place_in_state}
 use Rattle.stream_job.specs.Standing.{entry_in}
 use Rattle.stream_job.proofs.Ending.{number-at}
 use Rattle.stream_job.proofs.Lively.{phaser_there}
@@ -38,7 +38,7 @@ returns c = λ s m at.
     let long = c.len.ensures.value in
     let within = c.if-k-len.false in
     let lt : c.args.k < length c.state.result.now.numbers.items = omega arith in
-    let number = number-at (with_samples s job) m c.args.t c.args.k (place_of c.state.result.now)
+    let number = number-at (with_samples s job) m c.args.t c.args.k (place_in_state c.state.result.now)
     (c.state.ensures s m at).stands lt in
     let q = (registration_at job c.args.t c.args.k).phaser in
     let n = get_or c.state.result.now.numbers.items c.args.k 0 in

@@ -15,8 +15,8 @@ use Rattle.graph_runs.specs.Nexts.{waits}
 use Rattle.graph_runs.specs.Steps.{HasFilter}
 use Rattle.graph_runs.specs.Turned.{with_at}
 use Rattle.stream_eval.specs.stream_lists.Jobs.{with_samples}
-use Rattle.stream_job.specs.Inside.{with_line, HasRoomIn, IsNextIn}
-use Rattle.stream_job.specs.Places.{HasTaken}
+use Rattle.stream_job.specs.Inside.{with_more, HasRoomIn, IsNextIn}
+use Rattle.stream_job.specs.Places.{StateHasTaken}
 use Rattle.stream_job.specs.SinkLines.{kept_of}
 use Rattle.stream_job.specs.Turning.{HadTurn}
 use Rattle.stream_job.specs.Machines.{HasCores, HasRoom, IsMachineAt, kept_behind}
@@ -310,7 +310,7 @@ returns-clause-made c = λ s next.
           had_as job old c.match-wait_block_on.self _ t c.match-wait_block_on.result _ w.self-is w.result-is
           (first_turn job old w.keep.new.self t k n p steps v.phase v.count got c.index.result.now
           w.take.new.self c.sink_of-sink.result w.told_got.result asked
-          (subst (λ s. HasTaken (task_at job.graph t) (map number got) s w.take.new.self) it w.take.ensures)
+          (subst (λ s. StateHasTaken (task_at job.graph t) (map number got) s w.take.new.self) it w.take.ensures)
           (c.sink_of-sink.ensures c.index.result.now asked.found) all
           (λ m at. subst (λ cs. HasCores job (with_at p (Waited n v.count ∷ m.history p) m.history) cs.items)
           (sym w.keep.ensures.cores)
@@ -318,7 +318,7 @@ returns-clause-made c = λ s next.
           c.wait_block_on.new.self.cores.items) v.field-0-is (full_cores s (v.ensures.cores m.history (bare_cores s at.cores)))))
           (ap (λ v. v.items) w.keep.ensures.tasks ∙ ap (λ xs. set xs t w.take.new.self) tasks)
           (λ given. w.keep.ensures.lines given
-          ∙ ap (λ l. with_line c.sink_of-sink.result (kept_of got)
+          ∙ ap (λ l. with_more c.sink_of-sink.result (kept_of got)
           (map (kept_behind given) l.items)) c.wait_block_on.ensures.lines)
           (w.keep.ensures.starts
           ∙ ap (λ l. map (λ line. line.start) l.items) c.wait_block_on.ensures.lines)

@@ -2,7 +2,7 @@
 use Rattle.std.proofs.Common.{sym, ap, subst, ◌∙◌}
 use Rattle.std.specs.Prelude.{Ok}
 use Rattle.stream_eval.specs.stream_lists.Jobs.{with_samples}
-use Rattle.stream_job.specs.Streams.{StopsAt, ended_at, first_full, first_hungry, is_some_live}
+use Rattle.stream_job.specs.Streams.{StreamStopsAt, ended_at, first_full, first_hungry, is_some_live}
 use Rattle.stream_job.specs.Worlds.{HasMet}
 use Rattle.stream_job.specs.declared.stopped.Stopped.TheVariants as stopped
 use Rattle.graph_runs.proofs.FedFeeds.{feed_continues}
@@ -14,8 +14,8 @@ pub returns-clause-done : goal.returns-clause-done
 returns-clause-done c = λ done s m given at.
     let stream = c.rounds.new.self in
     let job = with_samples s stream.job in
-    let stops : StopsAt stream s m given stopped.Done =
-    subst (StopsAt stream s m given) done (c.stop.ensures s m given at) in
+    let stops : StreamStopsAt stream s m given stopped.Done =
+    subst (StreamStopsAt stream s m given) done (c.stop.ensures s m given at) in
     let dead = none_live job m (done_dead job (first_full job m given)
     (first_hungry job (ended_at stream) m) (is_some_live job m) stops.1) in
     let met = subst (HasMet job m) stops.0.none at.met in
@@ -29,7 +29,7 @@ pub returns-clause-too_big : goal.returns-clause-too_big
 returns-clause-too_big c = λ place n is s m given more at fed ready.
     let stream = c.rounds.new.self in
     let job = with_samples s stream.job in
-    let stops : StopsAt stream s m given (stopped.TooBig place n) =
-    subst (StopsAt stream s m given) is (c.stop.ensures s m given at) in
+    let stops : StreamStopsAt stream s m given (stopped.TooBig place n) =
+    subst (StreamStopsAt stream s m given) is (c.stop.ensures s m given at) in
     at.faults (place, n) more stops
     (feed_continues job (ended_at stream) m more at.machine.reached.ran at.stays_open fed) ready

@@ -6,7 +6,7 @@ use Rattle.graph_runs.specs.Moments.{Moment}
 use Rattle.stream_job.specs.Buffers.{HasPlaces}
 use Rattle.stream_job.specs.Inside.{HasRoomNext}
 use Rattle.stream_job.specs.Machines.{MayHaveCome}
-use Rattle.stream_job.specs.Streams.{AreKept, GoesOn, IsStreamAt, StreamState, ended_at, is_hungry, line_room}
+use Rattle.stream_job.specs.Streams.{AreKept, StreamGoesOn, IsStreamAt, StreamState, ended_at, is_hungry, line_room}
 use Rattle.stream_job.specs.contracts.stream.Stream.{the_view}
 use Rattle.stream_job.proofs.FedTurns.{none_met, turn_stands}
 use Rattle.stream_job.proofs.stream.Stream.turn.Goals as goal
@@ -91,7 +91,7 @@ invariant_of-self-2 c =
 pub returns : goal.returns
 returns c =
     let j = (goal.at.returns c).Joined-matches in
-    let P : StreamState → Type 0 = λ w. GoesOn w record {
+    let P : StreamState → Type 0 = λ w. StreamGoesOn w record {
       job = c.self.inside.job;
       machine = c.make.new.self;
       inputs = c.self.inside.inputs.items;

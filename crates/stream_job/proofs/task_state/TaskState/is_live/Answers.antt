@@ -3,14 +3,14 @@ use Rattle.std.proofs.Common.{◌≡◌, ◌&&◌, length, is_some, nat_lt, not,
 use Rattle.std.proofs.Math.Bool.{and-false}
 use Rattle.stream_eval.specs.stream_lists.Jobs.{with_samples}
 use Rattle.graph_runs.specs.Nexts.{first_missing, first_kept}
-use Rattle.stream_job.specs.Places.{place_of}
+use Rattle.stream_job.specs.Places.{place_in_state}
 use Rattle.stream_job.proofs.Reading.{live_by, complete}
 use Rattle.stream_job.proofs.task_state.TaskState.is_live.Goals as goal
 
 pub returns-then-is_registered : goal.returns-then-is_registered
 returns-then-is_registered c = λ s m stands.
-    live_by (with_samples s c.args.job.now) m c.args.t (place_of c.args.self.now) stands c.requires
-    (complete (with_samples s c.args.job.now) m c.args.t (place_of c.args.self.now) stands
+    live_by (with_samples s c.args.job.now) m c.args.t (place_in_state c.args.self.now) stands c.requires
+    (complete (with_samples s c.args.job.now) m c.args.t (place_in_state c.args.self.now) stands
     (c.is_registered.ensures s m stands ∙ ap not c.if-is_registered.true))
     ∙ ap (nat_lt c.args.self.now.left) (sym c.len.ensures.value)
 

@@ -9,7 +9,7 @@ use Rattle.stream_eval.specs.stream_lists.Lists.{is_sink_at, numbers_of, sinks_o
 use Rattle.stream_eval.specs.stream_lists.Ranges.{answer_of}
 use Rattle.graph_runs.specs.Moments.{Moment, started}
 use Rattle.graph_runs.specs.Nexts.{is_live}
-use Rattle.stream_job.specs.SinkLines.{kept_by, begins_at}
+use Rattle.stream_job.specs.SinkLines.{kept_by, sink_begins_at}
 use Rattle.stream_job.specs.Worlds.{WorldState, HasMet, IsWorldAt}
 use Rattle.stream_job.proofs.LinesBegin.{begins_further, met_begins}
 use Rattle.stream_job.proofs.SinksKeep.{lines_taken, sink_reads}
@@ -66,6 +66,6 @@ returns-clause-all c =
 pub returns-clause-starts : goal.returns-clause-starts
 returns-clause-starts c =
     let P : WorldState → Type 0 = λ w. (m : Moment) → IsWorldAt w m
-    → map (λ line. line.start) c.deref.result.now ≡ map (begins_at w.job m) (sinks_of w.job) in
+    → map (λ line. line.start) c.deref.result.now ≡ map (sink_begins_at w.job m) (sinks_of w.job) in
     subst P c.self.view_is (λ m at.
     ap (map (λ line. line.start)) c.deref.ensures.value ∙ at.lines.starts)

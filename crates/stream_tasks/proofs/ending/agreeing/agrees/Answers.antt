@@ -1,7 +1,7 @@
 -- What was found of the task and of its parent.
 use Rattle.std.proofs.Common.{◌≡◌, Some, None, IfSome, sym, ap, subst, ◌∙◌}
 use Rattle.graph_runs.specs.graph_base.Graphs.{Graph, Task, task_at}
-use Rattle.stream_tasks.specs.Joinings.{IsAt}
+use Rattle.stream_tasks.specs.Joinings.{IsPlaced}
 use Rattle.stream_tasks.specs.TaskLefts.{given_to}
 use Rattle.stream_tasks.proofs.Agreed.{agreed_root, agreed_child, found_part, same_lists}
 use Rattle.stream_tasks.proofs.ending.agreeing.agrees.Goals as goal
@@ -11,7 +11,7 @@ returns-in_default c = λ e.
     (let root : (task_at c.args.job.now.graph c.args.c).parent ≡ None =
     ap (λ (g : Graph). (task_at g c.args.c).parent) (sym c.graph.ensures.graph)
     ∙ (ap (λ (t : Task). t.parent) (sym c.task.ensures.task) ∙ c.in_default.is) in
-    let found = found_part c.part_at-own.result (λ part. IsAt c.args.parts.now c.args.c part.now)
+    let found = found_part c.part_at-own.result (λ part. IsPlaced c.args.parts.now c.args.c part.now)
     (sym c.is_some.ensures ∙ e) c.part_at-own.ensures.some in
     agreed_root c.args.job.now c.args.parts.now c.args.c found.0.now root found.1)
 
@@ -20,11 +20,11 @@ returns-then-parent-above c = λ e.
     (let has : (task_at c.args.job.now.graph c.args.c).parent ≡ Some c.in-Some.parent =
     ap (λ (g : Graph). (task_at g c.args.c).parent) (sym c.graph.ensures.graph)
     ∙ (ap (λ (t : Task). t.parent) (sym c.task.ensures.task) ∙ c.in-Some.is) in
-    let own : IsAt c.args.parts.now c.args.c c.in-Some-Some.own.now =
-    subst (λ o. IfSome o (λ part. IsAt c.args.parts.now c.args.c part.now)) c.in-Some-Some.is-0
+    let own : IsPlaced c.args.parts.now c.args.c c.in-Some-Some.own.now =
+    subst (λ o. IfSome o (λ part. IsPlaced c.args.parts.now c.args.c part.now)) c.in-Some-Some.is-0
     c.part_at-own.ensures.some in
-    let above : IsAt c.args.parts.now c.in-Some.parent.task c.in-Some-Some.above.now =
-    subst (λ o. IfSome o (λ part. IsAt c.args.parts.now c.in-Some.parent.task part.now))
+    let above : IsPlaced c.args.parts.now c.in-Some.parent.task c.in-Some-Some.above.now =
+    subst (λ o. IfSome o (λ part. IsPlaced c.args.parts.now c.in-Some.parent.task part.now))
     c.in-Some-Some.is-1 c.part_at.ensures.some in
     let same : given_to c.in-Some-Some.above.now.given.items c.args.c
     ≡ c.in-Some-Some.own.now.numbers.items =

@@ -1,9 +1,9 @@
 -- What a task left behind is gathered with what those before it did.
 use Rattle.std.proofs.Common.{rules, ℕ, List, [], ◌∷◌, ◌++◌, None, Some, refl, sym, subst, ◌∙◌, arith}
 use Rattle.std.proofs.lemmas.List.{length-append}
-use Rattle.stream_tasks.specs.Joinings.{IsAt}
+use Rattle.stream_tasks.specs.Joinings.{IsPlaced}
 use Rattle.stream_tasks.specs.Gatherings.{AreGathered}
-use Rattle.stream_tasks.specs.TaskLefts.{end_of}
+use Rattle.stream_tasks.specs.TaskLefts.{task_end_of}
 use Rattle.stream_tasks.proofs.Added.{none_gathered, add_absent, lefts_long, have_places, add_came, IsLeftAs, left_as, taken_out, behind_set}
 use Rattle.stream_tasks.proofs.ending.gathering.gather.Goals as goal
 
@@ -42,7 +42,7 @@ left_of : (c : goal.After-take_all_in-arg-1)
     → IsLeftAs c.args.job.now c.requires.left.0 c.loop-t.t c.in-Some.left.part c.in-Some.left.lefts.items
 left_of c =
     let i = c.loop-t.invariant in
-    let at : IsAt c.loop-t.tasks.items c.loop-t.t c.in-Some.left =
+    let at : IsPlaced c.loop-t.tasks.items c.loop-t.t c.in-Some.left =
     taken_out c.loop-t.tasks.items c.loop-t.t c.index_mut.result.now c.take.result c.in-Some.left
     c.index_mut.ensures.value c.take.ensures.value c.in-Some.is
     (let lt = c.loop-t-test.true in let all = c.len-t-end.ensures in let same = i.4 in omega arith) in
@@ -75,13 +75,13 @@ loop-t-preserved c =
     let i = c.loop-t.invariant in
     let t : ℕ = c.loop-t.t in
     let left = c.in-Some.left in
-    let at : IsAt c.loop-t.tasks.items t left =
+    let at : IsPlaced c.loop-t.tasks.items t left =
     taken_out c.loop-t.tasks.items t c.index_mut.result.now c.take.result left
     c.index_mut.ensures.value c.take.ensures.value c.in-Some.is
     (let lt = c.loop-t-test.true in let all = c.len-t-end.ensures in let same = i.4 in omega arith) in
     let l = left_as c.args.job.now c.requires.left.0 t left
     (c.requires.left.2 t left (sym (i.3 t (omega arith)) ∙ at)) c.if-task-t.false in
-    let end = end_of t left.part left.lefts.items in
+    let end = task_end_of t left.part left.lefts.items in
     let P : List _ → Type 0 = λ parts.
     AreGathered c.args.job.now c.args.joined.now.items c.take_all_in.new.joined.items parts
     (i.0 ++ Some end ∷ []) in

@@ -3,7 +3,7 @@ use Rattle.std.proofs.Common.{◌≡◌, true, sym, ap, ◌∙◌}
 use Rattle.graph_runs.specs.graph_base.Graphs.{task_at}
 use Rattle.graph_runs.specs.Nexts.{is_cut}
 use Rattle.graph_runs.proofs.TellsNext.{ended_cut}
-use Rattle.stream_tasks.specs.Tasks.{place_of}
+use Rattle.stream_tasks.specs.Tasks.{place_of_state}
 use Rattle.stream_tasks.specs.Inside.{MayStep}
 use Rattle.stream_tasks.proofs.EndingLemmas.{at_end, all_now}
 use Rattle.stream_tasks.proofs.Keeping.{owed_none}
@@ -17,7 +17,7 @@ returns-then-is_cut g c = λ spots task.
     ap (λ u. is_cut u s.begun) (sym c.until_of.ensures) ∙ sym c.is_cut.ensures ∙ c.if-is_cut.true in
     at_end job spots s c.requires.met c.requires.owed
     (all_now job s task.whole c.requires.children)
-    (λ m at. ended_cut job m s.number (place_of s) task.whole.there at.part at.place
+    (λ m at. ended_cut job m s.number (place_of_state s) task.whole.there at.part at.place
     (owed_none s c.requires.owed) cut) task
 
 pub put_samples-requires-clause-step : goal.put_samples-requires-clause-step

@@ -11,7 +11,7 @@ use Rattle.graph_runs.specs.Steps.{owed_of}
 use Rattle.graph_runs.specs.graph_base.Graphs.{task_at}
 use Rattle.graph_runs.specs.Nexts.{registrations_at}
 use Rattle.stream_eval.specs.stream_lists.Lists.{number}
-use Rattle.stream_tasks.specs.Holds.{GoesOn, HasGot, HasWaited, IsAtMost}
+use Rattle.stream_tasks.specs.Holds.{HoldGoesOn, WaitGave, MemberHasWaited, IsAtMost}
 use Rattle.stream_tasks.proofs.Taking.{first_of, some_of}
 use Rattle.stream_tasks.proofs.Turning.{task_sees, whole_moves, as_it_is, fits}
 use Rattle.stream_tasks.proofs.Waiting.{exchange_on, task_exchanges, owes_exchange, exchange_fits}
@@ -63,10 +63,10 @@ returns-else-is_too_big c = λ spots task.
     let few = subst (IsAtMost 1) c.in-Ok-Values.field-0-is c.in-Ok-Values.ensures.few in
     let first : get_or out 0 outcome ≡ outcome =
     get_or-take 1 places 0 outcome (omega arith) ∙ sym c.index-got.ensures in
-    let given : GoesOn (HasWaited (outcome ∷ [])) c.index_mut.result.now c.get_into.new.hold =
-    subst (λ os. GoesOn (HasWaited os) c.index_mut.result.now c.get_into.new.hold)
+    let given : HoldGoesOn (MemberHasWaited (outcome ∷ [])) c.index_mut.result.now c.get_into.new.hold =
+    subst (λ os. HoldGoesOn (MemberHasWaited os) c.index_mut.result.now c.get_into.new.hold)
     (first_of out outcome c.in-Ok-Values.field-0-0 long few.0 ∙ ap (λ o. o ∷ []) first)
-    (subst (λ f. GoesOn (HasGot (Ok f) out) c.index_mut.result.now c.get_into.new.hold) c.in-Ok-Values.field-0-is
+    (subst (λ f. HoldGoesOn (WaitGave (Ok f) out) c.index_mut.result.now c.get_into.new.hold) c.in-Ok-Values.field-0-is
     c.in-Ok-Values.ensures.call) in
     task_exchanges job spots s c.input_of-p.result c.args.x outcome c.index_mut.result.now c.get_into.new.hold
     owed c.get_into.new.places c.requires.over c.requires.owed c.requires.none_made c.requires.met
@@ -97,5 +97,5 @@ returns-in-Err c = λ spots task.
     task_sees job spots s 1 c.input_of-p.result c.index_mut.result.now c.get_into.new.hold s.lines s.entered
     c.get_into.new.places s.places c.get_into.ensures.places (λ op. refl)
     on.1 (on.2 ∙ sym c.input_of-p.ensures.phaser) (omega arith) c.index_mut.ensures.value refl
-    (subst (λ r. GoesOn (HasGot r (take 1 c.get_into.new.places.items)) c.index_mut.result.now c.get_into.new.hold)
+    (subst (λ r. HoldGoesOn (WaitGave r (take 1 c.get_into.new.places.items)) c.index_mut.result.now c.get_into.new.hold)
     c.in-Err.is c.get_into.ensures.call) task

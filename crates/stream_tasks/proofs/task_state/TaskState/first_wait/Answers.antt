@@ -6,7 +6,7 @@ use Rattle.graph_runs.proofs.Entries.{take_length}
 use Rattle.graph_runs.specs.graph_base.Graphs.{is_sink, task_at}
 use Rattle.stream_eval.specs.stream_lists.Lists.{is_sink_at, number}
 use Rattle.graph_runs.specs.Nexts.{registrations_at}
-use Rattle.stream_tasks.specs.Holds.{GoesOn, HasGot, HasWaited, IsAtMost}
+use Rattle.stream_tasks.specs.Holds.{HoldGoesOn, WaitGave, MemberHasWaited, IsAtMost}
 use Rattle.stream_tasks.proofs.Turning.{task_sees, whole_moves, as_it_is, fits}
 use Rattle.stream_tasks.proofs.Waiting.{task_takes, input_on}
 use Rattle.stream_tasks.proofs.EndingLemmas.{runs_out}
@@ -126,8 +126,8 @@ returns-in-Some g c = λ spots task.
       others = c.owed_after.ensures.others;
     })
     c.index_mut.ensures.value
-    (subst (λ l. GoesOn (HasWaited l) c.index_mut.result.now c.get_into.new.hold) first
-    (subst (λ f. GoesOn (HasGot (Ok f) out) c.index_mut.result.now c.get_into.new.hold) c.in-Ok-Values.field-0-is
+    (subst (λ l. HoldGoesOn (MemberHasWaited l) c.index_mut.result.now c.get_into.new.hold) first
+    (subst (λ f. HoldGoesOn (WaitGave (Ok f) out) c.index_mut.result.now c.get_into.new.hold) c.in-Ok-Values.field-0-is
     c.in-Ok-Values.ensures.call)) task
 
 pub returns-in-Ok-Ended : goal.returns-in-Ok-Ended
@@ -143,7 +143,7 @@ returns-in-Ok-Ended g c = λ spots task.
     c.get_into.new.places
     step.met step.over step.owed c.requires.kind c.first_input_of-k.ensures.input within
     (sym c.input_of-p.ensures.phaser) on.0 on.1 c.index_mut.ensures.value c.make_room.ensures.items c.get_into.ensures.places step.children
-    (subst (λ f. GoesOn (HasGot (Ok f) (take c.steps-steps.result c.get_into.new.places.items)) c.index_mut.result.now c.get_into.new.hold) c.in-Ok-Ended.field-0-is
+    (subst (λ f. HoldGoesOn (WaitGave (Ok f) (take c.steps-steps.result c.get_into.new.places.items)) c.index_mut.result.now c.get_into.new.hold) c.in-Ok-Ended.field-0-is
     c.in-Ok-Ended.ensures.call) task
 
 pub returns-in-Err : goal.returns-in-Err
@@ -158,4 +158,4 @@ returns-in-Err g c = λ spots task.
     task_sees job spots s k p c.index_mut.result.now c.get_into.new.hold c.make_room.new.lines c.enter.new.entered
     c.get_into.new.places s.places c.get_into.ensures.places (λ op. refl)
     on.0 on.1 (omega arith) c.index_mut.ensures.value c.make_room.ensures.items
-    (subst (λ r. GoesOn (HasGot r (take c.steps-steps.result c.get_into.new.places.items)) c.index_mut.result.now c.get_into.new.hold) c.in-Err.is c.get_into.ensures.call) task
+    (subst (λ r. HoldGoesOn (WaitGave r (take c.steps-steps.result c.get_into.new.places.items)) c.index_mut.result.now c.get_into.new.hold) c.in-Err.is c.get_into.ensures.call) task

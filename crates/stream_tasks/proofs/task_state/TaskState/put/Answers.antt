@@ -5,7 +5,7 @@ use Rattle.graph_runs.specs.Nexts.{registrations_at}
 use Rattle.graph_runs.specs.TaskPlaces.{owed_after_signal}
 use Rattle.graph_runs.specs.Steps.{owed_of}
 use Rattle.graph_runs.specs.graph_base.Graphs.{task_at, phaser_at}
-use Rattle.stream_tasks.specs.Holds.{GoesOn, HasSignalled}
+use Rattle.stream_tasks.specs.Holds.{HoldGoesOn, MemberHasSignalled}
 use Rattle.stream_tasks.specs.Tasks.{owed_by}
 use Rattle.stream_tasks.proofs.Turning.{task_sees, task_puts, owed_output, output_on, owes_value, value_fits}
 use Rattle.stream_tasks.proofs.task_state.TaskState.put.Goals as goal
@@ -45,9 +45,9 @@ returns-in-Ok c = λ spots task.
     (to_z-of_z c.ranges.value) c.owed_after_signal-self.ensures)
     (value_fits job s j v c.owed_after_signal-self.result task.whole c.requires.owed)
     c.index_mut.ensures.value
-    (subst (λ y. GoesOn (HasSignalled (y ∷ []) (phaser_at job.graph p).single) c.index_mut.result.now c.put.new.self)
+    (subst (λ y. HoldGoesOn (MemberHasSignalled (y ∷ []) (phaser_at job.graph p).single) c.index_mut.result.now c.put.new.self)
     (to_z-of_z c.ranges.value)
-    (subst (λ o. GoesOn (HasSignalled (to_z w64 (of_z w64 v) ∷ []) o) c.index_mut.result.now c.put.new.self)
+    (subst (λ o. HoldGoesOn (MemberHasSignalled (to_z w64 (of_z w64 v) ∷ []) o) c.index_mut.result.now c.put.new.self)
     (ap (λ l. l.single) (c.phaser.ensures.phaser ∙ ap (λ g. phaser_at g p) c.graph.ensures.graph)) c.in-Ok.ensures.ok))
     task
 

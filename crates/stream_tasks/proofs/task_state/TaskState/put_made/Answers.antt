@@ -2,7 +2,7 @@
 use Rattle.std.proofs.Common.{◌≡◌, ◌<◌, inr, [], length, sym, refl, subst, ap, ◌∙◌, arith}
 use Rattle.graph_runs.specs.Nexts.{registrations_at}
 use Rattle.graph_runs.specs.graph_base.Graphs.{phaser_at}
-use Rattle.stream_tasks.specs.Holds.{GoesOn, HasSignalled}
+use Rattle.stream_tasks.specs.Holds.{HoldGoesOn, MemberHasSignalled}
 use Rattle.stream_tasks.proofs.Turning.{task_sees, task_puts, has_send_places, held, is_filter, owed_output, output_on, owes_made, put_all_owes, made_fits}
 use Rattle.stream_tasks.proofs.task_state.TaskState.put_made.Goals as goal
 
@@ -60,9 +60,9 @@ returns-in-Ok c = λ spots task.
     (made_fits job s made c.put_all.new.places task.whole c.clear.ensures.items c.clear.ensures.capacity
     c.put_all.ensures.places)
     c.index_mut.ensures.value
-    (subst (λ l. GoesOn (HasSignalled l (phaser_at job.graph p).single) c.index_mut.result.now c.put_all.new.self)
+    (subst (λ l. HoldGoesOn (MemberHasSignalled l (phaser_at job.graph p).single) c.index_mut.result.now c.put_all.new.self)
     c.deref.ensures.value
-    (subst (λ o. GoesOn (HasSignalled c.deref.result.now o) c.index_mut.result.now c.put_all.new.self)
+    (subst (λ o. HoldGoesOn (MemberHasSignalled c.deref.result.now o) c.index_mut.result.now c.put_all.new.self)
     (ap (λ l. l.single) (c.phaser.ensures.phaser ∙ ap (λ g. phaser_at g p) c.graph.ensures.graph)) c.in-Ok.ensures.ok))
     task
 

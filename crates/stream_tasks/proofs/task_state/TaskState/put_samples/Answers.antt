@@ -7,8 +7,8 @@ use Rattle.graph_runs.specs.graph_base.Registrations.{signalled_by}
 use Rattle.stream_eval.specs.stream_lists.Jobs.{samples_at}
 use Rattle.graph_runs.specs.Places.{MayMake}
 use Rattle.graph_runs.proofs.TellsNext.{ended_no_sample}
-use Rattle.stream_tasks.specs.Holds.{GoesOn, HasSignalled}
-use Rattle.stream_tasks.specs.Tasks.{place_of}
+use Rattle.stream_tasks.specs.Holds.{HoldGoesOn, MemberHasSignalled}
+use Rattle.stream_tasks.specs.Tasks.{place_of_state}
 use Rattle.stream_tasks.proofs.Keeping.{owed_none}
 use Rattle.stream_tasks.proofs.Turning.{task_sees, has_send_places, held, output_on}
 use Rattle.stream_tasks.proofs.Waiting.{task_samples, makes_fewer}
@@ -23,7 +23,7 @@ returns-then-begun-samples g c = λ spots task.
     let past : length (samples_at job s.number) ≤ s.begun =
     subst (λ l. length l ≤ s.begun) task.whole.samples c.if-begun-samples.true in
     at_end job spots s step.met step.owed step.children
-    (λ m at. ended_no_sample job m s.number (place_of s) task.whole.there at.part at.place
+    (λ m at. ended_no_sample job m s.number (place_of_state s) task.whole.there at.part at.place
     (owed_none s step.owed) c.requires.kind past) task
 
 -- there are places for the next samples
@@ -77,7 +77,7 @@ returns-in-Ok g c = λ spots task.
     ∙ ap (λ l. take (length vs) (drop s.begun l)) task.whole.samples)
     (makes_fewer job s.number s.begun c.steps.result (length vs) (omega arith) c.steps.ensures.may)
     c.index_mut.ensures.value
-    (subst (λ o. GoesOn (HasSignalled vs o) c.index_mut.result.now c.put_all.new.self)
+    (subst (λ o. HoldGoesOn (MemberHasSignalled vs o) c.index_mut.result.now c.put_all.new.self)
     (ap (λ l. l.single) (c.phaser.ensures.phaser ∙ ap (λ x. phaser_at x p) c.graph.ensures.graph)) c.in-Ok.ensures.ok)
     task
 
