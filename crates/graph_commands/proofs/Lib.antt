@@ -1,6 +1,5 @@
-mod Counted
+pub mod Counted
 mod Decimals
-pub mod DrawingEnds
 pub mod Ends
 pub mod Explaining
 pub mod Needed

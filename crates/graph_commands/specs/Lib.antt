@@ -1,4 +1,6 @@
+pub mod Ends
 pub mod Explained
+pub mod Failures
 pub mod Faults
 pub mod FileJobs
 pub mod GraphDrawings

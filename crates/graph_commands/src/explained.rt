@@ -1,122 +1,112 @@
-//! The job of a graph's file, or why there is none, told and explained.
-ghost use Rattle.std.specs.Prelude.{◌≡◌, ◌⊎◌, ℕ, List, IfOk, IfErr, OnOk};
-ghost use Rattle.graph_commands.specs.Explained.{Explained, ExplainsNoJob, IsTextOf, Tells, TellsRefusal, ToldNoGraph};
-ghost use Rattle.graph_commands.specs.FileJobs.{Explains, IsGraphOf, IsJobOf, Known};
-ghost use Rattle.graph_commands.specs.GraphDrawings.{ExplainsNoGraph};
-ghost use Rattle.graph_commands.specs.GraphRuns.{job_status};
+//! The reports of failures: their lines, and what explains them to a person.
+ghost use Rattle.std.specs.Prelude.{◌≡◌, IfErr, IfOk, OnOk};
+ghost use Rattle.graph_commands.specs.Ends.{IsTold, SaysMore};
+ghost use Rattle.graph_commands.specs.Explained.{Tells, TellsRefusal};
+ghost use Rattle.graph_commands.specs.Failures.{HasPlace, failure_status};
 ghost use Rattle.graph_show.specs.watched_io.States.{writer_state};
 
 use crate::controls::without_controls;
-use crate::further::tell_bytes;
-use crate::graph_faults::report_job_fault;
-use crate::job_file::job_of_graph;
+use crate::further::{further_lines, tell_bytes};
+use crate::graph_faults::tell;
+use crate::hints::{sink_texts, value_texts};
 use crate::meeting::meeting_name;
 use crate::records::record_explained;
-use crate::{FileRefusal, GRAPH_MAX, JobFault, Refuses};
+use crate::{Failure, FileRefusal, JobFault, Refuses};
 use graph_show::explanation;
-use graph_show::graph_lang::{Graph, read_graph};
-use graph_show::watched_io::{Files, Watched};
+use graph_show::watched_io::{Explain, Files, Status, Watched};
 use std::alloc::{AllocError, Global};
 use std::io::Write;
-use stream_eval::stream_lists::Job;
 
 /// What is told where memory runs out over an explanation.
 const NO_MEMORY: &str = "  no memory to explain it\n";
 
-/// Makes the job of a graph's file, as `read_job` does. Where there is none it tells why, and then
-/// explains it to a person, and answers the status: 1 where the graph or the samples are refused,
-/// and else 5.
+/// Ends a command on the graph in the file of this name, and answers the status: `Done`, or where
+/// the command failed that of its failure, which is reported.
+pub fn end<E: Write, F: Files + Refuses>(
+    alloc: Global,
+    done: Result<(), Failure<'_>>,
+    file: &str,
+    explain: Explain,
+    faults: &mut Watched<E>,
+    files: &mut F,
+) -> Status
+    requires { IfErr done (λ found. HasPlace found) }
+    ensures done { OnOk done.entry ((result ≡ Status.Done) × (faults.new ≡ faults.old)) }
+    ensures status { IfErr done.entry (λ found. result ≡ failure_status found) }
+    ensures quiet { result ≡ Status.Done → faults.new ≡ faults.old }
+    ensures told { IfErr done.entry (λ found. IsTold explain (F.file files.old) found
+        (writer_state E.contents faults.old) (writer_state E.contents faults.new)) }
+{
+    match done {
+        Ok(()) => Status::Done,
+        Err(failure) => report(alloc, &failure, file, explain, faults, files),
+    }
+}
+
+/// Tells a failure of a command on the graph in the file of this name by its line, explains it to a
+/// person where that is asked for, and answers its status.
 ///
 /// A fault of the graph is explained by its line, a mark under the word that is at fault, and what
 /// was expected there; a record that is no sample by where it stands, why it is none, and what a
-/// sample is; a file that was refused by its name and why, as far as the files tell. The file of
-/// the record is read again for that, and the files of all sources where tasks meet. Where memory
-/// runs out over it, that is told.
-pub fn read_job_or_explain<E: Write, F: Files + Refuses>(
+/// sample is; a file that was refused by its name and why, as far as the files tell; a name that no
+/// sink has by the sinks that there are; a value that is out of range by the line that declares its
+/// phaser or makes it, and the tasks that signal the phaser. The file of the record is read again
+/// for that, the files of all sources where tasks meet, and the graph's where a value is out of
+/// range. Where memory runs out over a fault of the files, that is told, and else nothing is said.
+pub fn report<E: Write, F: Files + Refuses>(
     alloc: Global,
-    files: &mut F,
-    name: &str,
+    failure: &Failure<'_>,
+    file: &str,
+    explain: Explain,
     faults: &mut Watched<E>,
-) -> Result<Job, u8>
-    ensures ok { IfOk result (λ job. IsJobOf (F.file files.old) name.now job) }
-    ensures quiet { OnOk result (faults.new ≡ faults.old) }
-    ensures err { IfErr result (λ status. ExplainsNoJob (F.file files.old) name.now status
-        (writer_state E.contents faults.old) (writer_state E.contents faults.new)) }
-    ensures status { IfErr result (λ status. (status ≡ 1) ⊎ (status ≡ 5)) }
-{
-    match files.read(alloc, name, GRAPH_MAX) {
-        Ok(text) => match job_of_text(alloc, files, &text) {
-            Ok(job) => Ok(job),
-            Err(fault) => Err(report_explained(alloc, &text, &fault, files, faults)),
-        },
-        Err(fault) => Err(report_explained(alloc, &[], &JobFault::from(fault), files, faults)),
-    }
-}
-
-/// Reads the graph of a file, as `read_graph_file` does, and explains as `read_job_or_explain` does
-/// why there is none.
-pub(crate) fn read_graph_or_explain<E: Write, F: Files + Refuses>(
-    alloc: Global,
     files: &mut F,
-    name: &str,
-    faults: &mut Watched<E>,
-) -> Result<Graph, u8>
-    ensures ok { IfOk result (λ graph. IsGraphOf (F.file files.old) name.now graph) }
-    ensures quiet { OnOk result (faults.new ≡ faults.old) }
-    ensures err { IfErr result (λ status. ToldNoGraph (F.file files.old) name.now status
-        (writer_state E.contents faults.old) (writer_state E.contents faults.new)) }
-    ensures status { IfErr result (λ status. (status ≡ 1) ⊎ (status ≡ 5)) }
-{
-    match files.read(alloc, name, GRAPH_MAX) {
-        Ok(text) => match graph_of_text(alloc, &text) {
-            Ok(graph) => Ok(graph),
-            Err(fault) => Err(report_explained(alloc, &text, &fault, files, faults)),
-        },
-        Err(fault) => Err(report_explained(alloc, &[], &JobFault::from(fault), files, faults)),
-    }
-}
-
-/// Reads the graph of a text.
-fn graph_of_text(alloc: Global, text: &[u8]) -> Result<Graph, JobFault>
-    ensures ok { IfOk result (λ graph. (known : Known) (name : List ℕ)
-        → IsTextOf known name text.now → IsGraphOf known name graph) }
-    ensures fault { IfErr result (λ fault. (known : Known) (name : List ℕ)
-        → IsTextOf known name text.now → ExplainsNoGraph known name fault) }
-{
-    Ok(read_graph(alloc, text)?)
-}
-
-/// Makes the job of a graph's text.
-fn job_of_text<F: Files>(alloc: Global, files: &mut F, text: &[u8]) -> Result<Job, JobFault>
-    ensures ok { IfOk result (λ job. (name : List ℕ)
-        → IsTextOf (F.file files.old) name text.now → IsJobOf (F.file files.old) name job) }
-    ensures fault { IfErr result (λ fault. (name : List ℕ)
-        → IsTextOf (F.file files.old) name text.now → Explains (F.file files.old) name fault) }
-    ensures same { (other : List ℕ) → F.file files.new other ≡ F.file files.old other }
-{
-    let graph = read_graph(alloc, text)?;
-    job_of_graph(alloc, files, graph)
-}
-
-/// Tells why there is no job, and explains it, by the graph's text where that was read; and answers
-/// the status.
-fn report_explained<E: Write, F: Files + Refuses>(
-    alloc: Global,
-    text: &[u8],
-    fault: &JobFault,
-    files: &mut F,
-    faults: &mut Watched<E>,
-) -> u8
-    ensures status { result ≡ job_status fault.now }
-    ensures told { Explained (F.file files.old) text.now fault.now
+) -> Status
+    requires { HasPlace failure.now }
+    ensures status { result ≡ failure_status failure.now }
+    ensures told { IsTold explain (F.file files.old) failure.now
         (writer_state E.contents faults.old) (writer_state E.contents faults.new) }
 {
-    let status = report_job_fault(fault, faults);
-    match further(alloc, text, fault, files) {
-        Ok(more) => tell_bytes(&more, faults),
-        Err(_) => tell_bytes(NO_MEMORY.as_bytes(), faults),
+    tell(failure, faults);
+    match explain {
+        Explain::No => {}
+        Explain::Yes => tell_more(alloc, failure, file, faults, files),
     }
-    status
+    failure.status()
+}
+
+/// Says what explains a failure to a person.
+fn tell_more<E: Write, F: Files + Refuses>(
+    alloc: Global,
+    failure: &Failure<'_>,
+    file: &str,
+    faults: &mut Watched<E>,
+    files: &mut F,
+)
+    requires { HasPlace failure.now }
+    ensures { SaysMore (F.file files.old) failure.now
+        (writer_state E.contents faults.old) (writer_state E.contents faults.new) }
+{
+    match failure {
+        Failure::Graph { fault, text } => match further(alloc, text, fault, files) {
+            Ok(more) => tell_bytes(&more, faults),
+            Err(_) => tell_bytes(NO_MEMORY.as_bytes(), faults),
+        },
+        Failure::NoSink { job, name: _ } => {
+            let more = further_lines(alloc, sink_texts(alloc, job.graph()));
+            tell_bytes(&more, faults);
+        }
+        Failure::TooBig {
+            job,
+            place,
+            phase: _,
+        } => {
+            let texts = value_texts(alloc, file, job.graph(), *place, files);
+            let more = further_lines(alloc, texts);
+            tell_bytes(&more, faults);
+        }
+        Failure::Stalled { further } => tell_bytes(further, faults),
+        Failure::Io(_) => {}
+    }
 }
 
 /// What is said of a fault further.

@@ -61,7 +61,7 @@ pub fn further_lines(alloc: Global, texts: Result<Vec<Vec<u8>>, AllocError>) -> 
 }
 
 /// Tells these bytes. Where a write fails there is nobody to be told.
-pub fn tell_bytes<E: Write>(bytes: &[u8], faults: &mut Watched<E>)
+pub(crate) fn tell_bytes<E: Write>(bytes: &[u8], faults: &mut Watched<E>)
     ensures { Says bytes.now
         (writer_state E.contents faults.old) (writer_state E.contents faults.new) }
 {

@@ -1,13 +1,15 @@
-//! The lines of a graph's faults.
+//! The lines of the failures of commands.
 ghost use Rattle.std.specs.Prelude.{◌≡◌};
 ghost use Rattle.graph_show.specs.graph_base.Graphs.{IsPlace, name_at};
-ghost use Rattle.graph_commands.specs.GraphRuns.{graph_line, job_line, job_status, kind_text, no_sink_line, samples_line, too_big_line};
-ghost use Rattle.graph_show.specs.watched_io.Statuses.{Says};
+ghost use Rattle.graph_commands.specs.Failures.{HasPlace, failure_line};
+ghost use Rattle.graph_commands.specs.GraphRuns.{graph_line, job_line, kind_text, no_sink_line};
+ghost use Rattle.graph_commands.specs.GraphRuns.{samples_line, stalled_line, too_big_line};
+ghost use Rattle.graph_show.specs.watched_io.Statuses.{Reports, Says};
 ghost use Rattle.graph_show.specs.watched_io.States.{writer_state};
 
-use crate::JobFault;
+use crate::{Failure, JobFault};
 use graph_show::graph_lang::{FaultKind, Graph, GraphFault, Place};
-use graph_show::watched_io::{GRAPH_REFUSED, IoFault, TOO_BIG, Watched, report, say};
+use graph_show::watched_io::{IoFault, Watched, report, say};
 use itoa::Buffer;
 use std::io::Write;
 
@@ -50,47 +52,39 @@ fn tell_bad_sample<E: Write>(name: &str, number: usize, faults: &mut Watched<E>)
     say(parts.as_slice(), faults);
 }
 
-/// Tells that no sink has this name, and answers the status 1.
-pub fn report_no_sink<E: Write>(name: &str, faults: &mut Watched<E>) -> u8
-    ensures status { result ≡ 1 }
-    ensures line { Says (no_sink_line name.now)
+/// Tells a fault of reading, of writing or of memory.
+fn tell_io_fault<E: Write>(fault: IoFault, faults: &mut Watched<E>)
+    ensures { Reports fault
+        (writer_state E.contents faults.old) (writer_state E.contents faults.new) }
+{
+    let _ = report(fault, faults);
+}
+
+/// Tells why the files give no job.
+fn tell_job_fault<E: Write>(fault: &JobFault, faults: &mut Watched<E>)
+    ensures { Says (job_line fault.now)
+        (writer_state E.contents faults.old) (writer_state E.contents faults.new) }
+{
+    match fault {
+        JobFault::Graph(found) => tell_graph_fault(*found, faults),
+        JobFault::BadSample { name, number } => tell_bad_sample(name.as_str(), *number, faults),
+        JobFault::ReadFault => tell_io_fault(IoFault::ReadFault, faults),
+        JobFault::OutOfMemory => tell_io_fault(IoFault::OutOfMemory, faults),
+    }
+}
+
+/// Tells that no sink has this name.
+fn tell_no_sink<E: Write>(name: &str, faults: &mut Watched<E>)
+    ensures { Says (no_sink_line name.now)
         (writer_state E.contents faults.old) (writer_state E.contents faults.new) }
 {
     let parts = ["phase: no sink ", name, "\n"];
     say(parts.as_slice(), faults);
-    GRAPH_REFUSED
 }
 
-/// Tells why the files give no job, and answers the status: 1 where the graph or the samples are
-/// refused, and else 5.
-pub fn report_job_fault<E: Write>(fault: &JobFault, faults: &mut Watched<E>) -> u8
-    ensures status { result ≡ job_status fault.now }
-    ensures line { Says (job_line fault.now)
-        (writer_state E.contents faults.old) (writer_state E.contents faults.new) }
-{
-    match fault {
-        JobFault::Graph(found) => {
-            tell_graph_fault(*found, faults);
-            GRAPH_REFUSED
-        }
-        JobFault::BadSample { name, number } => {
-            tell_bad_sample(name.as_str(), *number, faults);
-            GRAPH_REFUSED
-        }
-        JobFault::ReadFault => report(IoFault::ReadFault, faults),
-        JobFault::OutOfMemory => report(IoFault::OutOfMemory, faults),
-    }
-}
-
-/// Tells where a value is out of range, and answers the status 3.
-pub fn report_too_big<E: Write>(
-    graph: &Graph,
-    place: Place,
-    number: usize,
-    faults: &mut Watched<E>,
-) -> u8
+/// Tells where a value is out of range.
+fn tell_too_big<E: Write>(graph: &Graph, place: Place, number: usize, faults: &mut Watched<E>)
     requires { IsPlace graph.now place }
-    ensures status { result ≡ 3 }
     ensures line { Says (too_big_line (name_at graph.now place) number)
         (writer_state E.contents faults.old) (writer_state E.contents faults.new) }
 {
@@ -98,5 +92,30 @@ pub fn report_too_big<E: Write>(
     let number = buffer.format(number);
     let parts = ["phase: too big at ", graph.name(place), " ", number, "\n"];
     say(parts.as_slice(), faults);
-    TOO_BIG
+}
+
+/// Tells that a run stalled.
+fn tell_stalled<E: Write>(faults: &mut Watched<E>)
+    ensures { Says stalled_line
+        (writer_state E.contents faults.old) (writer_state E.contents faults.new) }
+{
+    let parts = ["phase: stalled\n"];
+    say(parts.as_slice(), faults);
+}
+
+/// Tells a failure by its line.
+pub(crate) fn tell<E: Write>(failure: &Failure<'_>, faults: &mut Watched<E>)
+    requires { HasPlace failure.now }
+    ensures { Says (failure_line failure.now)
+        (writer_state E.contents faults.old) (writer_state E.contents faults.new) }
+{
+    match failure {
+        Failure::Graph { fault, text: _ } => tell_job_fault(fault, faults),
+        Failure::NoSink { job: _, name } => tell_no_sink(name, faults),
+        Failure::TooBig { job, place, phase } => {
+            tell_too_big(job.graph(), *place, *phase, faults)
+        }
+        Failure::Stalled { further: _ } => tell_stalled(faults),
+        Failure::Io(fault) => tell_io_fault(*fault, faults),
+    }
 }

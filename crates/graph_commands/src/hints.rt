@@ -1,67 +1,17 @@
 //! What is said of a name that no sink has, and of a value that is out of range.
-ghost use Rattle.std.specs.Prelude.{◌≡◌};
-ghost use Rattle.graph_show.specs.graph_base.Graphs.{IsPlace, name_at};
-ghost use Rattle.graph_commands.specs.Explained.{SaysFurther};
-ghost use Rattle.graph_commands.specs.GraphRuns.{no_sink_line, too_big_line};
-ghost use Rattle.graph_show.specs.watched_io.States.{writer_state};
+ghost use Rattle.graph_show.specs.graph_base.Graphs.{IsPlace};
 
 use crate::GRAPH_MAX;
-use crate::further::{further_lines, tell_bytes};
-use crate::graph_faults::{report_no_sink, report_too_big};
 use crate::members::signals;
 use crate::records::front_of;
 use graph_show::graph_base::{Graph, Place};
 use graph_show::graph_lang::graph_text::{lines_of, without_cr, words_of};
-use graph_show::watched_io::{Files, Watched};
+use graph_show::watched_io::Files;
 use itoa::Buffer;
 use std::alloc::{AllocError, Global};
-use std::io::Write;
-
-/// Tells that no sink has this name, and answers the status 1, as `report_no_sink` does, and then
-/// tells a person which sinks there are. Where memory runs out nothing more is said.
-pub fn explain_no_sink<E: Write>(
-    alloc: Global,
-    graph: &Graph,
-    name: &str,
-    faults: &mut Watched<E>,
-) -> u8
-    ensures status { result ≡ 1 }
-    ensures told { SaysFurther (no_sink_line name.now)
-        (writer_state E.contents faults.old) (writer_state E.contents faults.new) }
-{
-    let status = report_no_sink(name, faults);
-    let more = further_lines(alloc, sink_texts(alloc, graph));
-    tell_bytes(&more, faults);
-    status
-}
-
-/// Tells where a value is out of range, and answers the status 3, as `report_too_big` does, and
-/// then tells a person which line of the graph's file declares the phaser or makes the value, and
-/// which tasks signal the phaser. The file is read for that; where it is refused, or memory runs
-/// out, nothing more is said.
-pub fn explain_too_big<E: Write, F: Files>(
-    alloc: Global,
-    file: &str,
-    graph: &Graph,
-    place: Place,
-    number: usize,
-    faults: &mut Watched<E>,
-    files: &mut F,
-) -> u8
-    requires { IsPlace graph.now place }
-    ensures status { result ≡ 3 }
-    ensures told { SaysFurther (too_big_line (name_at graph.now place) number)
-        (writer_state E.contents faults.old) (writer_state E.contents faults.new) }
-{
-    let status = report_too_big(graph, place, number, faults);
-    let texts = value_texts(alloc, file, graph, place, files);
-    let more = further_lines(alloc, texts);
-    tell_bytes(&more, faults);
-    status
-}
 
 /// Which sinks a graph has, as a text for a person.
-fn sink_texts(alloc: Global, graph: &Graph) -> Result<Vec<Vec<u8>>, AllocError> {
+pub(crate) fn sink_texts(alloc: Global, graph: &Graph) -> Result<Vec<Vec<u8>>, AllocError> {
     let mut names = Vec::new(alloc);
     for t in 0..graph.tasks() {
         if graph.is_sink(t) {
@@ -128,7 +78,7 @@ fn signaller_text(alloc: Global, graph: &Graph, p: usize) -> Result<Vec<u8>, All
 
 /// Which line of a graph's file makes a value, and who signals it, as texts for a person: none
 /// where the file is refused now.
-fn value_texts<F: Files>(
+pub(crate) fn value_texts<F: Files>(
     alloc: Global,
     file: &str,
     graph: &Graph,

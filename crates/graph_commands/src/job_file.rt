@@ -1,35 +1,52 @@
 //! The job of a graph's file.
 ghost use Rattle.std.specs.Prelude.{◌≡◌, ℕ, List, IfOk, IfErr};
+ghost use Rattle.graph_commands.specs.Explained.{IsTextOf};
+ghost use Rattle.graph_commands.specs.Failures.{IsUnread};
 ghost use Rattle.graph_commands.specs.FileJobs.{Explains, IsGraphOf, IsJobOf};
 
-use crate::JobFault;
-use crate::graph_file::read_graph_file;
 use crate::sources::read_sources;
-use graph_show::graph_lang::{FaultKind, Graph, GraphFault};
+use crate::{Failure, GRAPH_MAX, JobFault};
+use graph_show::graph_lang::{FaultKind, Graph, GraphFault, read_graph};
 use graph_show::watched_io::Files;
 use std::alloc::Global;
 use stream_eval::stream_lists::{Job, JobRefusal};
 
-/// Makes the job of a graph's file: reads the graph, then the samples of each source in the order
-/// of the lines, live or not, each read and checked before the next.
+/// Makes the job of a graph's file: reads the graph, of at most `GRAPH_MAX` bytes, then the samples
+/// of each source in the order of the lines, live or not, each read and checked before the next.
 ///
 /// `AnyMeets` is told once all samples were read. `OutOfMemory` comes where memory was refused.
-pub fn read_job<F: Files>(alloc: Global, files: &mut F, name: &str) -> Result<Job, JobFault>
+pub fn read_job<'a, F: Files>(alloc: Global, files: &mut F, name: &str) -> Result<Job, Failure<'a>>
     ensures ok { IfOk result (λ job. IsJobOf (F.file files.old) name.now job) }
-    ensures fault { IfErr result (λ fault. Explains (F.file files.old) name.now fault) }
+    ensures failed { IfErr result (λ found. IsUnread (F.file files.old) name.now found) }
     ensures same { (other : List ℕ) → F.file files.new other ≡ F.file files.old other }
 {
-    let graph = read_graph_file(alloc, files, name)?;
+    match files.read(alloc, name, GRAPH_MAX) {
+        Ok(text) => match job_of_text(alloc, files, &text) {
+            Ok(job) => Ok(job),
+            Err(fault) => Err(Failure::Graph { fault, text }),
+        },
+        Err(fault) => Err(Failure::Graph {
+            fault: JobFault::from(fault),
+            text: Vec::new(alloc),
+        }),
+    }
+}
+
+/// Makes the job of a graph's text.
+fn job_of_text<F: Files>(alloc: Global, files: &mut F, text: &[u8]) -> Result<Job, JobFault>
+    ensures ok { IfOk result (λ job. (name : List ℕ)
+        → IsTextOf (F.file files.old) name text.now → IsJobOf (F.file files.old) name job) }
+    ensures fault { IfErr result (λ fault. (name : List ℕ)
+        → IsTextOf (F.file files.old) name text.now → Explains (F.file files.old) name fault) }
+    ensures same { (other : List ℕ) → F.file files.new other ≡ F.file files.old other }
+{
+    let graph = read_graph(alloc, text)?;
     job_of_graph(alloc, files, graph)
 }
 
 /// Makes the job of a graph that was read: reads the samples of its sources, each read and checked
 /// before the next.
-pub(crate) fn job_of_graph<F: Files>(
-    alloc: Global,
-    files: &mut F,
-    graph: Graph,
-) -> Result<Job, JobFault>
+fn job_of_graph<F: Files>(alloc: Global, files: &mut F, graph: Graph) -> Result<Job, JobFault>
     ensures ok { IfOk result (λ job. (name : List ℕ)
         → IsGraphOf (F.file files.old) name graph → IsJobOf (F.file files.old) name job) }
     ensures fault { IfErr result (λ fault. (name : List ℕ)

@@ -1,20 +1,20 @@
 //! The commands on graphs: what each reads, answers and writes, and how it ends.
 //!
-//! `check_and_report`, `eval_and_report` and `draw_and_report` run a command and answer the exit
-//! status. The first two read by `read_job` the job of a graph's file: its graph, and the samples
-//! in the files of its sources; the third reads the graph alone; `write_lines` writes what an
-//! evaluation gave each sink, and `write_values` what it gave one. `check_and_explain`,
-//! `eval_and_explain` and `draw_and_explain` do the same, and explain a fault behind its line;
-//! `check_and_explain` also says what a person may want to know of a graph without a fault.
-//! `explain_no_sink` and `explain_too_big` explain two of the faults. `find_sink`, `write_sinks`
-//! and the calls that report an end are for another command that gives the same values.
+//! `check`, `eval` and `draw` read the graph in a file and write what is asked for of it, or answer
+//! a `Failure`, which is a value until `report` tells it: by its line, explained to a person where
+//! that is asked for; `end` answers the status of both. `read_job` gives the job of a graph's file:
+//! its graph, and the samples in the files of its sources; `read_asked` that and the sink that is
+//! asked for; `write_lines` writes what an evaluation gave each sink, `write_values` what it gave
+//! one, and `write_sinks` what was asked for. These are for another command that gives the same
+//! values.
 #![tactic(auto)]
 
 mod answered;
+mod asked;
 mod controls;
 mod drawn;
-mod eval_explained;
 mod explained;
+mod failure;
 mod fault;
 mod further;
 mod graph_faults;
@@ -34,18 +34,15 @@ mod refused;
 mod sinks;
 mod sources;
 
-pub use answered::{
-    check_and_explain, check_and_report, eval_and_report, report_written, write_sinks,
-};
-pub use drawn::{draw_and_explain, draw_and_report};
-pub use eval_explained::eval_and_explain;
-pub use explained::read_job_or_explain;
+pub use answered::{check, eval};
+pub use asked::{AskedJob, read_asked, write_sinks};
+pub use drawn::draw;
+pub use explained::{end, report};
+pub use failure::Failure;
 pub use fault::JobFault;
-pub use further::{further_lines, tell_bytes};
-pub use graph_faults::{report_job_fault, report_no_sink, report_too_big};
+pub use further::further_lines;
 pub use graph_file::{GRAPH_MAX, read_graph_file};
 pub use graph_show::watched_io;
-pub use hints::{explain_no_sink, explain_too_big};
 pub use job_file::read_job;
 pub use lines::{write_lines, write_values};
 pub use refused::{FileRefusal, Refuses, TellingFiles};

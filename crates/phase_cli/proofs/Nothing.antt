@@ -1,11 +1,13 @@
 -- Where nothing was read and nothing was written, for memory ran out over the words.
-use Rattle.std.proofs.Common.{◌≡◌, Bool, List, [], ℕ, Option, Some, None, refl, arith}
+use Rattle.std.proofs.Common.{◌≡◌, Bool, List, [], ℕ, Option, Some, None, refl}
 use Rattle.std.proofs.KnownBytes.{Appends-nil}
 use Rattle.phase_replay.specs.watched_io.States.{ReaderState, WriterState}
 use Rattle.phase_replay.proofs.watched_io_lemmas.Giving.{reads_nothing}
 use Rattle.phase_replay.specs.Replay.{RepliesPrefix}
 use Rattle.phase_replay.specs.Replies.{replies_of}
 use Rattle.phase_replay.specs.watched_io.declared.fault.IoFault.TheVariants.{OutOfMemory}
+use Rattle.phase_replay.specs.watched_io.declared.status.Status.{Status}
+use Rattle.phase_replay.specs.watched_io.declared.status.Status.TheVariants.{Failed}
 use Rattle.phase_replay.specs.declared.whole.TheConstants.{SCRIPT_MAX}
 use Rattle.phase_replay.proofs.Reading.{replays_nothing}
 use Rattle.phase_replay.specs.watched_io.Statuses.{Reports}
@@ -17,11 +19,11 @@ known_none : (unread : Option (List ℕ)) (old : WriterState) (count : ℕ) (fai
 known_none None old count failed = tt
 known_none (Some script) old count failed = ([], replies_of script, refl, Appends-nil old.written)
 
-pub replay-unbegun : (status : ℕ) (input : ReaderState) (output before after : WriterState)
-    → status ≡ 5 → Reports OutOfMemory before after
+pub replay-unbegun : (status : Status) (input : ReaderState) (output before after : WriterState)
+    → status ≡ Failed → Reports OutOfMemory before after
     → ReplayEnds status input input output output before after
-replay-unbegun status input output before after five says = record {
-  done = λ zero. absurd (omega (arith, five, zero));
+replay-unbegun status input output before after failed says = record {
+  done = λ done. absurd (cc (failed, done));
   stops = λ _. record {
     fault = OutOfMemory;
     cause = (reads_nothing SCRIPT_MAX input, refl, refl);

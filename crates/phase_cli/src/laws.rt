@@ -1,12 +1,16 @@
-//! Which statuses come. The contract of the function is the law.
+//! Which statuses never come. The contract of the function is the law.
 ghost use Rattle.std.specs.Prelude.{◌≢◌, ℕ, List};
-ghost use Rattle.phase_cli.specs.Ends.{IsStatus, MayEnd};
-ghost use Rattle.phase_words.specs.CommandLine.{AreTaken};
+ghost use Rattle.phase_cli.specs.Ends.{MayEndAsked};
+ghost use Rattle.phase_words.specs.Answers.{MayEnd};
+ghost use Rattle.phase_words.specs.CommandLine.{AreTaken, kinds_of};
 
-/// Whatever the words ask for, no status comes but 0, 1, 2, 3 and 5, and 2 never for words that are
-/// taken.
+use phase_replay::watched_io::Status;
+
+/// Whatever the words ask for, nothing stalls, and words that are taken are not refused.
 pub fn statuses()
-    ensures any { (words : List (List ℕ)) (status : ℕ) → MayEnd words status → IsStatus status }
-    ensures taken { (words : List (List ℕ)) (status : ℕ) → MayEnd words status
-        → AreTaken words → status ≢ 2 }
+    ensures any { (words : List (List ℕ)) (status : Status)
+        → MayEnd (kinds_of words) (MayEndAsked words) status → status ≢ Status.Stalled }
+    ensures taken { (words : List (List ℕ)) (status : Status)
+        → MayEnd (kinds_of words) (MayEndAsked words) status
+        → AreTaken words → status ≢ Status.Refused }
 {}

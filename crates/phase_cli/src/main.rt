@@ -8,24 +8,21 @@ mod laws;
 use cli::run_cli;
 use graph_commands::TellingFiles;
 use phase_replay::Watched;
-use phase_replay::watched_io::{own_words, refuse_words};
+use phase_replay::watched_io::{Streams, own_words, refuse_words};
 use std::process::ExitCode;
 
 fn main(rt: HostRuntime) -> ExitCode {
     let mut faults = Watched::new(rt.stderr());
     let words = match own_words(&rt) {
         Ok(words) => words,
-        Err(error) => return ExitCode::from(refuse_words(&error, &mut faults)),
+        Err(error) => return ExitCode::from(refuse_words(&error, &mut faults).code()),
     };
     let mut input = Watched::new(rt.stdin());
-    let mut output = Watched::new(rt.stdout());
-    let status = run_cli(
-        rt.alloc(),
-        words.as_slice(),
-        &mut input,
-        &mut output,
-        &mut faults,
-        &mut TellingFiles::new(&rt),
-    );
-    ExitCode::from(status)
+    let mut streams = Streams {
+        output: Watched::new(rt.stdout()),
+        faults,
+        files: TellingFiles::new(&rt),
+    };
+    let status = run_cli(rt.alloc(), words.as_slice(), &mut input, &mut streams);
+    ExitCode::from(status.code())
 }

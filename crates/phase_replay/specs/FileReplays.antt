@@ -9,6 +9,8 @@ use Rattle.watched_io.specs.declared.fault.FileFault.{FileFault}
 use Rattle.watched_io.specs.declared.fault.FileFault.TheVariants as file_fault
 use Rattle.phase_replay.specs.Stops.{StrictEnds, TextEnds}
 use Rattle.phase_replay.specs.declared.whole.TheConstants.{SCRIPT_MAX}
+use Rattle.watched_io.specs.declared.status.Status.{Status}
+use Rattle.watched_io.specs.declared.status.Status.TheVariants.{Failed}
 
 -- the script is that of the file, and no longer than a script may be
 pub record IsScriptOf (file : Option (List ℕ)) (script : List ℕ) : Type 0 where
@@ -21,36 +23,36 @@ MayFail file file_fault.ReadFault = MayBeRefused SCRIPT_MAX file
 MayFail file file_fault.OutOfMemory = MayNeedMemory SCRIPT_MAX file
 
 -- so nothing was written, and the fault was told
-pub record IsFileUnread (file : Option (List ℕ)) (status : ℕ)
+pub record IsFileUnread (file : Option (List ℕ)) (status : Status)
     (old new before after : WriterState) : Type 0 where
   pub fault : FileFault
   pub may_fail : MayFail file fault
-  pub status_is : status ≡ 5
+  pub status_is : status ≡ Failed
   pub silent : new ≡ old
   pub says : Reports (as_io_fault fault) before after
 
 -- the file was read, and its script replayed
-pub record IsReplayed (file : Option (List ℕ)) (status : ℕ)
+pub record IsReplayed (file : Option (List ℕ)) (status : Status)
     (old new before after : WriterState) : Type 0 where
   pub script : List ℕ
   pub script_of : IsScriptOf file script
   pub ends : TextEnds script status old new before after
 
 -- or strictly
-pub record IsReplayedStrictly (file : Option (List ℕ)) (status : ℕ)
+pub record IsReplayedStrictly (file : Option (List ℕ)) (status : Status)
     (old new before after : WriterState) : Type 0 where
   pub script : List ℕ
   pub script_of : IsScriptOf file script
   pub ends : StrictEnds script status old new before after
 
 -- how a replay of the script in a file ends
-abbrev pub FileReplayEnds : Option (List ℕ) → ℕ
+abbrev pub FileReplayEnds : Option (List ℕ) → Status
     → WriterState → WriterState → WriterState → WriterState → Type 0
 FileReplayEnds file status old new before after =
     IsFileUnread file status old new before after ⊎ IsReplayed file status old new before after
 
 -- and a strict one
-abbrev pub StrictFileReplayEnds : Option (List ℕ) → ℕ
+abbrev pub StrictFileReplayEnds : Option (List ℕ) → Status
     → WriterState → WriterState → WriterState → WriterState → Type 0
 StrictFileReplayEnds file status old new before after =
     IsFileUnread file status old new before after ⊎ IsReplayedStrictly file status old new before after

@@ -1,9 +1,11 @@
 -- How a replay ends: its status, and what stands on its streams then.
-use Rattle.std.specs.Prelude.{◌≡◌, ℕ}
+use Rattle.std.specs.Prelude.{◌≡◌}
 use Rattle.watched_io.specs.States.{ReaderState, WriterState}
 use Rattle.watched_io.specs.declared.fault.IoFault.{IoFault}
 use Rattle.phase_replay.specs.Replay.{HasCause, RepliesPrefix, RepliesWhole, ReplaysAll, ReplaysPrefix}
 use Rattle.watched_io.specs.Statuses.{Reports}
+use Rattle.watched_io.specs.declared.status.Status.{Status}
+use Rattle.watched_io.specs.declared.status.Status.TheVariants.{Done, Failed}
 
 -- the output grew by the replies: to the script where it is known, and to some script that was read
 pub record Replays (input rest : ReaderState) (old new : WriterState) : Type 0 where
@@ -20,7 +22,7 @@ pub record ReplayStops (input rest : ReaderState)
   pub says : Reports fault before after
 
 -- how a replay ends, by its status
-pub record ReplayEnds (status : ℕ) (input rest : ReaderState)
+pub record ReplayEnds (status : Status) (input rest : ReaderState)
     (old new before after : WriterState) : Type 0 where
-  pub done : status ≡ 0 → Replays input rest old new
-  pub stops : status ≡ 5 → ReplayStops input rest old new before after
+  pub done : status ≡ Done → Replays input rest old new
+  pub stops : status ≡ Failed → ReplayStops input rest old new before after

@@ -14,6 +14,8 @@ use Rattle.watched_io.specs.declared.fault.IoFault.{IoFault}
 use Rattle.phase_replay.specs.Replayer.{FaultIsNoted}
 use Rattle.phase_replay.specs.Replies.{replies_of}
 use Rattle.phase_replay.specs.Scripts.{ScriptState, after_line, reply_of_line, start, state_after}
+use Rattle.watched_io.specs.declared.status.Status.{Status}
+use Rattle.watched_io.specs.declared.status.Status.TheVariants.{Done, Failed, GraphRefused}
 
 -- ---- lines that are refused
 
@@ -60,10 +62,10 @@ pub record TextStops (owed : List ℕ) (old new before after : WriterState) : Ty
   pub says : Reports fault before after
 
 -- how a replay of a text ends, by its status
-pub record TextEnds (script : List ℕ) (status : ℕ)
+pub record TextEnds (script : List ℕ) (status : Status)
     (old new before after : WriterState) : Type 0 where
-  pub done : status ≡ 0 → Appends old.written new.written (replies_of script)
-  pub stops : status ≡ 5 → TextStops (replies_of script) old new before after
+  pub done : status ≡ Done → Appends old.written new.written (replies_of script)
+  pub stops : status ≡ Failed → TextStops (replies_of script) old new before after
 
 -- no line of the script is refused, and the output grew by the replies
 pub record StrictReplays (script : List ℕ) (old new : WriterState) : Type 0 where
@@ -87,8 +89,8 @@ pub record StrictStops (script : List ℕ) (old new before after : WriterState) 
   pub stops : TextStops (replies_of front) old new before after
 
 -- how a strict replay of a text ends, by its status
-pub record StrictEnds (script : List ℕ) (status : ℕ)
+pub record StrictEnds (script : List ℕ) (status : Status)
     (old new before after : WriterState) : Type 0 where
-  pub done : status ≡ 0 → StrictReplays script old new
-  pub refused : status ≡ 1 → StrictRefusal script old new before after
-  pub stops : status ≡ 5 → StrictStops script old new before after
+  pub done : status ≡ Done → StrictReplays script old new
+  pub refused : status ≡ GraphRefused → StrictRefusal script old new before after
+  pub stops : status ≡ Failed → StrictStops script old new before after

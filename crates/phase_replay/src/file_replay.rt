@@ -7,22 +7,22 @@ use crate::SCRIPT_MAX;
 use crate::strict::{replay_strictly, replay_text};
 use std::alloc::Global;
 use std::io::Write;
-use watched_io::{Files, IoFault, Watched, report};
+use watched_io::{Files, IoFault, Status, Watched, report};
 
-/// Reads the script in a file whole, replays it, and answers the exit status: 0, or 5 after a
-/// fault, whose line then goes to the fault stream. It takes memory for the script.
+/// Reads the script in a file whole, replays it, and answers the status: `Done`, or `Failed` after
+/// a fault, whose line then goes to the fault stream. It takes memory for the script.
 pub fn replay_file_and_report<W: Write, E: Write, F: Files>(
     alloc: Global,
     name: &str,
     output: &mut Watched<W>,
     faults: &mut Watched<E>,
     files: &mut F,
-) -> u8
-    ensures status { (result ≡ 0) ⊎ (result ≡ 5) }
+) -> Status
+    ensures status { (result ≡ Status.Done) ⊎ (result ≡ Status.Failed) }
     ensures ends { FileReplayEnds (F.file files.old name.now) result
         (writer_state W.contents output.old) (writer_state W.contents output.new)
         (writer_state E.contents faults.old) (writer_state E.contents faults.new) }
-    ensures quiet { result ≡ 0 → faults.new ≡ faults.old }
+    ensures quiet { result ≡ Status.Done → faults.new ≡ faults.old }
 {
     match files.read(alloc, name, SCRIPT_MAX) {
         Ok(script) => replay_text(alloc, &script, output, faults),
@@ -31,20 +31,22 @@ pub fn replay_file_and_report<W: Write, E: Write, F: Files>(
 }
 
 /// Reads the script in a file whole, replays it through its first line that is refused or no
-/// command, and answers the exit status: 0 where there is none, 1 where there is one, whose number
-/// then goes to the fault stream, or 5 after a fault. It takes memory for the script.
+/// command, and answers the status: `Done` where there is none, `GraphRefused` where there is one,
+/// whose number then goes to the fault stream, or `Failed` after a fault. It takes memory for the
+/// script.
 pub fn replay_file_strictly<W: Write, E: Write, F: Files>(
     alloc: Global,
     name: &str,
     output: &mut Watched<W>,
     faults: &mut Watched<E>,
     files: &mut F,
-) -> u8
-    ensures status { (result ≡ 0) ⊎ ((result ≡ 1) ⊎ (result ≡ 5)) }
+) -> Status
+    ensures status { (result ≡ Status.Done)
+        ⊎ ((result ≡ Status.GraphRefused) ⊎ (result ≡ Status.Failed)) }
     ensures ends { StrictFileReplayEnds (F.file files.old name.now) result
         (writer_state W.contents output.old) (writer_state W.contents output.new)
         (writer_state E.contents faults.old) (writer_state E.contents faults.new) }
-    ensures quiet { result ≡ 0 → faults.new ≡ faults.old }
+    ensures quiet { result ≡ Status.Done → faults.new ≡ faults.old }
 {
     match files.read(alloc, name, SCRIPT_MAX) {
         Ok(script) => replay_strictly(alloc, &script, output, faults),

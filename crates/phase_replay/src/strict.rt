@@ -15,10 +15,7 @@ use crate::stop::first_refused;
 use itoa::Buffer;
 use std::alloc::Global;
 use std::io::Write;
-use watched_io::{DONE, IoFault, Watched, report, say};
-
-/// A line of a strict replay is refused.
-const LINE_REFUSED: u8 = 1;
+use watched_io::{IoFault, Status, Watched, report, say};
 
 /// Replays a text that is at hand: nothing is read, so its fault is one of writing, or of memory.
 fn replay_at_hand<W: Write>(
@@ -37,29 +34,29 @@ fn replay_at_hand<W: Write>(
     replayer.finish(output)
 }
 
-/// Replays a script, and answers the exit status: 0, or 5 after a fault, whose line then goes to
-/// the fault stream.
+/// Replays a script, and answers the status: `Done`, or `Failed` after a fault, whose line then
+/// goes to the fault stream.
 pub(crate) fn replay_text<W: Write, E: Write>(
     alloc: Global,
     script: &[u8],
     output: &mut Watched<W>,
     faults: &mut Watched<E>,
-) -> u8
-    ensures status { (result ≡ 0) ⊎ (result ≡ 5) }
+) -> Status
+    ensures status { (result ≡ Status.Done) ⊎ (result ≡ Status.Failed) }
     ensures ends { TextEnds script.now result
         (writer_state W.contents output.old) (writer_state W.contents output.new)
         (writer_state E.contents faults.old) (writer_state E.contents faults.new) }
-    ensures quiet { result ≡ 0 → faults.new ≡ faults.old }
+    ensures quiet { result ≡ Status.Done → faults.new ≡ faults.old }
 {
     match replay_at_hand(alloc, script, output) {
-        Ok(()) => DONE,
+        Ok(()) => Status::Done,
         Err(fault) => report(fault, faults),
     }
 }
 
-/// Tells the number of a line that is refused, and answers the status 1.
-fn report_line<E: Write>(number: usize, faults: &mut Watched<E>) -> u8
-    ensures status { result ≡ 1 }
+/// Tells the number of a line that is refused, and answers the status.
+fn report_line<E: Write>(number: usize, faults: &mut Watched<E>) -> Status
+    ensures status { result ≡ Status.GraphRefused }
     ensures line { Says (script_line number)
         (writer_state E.contents faults.old) (writer_state E.contents faults.new) }
 {
@@ -67,7 +64,7 @@ fn report_line<E: Write>(number: usize, faults: &mut Watched<E>) -> u8
     let number = buffer.format(number);
     let parts = ["phase: script line ", number, "\n"];
     say(parts.as_slice(), faults);
-    LINE_REFUSED
+    Status::GraphRefused
 }
 
 /// Replays the front of a script, whose last line is refused and has this number, and tells that.
@@ -77,13 +74,13 @@ fn replay_front<W: Write, E: Write>(
     number: usize,
     output: &mut Watched<W>,
     faults: &mut Watched<E>,
-) -> u8
-    ensures status { (result ≡ 1) ⊎ (result ≡ 5) }
-    ensures written { result ≡ 1 → Appends (W.contents (inner_of output.old))
+) -> Status
+    ensures status { (result ≡ Status.GraphRefused) ⊎ (result ≡ Status.Failed) }
+    ensures written { result ≡ Status.GraphRefused → Appends (W.contents (inner_of output.old))
         (W.contents (inner_of output.new)) (replies_of front.now) }
-    ensures says { result ≡ 1 → Says (script_line number)
+    ensures says { result ≡ Status.GraphRefused → Says (script_line number)
         (writer_state E.contents faults.old) (writer_state E.contents faults.new) }
-    ensures stops { result ≡ 5 → TextStops (replies_of front.now)
+    ensures stops { result ≡ Status.Failed → TextStops (replies_of front.now)
         (writer_state W.contents output.old) (writer_state W.contents output.new)
         (writer_state E.contents faults.old) (writer_state E.contents faults.new) }
 {
@@ -93,9 +90,9 @@ fn replay_front<W: Write, E: Write>(
     }
 }
 
-/// Replays a script through its first line that is refused or no command, and answers the exit
-/// status: 0 where there is none, 1 where there is one, whose number is then told, or 5 after a
-/// fault.
+/// Replays a script through its first line that is refused or no command, and answers the status:
+/// `Done` where there is none, `GraphRefused` where there is one, whose number is then told, or
+/// `Failed` after a fault.
 ///
 /// The script is gone through twice: once for that line, and once for the replies.
 pub(crate) fn replay_strictly<W: Write, E: Write>(
@@ -103,12 +100,13 @@ pub(crate) fn replay_strictly<W: Write, E: Write>(
     script: &[u8],
     output: &mut Watched<W>,
     faults: &mut Watched<E>,
-) -> u8
-    ensures status { (result ≡ 0) ⊎ ((result ≡ 1) ⊎ (result ≡ 5)) }
+) -> Status
+    ensures status { (result ≡ Status.Done)
+        ⊎ ((result ≡ Status.GraphRefused) ⊎ (result ≡ Status.Failed)) }
     ensures ends { StrictEnds script.now result
         (writer_state W.contents output.old) (writer_state W.contents output.new)
         (writer_state E.contents faults.old) (writer_state E.contents faults.new) }
-    ensures quiet { result ≡ 0 → faults.new ≡ faults.old }
+    ensures quiet { result ≡ Status.Done → faults.new ≡ faults.old }
 {
     match first_refused(alloc, script) {
         Ok(None) => replay_text(alloc, script, output, faults),

@@ -12,5 +12,5 @@ fn main(rt: HostRuntime) -> ExitCode {
         &mut Watched::new(rt.stdout()),
         &mut Watched::new(rt.stderr()),
     );
-    ExitCode::from(status)
+    ExitCode::from(status.code())
 }

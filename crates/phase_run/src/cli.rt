@@ -1,29 +1,25 @@
 //! A run of the program over any outputs and files.
-ghost use Rattle.std.specs.Prelude.{◌≡◌, ◌⊎◌, ℕ, List, Option};
-ghost use Rattle.phase_run.specs.Ends.{AnswerEnds, AnswerStops, IsUnbegun, MayEnd, MayEndAsRun};
-ghost use Rattle.phase_run.specs.Inside.{IsAnswer, RunEndsBy};
+ghost use Rattle.std.specs.Prelude.{◌≡◌, ◌⊎◌};
+ghost use Rattle.phase_run.specs.Ends.{EndsAsRun, MayEndAsRun};
+ghost use Rattle.phase_words.specs.Answers.{AnswerEnds, IsUnbegun, MayEnd};
 ghost use Rattle.phase_words.specs.CommandLine.{texts};
-ghost use Rattle.phase_words.specs.RunLine.{AreRunTaken, AskRun, AskRunExplained, run_of};
-ghost use Rattle.phase_run.specs.Runs.{RunEnds, RunEndsExplained};
+ghost use Rattle.phase_words.specs.RunLine.{AreRunTaken, AsksRun, Run, run_kinds_of, run_of};
 ghost use Rattle.stream_workers.specs.graph_commands.watched_io.States.{writer_state};
 
-use crate::graph_run::run_and_report;
-use crate::run_explained::run_and_explain;
-use phase_words::{Explain, NoCall, RunCall, read_run_words};
+use crate::graph_run::run;
+use phase_words::{RunCall, answer, read_run_words};
 use std::alloc::Global;
 use std::io::Write;
 use std::sync::Wait;
 use std::thread::Threads;
-use stream_workers::graph_commands::Refuses;
-use stream_workers::graph_commands::watched_io::{
-    Files, IoFault, Watched, refuse, report, show_help,
-};
+use stream_workers::graph_commands::watched_io::{Files, Status, Streams};
+use stream_workers::graph_commands::{Refuses, end};
 
-/// Runs the program on its words, those behind `phase run`, and answers its exit status: 0 where
-/// the graph was run, or help or the version was shown, 1 where the graph or its samples are
-/// refused, or no sink has the name that is asked for, 2 where the words are refused, 3 where a
-/// value of the graph is out of range, 4 where every task that is left waits for another, and 5
-/// after a fault.
+/// Runs the program on its words, those behind `phase run`, and answers its status: `Done` where
+/// the graph was run, or help or the version was shown, `GraphRefused` where the graph or its
+/// samples are refused, or no sink has the name that is asked for, `Refused` where the words are
+/// refused, `TooBig` where a value of the graph is out of range, `Stalled` where every task that is
+/// left waits for another, and `Failed` after a fault.
 ///
 /// A refusal's text goes to the fault stream, and so does a fault's line. Where that stream fails
 /// too, the status stands alone. A run waits, and it is not promised that it comes back.
@@ -31,81 +27,61 @@ pub fn run_cli<H: Threads + Wait + Sync, W: Write, E: Write, F: Files + Refuses>
     rt: &H,
     alloc: Global,
     words: &[String],
-    output: &mut Watched<W>,
-    faults: &mut Watched<E>,
-    files: &mut F,
-) -> u8
+    streams: &mut Streams<W, E, F>,
+) -> Status
     // Which statuses may come, by what the words ask for.
-    ensures status { MayEnd (texts words.now) result }
+    ensures status { MayEnd (run_kinds_of (texts words.now)) MayEndAsRun result }
 
-    // What a run of a graph wrote, whole or up to a fault, and why there is no other answer.
-    ensures run { (name : List ℕ) (sink : Option (List ℕ)) (workers : ℕ)
-        → AskRun (texts words.now) name sink workers
-        → IsUnbegun result files.old files.new output.old output.new
-        (writer_state E.contents faults.old) (writer_state E.contents faults.new)
-        ⊎ RunEnds (F.file files.old) name sink result W.contents output.old output.new
-        (writer_state E.contents faults.old) (writer_state E.contents faults.new) }
-
-    // And where the words ask that a fault is explained.
-    ensures explained { (name : List ℕ) (sink : Option (List ℕ)) (workers : ℕ)
-        → AskRunExplained (texts words.now) name sink workers
-        → IsUnbegun result files.old files.new output.old output.new
-        (writer_state E.contents faults.old) (writer_state E.contents faults.new)
-        ⊎ RunEndsExplained (F.file files.old) name sink result W.contents output.old output.new
-        (writer_state E.contents faults.old) (writer_state E.contents faults.new) }
+    // What a run of a graph wrote, whole or up to a fault, why there is no other answer, and what
+    // is said further where that is asked for.
+    ensures run { (what : Run) → AsksRun (texts words.now) what
+        → IsUnbegun result streams.old.files streams.new.files
+        streams.old.output streams.new.output
+        (writer_state E.contents streams.old.faults) (writer_state E.contents streams.new.faults)
+        ⊎ EndsAsRun what (F.file streams.old.files) W.contents result
+        streams.old.output streams.new.output
+        (writer_state E.contents streams.old.faults)
+        (writer_state E.contents streams.new.faults) }
 
     // How other words are answered, and that they open no file.
     ensures answered { (AreRunTaken (texts words.now) → ⊥)
-        → AnswerEnds (texts words.now) result output.old output.new
-        (writer_state E.contents faults.old) (writer_state E.contents faults.new) }
-    ensures unopened { (AreRunTaken (texts words.now) → ⊥) → files.new ≡ files.old }
-    ensures quiet { result ≡ 0 → faults.new ≡ faults.old }
+        → AnswerEnds (run_kinds_of (texts words.now)) result
+        streams.old.output streams.new.output
+        (writer_state E.contents streams.old.faults)
+        (writer_state E.contents streams.new.faults) }
+    ensures unopened { (AreRunTaken (texts words.now) → ⊥)
+        → streams.new.files ≡ streams.old.files }
+    ensures quiet { result ≡ Status.Done → streams.new.faults ≡ streams.old.faults }
 {
     match read_run_words(alloc, words) {
-        Ok(call) => run_call(rt, alloc, call, output, faults, files),
-        Err(none) => answer(&none, output, faults),
+        Ok(call) => run_call(rt, alloc, call, streams),
+        Err(none) => answer(&none, &mut streams.output, &mut streams.faults),
     }
 }
 
-/// Runs a graph as a call asks for it, and answers the exit status.
+/// Runs a graph as a call asks for it, reports why there is no answer, and answers the status.
 fn run_call<H: Threads + Wait + Sync, W: Write, E: Write, F: Files + Refuses>(
     rt: &H,
     alloc: Global,
     call: RunCall<'_>,
-    output: &mut Watched<W>,
-    faults: &mut Watched<E>,
-    files: &mut F,
-) -> u8
+    streams: &mut Streams<W, E, F>,
+) -> Status
     ensures status { MayEndAsRun result }
-    ensures ends { RunEndsBy (run_of call.entry).explain (F.file files.old)
-        (run_of call.entry).graph (run_of call.entry).sink result W.contents output.old output.new
-        (writer_state E.contents faults.old) (writer_state E.contents faults.new) }
-    ensures quiet { result ≡ 0 → faults.new ≡ faults.old }
+    ensures ends { EndsAsRun (run_of call.entry) (F.file streams.old.files) W.contents result
+        streams.old.output streams.new.output
+        (writer_state E.contents streams.old.faults)
+        (writer_state E.contents streams.new.faults) }
+    ensures quiet { result ≡ Status.Done → streams.new.faults ≡ streams.old.faults }
 {
-    let RunCall {
+    let graph = call.graph;
+    let explain = call.explain;
+    let done = run(rt, alloc, call, &mut streams.output, &mut streams.files);
+    end(
+        alloc,
+        done,
         graph,
-        sink,
-        workers,
         explain,
-    } = call;
-    match explain {
-        Explain::No => run_and_report(rt, alloc, graph, sink, workers, output, faults, files),
-        Explain::Yes => run_and_explain(rt, alloc, graph, sink, workers, output, faults, files),
-    }
-}
-
-/// Answers words that give no call: help and the version go to the output, a refusal's text and the
-/// line of a fault go to the fault stream.
-fn answer<W: Write, E: Write>(none: &NoCall, output: &mut Watched<W>, faults: &mut Watched<E>) -> u8
-    ensures answer { IsAnswer none.now result output.old output.new
-        (writer_state E.contents faults.old) (writer_state E.contents faults.new) }
-    ensures quiet { result ≡ 0 → faults.new ≡ faults.old }
-    ensures stops { result ≡ 5 → AnswerStops output.old output.new
-        (writer_state E.contents faults.old) (writer_state E.contents faults.new) }
-{
-    match none {
-        NoCall::Shown(text) => show_help(text.as_str(), output, faults),
-        NoCall::Refused(text) => refuse(text.as_str(), faults),
-        NoCall::OutOfMemory => report(IoFault::OutOfMemory, faults),
-    }
+        &mut streams.faults,
+        &mut streams.files,
+    )
 }

@@ -1,14 +1,17 @@
-//! Which statuses come. The contract of the function is the law.
+//! Which statuses come of which words. The contract of the function is the law.
 ghost use Rattle.std.specs.Prelude.{◌≡◌, ◌≢◌, ℕ, List};
-ghost use Rattle.phase_run.specs.Ends.{IsStatus, MayEnd};
-ghost use Rattle.phase_words.specs.RunLine.{AreRunTaken};
+ghost use Rattle.phase_run.specs.Ends.{MayEndAsRun};
+ghost use Rattle.phase_words.specs.Answers.{MayEnd};
+ghost use Rattle.phase_words.specs.RunLine.{AreRunTaken, run_kinds_of};
 
-/// Whatever the words are, no status comes but 0 to 5, 2 never for words that are taken, and 4 for
-/// these alone.
+use stream_workers::graph_commands::watched_io::Status;
+
+/// Whatever the words are, those that are taken are not refused, and these alone stall.
 pub fn statuses()
-    ensures any { (words : List (List ℕ)) (status : ℕ) → MayEnd words status → IsStatus status }
-    ensures taken { (words : List (List ℕ)) (status : ℕ) → MayEnd words status
-        → AreRunTaken words → status ≢ 2 }
-    ensures stalled { (words : List (List ℕ)) (status : ℕ) → MayEnd words status
-        → status ≡ 4 → AreRunTaken words }
+    ensures taken { (words : List (List ℕ)) (status : Status)
+        → MayEnd (run_kinds_of words) MayEndAsRun status
+        → AreRunTaken words → status ≢ Status.Refused }
+    ensures stalled { (words : List (List ℕ)) (status : Status)
+        → MayEnd (run_kinds_of words) MayEndAsRun status
+        → status ≡ Status.Stalled → AreRunTaken words }
 {}

@@ -1,3 +1,4 @@
+pub mod Answering
 mod Called
 pub mod NoCalls
 mod Refused

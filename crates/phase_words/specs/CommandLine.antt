@@ -10,8 +10,8 @@ use Rattle.clap.specs.declared.error.kind.ErrorKind.{ErrorKind}
 use Rattle.clap.specs.declared.error.kind.ErrorKind.TheVariants.{DisplayHelp, DisplayVersion, OutOfMemory}
 use Rattle.phase_words.specs.declared.call.Call.{Call}
 use Rattle.phase_words.specs.declared.call.Call.TheVariants as call
-use Rattle.phase_words.specs.declared.call.Explain.{Explain}
-use Rattle.phase_words.specs.declared.call.Explain.TheVariants.{No, Yes}
+use Rattle.watched_io.specs.declared.explain.Explain.{Explain}
+use Rattle.watched_io.specs.declared.explain.Explain.TheVariants.{No, Yes}
 use Rattle.phase_words.specs.declared.call.Strict.{Strict}
 use Rattle.phase_words.specs.declared.call.Strict.TheVariants as strictly
 use Rattle.phase_words.specs.declared.call.NoCall.{NoCall}
@@ -113,18 +113,13 @@ AreRefused words = Refuse (kinds_of words)
 
 -- what words that are taken ask for: a replay of standard input, or of the script in a file, also
 -- one that ends at the first line that is refused; a check of a graph's file, its evaluation, for
--- all its sinks or for the one of a name, or its drawing; of these three also that a fault is
--- explained
+-- all its sinks or for the one of a name, or its drawing, also with a fault explained
 pub data Asked : Type 0 where
   replay : Asked
-  replay_file : Text → Asked
-  replay_strictly : Text → Asked
-  check : Text → Asked
-  eval : Text → Option Text → Asked
-  draw : Text → Asked
-  check_explained : Text → Asked
-  eval_explained : Text → Option Text → Asked
-  draw_explained : Text → Asked
+  replay_file : Strict → Text → Asked
+  check : Explain → Text → Asked
+  eval : Explain → Text → Option Text → Asked
+  draw : Explain → Text → Asked
 
 -- whether `--explain` stands there, by the value that clap gives it, or none
 abbrev pub explain_of : Option Text → Explain
@@ -136,37 +131,18 @@ abbrev pub strict_of : Option Text → Strict
 strict_of None = strictly.No
 strict_of (Some value) = if bytes_eq value (codes "true") then strictly.Yes else strictly.No
 
--- a replay of a script's file, to its end or strictly
-abbrev pub file_by : Strict → Text → Asked
-file_by strictly.No name = replay_file name
-file_by strictly.Yes name = replay_strictly name
-
 -- a replay of the script of this name, which is standard input where it is `-`
 abbrev pub replay_by : Strict → Text → Asked
-replay_by strictly.No name = if bytes_eq name (codes "-") then replay else replay_file name
-replay_by strictly.Yes name = replay_strictly name
-
--- a check with an explanation or without
-abbrev pub check_by : Explain → Text → Asked
-check_by No name = check name
-check_by Yes name = check_explained name
-
--- an evaluation with an explanation or without
-abbrev pub eval_by : Explain → Text → Option Text → Asked
-eval_by No name sink = eval name sink
-eval_by Yes name sink = eval_explained name sink
-
--- a drawing with an explanation or without
-abbrev pub draw_by : Explain → Text → Asked
-draw_by No name = draw name
-draw_by Yes name = draw_explained name
+replay_by strictly.No name =
+    if bytes_eq name (codes "-") then replay else replay_file strictly.No name
+replay_by strictly.Yes name = replay_file strictly.Yes name
 
 -- by the command and the words that are given to it
 abbrev pub asked_as : Text → Option Text → Option Text → Explain → Asked
 asked_as name graph sink explain =
-    if bytes_eq name (codes "check") then check_by explain (unwrap_or graph [])
-    else if bytes_eq name (codes "eval") then eval_by explain (unwrap_or graph []) sink
-    else if bytes_eq name (codes "draw") then draw_by explain (unwrap_or graph [])
+    if bytes_eq name (codes "check") then check explain (unwrap_or graph [])
+    else if bytes_eq name (codes "eval") then eval explain (unwrap_or graph []) sink
+    else if bytes_eq name (codes "draw") then draw explain (unwrap_or graph [])
     else replay
 
 -- by what clap found for the words of `replay`
@@ -206,48 +182,44 @@ AskReplay words = Asks words replay
 
 -- the words ask for a replay of the script in the file of this name
 abbrev pub AskReplayFile : List Text → Text → Type 0
-AskReplayFile words name = Asks words (replay_file name)
+AskReplayFile words name = Asks words (replay_file strictly.No name)
 
 -- the words ask for a replay of it that ends at the first line that is refused
 abbrev pub AskReplayStrictly : List Text → Text → Type 0
-AskReplayStrictly words name = Asks words (replay_strictly name)
+AskReplayStrictly words name = Asks words (replay_file strictly.Yes name)
 
 -- the words ask for a check of the graph in the file of this name
 abbrev pub AskCheck : List Text → Text → Type 0
-AskCheck words name = Asks words (check name)
+AskCheck words name = Asks words (check No name)
 
 -- the words ask for an evaluation of the graph in the file of this name, for all its sinks, or for
 -- the one of this name
 abbrev pub AskEval : List Text → Text → Option Text → Type 0
-AskEval words name sink = Asks words (eval name sink)
+AskEval words name sink = Asks words (eval No name sink)
 
 -- the words ask for a drawing of the graph in the file of this name
 abbrev pub AskDraw : List Text → Text → Type 0
-AskDraw words name = Asks words (draw name)
+AskDraw words name = Asks words (draw No name)
 
 -- the words ask for a check, and for an explanation of a fault
 abbrev pub AskCheckExplained : List Text → Text → Type 0
-AskCheckExplained words name = Asks words (check_explained name)
+AskCheckExplained words name = Asks words (check Yes name)
 
 -- the words ask for an evaluation, and for an explanation of a fault
 abbrev pub AskEvalExplained : List Text → Text → Option Text → Type 0
-AskEvalExplained words name sink = Asks words (eval_explained name sink)
+AskEvalExplained words name sink = Asks words (eval Yes name sink)
 
 -- the words ask for a drawing, and for an explanation of a fault
 abbrev pub AskDrawExplained : List Text → Text → Type 0
-AskDrawExplained words name = Asks words (draw_explained name)
+AskDrawExplained words name = Asks words (draw Yes name)
 
 -- the name of the file, of a script or of a graph, of which something is asked for
 abbrev pub file_asked : Asked → Option Text
 file_asked replay = None
-file_asked (replay_file name) = Some name
-file_asked (replay_strictly name) = Some name
-file_asked (check name) = Some name
-file_asked (eval name sink) = Some name
-file_asked (draw name) = Some name
-file_asked (check_explained name) = Some name
-file_asked (eval_explained name sink) = Some name
-file_asked (draw_explained name) = Some name
+file_asked (replay_file strict name) = Some name
+file_asked (check explain name) = Some name
+file_asked (eval explain name sink) = Some name
+file_asked (draw explain name) = Some name
 
 -- the words ask for something of the script or the graph in the file of this name
 pub record AskFile (words : List Text) (name : Text) : Type 0 where
@@ -258,11 +230,10 @@ pub record AskFile (words : List Text) (name : Text) : Type 0 where
 -- what a call asks for
 abbrev pub asked_of : Call → Asked
 asked_of call.Replay = replay
-asked_of (call.ReplayFile script strict) = file_by strict script.now
-asked_of (call.Check graph explain) = check_by explain graph.now
-asked_of (call.Eval graph sink explain) =
-    eval_by explain graph.now (option_map (λ s. s.now) sink)
-asked_of (call.Draw graph explain) = draw_by explain graph.now
+asked_of (call.ReplayFile script strict) = replay_file strict script.now
+asked_of (call.Check graph explain) = check explain graph.now
+asked_of (call.Eval graph sink explain) = eval explain graph.now (option_map (λ s. s.now) sink)
+asked_of (call.Draw graph explain) = draw explain graph.now
 
 -- the words as texts
 abbrev pub texts : {Z : Type 0} → List (String Z) → List Text

@@ -6,8 +6,8 @@ use Rattle.clap.specs.Words.{App, Kinds, Row, Rule, Text, fault_of, first_of, ma
 use Rattle.clap.specs.declared.builder.value_parser.ValueParser.TheVariants as vp
 use Rattle.clap.specs.declared.error.kind.ErrorKind.TheVariants.{DisplayHelp, DisplayVersion}
 use Rattle.phase_words.specs.CommandLine.{Refuse, explain_of, explain_rule, graph_rule, sink_rule, with_version, without_own_name}
-use Rattle.phase_words.specs.declared.call.Explain.{Explain}
-use Rattle.phase_words.specs.declared.call.Explain.TheVariants.{No, Yes}
+use Rattle.watched_io.specs.declared.explain.Explain.{Explain}
+use Rattle.watched_io.specs.declared.explain.Explain.TheVariants.{No, Yes}
 use Rattle.phase_words.specs.declared.call.RunCall.{RunCall}
 use Rattle.phase_words.specs.declared.call.TheConstants.{WORKERS, WORKERS_MAX}
 

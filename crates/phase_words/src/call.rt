@@ -1,13 +1,6 @@
 //! What the words ask for, as plain data.
 
-/// Whether a fault is explained, behind its line.
-#[derive(Clone, Copy, Debug, PartialEq, Eq)]
-pub enum Explain {
-    /// The fault's line stands alone.
-    No,
-    /// Lines for a person stand behind it.
-    Yes,
-}
+use watched_io::Explain;
 
 /// Whether a replay ends at the first line that is refused.
 #[derive(Clone, Copy, Debug, PartialEq, Eq)]

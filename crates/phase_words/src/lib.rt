@@ -1,7 +1,8 @@
 //! The words of the program's command line, and what they ask for, as clap reads them.
 //!
 //! The first call is `read_words`, and `read_run_words` for the words behind `phase run`. Each
-//! answers plain data: who calls it needs nothing of clap.
+//! answers plain data: who calls it needs nothing of clap. `answer` tells the user why there is no
+//! call, and answers the status.
 #![tactic(auto)]
 
 mod call;
@@ -10,7 +11,10 @@ mod escape;
 mod help;
 pub mod laws;
 mod run_line;
+mod told;
 
-pub use call::{Call, Explain, NoCall, RunCall, Strict, WORKERS, WORKERS_MAX};
+pub use call::{Call, NoCall, RunCall, Strict, WORKERS, WORKERS_MAX};
 pub use command_line::read_words;
 pub use run_line::read_run_words;
+pub use told::answer;
+pub use watched_io::Explain;

@@ -1,3 +1,4 @@
+mod Codes
 pub mod Giving
 mod Reading
 pub mod Writing

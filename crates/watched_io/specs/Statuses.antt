@@ -5,6 +5,17 @@ use Rattle.watched_io.specs.Prefix.{AppendsPrefix}
 use Rattle.watched_io.specs.States.{WriterState}
 use Rattle.watched_io.specs.declared.fault.IoFault.{IoFault}
 use Rattle.watched_io.specs.declared.fault.IoFault.TheVariants.{OutOfMemory, ReadFault, WriteFault}
+use Rattle.watched_io.specs.declared.status.Status.{Status}
+use Rattle.watched_io.specs.declared.status.Status.TheVariants as status
+
+-- the number that the process ends with
+abbrev pub status_code : Status → ℕ
+status_code status.Done = 0
+status_code status.GraphRefused = 1
+status_code status.Refused = 2
+status_code status.TooBig = 3
+status_code status.Stalled = 4
+status_code status.Failed = 5
 
 -- the line on the fault stream
 abbrev pub fault_line : IoFault → List ℕ

@@ -7,41 +7,41 @@ ghost use Rattle.watched_io.specs.Prefix.{AppendsPrefix};
 ghost use Rattle.watched_io.specs.States.{writer_state};
 ghost use Rattle.watched_io.specs.Watched.{has_failed_of, inner_of};
 
-use crate::status::{DONE, REFUSED, report};
+use crate::status::{Status, report};
 use crate::{IoFault, Watched};
 use std::io::Write;
 
-/// Shows help on the output, once, and answers the exit status: 0, or 5 where a write fails.
+/// Shows help on the output, once, and answers `Done`, or `Failed` where a write fails.
 pub fn show_help<W: Write, E: Write>(
     text: &str,
     output: &mut Watched<W>,
     faults: &mut Watched<E>,
-) -> u8
-    ensures status { (result ≡ 0) ⊎ (result ≡ 5) }
-    ensures text { result ≡ 0 → Appends (W.contents (inner_of output.old))
+) -> Status
+    ensures status { (result ≡ Status.Done) ⊎ (result ≡ Status.Failed) }
+    ensures text { result ≡ Status.Done → Appends (W.contents (inner_of output.old))
         (W.contents (inner_of output.new)) text.now }
     ensures prefix { AppendsPrefix (W.contents (inner_of output.old))
         (W.contents (inner_of output.new)) text.now }
-    ensures quiet { result ≡ 0 → faults.new ≡ faults.old }
-    ensures failed { result ≡ 5 → has_failed_of output.new ≡ true }
-    ensures fault { result ≡ 5 → Reports WriteFault
+    ensures quiet { result ≡ Status.Done → faults.new ≡ faults.old }
+    ensures failed { result ≡ Status.Failed → has_failed_of output.new ≡ true }
+    ensures fault { result ≡ Status.Failed → Reports WriteFault
         (writer_state E.contents faults.old) (writer_state E.contents faults.new) }
 {
     match output.send(text.as_bytes()) {
-        Ok(()) => DONE,
+        Ok(()) => Status::Done,
         Err(_) => report(IoFault::WriteFault, faults),
     }
 }
 
-/// Shows a refusal's text on the fault stream, and answers the exit status 2. Where that stream
+/// Shows a refusal's text on the fault stream, and answers `Refused`. Where that stream
 /// fails, the status stands alone.
-pub fn refuse<E: Write>(text: &str, faults: &mut Watched<E>) -> u8
-    ensures status { result ≡ 2 }
+pub fn refuse<E: Write>(text: &str, faults: &mut Watched<E>) -> Status
+    ensures status { result ≡ Status.Refused }
     ensures text { (has_failed_of faults.new ≡ true) ⊎ Appends (E.contents (inner_of faults.old))
         (E.contents (inner_of faults.new)) text.now }
     ensures prefix { AppendsPrefix (E.contents (inner_of faults.old))
         (E.contents (inner_of faults.new)) text.now }
 {
     let _ = faults.send(text.as_bytes());
-    REFUSED
+    Status::Refused
 }

@@ -1,37 +1,52 @@
 //! The exit statuses of the program, and the lines that go with a fault.
 ghost use Rattle.std.specs.Prelude.{◌≡◌};
-ghost use Rattle.watched_io.specs.Statuses.{Reports, fault_line};
+ghost use Rattle.watched_io.specs.Statuses.{Reports, fault_line, status_code};
 ghost use Rattle.watched_io.specs.States.{writer_state};
 
 use crate::{IoFault, Watched};
 use std::io::Write;
 
-/// What was asked for is done, or help was shown.
-pub const DONE: u8 = 0;
+/// How a run of the program ends.
+#[derive(Clone, Copy, Debug, PartialEq, Eq)]
+pub enum Status {
+    /// What was asked for is done, or help was shown.
+    Done,
+    /// A graph or its samples are refused, or a line of a script that is replayed strictly.
+    GraphRefused,
+    /// The words were not understood.
+    Refused,
+    /// A value of a graph is out of range.
+    TooBig,
+    /// Every task of a run that was left waited for another.
+    Stalled,
+    /// A read or a write failed, a script or a file is too long, or memory ran out.
+    Failed,
+}
 
-/// A graph or its samples are refused.
-pub const GRAPH_REFUSED: u8 = 1;
-
-/// The words were not understood.
-pub const REFUSED: u8 = 2;
-
-/// A value of a graph is out of range.
-pub const TOO_BIG: u8 = 3;
-
-/// Every task of a run that was left waited for another.
-pub const STALLED: u8 = 4;
-
-/// A read or a write failed, a script or a file is too long, or memory ran out.
-pub const FAILED: u8 = 5;
+impl Status {
+    /// Returns the number that the process ends with.
+    pub fn code(self) -> u8
+        ensures { result ≡ status_code self }
+    {
+        match self {
+            Status::Done => 0,
+            Status::GraphRefused => 1,
+            Status::Refused => 2,
+            Status::TooBig => 3,
+            Status::Stalled => 4,
+            Status::Failed => 5,
+        }
+    }
+}
 
 /// Writes a fault's line, and answers the status after a fault.
-pub fn report<E: Write>(fault: IoFault, faults: &mut Watched<E>) -> u8
-    ensures status { result ≡ 5 }
+pub fn report<E: Write>(fault: IoFault, faults: &mut Watched<E>) -> Status
+    ensures status { result ≡ Status.Failed }
     ensures line { Reports fault
         (writer_state E.contents faults.old) (writer_state E.contents faults.new) }
 {
     let _ = faults.send(line_of(fault).as_bytes());
-    FAILED
+    Status::Failed
 }
 
 /// A fault's line, with its line feed.

@@ -5,7 +5,7 @@ ghost use Rattle.watched_io.specs.declared.fault.IoFault.TheVariants as fault;
 ghost use Rattle.watched_io.specs.Statuses.{Reports, Says};
 ghost use Rattle.watched_io.specs.States.{writer_state};
 
-use crate::status::{REFUSED, report};
+use crate::status::{Status, report};
 use crate::{IoFault, Watched};
 use std::env::Env;
 use std::io::{ErrorKind, Write};
@@ -20,12 +20,12 @@ pub fn own_words<R: Env + Alloc>(rt: &R) -> io::Result<Vec<String<R::A>, R::A>> 
 
 /// Reports that the process's own words could not be read, and answers the status: 5 where memory
 /// ran out, and 2 elsewhere, with the text that a word is not UTF-8.
-pub fn refuse_words<E: Write>(error: &io::Error, faults: &mut Watched<E>) -> u8
-    ensures memory { error_kind error.now ≡ ErrorKind.OutOfMemory → result ≡ 5 }
-    ensures refused { error_kind error.now ≢ ErrorKind.OutOfMemory → result ≡ 2 }
-    ensures fault { result ≡ 5 → Reports fault.OutOfMemory
+pub fn refuse_words<E: Write>(error: &io::Error, faults: &mut Watched<E>) -> Status
+    ensures memory { error_kind error.now ≡ ErrorKind.OutOfMemory → result ≡ Status.Failed }
+    ensures refused { error_kind error.now ≢ ErrorKind.OutOfMemory → result ≡ Status.Refused }
+    ensures fault { result ≡ Status.Failed → Reports fault.OutOfMemory
         (writer_state E.contents faults.old) (writer_state E.contents faults.new) }
-    ensures text { result ≡ 2
+    ensures text { result ≡ Status.Refused
         → Says (codes "error: a word of the command line is not UTF-8\n")
         (writer_state E.contents faults.old) (writer_state E.contents faults.new) }
 {
@@ -33,5 +33,5 @@ pub fn refuse_words<E: Write>(error: &io::Error, faults: &mut Watched<E>) -> u8
         return report(IoFault::OutOfMemory, faults);
     }
     let _ = faults.send(b"error: a word of the command line is not UTF-8\n");
-    REFUSED
+    Status::Refused
 }

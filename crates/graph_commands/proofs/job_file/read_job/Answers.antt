@@ -1,27 +1,33 @@
 use Rattle.std.proofs.Common.{sym, subst}
-use Rattle.std.proofs.lemmas.Result.{IfErr-weaker, IfOk-weaker}
-use Rattle.graph_commands.specs.FileJobs.{Explains, IsGraphOf, IsJobOf, Known}
+use Rattle.graph_commands.specs.Explained.{IsTextOf}
+use Rattle.graph_commands.specs.FileJobs.{Explains, IsJobOf, Known}
 use Rattle.graph_commands.proofs.Counted.{known-same}
 use Rattle.graph_commands.proofs.job_file.read_job.Goals as goal
 
--- the job is that of the files as they were
-pub returns-clause-ok : goal.returns-clause-ok
-returns-clause-ok g c =
+-- the file was read, and its text gives a job
+pub returns-in-Ok-job_of_text-clause-ok : goal.returns-in-Ok-job_of_text-clause-ok
+returns-in-Ok-job_of_text-clause-ok g c =
     let name = c.args.name.now in
-    let same = known-same (g.F.Files.file c.read_graph_file.new.files)
-    (g.F.Files.file c.args.files.now) c.in_ok-graph.ensures.same in
-    let of = subst (λ (known : Known). IsGraphOf known name c.in_ok-graph.graph) (sym same) c.in_ok-graph.ensures.ok in
-    IfOk-weaker c.job_of_graph.result _ _
-    (λ job holds. subst (λ (known : Known). IsJobOf known name job) same (holds name of))
-    c.job_of_graph.ensures.ok
+    let same = known-same (g.F.Files.file c.read.new.self) (g.F.Files.file c.args.files.now)
+    c.in-Ok.ensures.same in
+    let of : IsTextOf (g.F.Files.file c.read.new.self) name c.deref.result.now = rw c.deref.ensures.value
+    (subst (λ (known : Known). IsTextOf known name c.in-Ok.text.items) (sym same)
+    (record { bytes = c.in-Ok.ensures.bytes; short = c.in-Ok.ensures.short })) in
+    subst (λ (known : Known). IsJobOf known name c.in-Ok-job_of_text.job) same
+    (c.in-Ok-job_of_text.ensures.ok name of)
 
--- and so is the fault
-pub returns-clause-fault : goal.returns-clause-fault
-returns-clause-fault g c =
+-- its text gives none
+pub returns-in-Ok-clause-failed : goal.returns-in-Ok-clause-failed
+returns-in-Ok-clause-failed g c =
     let name = c.args.name.now in
-    let same = known-same (g.F.Files.file c.read_graph_file.new.files)
-    (g.F.Files.file c.args.files.now) c.in_ok-graph.ensures.same in
-    let of = subst (λ (known : Known). IsGraphOf known name c.in_ok-graph.graph) (sym same) c.in_ok-graph.ensures.ok in
-    IfErr-weaker c.job_of_graph.result _ _
-    (λ fault holds. subst (λ (known : Known). Explains known name fault) same (holds name of))
-    c.job_of_graph.ensures.fault
+    let same = known-same (g.F.Files.file c.read.new.self) (g.F.Files.file c.args.files.now)
+    c.in-Ok.ensures.same in
+    let here : IsTextOf (g.F.Files.file c.args.files.now) name c.in-Ok.text.items =
+    record { bytes = c.in-Ok.ensures.bytes; short = c.in-Ok.ensures.short } in
+    let of : IsTextOf (g.F.Files.file c.read.new.self) name c.deref.result.now = rw c.deref.ensures.value
+    (subst (λ (known : Known). IsTextOf known name c.in-Ok.text.items) (sym same) here) in
+    record {
+      explains = subst (λ (known : Known). Explains known name c.in-Err-job_of_text.fault) same
+          (c.in-Err-job_of_text.ensures.fault name of);
+      text_of = λ _. here;
+    }

@@ -2,7 +2,8 @@ use Rattle.std.proofs.Common.{inl, inr, refl, subst}
 use Rattle.phase_words.specs.CommandLine.{Asked, texts}
 use Rattle.phase_replay.specs.watched_io.States.{reader_state, writer_state}
 use Rattle.phase_cli.specs.Ends.{EndsAs}
-use Rattle.phase_cli.proofs.Asking.{asks-one, leaves-asked, may-end-answered, may-end-asked, refused-silent, taken-memory}
+use Rattle.phase_cli.proofs.Asking.{asks-one, failed-as, leaves-asked, may-end-asked}
+use Rattle.phase_words.proofs.Answering.{may-end-answered, refused-silent, unbegun}
 use Rattle.phase_cli.proofs.Nothing.{replay-unbegun}
 use Rattle.phase_cli.proofs.cli.run_cli.Goals as goal
 
@@ -14,20 +15,20 @@ returns-in-Ok-clause-status g c =
 
 pub returns-in-Ok-clause-replay : goal.returns-in-Ok-clause-replay
 returns-in-Ok-clause-replay g c =
-    λ asks. subst (λ (what : Asked). EndsAs what (g.F.Files.file c.args.files.now) g.W.Write.contents
+    λ asks. subst (λ (what : Asked). EndsAs what (g.F.Files.file c.args.streams.now.files) g.W.Write.contents
     c.run_call.result (reader_state g.R.Read.remaining c.args.input.now)
-    (reader_state g.R.Read.remaining c.run_call.new.input) c.args.output.now c.run_call.new.output
-    (writer_state g.E.Write.contents c.args.faults.now)
-    (writer_state g.E.Write.contents c.run_call.new.faults))
+    (reader_state g.R.Read.remaining c.run_call.new.input) c.args.streams.now.output c.run_call.new.streams.output
+    (writer_state g.E.Write.contents c.args.streams.now.faults)
+    (writer_state g.E.Write.contents c.run_call.new.streams.faults))
     (asks-one (texts c.args.words.now) _ _ c.in-Ok.ensures.call asks) c.run_call.ensures.ends
 
 pub returns-in-Ok-clause-asked : goal.returns-in-Ok-clause-asked
 returns-in-Ok-clause-asked g c =
-    λ what asks. inr (subst (λ (what : Asked). EndsAs what (g.F.Files.file c.args.files.now)
+    λ what asks. inr (subst (λ (what : Asked). EndsAs what (g.F.Files.file c.args.streams.now.files)
     g.W.Write.contents c.run_call.result (reader_state g.R.Read.remaining c.args.input.now)
-    (reader_state g.R.Read.remaining c.run_call.new.input) c.args.output.now c.run_call.new.output
-    (writer_state g.E.Write.contents c.args.faults.now)
-    (writer_state g.E.Write.contents c.run_call.new.faults))
+    (reader_state g.R.Read.remaining c.run_call.new.input) c.args.streams.now.output c.run_call.new.streams.output
+    (writer_state g.E.Write.contents c.args.streams.now.faults)
+    (writer_state g.E.Write.contents c.run_call.new.streams.faults))
     (asks-one (texts c.args.words.now) _ what c.in-Ok.ensures.call asks) c.run_call.ensures.ends)
 
 pub returns-in-Ok-clause-answered : goal.returns-in-Ok-clause-answered
@@ -41,20 +42,21 @@ returns-in-Ok-clause-left g c =
 
 pub returns-in-Err-clause-status : goal.returns-in-Err-clause-status
 returns-in-Err-clause-status g c =
-    may-end-answered _ c.in-Err.none _ _ _ _ _ c.in-Err.ensures.no_call c.answer.ensures.answer
+    may-end-answered _ _ c.in-Err.none _ _ _ _ _ (failed-as (texts c.args.words.now) c.answer.result)
+    c.in-Err.ensures.no_call c.answer.ensures.answer
 
 pub returns-in-Err-clause-replay : goal.returns-in-Err-clause-replay
 returns-in-Err-clause-replay g c =
     λ asks.
-    let memory = taken-memory _ c.in-Err.none _ _ _ _ _ asks.taken c.in-Err.ensures.no_call c.answer.ensures.answer in
-    rw memory.1.0 (replay-unbegun c.answer.result (reader_state g.R.Read.remaining c.args.input.now)
-    (writer_state g.W.Write.contents c.args.output.now) _ _ memory.0 memory.1.1)
+    let none = unbegun _ c.in-Err.none c.answer.result tt c.args.streams.now.output c.answer.new.output
+    _ _ asks.taken c.in-Err.ensures.no_call c.answer.ensures.answer in
+    rw none.silent (replay-unbegun c.answer.result (reader_state g.R.Read.remaining c.args.input.now)
+    (writer_state g.W.Write.contents c.args.streams.now.output) _ _ none.status_is none.says)
 
 pub returns-in-Err-clause-asked : goal.returns-in-Err-clause-asked
 returns-in-Err-clause-asked g c =
-    λ what asks.
-    let memory = taken-memory _ c.in-Err.none _ _ _ _ _ asks.taken c.in-Err.ensures.no_call c.answer.ensures.answer in
-    inl (record { status_is = memory.0; unopened = refl; silent = memory.1.0; says = memory.1.1 })
+    λ what asks. inl (unbegun _ c.in-Err.none _ _ _ _ _ _ asks.taken c.in-Err.ensures.no_call
+    c.answer.ensures.answer)
 
 pub returns-in-Err-clause-left : goal.returns-in-Err-clause-left
 returns-in-Err-clause-left g c = record { unread = λ _. refl; unopened = λ _. refl }

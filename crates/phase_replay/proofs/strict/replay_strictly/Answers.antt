@@ -1,4 +1,4 @@
-use Rattle.std.proofs.Common.{◌≤◌, [], length, take, inl, inr, refl, arith}
+use Rattle.std.proofs.Common.{◌≤◌, [], length, take, inl, inr, refl}
 use Rattle.std.proofs.KnownBytes.{Appends-nil}
 use Rattle.watched_io.specs.declared.fault.IoFault.TheVariants.{OutOfMemory}
 use Rattle.phase_replay.specs.Replies.{replies_of}
@@ -15,31 +15,31 @@ returns-in-Ok-Some-clause-ends g c =
     rw c.in-Ok-Some.field-0-is at c.in-Ok-Some.ensures.some in
     let stops = found.1 in
     record {
-      done = λ zero. absurd (elim c.replay_front.ensures.status [
-        | inl one ↦ omega (arith, zero, one)
-        | inr five ↦ omega (arith, zero, five)
+      done = λ done. absurd (elim c.replay_front.ensures.status [
+        | inl refused ↦ cc (done, refused)
+        | inr failed ↦ cc (done, failed)
       ]);
-      refused = λ one. record {
+      refused = λ refused. record {
         front = take end script;
         number = number;
         stops = stops;
-        written = c.replay_front.ensures.written one;
-        says = c.replay_front.ensures.says one;
+        written = c.replay_front.ensures.written refused;
+        says = c.replay_front.ensures.says refused;
       };
-      stops = λ five. record {
+      stops = λ failed. record {
         front = take end script;
         number = number;
         through = inr stops;
-        stops = c.replay_front.ensures.stops five;
+        stops = c.replay_front.ensures.stops failed;
       };
     }
 
 -- Memory ran out over the search.
 pub returns-in-Err-clause-ends : goal.returns-in-Err-clause-ends
 returns-in-Err-clause-ends g c = record {
-  done = λ zero. absurd (omega (arith, zero, c.report.ensures.status));
-  refused = λ one. absurd (omega (arith, one, c.report.ensures.status));
-  stops = λ five. record {
+  done = λ done. absurd (cc (done, c.report.ensures.status));
+  refused = λ refused. absurd (cc (refused, c.report.ensures.status));
+  stops = λ failed. record {
     front = c.args.script.now;
     number = 0;
     through = inl refl;

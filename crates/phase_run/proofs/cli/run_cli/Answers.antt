@@ -1,35 +1,24 @@
 use Rattle.std.proofs.Common.{inl, inr, refl, sym, subst, ◌∙◌}
+use Rattle.phase_words.proofs.Answering.{may-end-answered, may-end-taken, refused-silent, unbegun}
 use Rattle.phase_words.specs.RunLine.{Run}
 use Rattle.stream_workers.specs.graph_commands.watched_io.States.{writer_state}
-use Rattle.phase_run.specs.Inside.{RunEndsBy}
-use Rattle.phase_run.proofs.Asking.{may-end-answered, may-end-taken, refused-silent, taken-memory}
+use Rattle.phase_run.specs.Ends.{EndsAsRun}
 use Rattle.phase_run.proofs.cli.run_cli.Goals as goal
 
 -- ---- a run of a graph was asked for
 
 pub returns-in-Ok-clause-status : goal.returns-in-Ok-clause-status
 returns-in-Ok-clause-status g c =
-    may-end-taken _ _ c.in-Ok.ensures.call.taken c.run_call.ensures.status
+    may-end-taken _ _ _ c.in-Ok.ensures.call.taken c.run_call.ensures.status
 
 pub returns-in-Ok-clause-run : goal.returns-in-Ok-clause-run
 returns-in-Ok-clause-run g c =
-    λ name sink workers asks.
-    let same = sym c.in-Ok.ensures.call.run ∙ asks.run in
-    inr (subst (λ (what : Run). RunEndsBy what.explain (g.F.Files.file c.args.files.now) what.graph
-    what.sink c.run_call.result g.W.Write.contents c.args.output.now
-    c.run_call.new.output (writer_state g.E.Write.contents c.args.faults.now)
-    (writer_state g.E.Write.contents c.run_call.new.faults))
-    same c.run_call.ensures.ends)
-
-pub returns-in-Ok-clause-explained : goal.returns-in-Ok-clause-explained
-returns-in-Ok-clause-explained g c =
-    λ name sink workers asks.
-    let same = sym c.in-Ok.ensures.call.run ∙ asks.run in
-    inr (subst (λ (what : Run). RunEndsBy what.explain (g.F.Files.file c.args.files.now) what.graph
-    what.sink c.run_call.result g.W.Write.contents c.args.output.now
-    c.run_call.new.output (writer_state g.E.Write.contents c.args.faults.now)
-    (writer_state g.E.Write.contents c.run_call.new.faults))
-    same c.run_call.ensures.ends)
+    λ what asks.
+    inr (subst (λ (what : Run). EndsAsRun what (g.F.Files.file c.args.streams.now.files)
+    g.W.Write.contents c.run_call.result c.args.streams.now.output c.run_call.new.streams.output
+    (writer_state g.E.Write.contents c.args.streams.now.faults)
+    (writer_state g.E.Write.contents c.run_call.new.streams.faults))
+    (sym c.in-Ok.ensures.call.run ∙ asks.run) c.run_call.ensures.ends)
 
 pub returns-in-Ok-clause-answered : goal.returns-in-Ok-clause-answered
 returns-in-Ok-clause-answered g c = λ untaken. absurd (untaken c.in-Ok.ensures.call.taken)
@@ -41,19 +30,13 @@ returns-in-Ok-clause-unopened g c = λ untaken. absurd (untaken c.in-Ok.ensures.
 
 pub returns-in-Err-clause-status : goal.returns-in-Err-clause-status
 returns-in-Err-clause-status g c =
-    may-end-answered _ c.in-Err.none _ _ _ _ _ c.in-Err.ensures.no_call c.answer.ensures.answer
+    may-end-answered _ _ c.in-Err.none _ _ _ _ _ (λ failed. inr (inr (inr (inr failed))))
+    c.in-Err.ensures.no_call c.answer.ensures.answer
 
 pub returns-in-Err-clause-run : goal.returns-in-Err-clause-run
 returns-in-Err-clause-run g c =
-    λ name sink workers asks.
-    let memory = taken-memory _ c.in-Err.none _ _ _ _ _ asks.taken c.in-Err.ensures.no_call c.answer.ensures.answer in
-    inl (record { status_is = memory.0; unopened = refl; silent = memory.1.0; says = memory.1.1 })
-
-pub returns-in-Err-clause-explained : goal.returns-in-Err-clause-explained
-returns-in-Err-clause-explained g c =
-    λ name sink workers asks.
-    let memory = taken-memory _ c.in-Err.none _ _ _ _ _ asks.taken c.in-Err.ensures.no_call c.answer.ensures.answer in
-    inl (record { status_is = memory.0; unopened = refl; silent = memory.1.0; says = memory.1.1 })
+    λ what asks. inl (unbegun _ c.in-Err.none _ _ _ _ _ _ asks.taken c.in-Err.ensures.no_call
+    c.answer.ensures.answer)
 
 pub returns-in-Err-clause-answered : goal.returns-in-Err-clause-answered
 returns-in-Err-clause-answered g c =

@@ -1,8 +1,0 @@
-use Rattle.stream_eval.specs.stream_lists.Jobs.{with_starts}
-use Rattle.graph_commands.proofs.Places.{sinks-within}
-use Rattle.graph_commands.proofs.answered.write_sinks.Goals as goal
-
--- each sink is a task of the graph
-pub write_lines-requires : goal.write_lines-requires
-write_lines-requires g c =
-    rw c.graph.ensures.graph (sinks-within (with_starts c.requires.0 c.args.job.now) c.args.lines.now c.requires.1)

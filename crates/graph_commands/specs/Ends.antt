@@ -1,0 +1,156 @@
+-- How a command on a graph ends, by its status, and what stands on its streams then.
+use Rattle.std.specs.Prelude.{◌≡◌, ◌≢◌, ◌⊎◌, ◌++◌, ℕ, List, [], Option}
+use Rattle.std.specs.Io.KnownBytes.{Appends}
+use Rattle.graph_commands.specs.Explained.{AreFurtherLines, Tells, no_memory_line}
+use Rattle.graph_commands.specs.Failures.{FailsBy, IsUnanswered, IsUndrawn, IsUnread}
+use Rattle.graph_commands.specs.Failures.{failure_line, failure_status}
+use Rattle.graph_commands.specs.FileJobs.{IsJobOf, Known}
+use Rattle.graph_commands.specs.GraphDrawings.{Draws, DrawsPrefix}
+use Rattle.graph_commands.specs.GraphRuns.{Evaluates, EvaluatesPrefix, check_line}
+use Rattle.graph_commands.specs.declared.failure.Failure.{Failure}
+use Rattle.graph_commands.specs.declared.failure.Failure.TheVariants as failure
+use Rattle.graph_show.specs.graph_base.Graphs.{Graph}
+use Rattle.graph_show.specs.watched_io.Prefix.{AppendsPrefix}
+use Rattle.graph_show.specs.watched_io.States.{WriterState, writer_state}
+use Rattle.graph_show.specs.watched_io.Statuses.{Says}
+use Rattle.graph_show.specs.watched_io.declared.explain.Explain.{Explain}
+use Rattle.graph_show.specs.watched_io.declared.explain.Explain.TheVariants.{No, Yes}
+use Rattle.graph_show.specs.watched_io.declared.status.Status.{Status}
+use Rattle.graph_show.specs.watched_io.declared.status.Status.TheVariants.{Done}
+use Rattle.graph_show.specs.watched_io.declared.watched.Watched.{Watched}
+use Rattle.stream_eval.specs.stream_lists.Jobs.{Job}
+
+-- ---- what is told of a failure
+
+-- the text explains a failure to a person: of the files, by what they hold, or it says that memory
+-- ran out over that; of a name that no sink has and of a value that is out of range, by lines for a
+-- person or nothing; of a stall by what goes with it; of a failed write and want of memory it is
+-- nothing
+abbrev pub ExplainsFailure : Known → Failure → List ℕ → Type 0
+ExplainsFailure known (failure.Graph fault text) more =
+    Tells known text.items fault more ⊎ (more ≡ no_memory_line)
+ExplainsFailure known (failure.NoSink job name) more = AreFurtherLines more
+ExplainsFailure known (failure.TooBig job place phase) more = AreFurtherLines more
+ExplainsFailure known (failure.Stalled further) more = more ≡ further.items
+ExplainsFailure known (failure.Io fault) more = more ≡ []
+
+-- the text was said that explains it
+pub record SaysMore (known : Known) (found : Failure) (before after : WriterState) : Type 0 where
+  pub more : List ℕ
+  pub explains : ExplainsFailure known found more
+  pub says : Says more before after
+
+-- its line was said, and then that text
+pub record IsExplained (known : Known) (found : Failure) (before after : WriterState) : Type 0 where
+  pub told : WriterState
+  pub line : Says (failure_line found) before told
+  pub further : SaysMore known found told after
+
+-- a failure is told by its line, and explained where that is asked for
+abbrev pub IsTold : Explain → Known → Failure → WriterState → WriterState → Type 0
+IsTold No known found before after = Says (failure_line found) before after
+IsTold Yes known found before after = IsExplained known found before after
+
+-- ---- how a command ends
+
+-- it failed of a cause, which was told
+pub record Stops (explain : Explain) (known : Known) (Fails : Failure → Type 0) (status : Status)
+    (before after : WriterState) : Type 0 where
+  pub found : Failure
+  pub fails : Fails found
+  pub status_is : status ≡ failure_status found
+  pub told : IsTold explain known found before after
+
+-- it did what it is for, or it stopped
+pub record EndsBy (explain : Explain) (known : Known) (Does : Type 0) (Fails : Failure → Type 0)
+    (status : Status) (before after : WriterState) : Type 0 where
+  pub done : status ≡ Done → Does
+  pub stops : status ≢ Done → Stops explain known Fails status before after
+
+-- ---- a check
+
+-- behind the line of the graph's counts stands nothing, or stand lines for a person where these are
+-- asked for
+abbrev pub AreNotes : Explain → List ℕ → Type 0
+AreNotes No more = more ≡ []
+AreNotes Yes more = AreFurtherLines more
+
+-- both were written
+pub record WritesCheck (explain : Explain) (graph : Graph) (old new : Option (List ℕ))
+    : Type 0 where
+  pub more : List ℕ
+  pub notes : AreNotes explain more
+  pub written : Appends old new (check_line graph ++ more)
+
+-- a prefix of both was
+pub record WritesCheckPrefix (explain : Explain) (graph : Graph) (old new : Option (List ℕ))
+    : Type 0 where
+  pub more : List ℕ
+  pub notes : AreNotes explain more
+  pub written : AppendsPrefix old new (check_line graph ++ more)
+
+-- the files tell a job, and its counts were written
+pub record Checks (explain : Explain) (known : Known) (name : List ℕ) (old new : WriterState)
+    : Type 0 where
+  pub job : Job
+  pub job_of : IsJobOf known name job
+  pub writes : WritesCheck explain job.graph old.written new.written
+
+-- the files tell a job, and a prefix of that was written
+pub record ChecksPrefix (explain : Explain) (known : Known) (name : List ℕ) (old new : WriterState)
+    : Type 0 where
+  pub job : Job
+  pub job_of : IsJobOf known name job
+  pub writes : WritesCheckPrefix explain job.graph old.written new.written
+
+-- why a check failed
+abbrev pub CheckFails : {W : Type 0} → Explain → Known → List ℕ → (W → Option (List ℕ))
+    → Watched W → Watched W → Failure → Type 0
+CheckFails explain known name contents old new found =
+    FailsBy (IsUnread known name)
+    (ChecksPrefix explain known name (writer_state contents old) (writer_state contents new))
+    contents old new found
+
+-- how a check ends
+abbrev pub CheckEnds : {W : Type 0} → Explain → Known → List ℕ → Status → (W → Option (List ℕ))
+    → Watched W → Watched W → WriterState → WriterState → Type 0
+CheckEnds explain known name status contents old new before after =
+    EndsBy explain known
+    (Checks explain known name (writer_state contents old) (writer_state contents new))
+    (CheckFails explain known name contents old new) status before after
+
+-- ---- a drawing
+
+-- why a drawing failed
+abbrev pub DrawFails : {W : Type 0} → Known → List ℕ → (W → Option (List ℕ))
+    → Watched W → Watched W → Failure → Type 0
+DrawFails known name contents old new found =
+    FailsBy (IsUndrawn known name)
+    (DrawsPrefix known name (writer_state contents old) (writer_state contents new))
+    contents old new found
+
+-- how a drawing ends
+abbrev pub DrawEnds : {W : Type 0} → Explain → Known → List ℕ → Status → (W → Option (List ℕ))
+    → Watched W → Watched W → WriterState → WriterState → Type 0
+DrawEnds explain known name status contents old new before after =
+    EndsBy explain known
+    (Draws known name (writer_state contents old) (writer_state contents new))
+    (DrawFails known name contents old new) status before after
+
+-- ---- an evaluation, of all sinks or of the one of the name that was asked for
+
+-- why an evaluation failed: it never stalls
+abbrev pub EvalFails : {W : Type 0} → Known → List ℕ → Option (List ℕ) → (W → Option (List ℕ))
+    → Watched W → Watched W → Failure → Type 0
+EvalFails known name asked contents old new found =
+    FailsBy (IsUnanswered ⊥ known name asked)
+    (EvaluatesPrefix known name asked (writer_state contents old) (writer_state contents new))
+    contents old new found
+
+-- how an evaluation ends
+abbrev pub EvalEnds : {W : Type 0} → Explain → Known → List ℕ → Option (List ℕ) → Status
+    → (W → Option (List ℕ)) → Watched W → Watched W → WriterState → WriterState → Type 0
+EvalEnds explain known name asked status contents old new before after =
+    EndsBy explain known
+    (Evaluates known name asked (writer_state contents old) (writer_state contents new))
+    (EvalFails known name asked contents old new) status before after
