@@ -45,11 +45,18 @@ job-refused-or-failed fault.OutOfMemory = inr refl
 pub unread-status : (known : Known) (name : List ℕ) (found : Failure) → IsUnread known name found
     → (failure_status found ≡ GraphRefused) ⊎ (failure_status found ≡ Failed)
 unread-status known name (failure.Graph found text) unread = job-refused-or-failed found
+unread-status known name (failure.NoSink job wanted) unread = absurd unread
+unread-status known name (failure.TooBig job place phase) unread = absurd unread
+unread-status known name (failure.Stalled further) unread = absurd unread
+unread-status known name (failure.Io found) unread = absurd unread
 
 pub undrawn-status : (known : Known) (name : List ℕ) (found : Failure) → IsUndrawn known name found
     → (failure_status found ≡ GraphRefused) ⊎ (failure_status found ≡ Failed)
 undrawn-status known name (failure.Graph found text) undrawn = job-refused-or-failed found
 undrawn-status known name (failure.Io found) undrawn = inr refl
+undrawn-status known name (failure.NoSink job wanted) undrawn = absurd undrawn
+undrawn-status known name (failure.TooBig job place phase) undrawn = absurd undrawn
+undrawn-status known name (failure.Stalled further) undrawn = absurd undrawn
 
 -- what never stalls
 pub unanswered-status : (known : Known) (name : List ℕ) (asked : Option (List ℕ)) (found : Failure)
@@ -71,20 +78,34 @@ pub unasked-unanswered : (Stalls : Type 0) (known : Known) (name : List ℕ) (as
     (found : Failure) → IsUnasked known name asked found → IsUnanswered Stalls known name asked found
 unasked-unanswered Stalls known name asked (failure.Graph found text) unasked = unasked
 unasked-unanswered Stalls known name asked (failure.NoSink job wanted) unasked = unasked
+unasked-unanswered Stalls known name asked (failure.TooBig job place phase) unasked = absurd unasked
+unasked-unanswered Stalls known name asked (failure.Stalled further) unasked = absurd unasked
+unasked-unanswered Stalls known name asked (failure.Io found) unasked = absurd unasked
 
 -- where no job was read, there is none that has what is asked for
 pub unread-unasked : (known : Known) (name : List ℕ) (asked : Option (List ℕ)) (found : Failure)
     → IsUnread known name found → IsUnasked known name asked found
 unread-unasked known name asked (failure.Graph found text) unread = unread
+unread-unasked known name asked (failure.NoSink job wanted) unread = absurd unread
+unread-unasked known name asked (failure.TooBig job place phase) unread = absurd unread
+unread-unasked known name asked (failure.Stalled further) unread = absurd unread
+unread-unasked known name asked (failure.Io found) unread = absurd unread
 
 -- ---- places
 
 pub unread-place : (known : Known) (name : List ℕ) (found : Failure) → IsUnread known name found → HasPlace found
 unread-place known name (failure.Graph found text) unread = tt
+unread-place known name (failure.NoSink job wanted) unread = absurd unread
+unread-place known name (failure.TooBig job place phase) unread = absurd unread
+unread-place known name (failure.Stalled further) unread = absurd unread
+unread-place known name (failure.Io found) unread = absurd unread
 
 pub undrawn-place : (known : Known) (name : List ℕ) (found : Failure) → IsUndrawn known name found → HasPlace found
 undrawn-place known name (failure.Graph found text) undrawn = tt
 undrawn-place known name (failure.Io found) undrawn = tt
+undrawn-place known name (failure.NoSink job wanted) undrawn = absurd undrawn
+undrawn-place known name (failure.TooBig job place phase) undrawn = absurd undrawn
+undrawn-place known name (failure.Stalled further) undrawn = absurd undrawn
 
 pub unanswered-place : (Stalls : Type 0) (known : Known) (name : List ℕ) (asked : Option (List ℕ))
     (found : Failure) → IsUnanswered Stalls known name asked found → HasPlace found

@@ -85,7 +85,7 @@ fn tell_no_sink<E: Write>(name: &str, faults: &mut Watched<E>)
 /// Tells where a value is out of range.
 fn tell_too_big<E: Write>(graph: &Graph, place: Place, number: usize, faults: &mut Watched<E>)
     requires { IsPlace graph.now place }
-    ensures line { Says (too_big_line (name_at graph.now place) number)
+    ensures { Says (too_big_line (name_at graph.now place) number)
         (writer_state E.contents faults.old) (writer_state E.contents faults.new) }
 {
     let mut buffer = Buffer::new();

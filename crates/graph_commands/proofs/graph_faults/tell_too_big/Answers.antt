@@ -3,8 +3,8 @@ use Rattle.graph_show.specs.graph_base.Graphs.{name_at}
 use Rattle.graph_commands.proofs.graph_faults.tell_too_big.Goals as goal
 
 -- the parts are those of the line
-pub returns-clause-line : goal.returns-clause-line
-returns-clause-line g c =
+pub returns : goal.returns
+returns g c =
     let name : c.name.result.now ≡ name_at c.args.graph.now c.args.place = c.name.ensures.name in
     let number : c.format-number.result.now ≡ decimal c.args.number = search rules in
     let parts : c.as_slice.result.now ≡ _ = c.as_slice.ensures in
