@@ -1,10 +1,9 @@
 -- How a command ends, from its failure and from what was told of that.
-use Rattle.std.proofs.Common.{◌≡◌, ◌⊎◌, inl, inr, ℕ, List, [], Ok, Err, refl, sym, subst, ◌∙◌}
+use Rattle.std.proofs.Common.{◌≡◌, ◌⊎◌, inl, inr, ℕ, List, Ok, Err, refl, sym, subst, ◌∙◌}
 use Rattle.std.specs.Prelude.{IfErr, OnOk, Result}
 use Rattle.std.specs.declared.option.Option.{Option}
-use Rattle.std.proofs.KnownBytes.{Appends-nil}
 use Rattle.graph_commands.proofs.Places.{place-first_too_big}
-use Rattle.graph_commands.specs.Ends.{EndsBy, IsTold, SaysMore}
+use Rattle.graph_commands.specs.Ends.{EndsBy, IsTold}
 use Rattle.graph_commands.specs.Failures.{FailsBy, HasPlace, IsUnanswered, IsUnasked, IsUndrawn, IsUnread, failure_status}
 use Rattle.graph_commands.specs.FileJobs.{Known}
 use Rattle.graph_commands.specs.GraphRuns.{job_status}
@@ -13,9 +12,7 @@ use Rattle.graph_commands.specs.declared.failure.Failure.TheVariants as failure
 use Rattle.graph_commands.specs.declared.fault.JobFault.{JobFault}
 use Rattle.graph_commands.specs.declared.fault.JobFault.TheVariants as fault
 use Rattle.graph_show.specs.watched_io.States.{WriterState}
-use Rattle.graph_show.specs.watched_io.Statuses.{Says}
 use Rattle.graph_show.specs.watched_io.declared.explain.Explain.{Explain}
-use Rattle.graph_show.specs.watched_io.declared.fault.IoFault.{IoFault}
 use Rattle.graph_show.specs.watched_io.declared.status.Status.{Status}
 use Rattle.graph_show.specs.watched_io.declared.status.Status.TheVariants.{Done, Failed, GraphRefused, TooBig}
 use Rattle.graph_show.specs.watched_io.declared.watched.Watched.{Watched}
@@ -158,15 +155,3 @@ pub ends-status : {A : Type 0} (Quiet : Type 0) (Fails : Failure → Type 0) (En
     → ((found : Failure) → Fails found → Ends (failure_status found)) → Ends status
 ends-status Quiet Fails Ends (Ok unit) status fails quiet is done by = subst Ends (sym quiet.0) done
 ends-status Quiet Fails Ends (Err found) status fails quiet is done by = subst Ends (sym is) (by found fails)
-
--- nothing more is said of a failed write and of want of memory
-pub says-nothing : (known : Known) (found : IoFault) (before : WriterState)
-    → SaysMore known (failure.Io found) before before
-says-nothing known found before = record {
-  more = [];
-  explains = refl;
-  says = record {
-    whole = inr (Appends-nil before.written);
-    prefix = ([], [], refl, Appends-nil before.written);
-  };
-}

@@ -105,7 +105,7 @@ fn tell_more<E: Write, F: Files + Refuses>(
             tell_bytes(&more, faults);
         }
         Failure::Stalled { further } => tell_bytes(further, faults),
-        Failure::Io(_) => {}
+        Failure::Io(_) => tell_bytes(&[], faults),
     }
 }
 
