@@ -55,4 +55,5 @@ FileReplayEnds file status old new before after =
 abbrev pub StrictFileReplayEnds : Option (List ℕ) → Status
     → WriterState → WriterState → WriterState → WriterState → Type 0
 StrictFileReplayEnds file status old new before after =
-    IsFileUnread file status old new before after ⊎ IsReplayedStrictly file status old new before after
+    IsFileUnread file status old new before after
+    ⊎ IsReplayedStrictly file status old new before after

@@ -31,7 +31,8 @@ unfoldable pub AnyStandsFor : AnyPhaser → Op → Limits → History → Held �
 AnyStandsFor (phaser.Sum p) Sum limits h held = ScriptPhaserStandsFor sum_operation p limits h held
 AnyStandsFor (phaser.Product p) Product limits h held =
     ScriptPhaserStandsFor product_operation p limits h held
-AnyStandsFor (phaser.Least p) Least limits h held = ScriptPhaserStandsFor least_operation p limits h held
+AnyStandsFor (phaser.Least p) Least limits h held =
+    ScriptPhaserStandsFor least_operation p limits h held
 AnyStandsFor (phaser.Greatest p) Greatest limits h held =
     ScriptPhaserStandsFor greatest_operation p limits h held
 AnyStandsFor (phaser.Any p) Any limits h held = ScriptPhaserStandsFor any_operation p limits h held

@@ -66,7 +66,8 @@ impl Replayer {
     // Answers the line that `end` ends, and begins the next one.
     fn answer(&mut self, end: &[u8]) -> Result<(), AllocError>
         requires { HasNoLf end.now }
-        ensures ok { OnOk result ((later owed : List ℕ) → ReplayerOwes self.old (end.now ++ 10 ∷ later) owed
+        ensures ok { OnOk result ((later owed : List ℕ)
+            → ReplayerOwes self.old (end.now ++ 10 ∷ later) owed
             → ReplayerOwes self.new later owed) }
 
         ensures begun { OnOk result (self.new.kept ≡ []) }
@@ -148,7 +149,8 @@ impl Replayer {
 
     /// Reads a piece of the script, and hands replies over as they grow many.
     pub fn piece<W: Write>(&mut self, piece: &[u8], writer: &mut Watched<W>) -> Result<(), IoFault>
-        ensures ok { OnOk result ((later owed : List ℕ) → ReplayerOwes self.old (piece.now ++ later) owed
+        ensures ok { OnOk result ((later owed : List ℕ)
+            → ReplayerOwes self.old (piece.now ++ later) owed
             → Goes (W.contents (inner_of writer.old)) (W.contents (inner_of writer.new))
             self.new later owed) }
 

@@ -103,7 +103,8 @@ impl<A: Accumulate> ScriptPhaser<A> {
 
     /// Makes a phaser whose founder, task 0, holds no sends.
     pub fn new(alloc: Global, spec: Spec) -> Result<ScriptPhaser<A>, AllocError>
-        ensures { IfOk result (λ phaser. ScriptPhaserStandsFor A.operation phaser spec (Made 0 ∷ []) []) }
+        ensures { IfOk result (λ phaser.
+            ScriptPhaserStandsFor A.operation phaser spec (Made 0 ∷ []) []) }
     {
         Ok(ScriptPhaser {
             core: PhaserCore::new(alloc, spec, 0)?,
