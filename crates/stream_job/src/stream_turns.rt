@@ -131,7 +131,8 @@ impl Stream {
         }
         if job.graph().is_source(t) {
             let (k, p) = output_of(job, t, 0);
-            return own_steps(job.graph().phaser(p).bound, self.phases_left(t, k, p));
+            let bound = job.graph().phaser(p).bound;
+            return own_steps(bound, self.phases_left(t, k, p, bound));
         }
         if job.graph().is_sink(t) {
             let p = input_of(job, t, 0);
@@ -140,9 +141,12 @@ impl Stream {
         block
     }
 
-    /// How many phases a task may signal now on phaser `p`, which it signals by its registration
-    /// `k`, as a hint for how many steps it makes.
-    fn phases_left(&self, t: usize, k: usize, p: usize) -> u64 {
+    /// How many phases a task may signal now on phaser `p` of this bound, which it signals by its
+    /// registration `k`, as a hint for how many steps it makes.
+    fn phases_left(&self, t: usize, k: usize, p: usize, bound: u64) -> u64 {
+        if bound == 1 {
+            return 1;
+        }
         let (Some(state), Some(core)) = (self.machine.tasks.get(t), self.machine.cores.get(p))
         else {
             return 0;
@@ -157,7 +161,6 @@ impl Stream {
         let Some(slowest) = core.least_wait() else {
             return last;
         };
-        let bound = self.job.graph().phaser(p).bound;
         last.min(
             slowest
                 .saturating_add(bound)
