@@ -428,11 +428,7 @@ fn phaser_at<'w, 'a>(words: &'w [&'a [u8]]) -> Option<Line<'w, 'a>>
 
 /// What the words after the kind of a task declare.
 #[tactic(auto, unfolding(crate::specs::Inside::task_words_at))]
-fn task_at<'w, 'a>(
-    version: Version,
-    kind: &[u8],
-    words: &'w [&'a [u8]],
-) -> Option<Line<'w, 'a>>
+fn task_at<'w, 'a>(version: Version, kind: &[u8], words: &'w [&'a [u8]]) -> Option<Line<'w, 'a>>
     ensures { option_map decl_of result ≡ task_words_at version kind.now (plain words.now) }
 {
     let (name, rest) = name_at(words)?;
