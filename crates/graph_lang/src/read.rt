@@ -19,7 +19,7 @@ use crate::within::{EndNumbers, Numbers, numbers_of, phaser_line, steps_of};
 use graph_base::{Graph, PHASERS_MAX, PhaserLine, TASKS_MAX};
 use graph_text::{
     Line, PhaserWords, TaskWords, Version, are_printable, begins_comment, is_heading, line_at,
-    lines_of, name_text, without_cr, words_of_line,
+    lines_of, name_text, without_cr, words_of,
 };
 use std::alloc::{AllocError, Global};
 
