@@ -9,13 +9,13 @@ use Rattle.phase_cli.proofs.cli.run_check.Goals as goal
 -- its failure has the place that it tells of
 pub end-requires : goal.end-requires
 end-requires g c =
-    IfErr-weaker c.check.result _ _
+    IfErr-weaker c.check-done.result _ _
     (λ found fails. fails-place _ _ g.W.Write.contents _ _ found (unread-place (g.F.Files.file c.args.streams.now.files) c.args.graph.now) fails)
-    c.check.ensures.failed
+    c.check-done.ensures.failed
 
 pub returns-clause-status : goal.returns-clause-status
 returns-clause-status g c =
-    ends-status _ _ (MayEndAs (check c.args.explain c.args.graph.now)) c.check.result c.end.result c.check.ensures.failed
+    ends-status _ _ (MayEndAs (check c.args.explain c.args.graph.now)) c.check-done.result c.end.result c.check-done.ensures.failed
     c.end.ensures.done c.end.ensures.status (inl refl)
     (λ found fails. fails-status _ _ g.W.Write.contents _ _ found (MayEndAs (check c.args.explain c.args.graph.now))
     (λ found cause. inr (unread-status (g.F.Files.file c.args.streams.now.files) c.args.graph.now found cause)) (inr (inr refl)) fails)
@@ -24,6 +24,6 @@ returns-clause-status g c =
 pub returns-clause-ends : goal.returns-clause-ends
 returns-clause-ends g c =
     let known = g.F.Files.file c.args.streams.now.files in
-    let same = known-same (g.F.Files.file c.check.new.files) known c.check.ensures.same in
-    ends-by _ c.args.explain known _ _ c.check.result c.end.result _ _ c.check.ensures.done
-    c.check.ensures.failed c.end.ensures.done c.end.ensures.status (rw same at c.end.ensures.told)
+    let same = known-same (g.F.Files.file c.check-done.new.files) known c.check-done.ensures.same in
+    ends-by _ c.args.explain known _ _ c.check-done.result c.end.result _ _ c.check-done.ensures.done
+    c.check-done.ensures.failed c.end.ensures.done c.end.ensures.status (rw same at c.end.ensures.told)

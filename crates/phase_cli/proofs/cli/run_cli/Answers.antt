@@ -48,7 +48,7 @@ returns-in-Err-clause-status g c =
 pub returns-in-Err-clause-replay : goal.returns-in-Err-clause-replay
 returns-in-Err-clause-replay g c =
     λ asks.
-    let none = unbegun _ c.in-Err.none c.answer.result tt c.args.streams.now.output c.answer.new.output
+    let none = unbegun _ c.in-Err.none c.answer.result c.args.streams.now.files c.args.streams.now.output c.answer.new.output
     _ _ asks.taken c.in-Err.ensures.no_call c.answer.ensures.answer in
     rw none.silent (replay-unbegun c.answer.result (reader_state g.R.Read.remaining c.args.input.now)
     (writer_state g.W.Write.contents c.args.streams.now.output) _ _ none.status_is none.says)
