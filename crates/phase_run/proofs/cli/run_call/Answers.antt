@@ -13,20 +13,20 @@ pub end-requires : goal.end-requires
 end-requires g c =
     let known = g.F.Files.file c.args.streams.now.files in
     let what = run_of c.args.call in
-    IfErr-weaker c.run.result _ _
+    IfErr-weaker c.run-done.result _ _
     (λ found fails. fails-place _ _ g.W.Write.contents _ _ found
     (unanswered-place (Stalls known what.graph) known what.graph what.sink) fails)
-    c.run.ensures.failed
+    c.run-done.ensures.failed
 
 pub returns-clause-status : goal.returns-clause-status
 returns-clause-status g c =
-    ends-status _ _ MayEndAsRun c.run.result c.end.result c.run.ensures.failed c.end.ensures.done
+    ends-status _ _ MayEndAsRun c.run-done.result c.end.result c.run-done.ensures.failed c.end.ensures.done
     c.end.ensures.status (inl refl) (λ found fails. failure-ends found)
 
 -- the files are known as before when a failure is told
 pub returns-clause-ends : goal.returns-clause-ends
 returns-clause-ends g c =
     let known = g.F.Files.file c.args.streams.now.files in
-    let same = known-same (g.F.Files.file c.run.new.files) known c.run.ensures.same in
-    ends-by _ c.args.call.explain known _ _ c.run.result c.end.result _ _ c.run.ensures.done
-    c.run.ensures.failed c.end.ensures.done c.end.ensures.status (rw same at c.end.ensures.told)
+    let same = known-same (g.F.Files.file c.run-done.new.files) known c.run-done.ensures.same in
+    ends-by _ c.args.call.explain known _ _ c.run-done.result c.end.result _ _ c.run-done.ensures.done
+    c.run-done.ensures.failed c.end.ensures.done c.end.ensures.status (rw same at c.end.ensures.told)
