@@ -22,7 +22,7 @@ returns-in-Err-TooBig-clause-failed g c known name sink of asks =
     inl (
       record {
         job_of = of;
-        first = rw (c.in-Err-TooBig.place-is, c.in-Err-TooBig.phase-is)
+        first = rw c.in-Err-TooBig.field-0-is
             (c.in-Err-TooBig.ensures.too_big place phase (search rules));
       },
       refl,
