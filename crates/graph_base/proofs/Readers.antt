@@ -7,7 +7,7 @@ use Rattle.std.proofs.lemmas.List.{get_or-map}
 use Rattle.phase_accum.specs.phase_base.Words.{is_name, is_letter, is_name_byte, is_kind_word, is_mark}
 use Rattle.phase_accum.specs.phase_base.declared.word.TheConstants.{NAME_MAX}
 use Rattle.graph_base.specs.Graphs.{no_task}
-use Rattle.graph_base.specs.Inside.{task_of}
+use Rattle.graph_base.specs.GraphFields.{task_of}
 use Rattle.graph_base.specs.declared.line.TaskLine.{TaskLine}
 
 -- a line that is lent is the task of its number

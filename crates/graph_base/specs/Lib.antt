@@ -1,5 +1,5 @@
 pub mod Graphs
-pub mod Inside
+pub mod GraphFields
 pub mod Names
 pub mod Registrations
 pub mod TaskLines

@@ -5,7 +5,7 @@ ghost use Rattle.graph_base.specs.Graphs.{Graph as GraphValue, IsPlace, is_sink,
 ghost use Rattle.graph_base.specs.TaskLines.{IsGraph, IsPhaserLine, IsTaskLine};
 ghost use Rattle.graph_base.specs.Names.{place_of, names_of};
 ghost use Rattle.graph_base.specs.Registrations.{registrations_of, no_registration, as_input, as_output, ends_of, exchange_mode};
-ghost use Rattle.graph_base.specs.Inside.{task_of};
+ghost use Rattle.graph_base.specs.GraphFields.{task_of};
 
 use crate::limits::{ENDS_MAX, PHASERS_MAX, TASKS_MAX};
 use crate::line::{Kind, PhaserLine, TaskLine};
@@ -35,7 +35,7 @@ impl Model for Graph {
 
     ghost Value = { GraphValue };
 
-    ghost use Rattle.graph_base.specs.Inside.{graph_view, IsGraphInside};
+    ghost use Rattle.graph_base.specs.GraphFields.{graph_view, IsGraphInside};
 
     ghost view = { graph_view };
 
@@ -43,7 +43,7 @@ impl Model for Graph {
 }
 
 impl Graph {
-    ghost use Rattle.graph_base.specs.Inside.{graph_of};
+    ghost use Rattle.graph_base.specs.GraphFields.{graph_of};
     ghost use Rattle.graph_base.specs.declared.line.Kind.TheVariants.{Peer};
 
     /// Makes the graph of these lines: each name with what it stands for, the phasers and the tasks

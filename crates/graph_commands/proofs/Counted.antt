@@ -8,7 +8,7 @@ use Rattle.std.proofs.lemmas.List.Sums.{count_by_more_yes, length-filter}
 use Rattle.graph_show.specs.graph_base.Graphs.{Graph, Task, no_task, task_at, file_at, is_source, source_number, sources_of}
 use Rattle.graph_show.proofs.graph_lang_lemmas.Grown.{each-push}
 use Rattle.graph_show.specs.graph_lang.Samples.{AreSamplesOf}
-use Rattle.stream_eval.specs.stream_lists.Inside.{items_of}
+use Rattle.stream_eval.specs.stream_lists.JobFields.{items_of}
 use Rattle.graph_commands.specs.FileJobs.{AreFirstSamples, Known}
 
 -- what is counted in front is no more than all

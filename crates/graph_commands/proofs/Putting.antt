@@ -5,7 +5,7 @@ use Rattle.std.proofs.KnownBytes.{Appends-nil, Appends-trans}
 use Rattle.std.specs.declared.option.Option.{Option}
 use Rattle.graph_show.specs.watched_io.Prefix.{AppendsPrefix}
 use Rattle.graph_show.proofs.watched_io_lemmas.Writing.{prefix_of_prefix}
-use Rattle.graph_commands.specs.Inside.{PutsBytes}
+use Rattle.graph_commands.specs.Puts.{PutsBytes}
 
 -- all the bytes wait
 pub Puts-kept : (old : Option (List ℕ)) (before bytes : List ℕ)

@@ -5,7 +5,7 @@ pub mod Faults
 pub mod FileJobs
 pub mod GraphDrawings
 pub mod GraphRuns
-pub mod Inside
+pub mod Puts
 pub mod OutputTexts
 pub mod Records
 pub use Rattle.stream_eval.specs.stream_lists as stream_lists

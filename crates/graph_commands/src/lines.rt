@@ -4,7 +4,7 @@ ghost use Rattle.std.specs.List.{All, flat_map};
 ghost use Rattle.std.specs.Io.KnownBytes.{Appends};
 ghost use Rattle.stream_eval.specs.Results.{sink_output};
 ghost use Rattle.graph_commands.specs.OutputTexts.{heading_text, sink_text, start_text, text_of, value_text};
-ghost use Rattle.graph_commands.specs.Inside.{PutsBytes};
+ghost use Rattle.graph_commands.specs.Puts.{PutsBytes};
 ghost use Rattle.graph_show.specs.watched_io.Prefix.{AppendsPrefix};
 ghost use Rattle.graph_show.specs.watched_io.Watched.{has_failed_of, inner_of};
 

@@ -1,7 +1,7 @@
 //! Text that is collected, so that a writer is called once for many lines.
 ghost use Rattle.std.specs.Prelude.{◌≡◌, ◌≤◌, ◌++◌, ◌+◌, ◌∷◌, List, ℕ, [], length, take, true, decimal, OnOk, OnErr};
 ghost use Rattle.std.specs.Io.KnownBytes.{Appends};
-ghost use Rattle.graph_commands.specs.Inside.{PutsBytes};
+ghost use Rattle.graph_commands.specs.Puts.{PutsBytes};
 ghost use Rattle.graph_commands.specs.OutputTexts.{value_text};
 ghost use Rattle.graph_show.specs.watched_io.declared.text.TheConstants.{CHUNK_MAX};
 ghost use Rattle.graph_show.specs.watched_io.Prefix.{AppendsPrefix};

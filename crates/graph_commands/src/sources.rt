@@ -5,7 +5,7 @@ ghost use Rattle.graph_show.specs.phase_accum.Sends.{AreSends};
 ghost use Rattle.graph_show.specs.graph_lang.Samples.{AreSamplesOf};
 ghost use Rattle.graph_show.specs.graph_lang.declared.sample.TheConstants.{TEXT_MAX};
 ghost use Rattle.graph_show.specs.graph_base.Graphs.{source_number, sources_of};
-ghost use Rattle.stream_eval.specs.stream_lists.Inside.{items_of};
+ghost use Rattle.stream_eval.specs.stream_lists.JobFields.{items_of};
 ghost use Rattle.graph_commands.specs.FileJobs.{AreFirstSamples, AreSamples, Explains, IsGraphOf, IsReached, file_of};
 
 use crate::JobFault;

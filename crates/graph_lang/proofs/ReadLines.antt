@@ -11,7 +11,7 @@ use Rattle.graph_text.specs.declared.version.Version.{Version}
 use Rattle.graph_text.specs.declared.version.Version.TheVariants.{One, Two}
 use Rattle.graph_base.specs.Graphs.{Graph}
 use Rattle.graph_lang.specs.Reads.{version_of, emptied, without_heading, Steps, Reads, ReadsText, Tells, fault_at, line_outcome}
-use Rattle.graph_lang.specs.Inside.{TellsDecl, TellsFault, version_in, version_behind, version_at, line_read, ReadsOn}
+use Rattle.graph_lang.specs.Reading.{TellsDecl, TellsFault, version_in, version_behind, version_at, line_read, ReadsOn}
 use Rattle.graph_lang.specs.Faults.{kind_of}
 use Rattle.graph_lang.specs.declared.fault.FaultKind.TheVariants.{Syntax}
 use Rattle.graph_lang.specs.declared.fault.GraphFault.{GraphFault}

@@ -1,6 +1,6 @@
 -- What the lines that were read so far declare.
 use Rattle.graph_base.specs.Graphs.{Graph}
-use Rattle.graph_base.specs.Inside.{graph_of}
+use Rattle.graph_base.specs.GraphFields.{graph_of}
 use Rattle.graph_lang.specs.declared.draft.Draft.TheInside.{Inside}
 
 -- the graph that the fields of a draft stand for

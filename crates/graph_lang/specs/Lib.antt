@@ -1,6 +1,6 @@
 pub mod Drafts
 pub mod Faults
-pub mod Inside
+pub mod Reading
 pub mod Reads
 pub mod Samples
 pub mod TextFaults

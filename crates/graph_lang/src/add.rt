@@ -6,11 +6,11 @@ ghost use Rattle.graph_text.specs.phase_base.Numbers.{is_nat};
 ghost use Rattle.graph_text.specs.phase_base.Words.{is_name, is_file};
 ghost use Rattle.graph_text.specs.Decls.{IsBody, IsBy};
 ghost use Rattle.graph_text.specs.Lines.{body_of, ends_of, by_of, word_of};
-ghost use Rattle.graph_base.specs.Inside.{task_of};
+ghost use Rattle.graph_base.specs.GraphFields.{task_of};
 ghost use Rattle.graph_base.specs.Names.{files_of, place_of};
 ghost use Rattle.graph_lang.specs.WordValues.{files_in, task_line, inputs_of, outputs_of};
 ghost use Rattle.graph_lang.specs.Faults.{is_phaser, is_parent_known, phasers_of};
-ghost use Rattle.graph_lang.specs.Inside.{AreNumbersOf, steps_in};
+ghost use Rattle.graph_lang.specs.Reading.{AreNumbersOf, steps_in};
 
 use crate::body::{input_numbers, kind_of, output_numbers};
 use crate::draft::{Draft, add_name};

@@ -7,11 +7,11 @@ ghost use Rattle.graph_text.specs.Decls.{IsBy};
 ghost use Rattle.graph_text.specs.Lines.{by_of};
 ghost use Rattle.graph_text.specs.phase_base.Numbers.{nat_value};
 ghost use Rattle.graph_base.specs.Names.{names_of, place_of};
-ghost use Rattle.graph_base.specs.Inside.{task_of};
+ghost use Rattle.graph_base.specs.GraphFields.{task_of};
 ghost use Rattle.graph_lang.specs.WordValues.{parent_of, joins_now};
 ghost use Rattle.graph_base.specs.TaskLines.{has_children};
 ghost use Rattle.graph_lang.specs.Faults.{is_parent_known, is_in_order, may_be_parent, is_held, holds_for, is_plain, is_within_bound, is_block_within, are_distinct};
-ghost use Rattle.graph_lang.specs.Inside.{last_kind};
+ghost use Rattle.graph_lang.specs.Reading.{last_kind};
 
 use crate::body::{are_among, are_distinct, are_in_order, is_exchange_below};
 use crate::draft::{Draft, place_of, task_named};

@@ -8,9 +8,9 @@ ghost use Rattle.graph_text.specs.declared.version.Version.TheVariants.{Two};
 ghost use Rattle.graph_text.specs.declared.line.Line.TheVariants as line;
 ghost use Rattle.graph_lang.specs.WordValues.{phaser_line};
 ghost use Rattle.graph_lang.specs.Faults.{kind_of, is_past_limit};
-ghost use Rattle.graph_lang.specs.Inside.{AreNumbersOf, steps_in};
+ghost use Rattle.graph_lang.specs.Reading.{AreNumbersOf, steps_in};
 ghost use Rattle.graph_lang.specs.Reads.{Steps, Tells};
-ghost use Rattle.graph_lang.specs.Inside.{TellsDecl, TellsFault, version_in, version_behind, version_at, line_read};
+ghost use Rattle.graph_lang.specs.Reading.{TellsDecl, TellsFault, version_in, version_behind, version_at, line_read};
 
 use crate::body::phaser_words;
 use crate::draft::{Draft, place_of};

@@ -8,7 +8,7 @@ ghost use Rattle.graph_text.specs.phase_base.Numbers.{is_nat, is_int, nat_value,
 ghost use Rattle.graph_text.specs.Decls.{IsFunction, IsBody, AreEnds, IsBy, may_have_parent};
 ghost use Rattle.graph_text.specs.Lines.{single_of as function_words, function_of, body_of, ends_of, by_of, word_of};
 ghost use Rattle.graph_lang.specs.WordValues.{single_of, phaser_line, taps_of, shift_of, factor_of, block_of};
-ghost use Rattle.graph_lang.specs.Inside.{AreNumbersOf, steps_in};
+ghost use Rattle.graph_lang.specs.Reading.{AreNumbersOf, steps_in};
 ghost use Rattle.graph_lang.specs.Faults.{is_function_within, is_bound_within, is_body_within, is_tap_within, is_number_of_ends, is_count_within, are_ends_within, is_phaser_within};
 
 use graph_base::phase_accum::{MAGNITUDE_MAX, Single};

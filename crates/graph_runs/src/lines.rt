@@ -1,7 +1,7 @@
 //! What the line of a task says.
 ghost use Rattle.std.specs.Prelude.{◌≡◌, ◌≢◌, ◌<◌, ◌%◌, length};
 ghost use Rattle.stream_lists.specs.graph_base.Graphs.{task_at};
-ghost use Rattle.stream_lists.specs.graph_base.Inside.{task_of};
+ghost use Rattle.stream_lists.specs.graph_base.GraphFields.{task_of};
 ghost use Rattle.stream_lists.specs.graph_base.TaskLines.{HasEnds, IsGraph, IsTaskLine};
 ghost use Rattle.stream_lists.specs.graph_base.declared.line.Kind.TheVariants.{Source, Split};
 ghost use Rattle.stream_lists.specs.graph_base.Registrations.{signalled_by};

@@ -4,7 +4,7 @@ use Rattle.phase_base.specs.Words.{Word}
 use Rattle.graph_text.specs.Decls.{Decl, Spells}
 use Rattle.graph_text.specs.declared.version.Version.{Version}
 use Rattle.graph_text.specs.Lines.{decl_of}
-use Rattle.graph_text.specs.Inside.{decl_at}
+use Rattle.graph_text.specs.WordReading.{decl_at}
 use Rattle.graph_text.specs.declared.line.Line.{Line}
 use Rattle.graph_text.proofs.Spelled.{line_again}
 use Rattle.graph_text.proofs.Taken.{line_takes}

@@ -7,7 +7,7 @@ use Rattle.phase_base.specs.Numbers.{is_nat, is_int}
 use Rattle.graph_text.specs.Decls.{phaser, task, source, sink, neg, abs, halve, clamp, EndWords}
 use Rattle.graph_text.specs.Versions.{is_heading}
 use Rattle.graph_text.specs.declared.version.Version.TheVariants.{One, Two}
-use Rattle.graph_text.specs.Inside.{decl_at, phaser_words_at, task_words_at, body_at, source_at, split_at, sink_at, word_at, some_at, after, begins, single_at, operation_at, function_at, function_named, clamp_at, now_at, by_at, until_at, block_number, block_at, ends_at}
+use Rattle.graph_text.specs.WordReading.{decl_at, phaser_words_at, task_words_at, body_at, source_at, split_at, sink_at, word_at, some_at, after, begins, single_at, operation_at, function_at, function_named, clamp_at, now_at, by_at, until_at, block_number, block_at, ends_at}
 
 -- ---- words
 

@@ -4,7 +4,7 @@ use Rattle.std.specs.List.{take-map, drop-map, prefix_len}
 use Rattle.std.proofs.lemmas.List.{drop_all}
 use Rattle.phase_base.specs.Words.{Word}
 use Rattle.graph_text.specs.Plain.{plain}
-use Rattle.graph_text.specs.Inside.{some_at}
+use Rattle.graph_text.specs.WordReading.{some_at}
 
 -- ---- counted one by one
 

@@ -15,7 +15,7 @@ use Rattle.phase_base.specs.Numbers.{is_nat, is_int}
 use Rattle.graph_text.specs.Decls.{Decl, phaser, task, FunctionWords, neg, abs, halve, ByWords, EndWords, BodyWords, function_words, single_words, now_words, by_words, until_words, block_words, end_words, body_word, body_words, IsFunction, IsBody, IsBy, AreEnds, AreSome, may_have_parent, may_join_now, may_have_blocks, Spells}
 use Rattle.graph_text.specs.declared.version.Version.{Version}
 use Rattle.std.proofs.lemmas.Bool.{and_parts}
-use Rattle.graph_text.specs.Inside.{Found, ◌>>=◌, word_at, after, begins, some_at, operation_at, clamp_at, function_named, function_at, single_at, now_at, by_with, by_at, until_at, block_number, block_at, ends_at, source_at, fir_at, split_at, join_at, peer_at, sink_at, body_at, phaser_words_at, task_words_at, decl_at}
+use Rattle.graph_text.specs.WordReading.{Found, ◌>>=◌, word_at, after, begins, some_at, operation_at, clamp_at, function_named, function_at, single_at, now_at, by_with, by_at, until_at, block_number, block_at, ends_at, source_at, fir_at, split_at, join_at, peer_at, sink_at, body_at, phaser_words_at, task_words_at, decl_at}
 
 -- ---- words
 

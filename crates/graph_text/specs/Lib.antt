@@ -1,5 +1,5 @@
 pub mod Decls
-pub mod Inside
+pub mod WordReading
 pub mod Lines
 pub mod Plain
 pub mod Texts

@@ -5,7 +5,7 @@ ghost use Rattle.phase_base.specs.Words.{is_name as is_name_word, is_file as is_
 ghost use Rattle.phase_base.specs.Numbers.{is_nat as is_nat_word, is_int as is_int_word};
 ghost use Rattle.graph_text.specs.Decls.{Decl, Spells, may_have_parent, may_join_now, may_have_blocks};
 ghost use Rattle.std.specs.List.{prefix_len};
-ghost use Rattle.graph_text.specs.Inside.{found_word, found_words, found_operation, found_function, found_single, found_now, found_by, found_until, found_body, word_at, after, begins, some_at, operation_at, clamp_at, function_named, function_at, single_at, now_at, by_at, until_at, block_number, block_at, ends_at, source_at, fir_at, split_at, join_at, peer_at, sink_at, body_at, phaser_words_at, task_words_at, decl_at};
+ghost use Rattle.graph_text.specs.WordReading.{found_word, found_words, found_operation, found_function, found_single, found_now, found_by, found_until, found_body, word_at, after, begins, some_at, operation_at, clamp_at, function_named, function_at, single_at, now_at, by_at, until_at, block_number, block_at, ends_at, source_at, fir_at, split_at, join_at, peer_at, sink_at, body_at, phaser_words_at, task_words_at, decl_at};
 ghost use Rattle.graph_text.specs.Lines.{word_of, body_of, ends_of, decl_of};
 
 use crate::line::{Body, By, Ends, Function, Line, PhaserWords, TaskWords};
@@ -15,7 +15,7 @@ use phase_base::{Op, is_file, is_int, is_name, is_nat};
 // ---- words
 
 /// The first word, where it is a name, and the words after it.
-#[tactic(auto, unfolding(crate::specs::Inside::word_at))]
+#[tactic(auto, unfolding(crate::specs::WordReading::word_at))]
 fn name_at<'w, 'a>(words: &'w [&'a [u8]]) -> Option<(&'a [u8], &'w [&'a [u8]])>
     ensures { option_map found_word result ≡ word_at is_name_word (plain words.now) }
 {
@@ -26,7 +26,7 @@ fn name_at<'w, 'a>(words: &'w [&'a [u8]]) -> Option<(&'a [u8], &'w [&'a [u8]])>
 }
 
 /// The first word, where it is one that may name a file, and the words after it.
-#[tactic(auto, unfolding(crate::specs::Inside::word_at))]
+#[tactic(auto, unfolding(crate::specs::WordReading::word_at))]
 fn file_at<'w, 'a>(words: &'w [&'a [u8]]) -> Option<(&'a [u8], &'w [&'a [u8]])>
     ensures { option_map found_word result ≡ word_at is_file_word (plain words.now) }
 {
@@ -37,7 +37,7 @@ fn file_at<'w, 'a>(words: &'w [&'a [u8]]) -> Option<(&'a [u8], &'w [&'a [u8]])>
 }
 
 /// The first word, where it is a number without a sign, and the words after it.
-#[tactic(auto, unfolding(crate::specs::Inside::word_at))]
+#[tactic(auto, unfolding(crate::specs::WordReading::word_at))]
 fn nat_at<'w, 'a>(words: &'w [&'a [u8]]) -> Option<(&'a [u8], &'w [&'a [u8]])>
     ensures { option_map found_word result ≡ word_at is_nat_word (plain words.now) }
 {
@@ -48,7 +48,7 @@ fn nat_at<'w, 'a>(words: &'w [&'a [u8]]) -> Option<(&'a [u8], &'w [&'a [u8]])>
 }
 
 /// The first word, where it is a number, and the words after it.
-#[tactic(auto, unfolding(crate::specs::Inside::word_at))]
+#[tactic(auto, unfolding(crate::specs::WordReading::word_at))]
 fn int_at<'w, 'a>(words: &'w [&'a [u8]]) -> Option<(&'a [u8], &'w [&'a [u8]])>
     ensures { option_map found_word result ≡ word_at is_int_word (plain words.now) }
 {
@@ -59,7 +59,7 @@ fn int_at<'w, 'a>(words: &'w [&'a [u8]]) -> Option<(&'a [u8], &'w [&'a [u8]])>
 }
 
 /// The operation that the first word stands for, and the words after it.
-#[tactic(auto, unfolding(crate::specs::Inside::operation_at))]
+#[tactic(auto, unfolding(crate::specs::WordReading::operation_at))]
 fn operation_at<'w, 'a>(words: &'w [&'a [u8]]) -> Option<(Op, &'w [&'a [u8]])>
     ensures { option_map found_operation result ≡ operation_at (plain words.now) }
 {
@@ -70,7 +70,7 @@ fn operation_at<'w, 'a>(words: &'w [&'a [u8]]) -> Option<(Op, &'w [&'a [u8]])>
 }
 
 /// The words after this one, where it stands first.
-#[tactic(auto, unfolding(crate::specs::Inside::after))]
+#[tactic(auto, unfolding(crate::specs::WordReading::after))]
 fn after<'w, 'a>(sign: &[u8], words: &'w [&'a [u8]]) -> Option<&'w [&'a [u8]]>
     ensures { option_map (λ rest. plain rest.now) result ≡ after sign.now (plain words.now) }
 {
@@ -81,7 +81,7 @@ fn after<'w, 'a>(sign: &[u8], words: &'w [&'a [u8]]) -> Option<&'w [&'a [u8]]>
 }
 
 /// Whether this word stands first.
-#[tactic(auto, unfolding(crate::specs::Inside::begins))]
+#[tactic(auto, unfolding(crate::specs::WordReading::begins))]
 fn begins(sign: &[u8], words: &[&[u8]]) -> bool
     ensures { result ≡ begins sign.now (plain words.now) }
 {
@@ -148,7 +148,7 @@ fn ints_at<'w, 'a>(words: &'w [&'a [u8]]) -> Option<(&'w [&'a [u8]], &'w [&'a [u
 // ---- parts of a line
 
 /// A clamp with its ends, and the words after them.
-#[tactic(auto, unfolding(crate::specs::Inside::clamp_at))]
+#[tactic(auto, unfolding(crate::specs::WordReading::clamp_at))]
 fn clamp_at<'w, 'a>(words: &'w [&'a [u8]]) -> Option<(Function<'a>, &'w [&'a [u8]])>
     ensures { option_map found_function result ≡ clamp_at (plain words.now) }
 {
@@ -158,7 +158,7 @@ fn clamp_at<'w, 'a>(words: &'w [&'a [u8]]) -> Option<(Function<'a>, &'w [&'a [u8
 }
 
 /// The function of a single, by its first word, and the words after it.
-#[tactic(auto, unfolding(crate::specs::Inside::function_named))]
+#[tactic(auto, unfolding(crate::specs::WordReading::function_named))]
 fn function_named<'w, 'a>(
     word: &[u8],
     words: &'w [&'a [u8]],
@@ -179,7 +179,7 @@ fn function_named<'w, 'a>(
 }
 
 /// The function of a single, and the words after it.
-#[tactic(auto, unfolding(crate::specs::Inside::function_at))]
+#[tactic(auto, unfolding(crate::specs::WordReading::function_at))]
 fn function_at<'w, 'a>(words: &'w [&'a [u8]]) -> Option<(Function<'a>, &'w [&'a [u8]])>
     ensures { option_map found_function result ≡ function_at (plain words.now) }
 {
@@ -190,7 +190,7 @@ fn function_at<'w, 'a>(words: &'w [&'a [u8]]) -> Option<(Function<'a>, &'w [&'a 
 }
 
 /// `single FN`, or nothing, and the words after it.
-#[tactic(auto, unfolding(crate::specs::Inside::single_at))]
+#[tactic(auto, unfolding(crate::specs::WordReading::single_at))]
 fn single_at<'w, 'a>(words: &'w [&'a [u8]]) -> Option<(Option<Function<'a>>, &'w [&'a [u8]])>
     ensures { option_map found_single result ≡ single_at (plain words.now) }
 {
@@ -204,7 +204,7 @@ fn single_at<'w, 'a>(words: &'w [&'a [u8]]) -> Option<(Option<Function<'a>>, &'w
 }
 
 /// Whether `now` stands first where that is allowed, and the words after it.
-#[tactic(auto, unfolding(crate::specs::Inside::now_at))]
+#[tactic(auto, unfolding(crate::specs::WordReading::now_at))]
 fn now_at<'w, 'a>(allowed: bool, words: &'w [&'a [u8]]) -> (bool, &'w [&'a [u8]])
     ensures { found_now result ≡ now_at allowed (plain words.now) }
 {
@@ -216,7 +216,7 @@ fn now_at<'w, 'a>(allowed: bool, words: &'w [&'a [u8]]) -> (bool, &'w [&'a [u8]]
 
 /// `by P at N` where that is allowed, with `now` where it joins so, or nothing, and the words after
 /// it.
-#[tactic(auto, unfolding(crate::specs::Inside::by_at))]
+#[tactic(auto, unfolding(crate::specs::WordReading::by_at))]
 fn by_at<'w, 'a>(
     allowed: bool,
     joins: bool,
@@ -237,7 +237,7 @@ fn by_at<'w, 'a>(
 }
 
 /// `until M`, or nothing, and the words after it.
-#[tactic(auto, unfolding(crate::specs::Inside::until_at))]
+#[tactic(auto, unfolding(crate::specs::WordReading::until_at))]
 fn until_at<'w, 'a>(words: &'w [&'a [u8]]) -> Option<(Option<&'a [u8]>, &'w [&'a [u8]])>
     ensures { option_map found_until result ≡ until_at (plain words.now) }
 {
@@ -251,7 +251,7 @@ fn until_at<'w, 'a>(words: &'w [&'a [u8]]) -> Option<(Option<&'a [u8]>, &'w [&'a
 }
 
 /// The number of a word `block=N`.
-#[tactic(auto, unfolding(crate::specs::Inside::block_number))]
+#[tactic(auto, unfolding(crate::specs::WordReading::block_number))]
 fn block_number(word: &[u8]) -> Option<&[u8]>
     ensures { word_of result ≡ block_number word.now }
 {
@@ -260,7 +260,7 @@ fn block_number(word: &[u8]) -> Option<&[u8]>
 }
 
 /// The number of `block=N` where that is allowed and the last word, or none where no word is left.
-#[tactic(auto, unfolding(crate::specs::Inside::block_at))]
+#[tactic(auto, unfolding(crate::specs::WordReading::block_at))]
 fn block_at<'a>(allowed: bool, words: &[&'a [u8]]) -> Option<Option<&'a [u8]>>
     ensures { option_map word_of result ≡ block_at allowed (plain words.now) }
 {
@@ -272,7 +272,7 @@ fn block_at<'a>(allowed: bool, words: &[&'a [u8]]) -> Option<Option<&'a [u8]>>
 }
 
 /// The optional ends of a line of this version, with nothing after them.
-#[tactic(auto, unfolding(crate::specs::Inside::ends_at))]
+#[tactic(auto, unfolding(crate::specs::WordReading::ends_at))]
 fn ends_at<'a>(version: Version, body: Body<'_, '_>, words: &[&'a [u8]]) -> Option<Ends<'a>>
     ensures { option_map ends_of result
         ≡ ends_at version (body_of body.entry) (plain words.now) }
@@ -286,7 +286,7 @@ fn ends_at<'a>(version: Version, body: Body<'_, '_>, words: &[&'a [u8]]) -> Opti
 // ---- what a task does
 
 /// `FILE -> Y`, and the words after it.
-#[tactic(auto, unfolding(crate::specs::Inside::source_at))]
+#[tactic(auto, unfolding(crate::specs::WordReading::source_at))]
 fn source_at<'w, 'a>(words: &'w [&'a [u8]]) -> Option<(Body<'w, 'a>, &'w [&'a [u8]])>
     ensures { option_map found_body result ≡ source_at (plain words.now) }
 {
@@ -297,7 +297,7 @@ fn source_at<'w, 'a>(words: &'w [&'a [u8]]) -> Option<(Body<'w, 'a>, &'w [&'a [u
 }
 
 /// `X -> Y shift N taps T1 T2 ..`, and the words after it.
-#[tactic(auto, unfolding(crate::specs::Inside::fir_at))]
+#[tactic(auto, unfolding(crate::specs::WordReading::fir_at))]
 fn fir_at<'w, 'a>(words: &'w [&'a [u8]]) -> Option<(Body<'w, 'a>, &'w [&'a [u8]])>
     ensures { option_map found_body result ≡ fir_at (plain words.now) }
 {
@@ -312,7 +312,7 @@ fn fir_at<'w, 'a>(words: &'w [&'a [u8]]) -> Option<(Body<'w, 'a>, &'w [&'a [u8]]
 }
 
 /// `X -> Y0 Y1 ..`, and the words after it.
-#[tactic(auto, unfolding(crate::specs::Inside::split_at))]
+#[tactic(auto, unfolding(crate::specs::WordReading::split_at))]
 fn split_at<'w, 'a>(words: &'w [&'a [u8]]) -> Option<(Body<'w, 'a>, &'w [&'a [u8]])>
     ensures { option_map found_body result ≡ split_at (plain words.now) }
 {
@@ -323,7 +323,7 @@ fn split_at<'w, 'a>(words: &'w [&'a [u8]]) -> Option<(Body<'w, 'a>, &'w [&'a [u8
 }
 
 /// `X0 X1 .. -> Y`, and the words after it.
-#[tactic(auto, unfolding(crate::specs::Inside::join_at))]
+#[tactic(auto, unfolding(crate::specs::WordReading::join_at))]
 fn join_at<'w, 'a>(words: &'w [&'a [u8]]) -> Option<(Body<'w, 'a>, &'w [&'a [u8]])>
     ensures { option_map found_body result ≡ join_at (plain words.now) }
 {
@@ -334,7 +334,7 @@ fn join_at<'w, 'a>(words: &'w [&'a [u8]]) -> Option<(Body<'w, 'a>, &'w [&'a [u8]
 }
 
 /// `X <-> E -> Y mul A`, and the words after it.
-#[tactic(auto, unfolding(crate::specs::Inside::peer_at))]
+#[tactic(auto, unfolding(crate::specs::WordReading::peer_at))]
 fn peer_at<'w, 'a>(words: &'w [&'a [u8]]) -> Option<(Body<'w, 'a>, &'w [&'a [u8]])>
     ensures { option_map found_body result ≡ peer_at (plain words.now) }
 {
@@ -349,7 +349,7 @@ fn peer_at<'w, 'a>(words: &'w [&'a [u8]]) -> Option<(Body<'w, 'a>, &'w [&'a [u8]
 }
 
 /// `X`, and the words after it.
-#[tactic(auto, unfolding(crate::specs::Inside::sink_at))]
+#[tactic(auto, unfolding(crate::specs::WordReading::sink_at))]
 fn sink_at<'w, 'a>(words: &'w [&'a [u8]]) -> Option<(Body<'w, 'a>, &'w [&'a [u8]])>
     ensures { option_map found_body result ≡ sink_at (plain words.now) }
 {
@@ -358,7 +358,7 @@ fn sink_at<'w, 'a>(words: &'w [&'a [u8]]) -> Option<(Body<'w, 'a>, &'w [&'a [u8]
 }
 
 /// What a task does, by the first word of its line, and the words after it.
-#[tactic(auto, unfolding(crate::specs::Inside::body_at))]
+#[tactic(auto, unfolding(crate::specs::WordReading::body_at))]
 fn body_at<'w, 'a>(kind: &[u8], words: &'w [&'a [u8]]) -> Option<(Body<'w, 'a>, &'w [&'a [u8]])>
     ensures { option_map found_body result ≡ body_at kind.now (plain words.now) }
 {
@@ -406,7 +406,7 @@ fn may_have_blocks(version: Version, body: Body<'_, '_>) -> bool
 // ---- a line
 
 /// What the words after `phaser` declare.
-#[tactic(auto, unfolding(crate::specs::Inside::phaser_words_at))]
+#[tactic(auto, unfolding(crate::specs::WordReading::phaser_words_at))]
 fn phaser_at<'w, 'a>(words: &'w [&'a [u8]]) -> Option<Line<'w, 'a>>
     ensures { option_map decl_of result ≡ phaser_words_at (plain words.now) }
 {
@@ -427,7 +427,7 @@ fn phaser_at<'w, 'a>(words: &'w [&'a [u8]]) -> Option<Line<'w, 'a>>
 }
 
 /// What the words after the kind of a task declare.
-#[tactic(auto, unfolding(crate::specs::Inside::task_words_at))]
+#[tactic(auto, unfolding(crate::specs::WordReading::task_words_at))]
 fn task_at<'w, 'a>(version: Version, kind: &[u8], words: &'w [&'a [u8]]) -> Option<Line<'w, 'a>>
     ensures { option_map decl_of result ≡ task_words_at version kind.now (plain words.now) }
 {
@@ -438,7 +438,7 @@ fn task_at<'w, 'a>(version: Version, kind: &[u8], words: &'w [&'a [u8]]) -> Opti
 }
 
 /// What the words declare, read one after another.
-#[tactic(auto, unfolding(crate::specs::Inside::decl_at))]
+#[tactic(auto, unfolding(crate::specs::WordReading::decl_at))]
 fn read<'w, 'a>(words: &'w [&'a [u8]], version: Version) -> Option<Line<'w, 'a>>
     ensures { option_map decl_of result ≡ decl_at version (plain words.now) }
 {

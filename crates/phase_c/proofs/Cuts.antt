@@ -7,7 +7,7 @@ use Rattle.std.specs.Global.{Global}
 use Rattle.std.specs.List.{sum}
 use Rattle.stream_eval.specs.stream_filters.Range.{lowest}
 use Rattle.graph_lang.specs.phase_accum.Sends.{AreSends, IsSend}
-use Rattle.stream_eval.specs.stream_lists.Inside.{items_of}
+use Rattle.stream_eval.specs.stream_lists.JobFields.{items_of}
 use Rattle.phase_c.specs.Lent.{cut}
 
 -- a number of 64 bits that is not the lowest can be sent

@@ -6,7 +6,7 @@ use Rattle.std.proofs.lemmas.List.Concat.{length-flat_map}
 use Rattle.std.proofs.lemmas.List.Sums.{sum_by_more, sum_by-take-le}
 use Rattle.stream_eval.specs.declared.whole.Lines.{Lines}
 use Rattle.stream_eval.specs.Results.{sink_values}
-use Rattle.phase_c.specs.Inside.{count_in, items_in}
+use Rattle.phase_c.specs.SinkValues.{count_in, items_in}
 
 -- the values of the first sinks and those of the next one find room where all do
 pub room-more : (lines : List Lines) (i : ℕ) (d : Lines) (room : ℕ) → i < length lines

@@ -3,5 +3,5 @@ pub mod Evaluations
 pub mod Names
 pub mod Refusals
 pub mod Told
-pub mod Inside
+pub mod SinkValues
 pub mod Filtered

@@ -2,7 +2,7 @@
 ghost use Rattle.std.specs.Prelude.{◌≡◌, ◌≤◌, length, IfOk, IfSome, None};
 ghost use Rattle.std.specs.List.{All, sum};
 ghost use Rattle.stream_eval.specs.stream_lists.phase_accum.Sends.{AreSends};
-ghost use Rattle.stream_eval.specs.stream_lists.Inside.{items_of};
+ghost use Rattle.stream_eval.specs.stream_lists.JobFields.{items_of};
 ghost use Rattle.phase_c.specs.Lent.{IsFirstNoSample, cut};
 
 use graph_lang::phase_accum::NO_VALUE;

@@ -1,7 +1,7 @@
 //! The values of the sinks, written where a caller lends room.
 ghost use Rattle.std.specs.Prelude.{◌≡◌, ◌≤◌, ◌+◌, ◌++◌, length, take, drop};
 ghost use Rattle.std.specs.List.{flat_map, sum_by};
-ghost use Rattle.phase_c.specs.Inside.{items_in, count_in};
+ghost use Rattle.phase_c.specs.SinkValues.{items_in, count_in};
 
 use stream_eval::Lines;
 

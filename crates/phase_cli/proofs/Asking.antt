@@ -1,7 +1,7 @@
 -- What words ask for, and which statuses may come.
 use Rattle.std.proofs.Common.{◌≡◌, ◌≢◌, ◌⊎◌, inl, inr, ℕ, List, Some, refl, sym, ◌∙◌, subst}
 use Rattle.phase_cli.specs.Ends.{LeavesAlone, MayEndAs, MayEndAsked}
-use Rattle.phase_cli.specs.Inside.{LeavesBy}
+use Rattle.phase_cli.specs.Leaving.{LeavesBy}
 use Rattle.phase_words.proofs.Answering.{may-end-taken, untaken-not-stalled}
 use Rattle.phase_words.proofs.NoCalls.{taken-or-not}
 use Rattle.phase_words.specs.Answers.{MayEnd}

@@ -2,7 +2,7 @@
 ghost use Rattle.std.specs.Prelude.{◌≡◌, ◌⊎◌, option_map};
 ghost use Rattle.graph_commands.specs.Ends.{CheckEnds, DrawEnds, EvalEnds};
 ghost use Rattle.phase_cli.specs.Ends.{EndsAs, LeavesAlone, MayEndAs, MayEndAsked};
-ghost use Rattle.phase_cli.specs.Inside.{LeavesBy};
+ghost use Rattle.phase_cli.specs.Leaving.{LeavesBy};
 ghost use Rattle.phase_replay.specs.Replays.{ReplayEnds};
 ghost use Rattle.phase_words.specs.Answers.{AnswerEnds, IsUnbegun, MayEnd};
 ghost use Rattle.phase_words.specs.CommandLine.{AreTaken, AskReplay, Asked, Asks, asked_of, kinds_of};

@@ -26,7 +26,7 @@ use Rattle.phase_ring.specs.Rings.{Ring, standing, sents}
 use Rattle.phase_ring.specs.Standings.{count_of, counted, takes_part, phase_for}
 use Rattle.phase_ring.specs.Boards.{IsRingAt}
 use Rattle.phase_core.specs.Slots.{KeptSlot}
-use Rattle.phase_core.specs.Inside.{refusal_of_add}
+use Rattle.phase_core.specs.Admission.{refusal_of_add}
 use Rattle.phase_core.specs.Cores.{CoreState, IsSlotOf, StandsFor, IsBoarded, IsCore, core_with, core_of}
 use Rattle.phase_core.proofs.LeastCounts.{signal_phases-few, wait_phases-few, signaller-counted, waiter-counted}
 use Rattle.phase_core.proofs.Boarded.{length-none, waits-some}

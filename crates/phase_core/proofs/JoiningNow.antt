@@ -24,7 +24,7 @@ use Rattle.phase_core.proofs.Boarded.{slowest_is}
 use Rattle.phase_core.proofs.Joining.{register_refusal_is}
 use Rattle.phase_ring.specs.Standings.{one_if_same, count_of}
 use Rattle.phase_ring.specs.Boards.{IsRingAt}
-use Rattle.phase_core.specs.Inside.{refusal_of_add}
+use Rattle.phase_core.specs.Admission.{refusal_of_add}
 use Rattle.phase_core.specs.Cores.{CoreState, StandsFor, IsBoarded, IsCore, core_with, core_of}
 use Rattle.phase_core.proofs.RingSlots.{same_slots}
 use Rattle.phase_core.proofs.MemberCounts.{counts-push}

@@ -34,7 +34,7 @@ use Rattle.std.proofs.lemmas.List.{drop_more}
 use Rattle.phase_ring.specs.Blocks.{BlockFits}
 use Rattle.phase_ring.specs.Boards.{IsRingAt}
 use Rattle.phase_core.specs.Blocks.{StandForLists, named_at, count_at, block_rows, IsOpen}
-use Rattle.phase_core.specs.Inside.{are_new}
+use Rattle.phase_core.specs.Admission.{are_new}
 use Rattle.phase_core.proofs.CoreSteps.{none_from_top}
 
 -- ---- a table in two parts

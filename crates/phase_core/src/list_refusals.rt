@@ -4,7 +4,7 @@ ghost use Rattle.phase_history.specs.Refusals.{phase_rows};
 ghost use Rattle.phase_registry.specs.phase_base.Lists.{first_row};
 ghost use Rattle.phase_ring.specs.Rings.{slot_at};
 ghost use Rattle.phase_core.specs.Blocks.{StandForLists, block_rows, count_at, named_at, IsOpen};
-ghost use Rattle.phase_core.specs.Inside.{are_new};
+ghost use Rattle.phase_core.specs.Admission.{are_new};
 
 use crate::refusal_rows;
 use phase_history::SignalRefusal;

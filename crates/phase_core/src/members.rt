@@ -5,7 +5,7 @@ ghost use Rattle.phase_history.specs.declared.event.Event.TheVariants.{Registere
 ghost use Rattle.phase_history.specs.Histories.{History, done_of};
 ghost use Rattle.phase_history.specs.Refusals.{register_refusal, register_now_refusal};
 ghost use Rattle.phase_core.specs.Cores.{StandsFor};
-ghost use Rattle.phase_core.specs.Inside.{refusal_of_add};
+ghost use Rattle.phase_core.specs.Admission.{refusal_of_add};
 
 use crate::phaser_core::PhaserCore;
 use phase_history::phase_accum::Accumulate;

@@ -10,7 +10,7 @@ use Rattle.phase_base.specs.declared.member.Member.{Member}
 use Rattle.phase_base.specs.declared.limits.TheConstants.{MEMBERS_MAX}
 use Rattle.phase_base.specs.Members.{Members, member, entry_of, changed_at, without, signal_phases, wait_phases}
 use Rattle.phase_registry.specs.Rosters.{nobody, number_at, AreRising, IsRoster, is_used, add_refusal, roster}
-use Rattle.phase_registry.specs.Inside.{IsAt}
+use Rattle.phase_registry.specs.NumberPlaces.{IsAt}
 use Rattle.phase_registry.specs.declared.refusal.AddRefusal.TheVariants.{NotNew, TooManyTasks}
 use Rattle.phase_registry.proofs.Places.{entry_of-at, changed_at-place}
 use Rattle.phase_registry.proofs.Weights.{weigh, weigh-push, weigh-changed, weigh-without, weigh_few, without-absent, AreApart-from_rising, length-picked}

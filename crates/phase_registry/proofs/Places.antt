@@ -11,7 +11,7 @@ use Rattle.phase_base.specs.declared.entry.Entry.{Entry}
 use Rattle.phase_base.specs.declared.member.Member.{Member}
 use Rattle.phase_base.specs.Members.{Members, member, entry_of, changed_at}
 use Rattle.phase_registry.specs.Rosters.{nobody, number_at, AreRising}
-use Rattle.phase_registry.specs.Inside.{IsAt, IsGapFor}
+use Rattle.phase_registry.specs.NumberPlaces.{IsAt, IsGapFor}
 
 module _ (l : Members) (rising : AreRising l) (k : ℕ) where
   comparisons_rise : IsNonDecreasingBy (λ m. ordering_index (nat_cmp m.task k)) l

@@ -1,3 +1,3 @@
-pub mod Inside
+pub mod NumberPlaces
 pub mod Rosters
 pub use Rattle.phase_base.specs as phase_base

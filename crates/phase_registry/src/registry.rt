@@ -3,7 +3,7 @@ ghost use Rattle.std.specs.Prelude.{◌≡◌, ◌≢◌, ◌<◌, ◌≤◌, �
 ghost use Rattle.phase_base.specs.declared.entry.Entry.{Entry};
 ghost use Rattle.phase_base.specs.Members.{entry_of, changed_at, without, signalled, waited, signal_phases, wait_phases, least, lesser};
 ghost use Rattle.phase_registry.specs.Rosters.{Roster, roster, add_refusal, added, next_after, AreRising};
-ghost use Rattle.phase_registry.specs.Inside.{IsAt, IsGapFor};
+ghost use Rattle.phase_registry.specs.NumberPlaces.{IsAt, IsGapFor};
 
 use crate::refusal::AddRefusal;
 use phase_base::{Entry, MEMBERS_MAX, Member, Mode};

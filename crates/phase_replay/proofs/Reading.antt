@@ -7,7 +7,7 @@ use Rattle.watched_io.specs.Prefix.{AppendsPrefix}
 use Rattle.watched_io.specs.States.{Gives, ReaderState, ReadsTooMuch, ReadsWithin, WriterState}
 use Rattle.watched_io.proofs.Giving.{gives_kept, gives_more, gives_none}
 use Rattle.watched_io.proofs.Giving as giving
-use Rattle.phase_replay.specs.Inside.{StopsReading}
+use Rattle.phase_replay.specs.ScriptReading.{StopsReading}
 use Rattle.phase_replay.specs.Replay.{known_bytes, ReplaysAll, ReplaysPrefix}
 use Rattle.phase_replay.specs.Replies.{replies_of}
 use Rattle.phase_replay.specs.Replayer.{ReplayerOwes, Goes}

@@ -13,7 +13,7 @@ use Rattle.phase_script.specs.Lines.{last_line, lines_after, lines_of}
 use Rattle.phase_script.specs.ReplyLines.{WholeReply, Accepted, Signalled, Joined, Value, Empty}
 use Rattle.phase_script.specs.ReplyLines.{TooBig, Values, Ended, Refused, BadLine, reply_text}
 use Rattle.phase_core.specs.phase_base.Lists.{without_cr}
-use Rattle.phase_replay.specs.Inside.{IsFirstLine, begins_as_refusal}
+use Rattle.phase_replay.specs.ScriptReading.{IsFirstLine, begins_as_refusal}
 use Rattle.phase_replay.specs.Scripts.{ScriptState, after_line, reply_line_of, reply_of_line, start}
 use Rattle.phase_replay.specs.Scripts.{state_after, state_from}
 use Rattle.phase_replay.specs.Session.{SessionState, SessionStands}

@@ -1,6 +1,6 @@
 pub mod FileReplays
 pub mod HeldSends
-pub mod Inside
+pub mod ScriptReading
 pub mod Replay
 pub mod Replayer
 pub mod Replays

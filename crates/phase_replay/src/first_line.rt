@@ -1,6 +1,6 @@
 //! The lines of a text that is known, one after the other.
 ghost use Rattle.std.specs.Prelude.{◌<◌, length};
-ghost use Rattle.phase_replay.specs.Inside.{IsFirstLine};
+ghost use Rattle.phase_replay.specs.ScriptReading.{IsFirstLine};
 
 use phase_script::{lf_of, without_cr};
 

@@ -1,7 +1,7 @@
 //! Where a strict replay of a script stops.
 ghost use Rattle.std.specs.Prelude.{◌≡◌, ◌≤◌, ◌<◌, length, take, IfOk, IfSome, None};
 ghost use Rattle.phase_script.specs.Lines.{lines_of};
-ghost use Rattle.phase_replay.specs.Inside.{begins_as_refusal};
+ghost use Rattle.phase_replay.specs.ScriptReading.{begins_as_refusal};
 ghost use Rattle.phase_replay.specs.Scripts.{start};
 ghost use Rattle.phase_replay.specs.Stops.{AreLinesTaken, ScriptStopsAt};
 

@@ -5,7 +5,7 @@ ghost use Rattle.std.specs.Io.{ReadsAtMost};
 ghost use Rattle.std.specs.Io.KnownBytes.{IsAtEnd};
 ghost use Rattle.watched_io.specs.States.{Gives, reader_state, writer_state};
 ghost use Rattle.watched_io.specs.Watched.{inner_of, has_failed_of};
-ghost use Rattle.phase_replay.specs.Inside.{StopsReading};
+ghost use Rattle.phase_replay.specs.ScriptReading.{StopsReading};
 ghost use Rattle.phase_replay.specs.Replay.{HasCause, RepliesPrefix, RepliesWhole};
 ghost use Rattle.phase_replay.specs.Replay.{ReplaysAll, ReplaysPrefix};
 ghost use Rattle.phase_replay.specs.Replayer.{ReplayerOwes};

@@ -8,7 +8,7 @@ ghost use Rattle.phase_ring.specs.Standings.{one_if_same, other, takes_part, pha
 ghost use Rattle.phase_ring.specs.Boards.{IsBoard};
 ghost use Rattle.phase_ring.specs.Blocks.{block_joined, block_values, BlockFits};
 ghost use Rattle.phase_ring.specs.Calls.{MaySignal, MayWait, IsSettled, KeepsBounds, HasMoved, HasSignalled, HasWaited, HasLeftBoard};
-ghost use Rattle.phase_ring.specs.Inside.{MayGoOn};
+ghost use Rattle.phase_ring.specs.GoingOn.{MayGoOn};
 
 use crate::role::Role;
 use crate::slot_ring::SlotRing;

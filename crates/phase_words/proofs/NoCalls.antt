@@ -5,7 +5,7 @@ use Rattle.clap.specs.declared.error.Error.{Error}
 use Rattle.clap.specs.declared.error.kind.ErrorKind.{ErrorKind}
 use Rattle.clap.specs.declared.error.kind.ErrorKind.TheVariants as kind
 use Rattle.phase_words.specs.CommandLine.{AreTaken, AskHelp, AskVersion, ExplainsNone, HasRefusal, HasShown, IsNoCall, IsShown, kinds_of}
-use Rattle.phase_words.specs.Inside.{IsToldBy}
+use Rattle.phase_words.specs.ClapErrors.{IsToldBy}
 use Rattle.phase_words.specs.declared.call.NoCall.{NoCall}
 use Rattle.phase_words.specs.declared.call.NoCall.TheVariants as no_call
 

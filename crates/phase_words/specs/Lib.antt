@@ -1,4 +1,4 @@
 pub mod Answers
 pub mod CommandLine
-pub mod Inside
+pub mod ClapErrors
 pub mod RunLine

@@ -5,7 +5,7 @@ ghost use Rattle.clap.specs.Words.{shape_of};
 ghost use Rattle.clap.specs.Words.{subcommand_rows_of, with_subcommand};
 ghost use Rattle.clap.specs.declared.builder.command.Command.{out-Command};
 ghost use Rattle.phase_words.specs.CommandLine.{Asks, IsNoCall, IsShown};
-ghost use Rattle.phase_words.specs.Inside.{IsToldBy, bare_app};
+ghost use Rattle.phase_words.specs.ClapErrors.{IsToldBy, bare_app};
 ghost use Rattle.phase_words.specs.CommandLine.{asked_as, asked_by, asked_in, asked_of, asked_with};
 ghost use Rattle.phase_words.specs.CommandLine.{graph_call_with, replay_with};
 ghost use Rattle.phase_words.specs.CommandLine.{check_shape, draw_shape, eval_shape, explain_of};

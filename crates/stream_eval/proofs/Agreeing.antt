@@ -16,7 +16,7 @@ use Rattle.stream_lists.specs.Ranges.{Where, fault_over, first_fault, first_some
 use Rattle.stream_lists.specs.declared.span.Span.{Span}
 use Rattle.stream_lists.proofs.Firsts.{fold-range_more, range_next}
 use Rattle.stream_lists.proofs.Growing.{filter_map-same, length-grown, map-same}
-use Rattle.stream_eval.specs.Inside.{is_read_from, list_kept, reads_from, signals_from, signals_on, sinks_on, waits_on}
+use Rattle.stream_eval.specs.Composing.{is_read_from, list_kept, reads_from, signals_from, signals_on, sinks_on, waits_on}
 use Rattle.stream_lists.specs.graph_base.declared.place.Place.TheVariants as place
 
 -- lists that are the same where they are read from phaser p on

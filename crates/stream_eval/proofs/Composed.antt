@@ -13,7 +13,7 @@ use Rattle.stream_lists.specs.Lists.{Contribution, contributions_on, value_by, l
 use Rattle.stream_lists.specs.Ranges.{Where, output_fault_of, phase_fault_of, is_fault, first_some, fault_over, fault_on}
 use Rattle.stream_lists.specs.phase_accum.declared.outcome.Outcome.{Outcome}
 use Rattle.stream_lists.specs.graph_base.declared.place.Place.TheVariants as place
-use Rattle.stream_lists.specs.Inside.{items_of}
+use Rattle.stream_lists.specs.JobFields.{items_of}
 use Rattle.stream_lists.proofs.Firsts.{fold-range_more, first-append_some, first-append_none}
 
 -- the lists with one more

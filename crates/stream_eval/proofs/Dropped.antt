@@ -7,9 +7,9 @@ use Rattle.std.proofs.lemmas.Bool.{cases_lt}
 use Rattle.std.proofs.lemmas.List.{map-set, get_or-set_same, get_or-set_other, length-map, length-set, append-nil, take_all}
 use Rattle.std.proofs.lemmas.List.Elements.{All-set}
 use Rattle.stream_lists.specs.phase_accum.Sends.{AreSends}
-use Rattle.stream_lists.specs.Inside.{items_of}
+use Rattle.stream_lists.specs.JobFields.{items_of}
 use Rattle.stream_lists.specs.Jobs.{Job}
-use Rattle.stream_eval.specs.Inside.{is_read_from, list_kept}
+use Rattle.stream_eval.specs.Composing.{is_read_from, list_kept}
 
 -- the lists before number q are gone through, and the others are as they were
 pub record GoneThrough (job : Job) (p : ℕ) (old lists : List (Vec ℤ Global)) (q : ℕ) : Type 0 where

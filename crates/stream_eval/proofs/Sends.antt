@@ -12,7 +12,7 @@ use Rattle.stream_lists.specs.phase_accum.Sends.{IsSend}
 use Rattle.stream_lists.specs.phase_accum.Operations.{Operation, IsPartOf, MayJoin, AccumulateLaws}
 use Rattle.stream_lists.proofs.phase_accum_lemmas.Parts.{IsPartOf-nil, IsPartOf-one, IsPartOf-join}
 use Rattle.stream_lists.specs.Lists.{Contribution, send_in, sends_in}
-use Rattle.stream_eval.specs.Inside.{HasParts}
+use Rattle.stream_eval.specs.Composing.{HasParts}
 use Rattle.stream_lists.specs.phase_accum.declared.outcome.Outcome.{Outcome}
 
 -- the first i values of a member

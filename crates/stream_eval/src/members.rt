@@ -3,13 +3,13 @@ ghost use Rattle.std.specs.Prelude.{◌≡◌, ◌<◌, ◌≤◌, ℕ, length, 
 ghost use Rattle.std.specs.List.{All};
 ghost use Rattle.stream_lists.specs.phase_accum.Sends.{AreSends};
 ghost use Rattle.stream_lists.specs.graph_base.Graphs.{task_at};
-ghost use Rattle.stream_lists.specs.graph_base.Inside.{task_of};
+ghost use Rattle.stream_lists.specs.graph_base.GraphFields.{task_of};
 ghost use Rattle.stream_lists.specs.graph_base.declared.line.Kind.TheVariants.{Split};
 ghost use Rattle.stream_lists.specs.graph_base.declared.place.Place.{Place as PlaceValue};
 ghost use Rattle.stream_lists.specs.graph_base.TaskLines.{HasEnds};
-ghost use Rattle.stream_lists.specs.Inside.{items_of};
+ghost use Rattle.stream_lists.specs.JobFields.{items_of};
 ghost use Rattle.stream_lists.specs.Lists.{contribution_at, contributions_on, output_on};
-ghost use Rattle.stream_eval.specs.Inside.{member_of, member_option};
+ghost use Rattle.stream_eval.specs.Composing.{member_of, member_option};
 ghost use Rattle.stream_lists.specs.Ranges.{first_some, made_fault, output_fault_of, output_faults};
 ghost use Rattle.stream_lists.specs.Spans.{schedule_of};
 

@@ -6,7 +6,7 @@ ghost use Rattle.stream_lists.specs.phase_accum.Values.{applied, IsInRange};
 ghost use Rattle.stream_lists.specs.graph_base.Graphs.{phaser_at};
 ghost use Rattle.stream_lists.specs.graph_base.declared.place.Place.{Place as PlaceValue};
 ghost use Rattle.stream_lists.specs.Lists.{Contribution, number, number_in};
-ghost use Rattle.stream_eval.specs.Inside.{HasParts, member_of};
+ghost use Rattle.stream_eval.specs.Composing.{HasParts, member_of};
 ghost use Rattle.stream_lists.specs.Ranges.{first_fault};
 ghost use Rattle.stream_lists.specs.Spans.{lengths_of, schedule_of};
 

@@ -2,10 +2,10 @@
 ghost use Rattle.std.specs.Prelude.{◌≡◌, ◌≤◌, ℕ, nat_lt, if◌then◌else◌, [], take, length, map, get_or, IfOk, None, Some, Err};
 ghost use Rattle.std.specs.List.{All, position_from};
 ghost use Rattle.stream_lists.specs.phase_accum.Sends.{AreSends};
-ghost use Rattle.stream_lists.specs.graph_base.Inside.{task_of};
+ghost use Rattle.stream_lists.specs.graph_base.GraphFields.{task_of};
 ghost use Rattle.stream_lists.specs.Lists.{mixed, output_list};
 ghost use Rattle.stream_lists.specs.Ranges.{is_out_of_range, list_fault};
-ghost use Rattle.stream_eval.specs.Inside.{LineMayPut};
+ghost use Rattle.stream_eval.specs.Composing.{LineMayPut};
 
 use crate::list::{ListFault, every_list, fir_list, in_turn_list, mixed_list};
 use crate::taken_values::part_of;

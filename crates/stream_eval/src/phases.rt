@@ -4,7 +4,7 @@ ghost use Rattle.stream_lists.specs.phase_base.declared.limits.TheConstants.{SEN
 ghost use Rattle.stream_lists.specs.phase_accum.Sends.{AreSends};
 ghost use Rattle.std.specs.List.{All};
 ghost use Rattle.stream_lists.specs.Lists.{Contribution};
-ghost use Rattle.stream_eval.specs.Inside.{HasParts, member_of};
+ghost use Rattle.stream_eval.specs.Composing.{HasParts, member_of};
 
 use std::alloc::{AllocError, Global};
 use stream_lists::graph_base::TASKS_MAX;

@@ -2,8 +2,8 @@
 ghost use Rattle.std.specs.Prelude.{◌≡◌, ◌<◌, ℕ, [], length, get_or};
 ghost use Rattle.std.specs.List.{All};
 ghost use Rattle.stream_lists.specs.phase_accum.Sends.{AreSends};
-ghost use Rattle.stream_eval.specs.Inside.{is_read_from, list_kept, reads_from, signals_from, signals_on, sinks_on, waits_on};
-ghost use Rattle.stream_lists.specs.Inside.{items_of};
+ghost use Rattle.stream_eval.specs.Composing.{is_read_from, list_kept, reads_from, signals_from, signals_on, sinks_on, waits_on};
+ghost use Rattle.stream_lists.specs.JobFields.{items_of};
 
 use std::alloc::Global;
 use stream_lists::graph_base::Kind;

@@ -1,6 +1,6 @@
 //! The phases that some task takes.
 ghost use Rattle.std.specs.Prelude.{◌≡◌, ◌&&◌, ◌<◌, length};
-ghost use Rattle.stream_lists.specs.graph_base.Inside.{task_of};
+ghost use Rattle.stream_lists.specs.graph_base.GraphFields.{task_of};
 ghost use Rattle.stream_lists.specs.Ranges.{is_taken, is_too_big, task_takes};
 ghost use Rattle.stream_lists.specs.Spans.{schedule_of};
 

@@ -2,9 +2,9 @@
 ghost use Rattle.std.specs.Prelude.{◌≡◌, ◌≤◌, ◌<◌, ◌^◌, List, ℤ, [], take, drop, length, map, get_or, IfOk};
 ghost use Rattle.std.specs.List.{All};
 ghost use Rattle.stream_lists.specs.phase_accum.Sends.{AreSends};
-ghost use Rattle.stream_lists.specs.graph_base.Inside.{task_of};
+ghost use Rattle.stream_lists.specs.graph_base.GraphFields.{task_of};
 ghost use Rattle.stream_lists.specs.graph_base.TaskLines.{HasEnds};
-ghost use Rattle.stream_lists.specs.Inside.{IsShort, items_of};
+ghost use Rattle.stream_lists.specs.JobFields.{IsShort, items_of};
 ghost use Rattle.stream_lists.specs.Lists.{taken_from, taken_by};
 
 use std::alloc::{AllocError, Global};

@@ -5,9 +5,9 @@ ghost use Rattle.stream_lists.specs.phase_accum.Sends.{AreSends};
 ghost use Rattle.stream_lists.specs.graph_base.Graphs.{phaser_at};
 ghost use Rattle.stream_lists.specs.graph_base.declared.place.Place.{Place as PlaceValue};
 ghost use Rattle.stream_eval.specs.Results.{sink_values};
-ghost use Rattle.stream_lists.specs.Inside.{items_of};
+ghost use Rattle.stream_lists.specs.JobFields.{items_of};
 ghost use Rattle.stream_lists.specs.Lists.{lines_of, list_over, number, numbers_of, sink_over, sinks_of, start_in, value_by};
-ghost use Rattle.stream_eval.specs.Inside.{member_of, list_kept};
+ghost use Rattle.stream_eval.specs.Composing.{member_of, list_kept};
 ghost use Rattle.stream_lists.specs.Ranges.{fault_over, first_too_big, Fits};
 ghost use Rattle.stream_lists.specs.Spans.{lengths_of, schedule_of};
 

@@ -5,7 +5,7 @@ use Rattle.std.specs.List.{position_from}
 use Rattle.std.proofs.lemmas.List.{take_more, take_all}
 use Rattle.std.proofs.Math.Seq.{drop-cons}
 use Rattle.std.proofs.Math.ListN.{drop_of_length-le}
-use Rattle.stream_filters.specs.Inside.{MadeSoFar}
+use Rattle.stream_filters.specs.FilterFields.{MadeSoFar}
 use Rattle.stream_filters.specs.Range.{ranged, is_out_of_range}
 use Rattle.stream_filters.specs.declared.fault.TooBigValue.{TooBigValue}
 

@@ -12,7 +12,7 @@ use Rattle.std.proofs.lemmas.Bool.{cases_lt}
 use Rattle.std.proofs.lemmas.Bool.Decides.{nat_tests}
 use Rattle.stream_filters.specs.Filter.{weighted, at_place, weight, shifted_down}
 use Rattle.stream_filters.specs.Range.{ranged}
-use Rattle.stream_filters.specs.Inside.{IsNarrow}
+use Rattle.stream_filters.specs.FilterFields.{IsNarrow}
 
 -- only what stands below the number of taps counts
 pub weighted-same : (f g : ℕ → ℤ) (taps : List ℤ) → ((j : ℕ) → j < length taps → f j ≡ g j)

@@ -8,7 +8,7 @@ use Rattle.std.proofs.lemmas.List.Elements.{All-weaker}
 use Rattle.std.proofs.lemmas.List.FromFn.{get_or-map-range_with_len}
 use Rattle.std.proofs.lemmas.Simd.{length-chunk, get_or-chunk}
 use Rattle.stream_filters.specs.Filter.{AreTaps, back, weighted, outputs, shifted_down}
-use Rattle.stream_filters.specs.Inside.{AreSmall, AreSmallAt, IsNarrow, MadeSoFar}
+use Rattle.stream_filters.specs.FilterFields.{AreSmall, AreSmallAt, IsNarrow, MadeSoFar}
 use Rattle.stream_filters.specs.Lanes.{before, output_shown}
 use Rattle.stream_filters.specs.Range.{ranged}
 use Rattle.stream_filters.proofs.Made.{MadeSoFar-append}

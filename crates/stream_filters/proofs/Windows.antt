@@ -5,7 +5,7 @@ use Rattle.std.proofs.lemmas.List.{get_or-take, get_or_default, reverse-append}
 use Rattle.std.proofs.lemmas.List.Elements.{All-weaker}
 use Rattle.std.proofs.lemmas.List.Sums.{sum_by-le}
 use Rattle.stream_filters.specs.Filter.{weighted, at_place, back, weight, shifted_down, output_after, AreTaps, StandsFor, FirState, after_sample}
-use Rattle.stream_filters.specs.Inside.{answer_at, IsNarrow}
+use Rattle.stream_filters.specs.FilterFields.{answer_at, IsNarrow}
 use Rattle.stream_filters.specs.Range.{ranged}
 use Rattle.stream_filters.proofs.Weighted.{weighted-same}
 

@@ -1,5 +1,5 @@
 pub mod Filter
-pub mod Inside
+pub mod FilterFields
 pub mod Lanes
 pub mod Range
 pub mod Turns

@@ -3,7 +3,7 @@ ghost use Rattle.std.specs.Prelude.{◌≡◌, ◌+◌, ◌^◌, ◌<◌, ◌≤
 ghost use Rattle.std.specs.List.{range_with_len};
 ghost use Rattle.std.specs.Simd.Lanes.{zip2, Each1, Each2};
 ghost use Rattle.stream_filters.specs.Filter.{shifted_down};
-ghost use Rattle.stream_filters.specs.Inside.{IsNarrow};
+ghost use Rattle.stream_filters.specs.FilterFields.{IsNarrow};
 ghost use Rattle.stream_filters.specs.Lanes.{output_shown, IsShort, AddsUp};
 
 use crate::fir::SHIFT_MAX;

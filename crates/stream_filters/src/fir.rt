@@ -57,7 +57,7 @@ impl Model for Fir {
 
     ghost Value = { FirState };
 
-    ghost use Rattle.stream_filters.specs.Inside.{fir_view, IsFir};
+    ghost use Rattle.stream_filters.specs.FilterFields.{fir_view, IsFir};
 
     ghost view = { fir_view };
 
@@ -65,7 +65,7 @@ impl Model for Fir {
 }
 
 impl Fir {
-    ghost use Rattle.stream_filters.specs.Inside.{answer_at};
+    ghost use Rattle.stream_filters.specs.FilterFields.{answer_at};
 
     /// Makes a filter with these taps and a shift in bits, before its first sample.
     ///

@@ -1,7 +1,7 @@
 //! The sums of products that the filters answer.
 ghost use Rattle.std.specs.Prelude.{◌≡◌, ◌+◌, ◌*◌, ◌^◌, ◌<◌, ◌≤◌, ◌++◌, length, ◌*ℤ◌, unsigned_abs};
 ghost use Rattle.stream_filters.specs.Filter.{back, shifted_down, weight, weighted, at_place};
-ghost use Rattle.stream_filters.specs.Inside.{answer_at, IsNarrow};
+ghost use Rattle.stream_filters.specs.FilterFields.{answer_at, IsNarrow};
 
 use crate::fault::TooBigValue;
 use crate::fir::SHIFT_MAX;

@@ -2,7 +2,7 @@
 ghost use Rattle.std.specs.Prelude.{◌≡◌, ◌↔◌, ◌+◌, ◌≤◌, ℕ, [], length, IfOk, OnOk, IsTrue, None, Some, Err, unsigned_abs};
 ghost use Rattle.std.specs.List.{All, position_from};
 ghost use Rattle.stream_filters.specs.Filter.{AreTaps, output_after, outputs};
-ghost use Rattle.stream_filters.specs.Inside.{AreSmall, AreSmallAt, MadeSoFar};
+ghost use Rattle.stream_filters.specs.FilterFields.{AreSmall, AreSmallAt, MadeSoFar};
 ghost use Rattle.stream_filters.specs.Range.{is_out_of_range, ranged};
 
 use crate::blocks::block_outputs;

@@ -16,7 +16,7 @@ use Rattle.graph_runs.specs.Beginnings.{opening, root_number}
 use Rattle.graph_runs.specs.Moments.{Moment, input_at}
 use Rattle.stream_job.specs.SinkLines.{sink_begins_at}
 use Rattle.stream_job.specs.Machines.{IsMachineAt, HasRoom, kept_behind}
-use Rattle.stream_job.specs.Inside.{begins_with, LineHasBegun}
+use Rattle.stream_job.specs.Stepping.{begins_with, LineHasBegun}
 use Rattle.stream_job.specs.declared.machine.Machine.{Machine}
 use Rattle.stream_job.specs.declared.task_state.TaskState.{TaskState}
 use Rattle.stream_job.proofs.SinkLines.{line_stays, map_same, one_set, filter_ascends}

@@ -36,7 +36,7 @@ use Rattle.stream_job.specs.Places.{IsTaskAt, place_in_state}
 use Rattle.stream_job.specs.Machines.{IsMachineAt, HasCores, UsesFew, KeepsLines, kept_behind, none_given}
 use Rattle.stream_job.specs.SinkLines.{sink_begins_at}
 use Rattle.stream_job.specs.Turning.{HadTurn, MadeShows, phaser_of}
-use Rattle.stream_job.specs.Inside.{IsNextIn, child_refusal, add_event, begins_with, LineHasBegun}
+use Rattle.stream_job.specs.Stepping.{IsNextIn, child_refusal, add_event, begins_with, LineHasBegun}
 use Rattle.stream_eval.specs.declared.whole.Lines.{Lines}
 use Rattle.stream_job.specs.declared.machine.Machine.{Machine}
 use Rattle.stream_job.specs.declared.task_state.TaskState.{TaskState}

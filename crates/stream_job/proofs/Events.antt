@@ -23,7 +23,7 @@ use Rattle.stream_job.specs.declared.machine.Machine.{Machine}
 use Rattle.stream_job.specs.declared.task_state.TaskState.{TaskState}
 use Rattle.stream_job.proofs.Setting.{slice_get-set_same, slice_get-set_other, same_cores}
 use Rattle.graph_runs.specs.Turned.{with_at}
-use Rattle.stream_job.specs.Inside.{MayStep}
+use Rattle.stream_job.specs.Stepping.{MayStep}
 
 -- what another task has taken
 pub taken_other : (job : Job) (m : Moment) (event : TaskEvent) (u k : ℕ) → u ≢ task_of event

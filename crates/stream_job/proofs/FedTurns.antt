@@ -28,7 +28,7 @@ use Rattle.graph_runs.proofs.Calling.{accepted, answered, answered_all}
 use Rattle.graph_runs.proofs.Nexts.{further-length}
 use Rattle.graph_runs.proofs.Signalling.{signalled}
 use Rattle.graph_runs.proofs.Turning.{turn_makes_next}
-use Rattle.stream_job.specs.Inside.{HasRoomNext, MayStep}
+use Rattle.stream_job.specs.Stepping.{HasRoomNext, MayStep}
 use Rattle.stream_job.specs.Machines.{IsMachineAt}
 use Rattle.stream_job.specs.Streams.{AreKept, StreamGoesOn, IsStreamAt, InputKeeps, StreamState, ended_at, is_hungry}
 use Rattle.stream_job.specs.Turning.{HadTurn, met_by, told_of}

@@ -15,7 +15,7 @@ use Rattle.graph_runs.proofs.PlacesFollow.{leave_follows}
 use Rattle.stream_job.specs.Places.{IsTaskAt, place_in_state}
 use Rattle.stream_job.specs.Machines.{IsMachineAt, HasCores}
 use Rattle.stream_job.specs.Turning.{HadTurn, MadeShows, told_of}
-use Rattle.stream_job.specs.Inside.{IsNextIn}
+use Rattle.stream_job.specs.Stepping.{IsNextIn}
 use Rattle.stream_job.specs.declared.machine.Machine.{Machine}
 use Rattle.stream_job.specs.declared.task_state.TaskState.{TaskState}
 use Rattle.stream_job.specs.declared.made.Made.TheVariants.{Event}

@@ -28,7 +28,7 @@ use Rattle.stream_job.specs.Turning.{phaser_of}
 use Rattle.stream_job.specs.declared.machine.Machine.{Machine}
 use Rattle.stream_job.proofs.Makes.{makes_event}
 use Rattle.stream_job.proofs.Reading.{live_by, complete}
-use Rattle.stream_job.specs.Inside.{MayStep}
+use Rattle.stream_job.specs.Stepping.{MayStep}
 
 -- task u is as it was, and has the children to register that it had; no phaser but p had an event
 pub record LeavesAlone (job : Job) (before after : Moment) (u p : ℕ) : Type 0 where

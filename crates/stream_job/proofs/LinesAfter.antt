@@ -19,7 +19,7 @@ use Rattle.stream_job.proofs.Begins.{opened_begins}
 use Rattle.stream_job.proofs.Events.{begins_same}
 use Rattle.stream_job.proofs.SinkLines.{map_same}
 use Rattle.stream_job.proofs.SinksKeep.{NoSinkWaits, lines_stay, opened_kept}
-use Rattle.stream_job.specs.Inside.{MayStep}
+use Rattle.stream_job.specs.Stepping.{MayStep}
 
 -- lines that are the same keep the same
 pub same_lines : (job : Job) (given : ℕ → List ℤ) (m : Moment) (old new : Machine)

@@ -20,7 +20,7 @@ use Rattle.stream_job.specs.declared.machine.Machine.{Machine}
 use Rattle.stream_job.proofs.Events.{taken_other}
 use Rattle.stream_job.proofs.SinksKeep.{all_kept, kept_begins, kept_other, kept_wait, sink_reads}
 use Rattle.stream_job.proofs.Waits.{first_is, sink_kind, zero_first}
-use Rattle.stream_job.specs.Inside.{MayStep}
+use Rattle.stream_job.specs.Stepping.{MayStep}
 
 -- a list begins an equal one
 same_begins : (xs ys : List ℤ) → xs ≡ ys → IsPrefix xs ys

@@ -18,7 +18,7 @@ use Rattle.graph_runs.proofs.Standing.{kept}
 use Rattle.graph_runs.proofs.TurnRegistering.{is_for}
 use Rattle.stream_job.specs.Places.{place_in_state}
 use Rattle.stream_job.specs.Machines.{IsMachineAt}
-use Rattle.stream_job.specs.Inside.{IsNextIn}
+use Rattle.stream_job.specs.Stepping.{IsNextIn}
 use Rattle.stream_job.specs.declared.machine.Machine.{Machine}
 use Rattle.stream_job.specs.declared.task_state.TaskState.{TaskState}
 use Rattle.stream_job.proofs.Ending.{all_numbered, number-at}

@@ -25,7 +25,7 @@ use Rattle.graph_runs.proofs.Turning.{turn_makes_next}
 use Rattle.graph_runs.proofs.Whose.{IsInOrder, made_by}
 use Rattle.stream_job.specs.Machines.{IsMachineAt, numbered, UsesFew}
 use Rattle.stream_job.specs.declared.machine.Machine.{Machine}
-use Rattle.stream_job.specs.Inside.{MayStep}
+use Rattle.stream_job.specs.Stepping.{MayStep}
 
 -- ---- how many have a number
 

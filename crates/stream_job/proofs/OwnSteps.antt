@@ -8,7 +8,7 @@ use Rattle.stream_eval.specs.stream_lists.Jobs.{Job}
 use Rattle.graph_runs.specs.Answers.{output_at}
 use Rattle.graph_runs.specs.Moments.{input_at}
 use Rattle.graph_runs.proofs.Stepping.{line_sizes}
-use Rattle.stream_job.specs.Inside.{MayStep}
+use Rattle.stream_job.specs.Stepping.{MayStep}
 
 -- what is so of the only one of a list
 one_all : (P : ℕ → Type 0) (xs : List ℕ) → length xs ≡ 1 → P (get_or xs 0 0) → All P xs

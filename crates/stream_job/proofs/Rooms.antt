@@ -27,7 +27,7 @@ use Rattle.graph_runs.specs.Reached.{IsReachable}
 use Rattle.graph_runs.specs.TaskEvents.{first_wait, after_turn}
 use Rattle.graph_runs.proofs.Boundaries.{all_taken}
 use Rattle.graph_runs.proofs.Signalling.{Live, live-is, number_there}
-use Rattle.stream_job.specs.Inside.{HasRoomAt, HasRoomIn}
+use Rattle.stream_job.specs.Stepping.{HasRoomAt, HasRoomIn}
 use Rattle.stream_job.specs.Machines.{HasRoom, IsLineOf, IsMachineAt, KeepsLines, kept_behind, none_given}
 use Rattle.stream_job.specs.declared.machine.Machine.{Machine}
 use Rattle.stream_job.specs.declared.task_state.TaskState.{TaskState}

@@ -49,8 +49,8 @@ use Rattle.graph_runs.proofs.Nexts.{further-length}
 use Rattle.graph_runs.proofs.Signalling.{owed, live-is, sendable, values_few}
 use Rattle.graph_runs.proofs.Stepping.{signal_follows, sample_follows}
 use Rattle.stream_job.specs.Blocking.{called_on}
-use Rattle.stream_job.specs.Inside as inside
-use Rattle.stream_job.specs.Inside.{IsNextIn, OwesMade, is_value_out}
+use Rattle.stream_job.specs.Stepping as stepping
+use Rattle.stream_job.specs.Stepping.{IsNextIn, OwesMade, is_value_out}
 use Rattle.stream_job.specs.Machines.{IsMachineAt, HasCores, KeepsLines}
 use Rattle.stream_job.specs.Places.{IsTaskAt, owed_in, place_in_state}
 use Rattle.stream_job.specs.Turning.{HadTurn, MadeShows, phaser_of}
@@ -879,8 +879,8 @@ next_samples_are steps job machine t many state found block m at =
 
 -- where all ranges are good no value is out of range, and else one is
 pub all_out : (zs : List ℤ) (rs : List (Result ℤ TooBigValue)) (from : ℕ) → map ranged zs ≡ rs
-    → (inside.in_range rs ≡ true → position_from is_out_of_range from zs ≡ None)
-    × (inside.in_range rs ≡ false
+    → (stepping.in_range rs ≡ true → position_from is_out_of_range from zs ≡ None)
+    × (stepping.in_range rs ≡ false
     → (step : ℕ) × (position_from is_out_of_range from zs ≡ Some step))
 all_out [] [] from e = ((λ good. refl), (λ bad. absurd (cc)))
 all_out [] (r ∷ rs) from e = absurd (cc)
@@ -890,11 +890,11 @@ all_out (z ∷ zs) (r ∷ rs) from e =
     by r both.0 (all_out zs rs (from + 1) both.1)
   where
     by : (r : Result ℤ TooBigValue) → ranged z ≡ r
-        → ((inside.in_range rs ≡ true → position_from is_out_of_range (from + 1) zs ≡ None)
-        × (inside.in_range rs ≡ false
+        → ((stepping.in_range rs ≡ true → position_from is_out_of_range (from + 1) zs ≡ None)
+        × (stepping.in_range rs ≡ false
         → (step : ℕ) × (position_from is_out_of_range (from + 1) zs ≡ Some step)))
-        → (inside.in_range (r ∷ rs) ≡ true → position_from is_out_of_range from (z ∷ zs) ≡ None)
-        × (inside.in_range (r ∷ rs) ≡ false
+        → (stepping.in_range (r ∷ rs) ≡ true → position_from is_out_of_range from (z ∷ zs) ≡ None)
+        × (stepping.in_range (r ∷ rs) ≡ false
         → (step : ℕ) × (position_from is_out_of_range from (z ∷ zs) ≡ Some step))
     by (Ok x) e rest =
         let i = in_range z x e in

@@ -7,7 +7,7 @@ use Rattle.std.proofs.Math.Seq.{map-set_same}
 use Rattle.std.proofs.lemmas.List.{map-set, get_or-map}
 use Rattle.std.proofs.lemmas.Option.{slice_get_read, slice_get_within, get_or_from_slice_get, same_Some}
 use Rattle.stream_eval.specs.declared.whole.Lines.{Lines}
-use Rattle.stream_job.specs.Inside.{HasRoomIn, more, with_more}
+use Rattle.stream_job.specs.Stepping.{HasRoomIn, more, with_more}
 use Rattle.stream_job.specs.Machines.{kept_behind}
 
 -- a line that is written keeps what it had of this

@@ -46,7 +46,7 @@ use Rattle.graph_runs.proofs.NotRefused.{IsTold}
 use Rattle.graph_runs.proofs.Ranged.{sends_ranged, take_ranged, drop_ranged}
 use Rattle.graph_runs.proofs.Signalling.{live-is, owed}
 use Rattle.graph_runs.proofs.Telling.{turn_told}
-use Rattle.stream_job.specs.Inside.{blocks_signal, blocks_signal_at, blocks_wait, blocks_wait_at, would_block, in_range, are_in_range, owed_many}
+use Rattle.stream_job.specs.Stepping.{blocks_signal, blocks_signal_at, blocks_wait, blocks_wait_at, would_block, in_range, are_in_range, owed_many}
 use Rattle.stream_job.proofs.Lively.{live_next}
 use Rattle.stream_job.proofs.Signals.{all_out, goes_on, owes_values, stops}
 use Rattle.stream_job.proofs.WhatNext.{samples_begins, signals_owes}

@@ -35,7 +35,7 @@ use Rattle.stream_job.proofs.LinesBegin.{turn_begins}
 use Rattle.stream_job.proofs.Lively.{live_next}
 use Rattle.stream_job.proofs.Stalling.{leave_moves, register_moves}
 use Rattle.stream_job.proofs.Stepping.{sample_output, signal_output, wait_input, exchange_input}
-use Rattle.stream_job.specs.Inside.{MayStep}
+use Rattle.stream_job.specs.Stepping.{MayStep}
 use Rattle.graph_runs.proofs.Stepping.{line_sizes}
 
 -- ---- what is word_of_answer

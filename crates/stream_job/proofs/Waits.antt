@@ -59,7 +59,7 @@ use Rattle.graph_runs.specs.Steps.{owed_of, HasFilter}
 use Rattle.graph_runs.specs.declared.owed.Owed.{Owed}
 use Rattle.graph_runs.specs.declared.owed.Owed.TheVariants as code
 use Rattle.stream_job.specs.Buffers.{HasPlaces}
-use Rattle.stream_job.specs.Inside.{with_more, IsNextIn, MayStep}
+use Rattle.stream_job.specs.Stepping.{with_more, IsNextIn, MayStep}
 use Rattle.stream_job.specs.Places.{place_in_state, owed_in, StateHasTaken}
 use Rattle.stream_job.specs.Machines.{IsMachineAt, HasCores, KeepsLines, HasRoom, kept_behind}
 use Rattle.stream_job.specs.Turning.{HadTurn, MadeShows, told_of}

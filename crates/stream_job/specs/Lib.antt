@@ -1,6 +1,6 @@
 pub mod Blocking
 pub mod Buffers
-pub mod Inside
+pub mod Stepping
 pub mod Machines
 pub mod Parking
 pub mod Places

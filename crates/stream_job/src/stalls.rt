@@ -11,7 +11,7 @@ ghost use Rattle.phase_any.specs.Phasers.{PhaserStandsFor};
 ghost use Rattle.graph_runs.specs.Moments.{Moment, limits_at, input_at};
 ghost use Rattle.graph_runs.specs.Nexts.{has_signaller, is_live, number_on, samples, signals};
 ghost use Rattle.graph_runs.specs.Answers.{is_stalled, is_still, output_at};
-ghost use Rattle.stream_job.specs.Inside.{blocks_signal, blocks_wait, would_block};
+ghost use Rattle.stream_job.specs.Stepping.{blocks_signal, blocks_wait, would_block};
 ghost use Rattle.stream_job.specs.Blocking.{AreBlocked};
 ghost use Rattle.stream_job.specs.Machines.{next_by};
 ghost use Rattle.stream_job.specs.Plans.{IsPlan};

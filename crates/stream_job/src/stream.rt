@@ -13,7 +13,7 @@ ghost use Rattle.graph_runs.specs.Feeds.{IsFed};
 ghost use Rattle.graph_runs.specs.Moments.{Moment, started};
 ghost use Rattle.graph_runs.specs.Settled.{IsReady};
 ghost use Rattle.graph_runs.specs.Turned.{with_at};
-ghost use Rattle.stream_eval.specs.stream_lists.Inside.{items_of};
+ghost use Rattle.stream_eval.specs.stream_lists.JobFields.{items_of};
 ghost use Rattle.stream_job.specs.Machines.{none_given};
 ghost use Rattle.stream_job.specs.Streams.{AreInputs, IsApart, IsStreamAt, InputKeeps, has_ended, most_of, none_came};
 

@@ -8,7 +8,7 @@ ghost use Rattle.graph_runs.specs.Feeds.{is_starved};
 ghost use Rattle.graph_runs.specs.Moments.{Moment};
 ghost use Rattle.graph_runs.specs.NextBlocks.{block_up_to};
 ghost use Rattle.graph_runs.specs.Nexts.{next_of};
-ghost use Rattle.stream_job.specs.Inside.{HasRoomNext, MayStep};
+ghost use Rattle.stream_job.specs.Stepping.{HasRoomNext, MayStep};
 ghost use Rattle.stream_job.specs.Machines.{IsMachineAt, IsSome, MayHaveCome, next_by};
 ghost use Rattle.stream_job.specs.Plans.{IsPlan};
 ghost use Rattle.stream_job.specs.SinkLines.{kept_by};

@@ -23,7 +23,7 @@ const TURNS: usize = 64;
 
 impl Stream {
     ghost use Rattle.stream_job.specs.Buffers.{most_steps};
-    ghost use Rattle.stream_job.specs.Inside.{MayStep};
+    ghost use Rattle.stream_job.specs.Stepping.{MayStep};
     ghost use Rattle.stream_job.specs.Machines.{kept_behind};
     ghost use Rattle.stream_job.specs.Streams.{StreamGoesOn, IsStreamAt, StreamStopsAt, ended_at};
     ghost use Rattle.stream_job.specs.declared.stopped.Stopped.TheVariants.{Done, TooBig};

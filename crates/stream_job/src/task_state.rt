@@ -39,7 +39,7 @@ pub struct TaskState {
 
 impl TaskState {
     ghost use Rattle.stream_job.specs.Places.{place_in_state, owed_in, StateHasTaken};
-    ghost use Rattle.stream_job.specs.Inside.{are_in_range, owed_many};
+    ghost use Rattle.stream_job.specs.Stepping.{are_in_range, owed_many};
 
     /// Whether task number `t` is registered on all phasers of its line.
     pub fn is_registered(&self, job: &Job, t: usize) -> bool

@@ -11,7 +11,7 @@ ghost use Rattle.graph_runs.specs.Turned.{with_at};
 ghost use Rattle.graph_runs.specs.Nexts as turns;
 ghost use Rattle.graph_runs.specs.Nexts.{is_live, number_on};
 ghost use Rattle.stream_job.specs.Turning.{IsRegistration, HadTurn, told_of};
-ghost use Rattle.stream_job.specs.Inside.{HasDone, HasRoomIn, HasRoomNext, IsNextIn, MayDo, MayStep, OwesMade, is_value_out, with_more, child_refusal, add_event, LineHasBegun};
+ghost use Rattle.stream_job.specs.Stepping.{HasDone, HasRoomIn, HasRoomNext, IsNextIn, MayDo, MayStep, OwesMade, is_value_out, with_more, child_refusal, add_event, LineHasBegun};
 ghost use Rattle.stream_job.specs.Buffers.{HasPlaces, most_steps};
 ghost use Rattle.stream_job.specs.Plans.{IsPlan};
 ghost use Rattle.stream_job.specs.SinkLines.{kept_of};

@@ -5,7 +5,7 @@ use Rattle.std.specs.Global.{Global}
 use Rattle.std.specs.List.{range_with_len}
 use Rattle.std.proofs.lemmas.List.{length-replicate}
 use Rattle.graph_base.specs.Graphs.{Graph, source_number, task_at}
-use Rattle.stream_lists.specs.Inside.{given, items_of}
+use Rattle.stream_lists.specs.JobFields.{given, items_of}
 use Rattle.stream_lists.specs.Jobs.{Job, samples_at, samples_in, start_at, with_samples, zeros, counted, count_at}
 use Rattle.stream_lists.specs.Spans.{offset_of, span_at, span_of, spans_over, spans_of, lengths_of, length_on}
 use Rattle.stream_lists.proofs.Starts.{fold-same}

@@ -20,7 +20,7 @@ use Rattle.stream_lists.specs.Jobs.{Job, counted, samples_at, start_at}
 use Rattle.stream_lists.specs.Spans.{nowhere, turns_below, puts_on, run_out, first_run_out, enough_for, cut_at, offset_of, values_from, span_at, span_of, spans_up_to, spans_over, end_on, end_of, length_on, lengths_up_to}
 use Rattle.stream_lists.specs.declared.span.Span.{Span}
 use Rattle.stream_lists.specs.declared.span.TheConstants.{LENGTH_MAX}
-use Rattle.stream_lists.specs.Inside.{IsShort, IsStage}
+use Rattle.stream_lists.specs.JobFields.{IsShort, IsStage}
 use Rattle.stream_lists.proofs.AsMany.{length-counted}
 use Rattle.stream_lists.proofs.Distances.{far_one, distinct_front}
 use Rattle.stream_lists.proofs.Growing.{grown-at, length-grown}

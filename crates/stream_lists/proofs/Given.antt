@@ -3,7 +3,7 @@ use Rattle.std.proofs.Common.{◌≡◌, ℕ, ℤ, List, length, map, sym, ap, �
 use Rattle.std.specs.Prelude.{Vec, Option}
 use Rattle.std.specs.Global.{Global}
 use Rattle.graph_base.specs.Graphs.{Graph}
-use Rattle.stream_lists.specs.Inside.{given}
+use Rattle.stream_lists.specs.JobFields.{given}
 use Rattle.stream_lists.specs.Jobs.{counted}
 use Rattle.stream_lists.specs.Meetings.{meeting_at, meeting_line}
 use Rattle.stream_lists.specs.Spans.{lengths_of, spans_of, spans_over}

@@ -1,6 +1,6 @@
 pub mod Entries
 pub mod Exact
-pub mod Inside
+pub mod JobFields
 pub mod Jobs
 pub mod Lists
 pub mod Meetings

@@ -3,10 +3,10 @@ ghost use Rattle.std.specs.Prelude.{◌≡◌, ◌<◌, ◌≤◌, ℕ, [], leng
 ghost use Rattle.std.specs.List.{All};
 ghost use Rattle.graph_base.specs.phase_accum.Sends.{AreSends};
 ghost use Rattle.graph_base.specs.Graphs.{phaser_at, task_at, sources_of};
-ghost use Rattle.graph_base.specs.Inside.{task_of};
+ghost use Rattle.graph_base.specs.GraphFields.{task_of};
 ghost use Rattle.graph_base.specs.TaskLines.{IsTaskLine};
 ghost use Rattle.stream_lists.specs.Jobs.{samples_at};
-ghost use Rattle.stream_lists.specs.Inside.{given, IsCounted, items_of, IsShort};
+ghost use Rattle.stream_lists.specs.JobFields.{given, IsCounted, items_of, IsShort};
 ghost use Rattle.stream_lists.specs.Lists.{start_in};
 ghost use Rattle.stream_lists.specs.Meetings.{meeting_line};
 ghost use Rattle.stream_lists.specs.Spans.{spans_of, lengths_of, nowhere};
@@ -39,7 +39,7 @@ pub struct Job {
 }
 
 impl Model for Job {
-    ghost use Rattle.stream_lists.specs.Inside.{JobValue, job_view, IsJob};
+    ghost use Rattle.stream_lists.specs.JobFields.{JobValue, job_view, IsJob};
 
     ghost Value = { JobValue };
 

@@ -1,10 +1,10 @@
 //! How long the list of each phaser is.
 ghost use Rattle.std.specs.Prelude.{◌≡◌, ◌≤◌, ◌<◌, length, IfOk};
 ghost use Rattle.std.specs.List.{All};
-ghost use Rattle.graph_base.specs.Inside.{task_of};
+ghost use Rattle.graph_base.specs.GraphFields.{task_of};
 ghost use Rattle.graph_base.specs.TaskLines.{HasEnds};
 ghost use Rattle.stream_lists.specs.Jobs.{counted};
-ghost use Rattle.stream_lists.specs.Inside.{IsShort, IsStage};
+ghost use Rattle.stream_lists.specs.JobFields.{IsShort, IsStage};
 ghost use Rattle.stream_lists.specs.Spans.{end_of, length_on, lengths_of, puts_on};
 
 use crate::counts::put_count;

@@ -3,7 +3,7 @@ ghost use Rattle.std.specs.Prelude.{◌≡◌, ◌<◌, ◌≤◌, length, get_o
 ghost use Rattle.std.specs.List.{All, list_any, range_with_len};
 ghost use Rattle.graph_base.specs.Graphs.{phaser_at};
 ghost use Rattle.stream_lists.specs.Jobs.{counted};
-ghost use Rattle.stream_lists.specs.Inside.{IsShort, given};
+ghost use Rattle.stream_lists.specs.JobFields.{IsShort, given};
 ghost use Rattle.stream_lists.specs.Meetings.{is_any, meet_on, meeting_at, meeting_line, meets_above, meets_on};
 ghost use Rattle.stream_lists.specs.Spans.{nowhere, spans_of};
 

@@ -1,6 +1,6 @@
 //! Which input or output of a task a phaser is.
 ghost use Rattle.std.specs.Prelude.{◌≡◌, ◌<◌, ℕ, length, Some};
-ghost use Rattle.graph_base.specs.Inside.{task_of};
+ghost use Rattle.graph_base.specs.GraphFields.{task_of};
 ghost use Rattle.graph_base.specs.declared.line.Kind.TheVariants.{Split};
 ghost use Rattle.stream_lists.specs.Jobs.{index_in};
 ghost use Rattle.stream_lists.specs.Spans.{signalled_by};

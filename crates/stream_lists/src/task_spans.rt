@@ -1,10 +1,10 @@
 //! How far each task comes, over the lengths of the phasers' lists.
 ghost use Rattle.std.specs.Prelude.{◌≡◌, ◌≤◌, ◌<◌, ◌-◌, ◌+◌, ◌&&◌, if◌then◌else◌, nat_le, length, get_or, Some, None, IfOk, IfSome, true};
 ghost use Rattle.std.specs.List.{All};
-ghost use Rattle.graph_base.specs.Inside.{task_of};
+ghost use Rattle.graph_base.specs.GraphFields.{task_of};
 ghost use Rattle.graph_base.specs.TaskLines.{HasEnds};
 ghost use Rattle.stream_lists.specs.Jobs.{counted};
-ghost use Rattle.stream_lists.specs.Inside.{IsCounted, IsShort, IsStage};
+ghost use Rattle.stream_lists.specs.JobFields.{IsCounted, IsShort, IsStage};
 ghost use Rattle.stream_lists.specs.Spans.{cut_at, enough_for, first_run_out, nowhere, offset_of, run_out, span_of, spans_over, spans_up_to, values_from};
 
 use crate::sample_counts::count_of;

@@ -40,7 +40,7 @@ use Rattle.graph_runs.specs.Steps.{HasFilter}
 use Rattle.stream_tasks.specs.Holds as holds
 use Rattle.stream_tasks.specs.Holds.{HoldGoesOn, HasRunOut, HoldLeaves}
 use Rattle.stream_tasks.specs.Tasks.{IsOn, HasLeftOn, IsHeldOn, HasHolds, IsOwnTaskAt, IsWhole, IsTask, HasAllNow, OwesNothing, owed_by, place_of_state}
-use Rattle.stream_tasks.specs.Inside.{HasChildrenNow}
+use Rattle.stream_tasks.specs.Children.{HasChildrenNow}
 use Rattle.stream_tasks.specs.declared.hold.Hold.{Hold}
 use Rattle.stream_tasks.specs.declared.hold.Hold.TheVariants.{On, Gone}
 use Rattle.stream_tasks.specs.declared.task_state.TaskState.{TaskState}

@@ -24,7 +24,7 @@ use Rattle.graph_runs.proofs.KnownOthers.{known_nowhere}
 use Rattle.graph_runs.proofs.PartsLemmas.{with_history}
 use Rattle.graph_runs.specs.TaskEnds.{IsChildOf}
 use Rattle.stream_tasks.specs.Holds.{HoldGoesOn, HasSeenOthers}
-use Rattle.stream_tasks.specs.Inside.{IsNextOn, IsNextNow}
+use Rattle.stream_tasks.specs.Children.{IsNextOn, IsNextNow}
 use Rattle.stream_tasks.specs.Registering.{MemberHasAdded, AddsTo, MemberHasAddedNow, AddsNowTo, HasFirstHolds, IsRegistering}
 use Rattle.stream_tasks.specs.Tasks.{IsDue, IsTask, IsOwnTaskAt, IsTaskChild, IsWhole}
 use Rattle.stream_tasks.specs.declared.child.Child.{Child}

@@ -37,7 +37,7 @@ use Rattle.graph_runs.specs.declared.owed.Owed.{Owed}
 use Rattle.graph_runs.specs.declared.owed.Owed.TheVariants.{Nothing, Exchange}
 use Rattle.stream_tasks.specs.Holds.{HoldGoesOn, MemberHasSignalled, MemberHasWaited, signal_event, wait_event}
 use Rattle.stream_tasks.specs.Tasks.{IsOn, IsOwnTaskAt, IsWhole, IsTask, OwesNothing, owed_by, place_of_state}
-use Rattle.stream_tasks.specs.Inside.{MayStep}
+use Rattle.stream_tasks.specs.Children.{MayStep}
 use Rattle.stream_tasks.specs.declared.hold.Hold.{Hold}
 use Rattle.stream_tasks.specs.declared.hold.Hold.TheVariants.{On}
 use Rattle.stream_tasks.specs.declared.task_state.TaskState.{TaskState}

@@ -4,7 +4,7 @@ pub mod EndsInside
 pub mod Founders
 pub mod Gatherings
 pub mod Holds
-pub mod Inside
+pub mod Children
 pub mod Joinings
 pub mod Openings
 pub mod Registering

@@ -3,7 +3,7 @@ ghost use Rattle.std.specs.Prelude.{◌≡◌, ◌<◌, ◌≤◌, length, IfOk}
 ghost use Rattle.graph_runs.specs.Places.{MayMake, IsMost};
 ghost use Rattle.stream_tasks.specs.Tasks.{IsWhole, SignalsBlocks, sends_room};
 ghost use Rattle.graph_runs.specs.NextBlocks.{until_allows};
-ghost use Rattle.stream_tasks.specs.Inside.{ChildrenAllow, MayStep};
+ghost use Rattle.stream_tasks.specs.Children.{ChildrenAllow, MayStep};
 
 use crate::child::Child;
 use crate::gate::Gate;

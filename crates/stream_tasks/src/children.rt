@@ -3,7 +3,7 @@ ghost use Rattle.std.specs.Prelude.{◌≡◌, ◌<◌, ◌≤◌, ℕ, length, 
 ghost use Rattle.stream_eval.specs.stream_lists.Jobs.{Job as JobValue};
 ghost use Rattle.stream_members.specs.Members.{Spot};
 ghost use Rattle.graph_runs.specs.Nexts.{registrations_at};
-ghost use Rattle.stream_tasks.specs.Inside.{IsPlaceOn, HasChildRoom, HasKept, IsNextOn, IsNextNow};
+ghost use Rattle.stream_tasks.specs.Children.{IsPlaceOn, HasChildRoom, HasKept, IsNextOn, IsNextNow};
 ghost use Rattle.stream_tasks.specs.Registering.{IsRegistering, IsWith};
 ghost use Rattle.stream_tasks.specs.Tasks.{HasAllNow, HasNoneDue, IsDue, IsMissing, IsTask, IsWhole};
 

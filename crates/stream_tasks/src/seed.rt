@@ -3,7 +3,7 @@ ghost use Rattle.std.specs.Prelude.{◌≡◌, ◌+◌, ◌<◌, ℕ, length, If
 ghost use Rattle.stream_members.specs.Members.{Spot};
 ghost use Rattle.stream_tasks.specs.Openings.{IsRootMember};
 ghost use Rattle.stream_tasks.specs.Seeds.{seed_state, IsSeed, HasRegistrationRoom, HasReceivedFirst, AreChildrenBelow};
-ghost use Rattle.stream_tasks.specs.Inside.{TellsChild};
+ghost use Rattle.stream_tasks.specs.Children.{TellsChild};
 ghost use Rattle.stream_eval.specs.stream_lists.Jobs.{Job as JobValue};
 
 use crate::blocks::{own_steps, places_for};

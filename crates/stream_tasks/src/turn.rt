@@ -14,7 +14,7 @@ ghost use Rattle.graph_runs.specs.Steps.{HasFilter};
 ghost use Rattle.graph_runs.specs.TaskPlaces.{outputs_of_block};
 ghost use Rattle.stream_tasks.specs.Holds.{HoldGoesOn, WaitGave, IsAtMost};
 ghost use Rattle.stream_tasks.specs.Tasks.{HasAllNow, HasNoneDue, IsTask, IsWhole, KeepsTask, OwesNothing};
-ghost use Rattle.stream_tasks.specs.Inside.{HasTakenFirst, MayStep};
+ghost use Rattle.stream_tasks.specs.Children.{HasTakenFirst, MayStep};
 
 use crate::gate::Gate;
 use crate::held::Held;

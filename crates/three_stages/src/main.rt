@@ -6,7 +6,7 @@
 ghost use Rattle.std.specs.Prelude.{◌≡◌, None, IfSome};
 ghost use denote.Param.Send.{IsSync};
 ghost use Rattle.phase_received.specs.phase_shared.Regs.{phaser_lock, phaser_limits};
-ghost use Rattle.three_stages.specs.Inside.{GotWhole};
+ghost use Rattle.three_stages.specs.LastThread.{GotWhole};
 
 use phase_received::phase_accum::{Outcome, Sum};
 use phase_received::phase_base::{Mode, Spec};

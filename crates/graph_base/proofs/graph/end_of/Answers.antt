@@ -1,6 +1,6 @@
 use Rattle.std.proofs.Common.{◌≡◌, ◌∙◌, ap, sym, ◌<◌, ◌-◌, length, get_or, arith}
 use Rattle.std.proofs.lemmas.Grind.{get_or_default_zero}
-use Rattle.graph_base.specs.Inside.{task_of}
+use Rattle.graph_base.specs.GraphFields.{task_of}
 use Rattle.graph_base.specs.Registrations.{as_input, as_output}
 use Rattle.graph_base.proofs.Registered.{end-input, end-output}
 use Rattle.graph_base.proofs.graph.end_of.Goals as goal

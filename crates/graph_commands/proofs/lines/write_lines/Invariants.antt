@@ -2,7 +2,7 @@ use Rattle.std.proofs.Common.{◌≡◌, [], map, take}
 use Rattle.graph_show.specs.watched_io.Watched.{has_failed_of, inner_of}
 use Rattle.stream_eval.specs.Results.{sink_output}
 use Rattle.graph_commands.specs.OutputTexts.{text_of}
-use Rattle.graph_commands.specs.Inside.{PutsBytes}
+use Rattle.graph_commands.specs.Puts.{PutsBytes}
 use Rattle.graph_commands.proofs.lines.write_lines.Given as goal
 
 -- the sinks before this one were put

@@ -7,7 +7,7 @@ use Rattle.graph_show.specs.phase_accum.Sends.{AreSends}
 use Rattle.graph_show.specs.graph_base.Graphs.{Task, no_task, is_source, source_number, task_at}
 use Rattle.graph_show.specs.graph_lang.Samples.{AreSamplesOf}
 use Rattle.graph_show.specs.graph_lang.declared.sample.TheConstants.{TEXT_MAX}
-use Rattle.stream_eval.specs.stream_lists.Inside.{items_of}
+use Rattle.stream_eval.specs.stream_lists.JobFields.{items_of}
 use Rattle.graph_commands.specs.FileJobs.{AreFirstSamples, Explains, IsReached, Known, file_of}
 use Rattle.graph_commands.proofs.Counted.{items_of-push, known-same, length-items_of, samples-push, source-within}
 use Rattle.graph_commands.proofs.sources.read_sources.Goals as goal

@@ -3,7 +3,7 @@ use Rattle.std.specs.List.{All}
 use Rattle.graph_show.specs.phase_accum.Sends.{AreSends}
 use Rattle.graph_show.specs.graph_base.Graphs.{source_number}
 use Rattle.graph_show.specs.graph_lang.declared.sample.TheConstants.{TEXT_MAX}
-use Rattle.stream_eval.specs.stream_lists.Inside.{items_of}
+use Rattle.stream_eval.specs.stream_lists.JobFields.{items_of}
 use Rattle.graph_commands.specs.FileJobs.{AreFirstSamples}
 use Rattle.graph_commands.proofs.sources.read_sources.Given as goal
 

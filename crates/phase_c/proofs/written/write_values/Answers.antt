@@ -1,7 +1,7 @@
 use Rattle.std.proofs.Common.{◌+◌, ◌++◌, length, take, drop, ap, sym, ◌∙◌, arith}
 use Rattle.std.specs.List.{flat_map}
 use Rattle.std.proofs.lemmas.List.{length-append}
-use Rattle.phase_c.specs.Inside.{count_in, items_in}
+use Rattle.phase_c.specs.SinkValues.{count_in, items_in}
 use Rattle.phase_c.proofs.Writing.{room-more, values-more, written-more}
 use Rattle.phase_c.proofs.written.write_values.Goals as goal
 

@@ -1,6 +1,6 @@
 use Rattle.std.proofs.Common.{◌≡◌, ◌++◌, length, take, drop}
 use Rattle.std.specs.List.{flat_map}
-use Rattle.phase_c.specs.Inside.{items_in}
+use Rattle.phase_c.specs.SinkValues.{items_in}
 use Rattle.phase_c.proofs.written.write_values.Given as goal
 
 -- the values of the sinks before this one were written

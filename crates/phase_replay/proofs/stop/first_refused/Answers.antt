@@ -1,7 +1,7 @@
 use Rattle.std.proofs.Common.{ℕ, List, ◌-◌, ◌∙◌, drop, take, length, ap, sym, subst, arith}
 use Rattle.std.proofs.Common.{length-drop}
 use Rattle.std.proofs.lemmas.List.{take_rest}
-use Rattle.phase_replay.specs.Inside.{IsFirstLine, begins_as_refusal}
+use Rattle.phase_replay.specs.ScriptReading.{IsFirstLine, begins_as_refusal}
 use Rattle.phase_replay.proofs.Stopping.{begins-refused, searches-next, searches-start}
 use Rattle.phase_replay.proofs.Stopping.{searches-stop}
 use Rattle.phase_replay.proofs.stop.first_refused.Goals as goal

@@ -4,8 +4,8 @@ use Rattle.std.proofs.lemmas.List.Elements.{All-push}
 use Rattle.stream_lists.specs.phase_accum.Sends.{AreSends}
 use Rattle.stream_lists.specs.graph_base.Graphs.{Graph}
 use Rattle.stream_lists.specs.Lists.{contribution_at}
-use Rattle.stream_lists.specs.Inside.{items_of}
-use Rattle.stream_eval.specs.Inside.{member_of, member_option}
+use Rattle.stream_lists.specs.JobFields.{items_of}
+use Rattle.stream_eval.specs.Composing.{member_of, member_option}
 use Rattle.stream_lists.specs.Ranges.{output_fault_of}
 use Rattle.stream_eval.specs.declared.fault.EvalFault.TheVariants as fault
 use Rattle.stream_lists.proofs.Firsts.{first-pass, first-here, filter_map-skip, filter_map-take}

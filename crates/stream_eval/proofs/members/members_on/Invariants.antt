@@ -3,9 +3,9 @@ use Rattle.std.specs.List.{range_with_len, All, filter_map}
 use Rattle.stream_lists.specs.phase_accum.Sends.{AreSends}
 use Rattle.stream_lists.specs.Lists.{contribution_at}
 use Rattle.stream_lists.specs.Ranges.{first_some, output_fault_of}
-use Rattle.stream_lists.specs.Inside.{items_of}
+use Rattle.stream_lists.specs.JobFields.{items_of}
 use Rattle.stream_lists.specs.Spans.{schedule_of}
-use Rattle.stream_eval.specs.Inside.{member_of}
+use Rattle.stream_eval.specs.Composing.{member_of}
 use Rattle.stream_eval.proofs.members.members_on.Given as goal
 
 -- the members among the tasks before this one, whose values are in range

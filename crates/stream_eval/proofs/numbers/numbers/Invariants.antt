@@ -4,7 +4,7 @@ use Rattle.stream_lists.specs.phase_accum.Sends.{AreSends}
 use Rattle.stream_lists.specs.Lists.{Contribution, number_in}
 use Rattle.stream_lists.specs.Ranges.{is_fault, first_fault}
 use Rattle.stream_lists.specs.Spans.{schedule_of}
-use Rattle.stream_eval.specs.Inside.{HasParts}
+use Rattle.stream_eval.specs.Composing.{HasParts}
 use Rattle.stream_eval.proofs.numbers.numbers.Given as goal
 
 -- the numbers of the phases before this one, none of which is a fault

@@ -4,7 +4,7 @@ use Rattle.std.specs.Prelude.{IfOk}
 use Rattle.stream_lists.specs.Lists.{number_in}
 use Rattle.stream_lists.specs.Ranges.{first_fault}
 use Rattle.stream_lists.specs.Spans.{schedule_of}
-use Rattle.stream_eval.specs.Inside.{member_of, HasParts}
+use Rattle.stream_eval.specs.Composing.{member_of, HasParts}
 use Rattle.stream_eval.proofs.numbers.reduced.Goals as goal
 
 -- the parts are those of the members, one for each phase

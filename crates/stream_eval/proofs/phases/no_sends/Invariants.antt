@@ -1,5 +1,5 @@
 use Rattle.std.proofs.Common.{◌≡◌, [], length}
-use Rattle.stream_eval.specs.Inside.{HasParts}
+use Rattle.stream_eval.specs.Composing.{HasParts}
 use Rattle.stream_eval.proofs.phases.no_sends.Given as goal
 
 abbrev pub invariant-loop-phase : goal.invariant-loop-phase

@@ -1,5 +1,5 @@
 use Rattle.std.proofs.Common.{◌≡◌, length, take, map}
-use Rattle.stream_eval.specs.Inside.{HasParts, member_of}
+use Rattle.stream_eval.specs.Composing.{HasParts, member_of}
 use Rattle.stream_eval.proofs.phases.parts_of.Given as goal
 
 -- the members before this one are added

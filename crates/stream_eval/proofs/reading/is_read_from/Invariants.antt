@@ -1,6 +1,6 @@
 use Rattle.std.proofs.Common.{◌≡◌, ◌-◌, length}
 use Rattle.std.specs.List.{range_with_len, list_any}
-use Rattle.stream_eval.specs.Inside.{reads_from}
+use Rattle.stream_eval.specs.Composing.{reads_from}
 use Rattle.stream_eval.proofs.reading.is_read_from.Given as goal
 
 -- none of the tasks before this one reads it

@@ -1,6 +1,6 @@
 use Rattle.std.proofs.Common.{◌≡◌, ◌-◌, length}
 use Rattle.std.specs.List.{range_with_len, list_any}
-use Rattle.stream_eval.specs.Inside.{signals_on}
+use Rattle.stream_eval.specs.Composing.{signals_on}
 use Rattle.stream_eval.proofs.reading.signals_from.Given as goal
 
 -- it signals none of the phasers before this one

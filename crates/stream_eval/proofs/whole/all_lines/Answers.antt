@@ -5,7 +5,7 @@ use Rattle.std.specs.List.{range_with_len, filter}
 use Rattle.stream_lists.specs.graph_base.Graphs.{is_sink, task_at}
 use Rattle.stream_lists.specs.Lists.{sink_over, is_sink_at, start_in}
 use Rattle.stream_eval.specs.Results.{sink_values}
-use Rattle.stream_lists.specs.Inside.{items_of}
+use Rattle.stream_lists.specs.JobFields.{items_of}
 use Rattle.stream_lists.proofs.Firsts.{filter-skip, filter-take}
 use Rattle.stream_lists.specs.Spans.{schedule_of}
 use Rattle.stream_eval.proofs.whole.all_lines.Goals as goal

@@ -2,7 +2,7 @@ use Rattle.std.proofs.Common.{◌≡◌, map}
 use Rattle.std.specs.List.{All, range_with_len, filter}
 use Rattle.stream_lists.specs.Lists.{is_sink_at, sink_over, start_in}
 use Rattle.stream_eval.specs.Results.{sink_values}
-use Rattle.stream_lists.specs.Inside.{items_of}
+use Rattle.stream_lists.specs.JobFields.{items_of}
 use Rattle.stream_lists.specs.Spans.{schedule_of}
 use Rattle.stream_eval.proofs.whole.all_lines.Given as goal
 

@@ -1,7 +1,7 @@
 use Rattle.std.proofs.Common.{rules, ◌≡◌, [], Err, length, map, get_or, ap, ◌∙◌}
 use Rattle.std.proofs.lemmas.Result.{IfOk-weaker}
 use Rattle.stream_lists.specs.Lists.{lines_of, numbers_of, sink_over, sinks_of}
-use Rattle.stream_lists.specs.Inside.{items_of}
+use Rattle.stream_lists.specs.JobFields.{items_of}
 use Rattle.stream_lists.specs.Ranges.{Fits}
 use Rattle.stream_lists.specs.Spans.{schedule_of}
 use Rattle.stream_eval.specs.Results.{sink_values}

@@ -1,7 +1,7 @@
 use Rattle.std.proofs.Common.{arith, ◌≡◌, map, Some, None, Err, ap, sym, ◌∙◌}
 use Rattle.std.proofs.lemmas.Result.{IfOk-weaker}
-use Rattle.stream_lists.specs.Inside.{items_of}
-use Rattle.stream_eval.specs.Inside.{member_of}
+use Rattle.stream_lists.specs.JobFields.{items_of}
+use Rattle.stream_eval.specs.Composing.{member_of}
 use Rattle.stream_eval.specs.declared.fault.EvalFault.TheVariants as fault
 use Rattle.stream_eval.proofs.Alone.{numbers-alone, fault-alone}
 use Rattle.stream_eval.proofs.Composed.{fault-member, fault-phase, list-over}

@@ -1,7 +1,7 @@
 use Rattle.std.proofs.Common.{arith, ◌≡◌, ◌<◌, ◌+◌, ◌++◌, ◌∷◌, [], length, Err, ap, sym, ◌∙◌, get_or}
 use Rattle.std.proofs.lemmas.List.{length_push, length-map, map_push}
 use Rattle.stream_lists.specs.graph_base.Graphs.{Graph}
-use Rattle.stream_lists.specs.Inside.{items_of}
+use Rattle.stream_lists.specs.JobFields.{items_of}
 use Rattle.stream_lists.specs.Lists.{numbers_up_to}
 use Rattle.stream_lists.specs.Ranges.{fault_on}
 use Rattle.stream_eval.specs.declared.fault.EvalFault.TheVariants as fault
@@ -9,7 +9,7 @@ use Rattle.stream_lists.proofs.Firsts.{first-pass, first-here}
 use Rattle.stream_lists.specs.Spans.{schedule_of}
 use Rattle.stream_eval.proofs.Agreeing.{kept-agree, kept-next, fault_over-same}
 use Rattle.stream_eval.proofs.Dropped.{written-back}
-use Rattle.stream_eval.specs.Inside.{list_kept}
+use Rattle.stream_eval.specs.Composing.{list_kept}
 use Rattle.stream_eval.proofs.whole.phaser_lists.Goals as goal
 
 -- the first fault is this phaser's

@@ -3,9 +3,9 @@ use Rattle.std.specs.List.{range_with_len, All}
 use Rattle.stream_lists.specs.phase_accum.Sends.{AreSends}
 use Rattle.stream_lists.specs.Lists.{numbers_up_to}
 use Rattle.stream_lists.specs.Ranges.{first_some, fault_on}
-use Rattle.stream_lists.specs.Inside.{items_of}
+use Rattle.stream_lists.specs.JobFields.{items_of}
 use Rattle.stream_lists.specs.Spans.{schedule_of}
-use Rattle.stream_eval.specs.Inside.{list_kept}
+use Rattle.stream_eval.specs.Composing.{list_kept}
 use Rattle.stream_eval.proofs.whole.phaser_lists.Given as goal
 
 -- the lists of the phasers before this one that are still read, whose values are in range

@@ -1,6 +1,6 @@
 use Rattle.std.proofs.Common.{◌+◌}
 use Rattle.stream_filters.specs.Filter.{outputs}
-use Rattle.stream_filters.specs.Inside.{MadeSoFar}
+use Rattle.stream_filters.specs.FilterFields.{MadeSoFar}
 use Rattle.stream_filters.proofs.WholeLists.{IsNarrow-shown, block-made, OnOk-extended}
 use Rattle.stream_filters.proofs.whole_list.add_block.Goals as goal
 

@@ -1,5 +1,5 @@
 use Rattle.stream_filters.specs.Filter.{outputs}
-use Rattle.stream_filters.specs.Inside.{MadeSoFar}
+use Rattle.stream_filters.specs.FilterFields.{MadeSoFar}
 use Rattle.stream_filters.proofs.whole_list.add_each.Given as goal
 
 -- the outputs at the samples before this one

@@ -5,7 +5,7 @@ use Rattle.std.proofs.lemmas.List.{get_or-replicate}
 use Rattle.phase_any.specs.phase_accum.Sends.{AreSends}
 use Rattle.graph_lang.specs.graph_base.Graphs.{Graph, source_number, sources_of, task_at}
 use Rattle.graph_lang.specs.graph_base.declared.line.Kind.TheVariants.{Source}
-use Rattle.stream_eval.specs.stream_lists.Inside.{given}
+use Rattle.stream_eval.specs.stream_lists.JobFields.{given}
 use Rattle.stream_eval.specs.stream_lists.Jobs.{Job, count_at, counted, with_samples}
 use Rattle.stream_eval.specs.stream_lists.Meetings.{meeting_line}
 use Rattle.stream_eval.specs.stream_lists.declared.sample_counts.TheConstants.{COUNT_MAX}

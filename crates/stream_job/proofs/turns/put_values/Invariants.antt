@@ -2,7 +2,7 @@
 use Rattle.std.proofs.Common.{◌≡◌, map, take, drop, vec_capacity}
 use Rattle.std.specs.Prelude.{Ok}
 use Rattle.std.specs.List.{position_from}
-use Rattle.stream_job.specs.Inside.{is_value_out}
+use Rattle.stream_job.specs.Stepping.{is_value_out}
 use Rattle.stream_job.proofs.turns.put_values.Given as goal
 
 abbrev pub invariant-loop-place : goal.invariant-loop-place

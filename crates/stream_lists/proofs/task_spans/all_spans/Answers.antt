@@ -1,7 +1,7 @@
 use Rattle.std.proofs.Common.{◌+◌, ◌++◌, ◌∷◌, [], ap, sym, ◌∙◌}
 use Rattle.std.proofs.lemmas.List.{length_push}
 use Rattle.std.proofs.lemmas.List.Elements.{All-push}
-use Rattle.stream_lists.specs.Inside.{IsShort}
+use Rattle.stream_lists.specs.JobFields.{IsShort}
 use Rattle.stream_lists.specs.Jobs.{counted}
 use Rattle.stream_lists.specs.Spans.{span_of, spans_up_to}
 use Rattle.stream_lists.proofs.Firsts.{fold-range_more}

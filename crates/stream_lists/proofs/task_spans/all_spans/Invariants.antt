@@ -1,6 +1,6 @@
 use Rattle.std.proofs.Common.{◌≡◌, length}
 use Rattle.std.specs.List.{All}
-use Rattle.stream_lists.specs.Inside.{IsShort}
+use Rattle.stream_lists.specs.JobFields.{IsShort}
 use Rattle.stream_lists.specs.Jobs.{counted}
 use Rattle.stream_lists.specs.Spans.{spans_up_to}
 use Rattle.stream_lists.proofs.task_spans.all_spans.Given as goal

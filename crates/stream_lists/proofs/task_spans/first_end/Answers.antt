@@ -2,7 +2,7 @@ use Rattle.std.proofs.Common.{arith, ◌≡◌, ◌-◌, length, map, get_or, ap
 use Rattle.std.specs.Prelude.{min}
 use Rattle.std.specs.List.{fold, range_with_len}
 use Rattle.std.proofs.lemmas.List.{length-map}
-use Rattle.graph_base.specs.Inside.{task_of}
+use Rattle.graph_base.specs.GraphFields.{task_of}
 use Rattle.stream_lists.specs.Spans.{run_out, values_from}
 use Rattle.stream_lists.proofs.Firsts.{fold-map_more}
 use Rattle.stream_lists.proofs.task_spans.first_end.Goals as goal

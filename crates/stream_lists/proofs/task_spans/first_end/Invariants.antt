@@ -1,7 +1,7 @@
 use Rattle.std.proofs.Common.{◌≡◌, map}
 use Rattle.std.specs.Prelude.{min}
 use Rattle.std.specs.List.{fold, range_with_len}
-use Rattle.graph_base.specs.Inside.{task_of}
+use Rattle.graph_base.specs.GraphFields.{task_of}
 use Rattle.stream_lists.specs.Spans.{run_out, values_from}
 use Rattle.stream_lists.proofs.task_spans.first_end.Given as goal
 

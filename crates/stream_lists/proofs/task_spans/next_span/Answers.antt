@@ -1,5 +1,5 @@
 use Rattle.std.proofs.Common.{◌≡◌, true, rules, subst, sym}
-use Rattle.stream_lists.specs.Inside.{IsShort}
+use Rattle.stream_lists.specs.JobFields.{IsShort}
 use Rattle.stream_lists.specs.Jobs.{counted}
 use Rattle.stream_lists.specs.Spans.{span_of}
 use Rattle.stream_lists.specs.declared.span.Span.{Span}

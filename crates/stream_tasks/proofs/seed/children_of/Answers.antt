@@ -2,7 +2,7 @@
 use Rattle.std.proofs.Common.{◌≡◌, ◌<◌, length, sym, ap, refl, ◌∙◌, subst, ◌+◌, Option, Some, None}
 use Rattle.graph_runs.specs.graph_base.Graphs.{Graph}
 use Rattle.stream_tasks.specs.Seeds.{AreChildrenBelow}
-use Rattle.stream_tasks.specs.Inside.{TellsChild}
+use Rattle.stream_tasks.specs.Children.{TellsChild}
 use Rattle.stream_tasks.proofs.Seeding.{one_child, other_task}
 use Rattle.stream_tasks.proofs.seed.children_of.Goals as goal
 use Rattle.stream_tasks.proofs.seed.children_of.Goals.{in-Some+in_ok-push, in_default}

@@ -9,7 +9,7 @@ use Rattle.graph_runs.specs.TaskPlaces.{owed_after_wait}
 use Rattle.graph_runs.specs.declared.owed.Owed.{Owed}
 use Rattle.graph_runs.specs.declared.owed.Owed.TheVariants.{Nothing}
 use Rattle.stream_eval.specs.stream_lists.Lists.{number}
-use Rattle.stream_tasks.specs.Inside.{HasTakenFirst}
+use Rattle.stream_tasks.specs.Children.{HasTakenFirst}
 use Rattle.stream_tasks.specs.Tasks.{owed_by}
 use Rattle.stream_tasks.proofs.Taking.{filter_owes, others_owe}
 use Rattle.stream_tasks.proofs.turn.owed_after.Goals as goal

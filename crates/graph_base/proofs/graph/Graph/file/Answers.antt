@@ -1,6 +1,6 @@
 use Rattle.std.proofs.Common.{◌<◌, sym, subst, arith}
 use Rattle.graph_base.specs.Graphs.{Graph, sources_of}
-use Rattle.graph_base.specs.Inside.{graph_view}
+use Rattle.graph_base.specs.GraphFields.{graph_view}
 use Rattle.graph_base.proofs.Files.{file-is, file-few}
 use Rattle.graph_base.proofs.graph.Graph.file.Goals as goal
 

@@ -1,5 +1,5 @@
 use Rattle.std.proofs.Common.{ap, length, arith}
-use Rattle.graph_base.specs.Inside.{task_of}
+use Rattle.graph_base.specs.GraphFields.{task_of}
 use Rattle.graph_base.specs.Registrations.{registrations_of}
 use Rattle.graph_base.proofs.Registered.{length-registrations, few-registrations}
 use Rattle.graph_base.proofs.graph.Graph.registrations.Goals as goal

@@ -2,7 +2,7 @@ use Rattle.std.proofs.Common.{arith, sym, subst, ◌<◌, length, map}
 use Rattle.std.proofs.lemmas.List.{length-map}
 use Rattle.graph_base.specs.Graphs.{Task, Graph}
 use Rattle.graph_base.specs.TaskLines.{IsTaskLine}
-use Rattle.graph_base.specs.Inside.{task_of, graph_view}
+use Rattle.graph_base.specs.GraphFields.{task_of, graph_view}
 use Rattle.graph_base.proofs.Readers.{task_of-get_or}
 use Rattle.graph_base.proofs.graph.Graph.task.Goals as goal
 

@@ -2,7 +2,7 @@ use Rattle.std.proofs.Common.{◌≡◌, ◌∙◌, sym, ap, Ok, is_some, subst,
 use Rattle.graph_text.specs.Plain.{plain}
 use Rattle.graph_text.specs.Decls.{task}
 use Rattle.graph_text.specs.Lines.{body_of, ends_of}
-use Rattle.graph_base.specs.Inside.{task_of}
+use Rattle.graph_base.specs.GraphFields.{task_of}
 use Rattle.graph_base.specs.Names.{place_of}
 use Rattle.graph_lang.specs.WordValues.{task_line}
 use Rattle.graph_lang.specs.Faults.{is_past_limit, are_distinct}

@@ -4,10 +4,10 @@ use Rattle.std.proofs.lemmas.Option.{cond_some}
 use Rattle.graph_text.specs.declared.version.Version.TheVariants.{Two}
 use Rattle.graph_text.specs.Lines.{body_of, ends_of}
 use Rattle.graph_base.specs.Graphs.{Graph}
-use Rattle.graph_base.specs.Inside.{task_of}
+use Rattle.graph_base.specs.GraphFields.{task_of}
 use Rattle.graph_base.specs.declared.limits.TheConstants.{TASKS_MAX}
 use Rattle.graph_lang.specs.Faults.{is_body_within, are_ends_within}
-use Rattle.graph_lang.specs.Inside.{steps_in}
+use Rattle.graph_lang.specs.Reading.{steps_in}
 use Rattle.graph_lang.proofs.Ends.{ends-by, ends-block}
 use Rattle.graph_lang.proofs.Sound.{none-if, no-ends, room-none, room-some}
 use Rattle.graph_lang.proofs.draft.Draft.numbers.Goals as goal

@@ -2,7 +2,7 @@ use Rattle.std.proofs.Common.{◌≡◌, ◌∙◌, sym, ap, false}
 use Rattle.std.proofs.lemmas.Result.{err_from_is_err_and}
 use Rattle.graph_text.specs.Plain.{plain}
 use Rattle.graph_text.specs.Texts.{is_ignored, begins_comment}
-use Rattle.graph_lang.specs.Inside.{version_in}
+use Rattle.graph_lang.specs.Reading.{version_in}
 use Rattle.graph_lang.proofs.ReadLines.{known-version}
 use Rattle.graph_lang.proofs.draft.Draft.read_line.Goals as goal
 

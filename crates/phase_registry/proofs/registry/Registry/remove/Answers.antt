@@ -5,7 +5,7 @@ use Rattle.phase_base.specs.Modes.{mode_signals, mode_waits}
 use Rattle.phase_base.specs.declared.member.Member.{Member}
 use Rattle.phase_base.specs.Members.{Members, without}
 use Rattle.phase_registry.specs.Rosters.{Roster, roster, AreRising, IsRoster}
-use Rattle.phase_registry.specs.Inside.{IsAt}
+use Rattle.phase_registry.specs.NumberPlaces.{IsAt}
 use Rattle.phase_registry.proofs.Places.{entry_of-at, entry_of-gap}
 use Rattle.phase_registry.proofs.Weights.{without-absent}
 use Rattle.phase_registry.proofs.Kept.{IsCounted-at, IsRoster-removed, remove-place}

@@ -5,7 +5,7 @@ use Rattle.phase_base.specs.declared.entry.Entry.{Entry}
 use Rattle.phase_base.specs.declared.member.Member.{Member}
 use Rattle.phase_base.specs.Members.{member, entry_of, changed_at, signalled}
 use Rattle.phase_registry.specs.Rosters.{Roster, roster, AreRising, IsRoster}
-use Rattle.phase_registry.specs.Inside.{IsAt}
+use Rattle.phase_registry.specs.NumberPlaces.{IsAt}
 use Rattle.phase_registry.proofs.Places.{not_member, entry_of-at, entry_of-gap, changed_at-place}
 use Rattle.phase_registry.proofs.Kept.{IsAt-number, IsRoster-changed, none_before}
 use Rattle.phase_registry.proofs.registry.Registry.signalled.Goals as goal

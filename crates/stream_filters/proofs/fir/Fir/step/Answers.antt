@@ -1,7 +1,7 @@
 use Rattle.std.proofs.Common.{ap, ◌∙◌}
 use Rattle.std.proofs.Common.{w64}
 use Rattle.std.proofs.lemmas.Int.{to_z-of_z}
-use Rattle.stream_filters.specs.Inside.{answer_at}
+use Rattle.stream_filters.specs.FilterFields.{answer_at}
 use Rattle.stream_filters.proofs.Windows.{answer_at-push}
 use Rattle.stream_filters.proofs.fir.Fir.step.Goals as goal
 

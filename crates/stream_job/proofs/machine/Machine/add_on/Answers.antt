@@ -8,7 +8,7 @@ use Rattle.phase_any.specs.phase_history.Histories.{done_of}
 use Rattle.phase_any.specs.phase_history.declared.event.Event.TheVariants.{Registered, RegisteredNow}
 use Rattle.graph_runs.specs.Turned.{with_at}
 use Rattle.stream_eval.specs.stream_lists.Jobs.{with_samples}
-use Rattle.stream_job.specs.Inside.{LineHasBegun}
+use Rattle.stream_job.specs.Stepping.{LineHasBegun}
 use Rattle.stream_job.specs.Machines.{HasCores}
 use Rattle.stream_job.proofs.Setting.{bare_cores, on_ok}
 use Rattle.stream_job.proofs.Begins.{now_line, lines_begin, lines_plain}

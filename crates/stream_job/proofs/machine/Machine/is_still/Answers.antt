@@ -2,7 +2,7 @@
 use Rattle.std.proofs.Common.{ℤ, List, true, cond, ap, ◌∙◌}
 use Rattle.stream_eval.specs.stream_lists.Jobs.{with_samples}
 use Rattle.graph_runs.specs.Answers.{answer_of_turn, was_blocked}
-use Rattle.stream_job.specs.Inside.{would_block}
+use Rattle.stream_job.specs.Stepping.{would_block}
 use Rattle.stream_job.specs.Machines.{MayHaveCome, next_by}
 use Rattle.stream_job.specs.Stalls.{MakesNext}
 use Rattle.stream_job.proofs.machine.Machine.is_still.Goals as goal

@@ -3,7 +3,7 @@ use Rattle.std.proofs.Common.{◌≢◌, ℤ, List, ap, ◌∙◌, sym, subst}
 use Rattle.stream_eval.specs.stream_lists.Jobs.{with_samples}
 use Rattle.graph_runs.proofs.Signalling.{live-is}
 use Rattle.graph_runs.specs.Nexts.{is_not_live}
-use Rattle.stream_job.specs.Inside.{IsNextIn}
+use Rattle.stream_job.specs.Stepping.{IsNextIn}
 use Rattle.stream_job.specs.Machines.{MayHaveCome, next_by}
 use Rattle.stream_job.specs.Turning.{IsRegistration}
 use Rattle.stream_job.specs.declared.step.Step.{Step}

@@ -1,7 +1,7 @@
 -- By the kind of the step.
 use Rattle.std.proofs.Common.{ap, subst}
 use Rattle.stream_eval.specs.stream_lists.Jobs.{with_samples}
-use Rattle.stream_job.specs.Inside.{IsNextIn}
+use Rattle.stream_job.specs.Stepping.{IsNextIn}
 use Rattle.stream_job.specs.Machines.{next_by}
 use Rattle.stream_job.proofs.Setting.{if_ok, on_err}
 use Rattle.stream_job.proofs.machine.Machine.make_step.Goals as goal

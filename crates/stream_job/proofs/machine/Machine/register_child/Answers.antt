@@ -8,7 +8,7 @@ use Rattle.graph_runs.specs.Nexts.{registrations_at, registers}
 use Rattle.graph_runs.specs.TaskPlaces.{registration_at}
 use Rattle.phase_any.specs.phase_history.Histories.{greatest_used}
 use Rattle.stream_eval.specs.stream_lists.Jobs.{with_samples}
-use Rattle.stream_job.specs.Inside.{IsNextIn}
+use Rattle.stream_job.specs.Stepping.{IsNextIn}
 use Rattle.stream_job.specs.declared.task_state.TaskState.{TaskState}
 use Rattle.stream_job.proofs.Lively.{live_next}
 use Rattle.stream_job.proofs.Setting.{read_same, set_read, bare_cores, full_cores}

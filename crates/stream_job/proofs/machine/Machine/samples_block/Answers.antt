@@ -5,7 +5,7 @@ use Rattle.graph_runs.specs.Answers.{output_at}
 use Rattle.graph_runs.specs.Moments.{Moment, limits_at}
 use Rattle.graph_runs.specs.NextBlocks.{block_of, block_up_to, sample_block_of}
 use Rattle.graph_runs.specs.Nexts.{number_on}
-use Rattle.stream_job.specs.Inside.{blocks_signal}
+use Rattle.stream_job.specs.Stepping.{blocks_signal}
 use Rattle.stream_job.proofs.Stalling.{sample_blocks, sample_block_is, samples_some}
 use Rattle.stream_job.proofs.machine.Machine.samples_block.Goals.{After-block}
 use Rattle.stream_job.proofs.machine.Machine.samples_block.Goals as goal

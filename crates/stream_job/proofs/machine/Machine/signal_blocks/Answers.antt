@@ -6,7 +6,7 @@ use Rattle.graph_runs.specs.Moments.{limits_at}
 use Rattle.graph_runs.specs.Nexts.{number_on}
 use Rattle.graph_runs.specs.Answers.{output_at}
 use Rattle.stream_job.specs.Places.{place_in_state}
-use Rattle.stream_job.specs.Inside.{blocks_signal}
+use Rattle.stream_job.specs.Stepping.{blocks_signal}
 use Rattle.stream_job.proofs.Ending.{number_of_output}
 use Rattle.stream_job.proofs.machine.Machine.signal_blocks.Goals as goal
 

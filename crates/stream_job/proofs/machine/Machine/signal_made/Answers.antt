@@ -9,7 +9,7 @@ use Rattle.graph_runs.specs.Moments.{Moment}
 use Rattle.graph_runs.specs.Nexts.{signals}
 use Rattle.graph_runs.specs.TaskEvents.{signal}
 use Rattle.stream_eval.specs.stream_lists.Jobs.{with_samples}
-use Rattle.stream_job.specs.Inside.{is_value_out, IsNextIn}
+use Rattle.stream_job.specs.Stepping.{is_value_out, IsNextIn}
 use Rattle.stream_job.specs.Machines.{IsMachineAt}
 use Rattle.stream_job.specs.Places.{owed_in}
 use Rattle.stream_job.proofs.Lively.{state_read, state_there}

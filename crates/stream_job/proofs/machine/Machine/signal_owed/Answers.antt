@@ -6,7 +6,7 @@ use Rattle.graph_runs.specs.Moments.{Moment}
 use Rattle.graph_runs.specs.Nexts.{signals}
 use Rattle.graph_runs.specs.declared.owed.Owed.TheVariants as code
 use Rattle.stream_eval.specs.stream_lists.Jobs.{with_samples}
-use Rattle.stream_job.specs.Inside.{IsNextIn}
+use Rattle.stream_job.specs.Stepping.{IsNextIn}
 use Rattle.stream_job.specs.Machines.{IsMachineAt}
 use Rattle.stream_job.proofs.Lively.{state_read}
 use Rattle.stream_job.proofs.Signals.{MadeOver, has_made, made_over, none_items, one_no_filter, over_turn, owes_some, owes_this, some_items}

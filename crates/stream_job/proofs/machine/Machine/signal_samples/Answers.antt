@@ -8,7 +8,7 @@ use Rattle.graph_runs.specs.NextBlocks.{block_up_to}
 use Rattle.graph_runs.specs.Nexts.{samples}
 use Rattle.graph_runs.specs.TaskEvents.{sample}
 use Rattle.graph_runs.specs.TaskPlaces.{registration_of_output}
-use Rattle.stream_job.specs.Inside.{IsNextIn}
+use Rattle.stream_job.specs.Stepping.{IsNextIn}
 use Rattle.stream_job.specs.Machines.{MayHaveCome}
 use Rattle.stream_job.specs.declared.machine.Machine.{Machine}
 use Rattle.stream_job.specs.declared.task_state.TaskState.{TaskState}

@@ -1,7 +1,7 @@
 -- By the call that each kind of step makes.
 use Rattle.std.proofs.Common.{ap, ◌∙◌}
 use Rattle.stream_eval.specs.stream_lists.Jobs.{with_samples}
-use Rattle.stream_job.specs.Inside.{would_block}
+use Rattle.stream_job.specs.Stepping.{would_block}
 use Rattle.stream_job.specs.Machines.{next_by}
 use Rattle.stream_job.proofs.Stalling.{first_wait_blocks, exchange_blocks}
 use Rattle.stream_job.proofs.machine.Machine.step_blocks.Goals as goal

@@ -4,7 +4,7 @@ use Rattle.stream_eval.specs.stream_lists.Jobs.{with_samples}
 use Rattle.graph_runs.specs.Answers.{output_at}
 use Rattle.graph_runs.specs.Moments.{limits_at}
 use Rattle.graph_runs.specs.Nexts.{number_on}
-use Rattle.stream_job.specs.Inside.{blocks_signal}
+use Rattle.stream_job.specs.Stepping.{blocks_signal}
 use Rattle.stream_job.specs.Places.{owed_in}
 use Rattle.stream_job.proofs.Stepping.{signal_output}
 use Rattle.stream_job.proofs.Stalling.{value_blocks, value_moves, values_many, values_some}

@@ -5,7 +5,7 @@ use Rattle.stream_eval.specs.stream_lists.Jobs.{with_samples}
 use Rattle.graph_runs.specs.Moments.{limits_at, input_at}
 use Rattle.graph_runs.specs.Nexts.{number_on}
 use Rattle.stream_job.specs.Places.{place_in_state}
-use Rattle.stream_job.specs.Inside.{blocks_wait}
+use Rattle.stream_job.specs.Stepping.{blocks_wait}
 use Rattle.stream_job.proofs.Ending.{number_of_input}
 use Rattle.stream_job.proofs.machine.Machine.wait_blocks.Goals as goal
 

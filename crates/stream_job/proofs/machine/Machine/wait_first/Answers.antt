@@ -15,7 +15,7 @@ use Rattle.graph_runs.specs.Nexts.{waits}
 use Rattle.graph_runs.specs.Steps.{HasFilter}
 use Rattle.graph_runs.specs.Turned.{with_at}
 use Rattle.stream_eval.specs.stream_lists.Jobs.{with_samples}
-use Rattle.stream_job.specs.Inside.{with_more, HasRoomIn, IsNextIn}
+use Rattle.stream_job.specs.Stepping.{with_more, HasRoomIn, IsNextIn}
 use Rattle.stream_job.specs.Places.{StateHasTaken}
 use Rattle.stream_job.specs.SinkLines.{kept_of}
 use Rattle.stream_job.specs.Turning.{HadTurn}

@@ -3,7 +3,7 @@ use Rattle.std.proofs.Common.{◌≡◌, sym, subst}
 use Rattle.graph_lang.specs.graph_base.Graphs.{task_at}
 use Rattle.graph_runs.proofs.Stepping.{line_sizes}
 use Rattle.stream_eval.specs.stream_lists.Jobs.{with_samples}
-use Rattle.stream_job.specs.Inside.{MayStep}
+use Rattle.stream_job.specs.Stepping.{MayStep}
 use Rattle.stream_job.specs.Streams.{StreamState, is_full_by}
 use Rattle.stream_job.proofs.stream.Stream.is_full.Goals as goal
 

@@ -8,7 +8,7 @@ use Rattle.stream_eval.specs.stream_lists.Jobs.{with_samples}
 use Rattle.stream_eval.specs.stream_lists.Lists.{is_sink_at}
 use Rattle.graph_runs.specs.Moments.{Moment}
 use Rattle.graph_runs.specs.NextBlocks.{block_up_to}
-use Rattle.stream_job.specs.Inside.{HasRoomNext, MayStep}
+use Rattle.stream_job.specs.Stepping.{HasRoomNext, MayStep}
 use Rattle.stream_job.specs.Machines.{HasRoom}
 use Rattle.stream_job.specs.SinkLines.{kept_by}
 use Rattle.stream_job.specs.Streams.{IsStreamAt, StreamState, line_room}

@@ -4,7 +4,7 @@ use Rattle.stream_eval.specs.stream_lists.Jobs.{with_samples}
 use Rattle.graph_runs.specs.Answers.{after_answer, turn_by}
 use Rattle.graph_runs.specs.Moments.{Moment}
 use Rattle.stream_job.specs.Buffers.{HasPlaces, most_steps}
-use Rattle.stream_job.specs.Inside.{HasRoomNext, MayStep}
+use Rattle.stream_job.specs.Stepping.{HasRoomNext, MayStep}
 use Rattle.stream_job.specs.Machines.{MayHaveCome}
 use Rattle.stream_job.specs.Streams.{AreKept, StreamGoesOn, IsStreamAt, StreamState, ended_at, is_hungry, line_room}
 use Rattle.stream_job.specs.contracts.stream.Stream.{the_view}

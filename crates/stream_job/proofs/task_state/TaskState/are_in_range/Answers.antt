@@ -3,7 +3,7 @@ use Rattle.std.proofs.Common.{◌≡◌, ◌≢◌, ◌+◌, ◌<◌, ◌≤◌,
 use Rattle.std.specs.Prelude.{Result, Ok, Err, is_err, ℤ}
 use Rattle.graph_lang.specs.stream_filters.declared.fault.TooBigValue.{TooBigValue}
 use Rattle.graph_runs.specs.declared.owed.Owed.{Owed}
-use Rattle.stream_job.specs.Inside.{in_range, are_in_range}
+use Rattle.stream_job.specs.Stepping.{in_range, are_in_range}
 use Rattle.stream_job.specs.Places.{owed_in}
 use Rattle.stream_job.proofs.Signals.{some_items}
 use Rattle.stream_job.proofs.task_state.TaskState.are_in_range.Goals as goal

@@ -12,7 +12,7 @@ use Rattle.stream_job.proofs.Rooms.{sink_room}
 use Rattle.stream_job.proofs.Setting.{err_of}
 use Rattle.stream_job.proofs.world.World.turn.Goals.{In_ok-made}
 use Rattle.stream_job.proofs.world.World.turn.Goals as goal
-use Rattle.stream_job.specs.Inside.{HasRoomNext, MayStep}
+use Rattle.stream_job.specs.Stepping.{HasRoomNext, MayStep}
 use Rattle.graph_runs.proofs.Stepping.{line_sizes}
 use Rattle.graph_lang.specs.graph_base.Graphs.{task_at}
 

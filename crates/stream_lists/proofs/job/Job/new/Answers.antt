@@ -1,6 +1,6 @@
 use Rattle.std.proofs.Common.{rules, arith, ◌≡◌, Some, None, ap, subst, ◌∙◌}
 use Rattle.std.specs.List.{All}
-use Rattle.stream_lists.specs.Inside.{given, IsCounted}
+use Rattle.stream_lists.specs.JobFields.{given, IsCounted}
 use Rattle.stream_lists.specs.Meetings.{meeting_line}
 use Rattle.stream_lists.proofs.Given.{IsGivenBy, given-counts, meeting-given}
 use Rattle.stream_lists.proofs.job.Job.new.Goals as goal

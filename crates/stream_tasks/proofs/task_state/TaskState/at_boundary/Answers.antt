@@ -4,7 +4,7 @@ use Rattle.graph_runs.specs.graph_base.Graphs.{task_at}
 use Rattle.graph_runs.specs.Nexts.{is_cut}
 use Rattle.graph_runs.proofs.TellsNext.{ended_cut}
 use Rattle.stream_tasks.specs.Tasks.{place_of_state}
-use Rattle.stream_tasks.specs.Inside.{MayStep}
+use Rattle.stream_tasks.specs.Children.{MayStep}
 use Rattle.stream_tasks.proofs.EndingLemmas.{at_end, all_now}
 use Rattle.stream_tasks.proofs.Keeping.{owed_none}
 use Rattle.stream_tasks.proofs.task_state.TaskState.at_boundary.Goals as goal

@@ -7,7 +7,7 @@ use Rattle.stream_members.specs.Members.{Spot}
 use Rattle.graph_runs.specs.Nexts.{registrations_at}
 use Rattle.graph_runs.specs.TaskPlaces.{registration_at}
 use Rattle.stream_tasks.specs.Registering.{IsRegistering}
-use Rattle.stream_tasks.specs.Inside.{IsNextOn}
+use Rattle.stream_tasks.specs.Children.{IsNextOn}
 use Rattle.stream_tasks.specs.declared.child.Child.{Child}
 use Rattle.stream_tasks.proofs.task_state.TaskState.register.Goals as goal
 
