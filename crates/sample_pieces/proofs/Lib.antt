@@ -1,0 +1,7 @@
+mod Bads
+mod Ending
+mod Marks
+mod Reading
+mod Rows
+mod Scanned
+mod Widths
