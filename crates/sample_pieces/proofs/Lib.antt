@@ -1,4 +1,5 @@
 mod Bads
+mod Begins
 mod Ending
 mod Marks
 mod Reading

@@ -133,8 +133,11 @@ copied text values r new c to b at field first = by r.is_first refl
           scan = scan;
           first = λ f.
               let less : length new.field.items < 3 =
-              ltb-true (length new.field.items) 3 (sym now ∙ f) in
-              (ap (λ front. front ++ c ∷ []) was.0 ∙ sym field, omega (arith, less, size, same, more));
+              ltb-true (length new.field.items) 3 (sym now ∙ f) in (
+                ap (λ front. front ++ c ∷ []) was.0 ∙ sym field,
+                omega (arith, less, size, same, more),
+                was.2,
+              );
           marked = λ f.
               let most : 3 ≤ length new.field.items =
               ltb-false (length new.field.items) 3 (sym now ∙ f) in

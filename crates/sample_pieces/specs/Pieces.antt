@@ -60,7 +60,8 @@ pub record HasRead (text : List ℕ) (values : List ℤ) (reader : SampleReader)
     fields = [];
     field = reader.field.items;
   }
-  pub first : reader.is_first ≡ true → (text ≡ reader.field.items) × (length text ≤ 2)
+  pub first : reader.is_first ≡ true
+      → (text ≡ reader.field.items) × (length text ≤ 2) × (values ≡ [])
   pub marked : reader.is_first ≡ false → IsMarked text
 
 -- in each text that goes on so, record number n is the first that is not of a value

@@ -11,6 +11,6 @@ pub returns : goal.returns
 returns c = record {
   sends = tt;
   scan = rw (nothing, c.new.ensures) refl;
-  first = λ e. (sym c.new.ensures, omega arith);
+  first = λ e. (sym c.new.ensures, omega arith, refl);
   marked = λ e. let no : true ≡ false = e in absurd (cc);
 }
