@@ -1,5 +1,5 @@
--- A text of records that comes in pieces, cut anywhere: the records that are complete, and where its
--- reader stands in the next one.
+-- A text of records that comes in pieces, cut anywhere: the records that are complete, and where
+-- its reader stands in the next one.
 use Rattle.std.specs.Prelude.{ℕ, List, [], ◌∷◌, ◌++◌, if◌then◌else◌}
 use Rattle.std.specs.List.{fold}
 use Rattle.csv.specs.Machine.{step, is_end, fields_after, field_after, ends_at_end}

@@ -35,8 +35,10 @@ pub struct Taken {
 /// or between the two bytes of a line end.
 ///
 /// The records are those that `csv` reads of the whole text with its default settings and no header
-/// row, and the values those of `samples_of` of `graph_lang`. It keeps the field at hand and nothing
-/// else, so it takes no memory; and a record is bad as soon as it has 21 bytes or a second field.
+/// row, and the values those of `samples_of` of `graph_lang`. It keeps the field at hand and
+/// nothing else, so it takes no memory; and a record is bad as soon as it has 21 bytes or a second
+/// field.
+#[derive(Drop)]
 pub struct SampleReader {
     at: Where,
     field: ArrayVec<u8, 20>,
