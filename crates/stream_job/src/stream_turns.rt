@@ -121,7 +121,7 @@ impl Stream {
     /// or a sink whose line names none, as many as there is room for.
     fn own_steps(&self, t: usize) -> u64
         requires { t < length self.now.job.graph.tasks }
-        ensures may { MayStep self.now.job t result }
+        ensures may { MayStep self.now.job self.now.machine t result }
         ensures few { result ≤ most_steps self.now.job t }
     {
         let job = &self.job;
@@ -138,7 +138,22 @@ impl Stream {
             let p = input_of(job, t, 0);
             return own_steps(job.graph().phaser(p).bound, self.values_left(t));
         }
-        block
+        self.filter_steps(t)
+    }
+
+    /// How many steps the next turn of a task that is no source and no sink makes at most, where its
+    /// line names no block: of a filter, as many as its output has room for.
+    fn filter_steps(&self, t: usize) -> u64 {
+        let job = &self.job;
+        let state = &self.machine.tasks[t];
+        if state.most == 1 || !state.made.is_empty() {
+            return 1;
+        }
+        let (k, p) = output_of(job, t, 0);
+        own_steps(
+            state.most,
+            self.phases_left(t, k, p, job.graph().phaser(p).bound),
+        )
     }
 
     /// How many phases a task may signal now on phaser `p` of this bound, which it signals by its

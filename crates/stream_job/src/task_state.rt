@@ -31,6 +31,8 @@ pub struct TaskState {
     pub owed: Owed,
     /// The filter of a task that is one.
     pub filter: Option<Fir>,
+    /// How many of the values that it owes one event of it signals, at most.
+    pub most: u64,
     /// What it has made and not signalled: all that a filter owes.
     pub made: Vec<Result<i64, TooBigValue>>,
     /// How many sinks stand above the task.
