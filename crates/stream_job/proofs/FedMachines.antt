@@ -18,7 +18,7 @@ task_fed : (job : Job) (m : Moment) (more : List (List ℤ)) (t : ℕ) (state : 
     → IsTaskAt (with_samples more job) m t state
 task_fed job m more t state goes there it = record {
   stands =
-      stands_fed (task_at job.graph t).block job m more t (place_in_state state) (goes t there) it.stands;
+      stands_fed state.most job m more t (place_in_state state) (goes t there) it.stands;
   room = it.room;
   filter = it.filter;
   made_room = it.made_room;

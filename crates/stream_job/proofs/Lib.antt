@@ -4,6 +4,7 @@ pub mod LinesAfter
 pub mod LinesBegin
 pub mod Lively
 pub mod Makes
+pub mod Mosts
 pub mod OpeningPhasers
 pub mod OpeningTasks
 pub mod Awaiting

@@ -7,8 +7,10 @@ use Rattle.graph_lang.specs.graph_base.TaskLines.{IsGraph, has_blocks}
 use Rattle.stream_eval.specs.stream_lists.Jobs.{Job}
 use Rattle.graph_runs.specs.Answers.{output_at}
 use Rattle.graph_runs.specs.Moments.{input_at}
-use Rattle.graph_runs.proofs.Stepping.{line_sizes}
+use Rattle.stream_job.specs.Machines.{most_in}
+use Rattle.stream_job.specs.Places.{MaySignal}
 use Rattle.stream_job.specs.Stepping.{MayStep}
+use Rattle.stream_job.specs.declared.machine.Machine.{Machine}
 
 -- what is so of the only one of a list
 one_all : (P : ℕ → Type 0) (xs : List ℕ) → length xs ≡ 1 → P (get_or xs 0 0) → All P xs
@@ -24,15 +26,15 @@ none_all : (P : ℕ → Type 0) (xs : List ℕ) → length xs ≡ 0 → All P xs
 none_all P [] none = λ i d lt. absurd (omega arith)
 none_all P (x ∷ xs) none = absurd (omega arith)
 
-pub source_may : (job : Job) (t steps : ℕ) → IsGraph job.graph
+pub source_may : (job : Job) (machine : Machine) (t steps : ℕ)
+    → (t < length job.graph.tasks → MaySignal job t (most_in machine t)) → IsGraph job.graph
     → (task_at job.graph t).kind ≡ Source → 1 ≤ steps
-    → steps ≤ (phaser_at job.graph (output_at job t 0)).bound → MayStep job t steps
-source_may job t steps is source some few there =
+    → steps ≤ (phaser_at job.graph (output_at job t 0)).bound → MayStep job machine t steps
+source_may job machine t steps owed is source some few there =
     let task = task_at job.graph t in
     let ends : (length task.inputs ≡ 0) × (length task.outputs ≡ 1) =
     rw source at (is.tasks t there).ends in
     let outs : signalled_by task ≡ task.outputs = rw source refl in
-    let line = line_sizes job t is there in
     let fits : steps ≤ (phaser_at job.graph (get_or task.outputs 0 0)).bound =
     rw (ap (λ ps. get_or ps 0 0) outs) at few in
     record {
@@ -42,19 +44,19 @@ source_may job t steps is source some few there =
         inputs = none_all (λ p. steps ≤ (phaser_at job.graph p).bound) task.inputs ends.0;
         outputs = one_all (λ p. steps ≤ (phaser_at job.graph p).bound) task.outputs ends.1 fits;
       };
-      owed = line.owed;
+      owed = (owed there).block;
       few = λ fir. absurd (let wrong : Source ≡ Fir = sym source ∙ fir in cc);
     }
 
-pub sink_may : (job : Job) (t steps : ℕ) → IsGraph job.graph
+pub sink_may : (job : Job) (machine : Machine) (t steps : ℕ)
+    → (t < length job.graph.tasks → MaySignal job t (most_in machine t)) → IsGraph job.graph
     → (task_at job.graph t).kind ≡ Sink → 1 ≤ steps
     → steps ≤ (phaser_at job.graph (input_at (task_at job.graph t) 0)).bound
-    → MayStep job t steps
-sink_may job t steps is sink some few there =
+    → MayStep job machine t steps
+sink_may job machine t steps owed is sink some few there =
     let task = task_at job.graph t in
     let ends : (length task.inputs ≡ 1) × (length task.outputs ≡ 0) =
     rw sink at (is.tasks t there).ends in
-    let line = line_sizes job t is there in
     record {
       block = record {
         some = some;
@@ -62,6 +64,6 @@ sink_may job t steps is sink some few there =
         inputs = one_all (λ p. steps ≤ (phaser_at job.graph p).bound) task.inputs ends.0 few;
         outputs = none_all (λ p. steps ≤ (phaser_at job.graph p).bound) task.outputs ends.1;
       };
-      owed = line.owed;
+      owed = (owed there).block;
       few = λ fir. absurd (let wrong : Sink ≡ Fir = sym sink ∙ fir in cc);
     }

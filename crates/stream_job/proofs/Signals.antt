@@ -34,11 +34,11 @@ use Rattle.graph_runs.specs.Nexts as turns
 use Rattle.graph_runs.specs.Nexts.{Next, is_live, next_of, number_on}
 use Rattle.graph_runs.specs.TaskEvents.{TaskEvent, signal, sample, after_turn}
 use Rattle.graph_runs.specs.Answers as answers
-use Rattle.graph_runs.specs.Answers.{Answer, makes, is_blocked, is_refused, after_answer, signal_answer, signal_turn, call_signal, output_at, next_values, told_event, turn_by, answer_by, samples_up_to}
+use Rattle.graph_runs.specs.Answers.{Answer, makes, is_blocked, is_refused, after_answer, signal_answer, signal_turn, call_signal, output_at, told_event, answer_up_to, values_up_to, samples_up_to}
 use Rattle.graph_runs.specs.Reached.{IsReachable}
 use Rattle.graph_runs.specs.Steps.{owed_of}
 use Rattle.graph_runs.specs.TaskPlaces as places
-use Rattle.graph_runs.specs.TaskPlaces.{StandsAt, child_of, registration_of_output, owed_after_signal, lacking}
+use Rattle.graph_runs.specs.TaskPlaces.{StandsUpTo, child_of, registration_of_output, owed_after_signal, lacking}
 use Rattle.graph_runs.specs.declared.owed.Owed.{Owed}
 use Rattle.graph_runs.specs.declared.owed.Owed.TheVariants as code
 use Rattle.graph_runs.proofs.Blocks.{block_few, block_some}
@@ -51,9 +51,9 @@ use Rattle.graph_runs.proofs.Stepping.{signal_follows, sample_follows}
 use Rattle.stream_job.specs.Blocking.{called_on}
 use Rattle.stream_job.specs.Stepping as stepping
 use Rattle.stream_job.specs.Stepping.{IsNextIn, OwesMade, is_value_out}
-use Rattle.stream_job.specs.Machines.{IsMachineAt, HasCores, KeepsLines}
+use Rattle.stream_job.specs.Machines.{IsMachineAt, HasCores, KeepsLines, most_in}
 use Rattle.stream_job.specs.Places.{IsTaskAt, owed_in, place_in_state}
-use Rattle.stream_job.specs.Turning.{HadTurn, MadeShows, phaser_of}
+use Rattle.stream_job.specs.Turning.{HadTurn, MadeShows, phaser_of, turn_in}
 use Rattle.stream_job.specs.declared.machine.Machine.{Machine}
 use Rattle.stream_job.specs.declared.made.Made.TheVariants.{Event, Blocked, OutOfRange}
 use Rattle.stream_job.specs.declared.task_state.TaskState.{TaskState}
@@ -62,6 +62,7 @@ use Rattle.stream_job.proofs.Ending.{number_of_output}
 use Rattle.stream_job.proofs.Events.{after_own, unchanged}
 use Rattle.stream_job.proofs.Lively.{live_next}
 use Rattle.stream_job.proofs.Makes.{makes_event}
+use Rattle.stream_job.proofs.Mosts.{most_is, mosts_same, mosts_set, stands_in}
 use Rattle.stream_job.proofs.LinesAfter.{quiet_lines, same_lines, same_rooms}
 use Rattle.stream_job.proofs.SinksKeep.{NoSinkWaits}
 use Rattle.stream_job.proofs.WhatNext.{signals_owes, signals_step, samples_begins}
@@ -70,10 +71,10 @@ use Rattle.stream_job.proofs.WhatNext.{signals_owes, signals_step, samples_begin
 
 pub blocked_turn : {steps : ℕ} (job : Job) (old new : Machine) (t p : ℕ) (next : Next)
     → IsNextIn steps job old t next → called_on job t next ≡ p
-    → ((m : Moment) → IsMachineAt job m old → turn_by steps job m t ≡ is_blocked)
-    → ((m : Moment) → IsMachineAt job m old → IsMachineAt job m new) → new.lines ≡ old.lines
-    → HadTurn steps job old new t (Blocked p)
-blocked_turn job old new t p next is called answer same lines = record {
+    → ((m : Moment) → IsMachineAt job m old → turn_in steps job old m t ≡ is_blocked)
+    → ((m : Moment) → IsMachineAt job m old → IsMachineAt job m new) → new.tasks ≡ old.tasks
+    → new.lines ≡ old.lines → HadTurn steps job old new t (Blocked p)
+blocked_turn job old new t p next is called answer same tasks lines = record {
   shows = λ m at.
       subst (λ a. MadeShows job m t a (Blocked p)) (sym (answer m at))
       (ap (called_on job t) (is.is m at) ∙ called);
@@ -83,6 +84,7 @@ blocked_turn job old new t p next is called answer same lines = record {
       subst (λ a. KeepsLines job given (after_answer job a m) new.lines.items) (sym (answer m at))
       (same_lines job given m old new lines kept);
   own = same_rooms old new lines;
+  mosts = mosts_same old new tasks;
 }
 
 -- ---- the values
@@ -281,7 +283,7 @@ blocks event refusals.BadBlock never = absurd (never refl)
 -- what a turn answers that signals these values: the phaser's word
 abbrev pub SignalsBy : ℕ → Job → Machine → ℕ → ℕ → ℕ → List ℤ → TaskEvent → Type 0
 SignalsBy steps job machine t number p vs event = (m : Moment) → IsMachineAt job m machine
-    → turn_by steps job m t ≡ signal_answer event (refusal_of job m p number vs)
+    → turn_in steps job machine m t ≡ signal_answer event (refusal_of job m p number vs)
 
 -- a turn whose signal was refused
 pub refused_turn : {steps : ℕ} (job : Job) (old new : Machine) (t number p : ℕ) (vs : List ℤ) (next : Next)
@@ -293,32 +295,34 @@ pub refused_turn : {steps : ℕ} (job : Job) (old new : Machine) (t number p : �
     → new.tasks ≡ old.tasks → new.lines ≡ old.lines → HadTurn steps job old new t (Blocked p)
 refused_turn {steps} job old new t number p vs next event r is called answers reply cores tasks lines =
     blocked_turn job old new t p next is called answer
-    (λ m at. unchanged job m old new p at (cores m at) tasks lines) lines
+    (λ m at. unchanged job m old new p at (cores m at) tasks lines) tasks lines
   where
     refused : (m : Moment) → IsMachineAt job m old
-        → turn_by steps job m t ≡ signal_answer event (Some r)
+        → turn_in steps job old m t ≡ signal_answer event (Some r)
     refused m at =
         answers m at
         ∙ ap (signal_answer event) (err_is (limits_at job p) (m.history p) number (map one vs)
         (phaser_at job.graph p).single r (reply m at))
 
-    answer : (m : Moment) → IsMachineAt job m old → turn_by steps job m t ≡ is_blocked
+    answer : (m : Moment) → IsMachineAt job m old → turn_in steps job old m t ≡ is_blocked
     answer m at = refused m at ∙ blocks event r (λ e. is.answered m at (refused m at ∙ e))
 
 -- ---- the machine after an event
 
 -- a turn whose event moved its task
 pub moved_turn : {steps : ℕ} (job : Job) (old new : Machine) (t p : ℕ) (next : Next) (event : TaskEvent)
-    (left : TaskState) → IsNextIn steps job old t next → t < length job.graph.tasks
+    (state left : TaskState) → IsNextIn steps job old t next
+    → slice_get old.tasks.items t ≡ Some state → left.most ≡ state.most
+    → t < length job.graph.tasks
     → child_of event ≡ None → NoSinkWaits job event → phaser_of event ≡ p
     → ((m : Moment) → told_event job m event ≡ answers.Moved)
-    → ((m : Moment) → IsMachineAt job m old → turn_by steps job m t ≡ makes event)
+    → ((m : Moment) → IsMachineAt job m old → turn_in steps job old m t ≡ makes event)
     → ((m : Moment) → IsMachineAt job m old → IsTaskAt job (after_turn job event m) t left)
     → ((m : Moment) → IsMachineAt job m old
     → HasCores job (after_turn job event m).history new.cores.items)
     → new.tasks.items ≡ set old.tasks.items t left → new.lines ≡ old.lines
     → HadTurn steps job old new t (Event p Moved)
-moved_turn job old new t p next event left is there none quiet phaser told answer stands cores tasks lines =
+moved_turn job old new t p next event state left is found most there none quiet phaser told answer stands cores tasks lines =
     record {
       shows = λ m at. subst (λ a. MadeShows job m t a (Event p Moved)) (sym (answer m at))
           (phaser, told m);
@@ -328,13 +332,14 @@ moved_turn job old new t p next event left is there none quiet phaser told answe
       lines = λ given m at good.
           quiet_lines job given m old new t event is.sized at (answer m at) none quiet lines;
       own = same_rooms old new lines;
+      mosts = mosts_set old new t state left found tasks most;
     }
 
 -- the answer where the phaser accepts
 accepted : (steps : ℕ) (job : Job) (old : Machine) (t number p phase : ℕ) (vs : List ℤ) (event : TaskEvent)
     → SignalsBy steps job old t number p vs event
     → ((m : Moment) → IsMachineAt job m old → reply_of job m p number vs ≡ Ok phase)
-    → (m : Moment) → IsMachineAt job m old → turn_by steps job m t ≡ makes event
+    → (m : Moment) → IsMachineAt job m old → turn_in steps job old m t ≡ makes event
 accepted steps job old t number p phase vs event answers reply m at =
     answers m at
     ∙ ap (signal_answer event) (ok_is (limits_at job p) (m.history p) number (map one vs)
@@ -381,7 +386,7 @@ signal_few job machine m t j next at = (owed job m t j (signals_owes job m t j (
 -- the values that are next, at each moment of the machine
 abbrev pub NextAre : Job → Machine → ℕ → ℕ → List ℤ → Type 0
 NextAre job machine t j vs = (m : Moment) → IsMachineAt job m machine
-    → map ranged (next_values job m t j) ≡ map (λ x. Ok x) vs
+    → map ranged (values_up_to (most_in machine t) job m t j) ≡ map (λ x. Ok x) vs
 
 -- what the turn answers
 pub signals_so : {steps : ℕ} (job : Job) (machine : Machine) (t j number p : ℕ) (vs : List ℤ)
@@ -391,9 +396,9 @@ pub signals_so : {steps : ℕ} (job : Job) (machine : Machine) (t j number p : �
     → NextAre job machine t j vs → SignalsBy steps job machine t number p vs (signal t j p number vs)
 signals_so {steps} job machine t j number p vs state next found phaser numbered value m at =
     let s = signals_at job machine m t j state next at found in
-    let ranges = all_in_range (next_values job m t j) vs (value m at) in
+    let ranges = all_in_range (values_up_to (most_in machine t) job m t j) vs (value m at) in
     let q = output_at job t j in
-    ap (answer_by steps job m t) (next.is m at)
+    ap (answer_up_to steps (most_in machine t) job m t) (next.is m at)
     ∙ ap (λ l. signal_turn job m t j l (signal t j q (number_on m t q) l)) ranges.same
     ∙ goes_on job m t j vs (signal t j q (number_on m t q) vs) (ranges.none (length (m.put t j)))
     ∙ renumbered job m t j number p vs (λ r n. signal t j r n vs) phaser (s.number ∙ sym numbered)
@@ -403,7 +408,7 @@ pub values_sent : {steps : ℕ} (job : Job) (machine : Machine) (t j : ℕ) (vs 
     → IsNextIn steps job machine t (turns.signals j) → NextAre job machine t j vs → AreSends vs
 values_sent job machine t j vs next value =
     let m = next.some.0 in
-    let ranges = all_in_range (next_values job m t j) vs (value m next.some.1) in
+    let ranges = all_in_range (values_up_to (most_in machine t) job m t j) vs (value m next.some.1) in
     sends_all 0 vs (ranges.none 0)
 
 -- the values that a task keeps, and what it owes besides
@@ -432,15 +437,15 @@ pub signalled_turn : {steps : ℕ} (job : Job) (old new : Machine) (t j number p
     → new.lines ≡ old.lines → HasSignalled (task_at job.graph t) j vs state owed made
     → HadTurn steps job old new t (Event p Moved)
 signalled_turn {steps} job old new t j number p phase vs state owed made next found phaser numbered value reply cores tasks lines has =
-    moved_turn job old new t p (turns.signals j) event (with_owing state owed made) next
-    (signals_at job old next.some.0 t j state next next.some.1 found).there refl tt refl (λ m. refl)
+    moved_turn job old new t p (turns.signals j) event state (with_owing state owed made) next found
+    refl (signals_at job old next.some.0 t j state next next.some.1 found).there refl tt refl (λ m. refl)
     answer stands cores tasks lines
   where
     event : TaskEvent
     event = signal t j p number vs
 
     answer : (m : Moment) → IsMachineAt job m old
-        → turn_by steps job m t ≡ makes (signal t j p number vs)
+        → turn_in steps job old m t ≡ makes (signal t j p number vs)
     answer =
         accepted steps job old t number p phase vs (signal t j p number vs)
         (signals_so job old t j number p vs state next found phaser numbered value) reply
@@ -452,14 +457,19 @@ signalled_turn {steps} job old new t j number p phase vs state owed made next fo
         let made_so = makes_event job m t (signal t j p number vs) next.sized at.graph at.reached (answer m at) in
         record {
           stands =
-              subst (λ o. StandsAt job (after_turn job (signal t j p number vs) m) t
+              subst (λ o. StandsUpTo state.most job (after_turn job (signal t j p number vs) m) t
               (record (place_in_state state) { owed = o })) (sym has.owes)
-              (signal_follows (task_at job.graph t).block job m t j p number vs (place_in_state state)
+              (subst (λ n. StandsUpTo n job (after_turn job (signal t j p number vs) m) t
+              (record (place_in_state state) {
+                owed = owed_after_signal (task_at job.graph t) j vs;
+              })) (most_is old t state found)
+              (signal_follows (most_in old t) job m t j p number vs (place_in_state state)
               (next.sized made_so.live.there) at.graph at.reached.ran
-              made_so.live made_so.next made_so.owes it.stands);
+              made_so.live made_so.next made_so.owes (stands_in job old m t state at found)));
           room = it.room;
           filter = it.filter;
-          made_room = λ kind. subst (λ n. (task_at job.graph t).block ≤ n) (sym has.room)
+          most = it.most;
+          made_room = λ kind. subst (λ n. state.most ≤ n) (sym has.room)
               (it.made_room kind);
           made_by = has.made_by;
           made_none = has.made_none;
@@ -469,38 +479,38 @@ signalled_turn {steps} job old new t j number p phase vs state owed made next fo
 -- ---- what the state owes
 
 -- what a task that signals owes, by its place
-pub owes_values : (job : Job) (m : Moment) (t j : ℕ) (o : places.Owed)
-    → places.Owes job m t o → next_of job m t ≡ turns.signals j
+pub owes_values : (most : ℕ) (job : Job) (m : Moment) (t j : ℕ) (o : places.Owed)
+    → places.OwesUpTo most job m t o → next_of job m t ≡ turns.signals j
     → (vs : List (Result ℤ TooBigValue)) × (o ≡ places.values j vs)
-    × (map ranged (next_values job m t j) ≡ vs)
-owes_values job m t j places.nothing owes is =
+    × (map ranged (values_up_to most job m t j) ≡ vs)
+owes_values most job m t j places.nothing owes is =
     absurd (let wrong : None ≡ Some j = sym owes ∙ signals_owes job m t j is in cc)
-owes_values job m t j (places.values i vs) owes is =
+owes_values most job m t j (places.values i vs) owes is =
     let same : i ≡ j = same_Some i j (sym owes.0 ∙ signals_owes job m t j is) in (
       vs,
       ap (λ x. places.values x vs) same,
-      subst (λ x. map ranged (next_values job m t x) ≡ vs) same owes.2,
+      subst (λ x. map ranged (values_up_to most job m t x) ≡ vs) same owes.2,
     )
-owes_values job m t j (places.exchange x) owes is =
+owes_values most job m t j (places.exchange x) owes is =
     absurd (let s = signals_step job m t j is in
     let one : 1 ≡ s.output = same_Some 1 s.output (sym owes.0 ∙ s.owes) in
     let there : turns.exchanges ≡ turns.signals j =
     sym owes.1 ∙ ap (turns.in_step job m t) one ∙ s.is in cc)
 
 -- of this state
-pub record OwesHere (job : Job) (m : Moment) (t j : ℕ) (state : TaskState)
+pub record OwesHere (job : Job) (machine : Machine) (m : Moment) (t j : ℕ) (state : TaskState)
     (vs : List (Result ℤ TooBigValue)) : Type 0 where
   pub owes : owed_in state.owed state.made.items ≡ places.values j vs
-  pub next : map ranged (next_values job m t j) ≡ vs
+  pub next : map ranged (values_up_to (most_in machine t) job m t j) ≡ vs
 
 pub owes_here : {steps : ℕ} (job : Job) (machine : Machine) (m : Moment) (t j i : ℕ) (state : TaskState)
     (vs : List (Result ℤ TooBigValue)) → IsNextIn steps job machine t (turns.signals j)
     → IsMachineAt job m machine → slice_get machine.tasks.items t ≡ Some state
     → owed_in state.owed state.made.items ≡ places.values i vs
-    → (i ≡ j) × OwesHere job m t j state vs
+    → (i ≡ j) × OwesHere job machine m t j state vs
 owes_here job machine m t j i state vs next at found is =
-    let owes = owes_values job m t j (owed_in state.owed state.made.items)
-    (at.tasks t state found).stands.owes (next.is m at) in
+    let owes = owes_values (most_in machine t) job m t j (owed_in state.owed state.made.items)
+    (stands_in job machine m t state at found).owes (next.is m at) in
     let both : places.values i vs ≡ places.values j owes.0 = sym is ∙ owes.1 in
     let output : i ≡ j = same_output i j vs owes.0 both in
     let values : vs ≡ owes.0 = same_values i j vs owes.0 both in (
@@ -525,7 +535,7 @@ owes_one state i w none is = ap (owed_in state.owed) none ∙ ap owed_of is
 pub owes_this : {steps : ℕ} (job : Job) (machine : Machine) (m : Moment) (t j i : ℕ) (state : TaskState)
     (w : Result ℤ TooBigValue) → IsNextIn steps job machine t (turns.signals j)
     → IsMachineAt job m machine → slice_get machine.tasks.items t ≡ Some state
-    → state.made.items ≡ [] → state.owed ≡ code.Value i w → OwesHere job m t j state (w ∷ [])
+    → state.made.items ≡ [] → state.owed ≡ code.Value i w → OwesHere job machine m t j state (w ∷ [])
 owes_this job machine m t j i state w next at found none is =
     (owes_here job machine m t j i state (w ∷ []) next at found (owes_one state i w none is)).1
 
@@ -535,8 +545,8 @@ pub owes_some : {steps : ℕ} (job : Job) (machine : Machine) (t j : ℕ) (state
     → ((i : ℕ) (w : Result ℤ TooBigValue) → state.owed ≡ code.Value i w → ⊥) → ⊥
 owes_some job machine t j state next found none never =
     let at = next.some.1 in
-    let owes = owes_values job next.some.0 t j (owed_in state.owed state.made.items)
-    (at.tasks t state found).stands.owes (next.is next.some.0 at) in
+    let owes = owes_values (most_in machine t) job next.some.0 t j (owed_in state.owed state.made.items)
+    (stands_in job machine next.some.0 t state at found).owes (next.is next.some.0 at) in
     by state.owed refl owes.0 (sym (ap (owed_in state.owed) none) ∙ owes.1)
   where
     by : (o : Owed) → state.owed ≡ o → (vs : List (Result ℤ TooBigValue))
@@ -557,15 +567,15 @@ one_no_filter job machine m t i state w at found is kind =
     sym ((at.tasks t state found).made_by kind) ∙ is in cc)
 
 -- what is so of a task that has made values which it has not signalled
-pub record HasMade (job : Job) (m : Moment) (t j : ℕ) (state : TaskState) : Type 0 where
+pub record HasMade (job : Job) (machine : Machine) (m : Moment) (t j : ℕ) (state : TaskState) : Type 0 where
   pub filters : (task_at job.graph t).kind ≡ Fir
   pub first : 0 ≡ j
-  pub here : OwesHere job m t j state state.made.items
+  pub here : OwesHere job machine m t j state state.made.items
 
 pub has_made : {steps : ℕ} (job : Job) (machine : Machine) (m : Moment) (t j : ℕ) (state : TaskState)
     → IsNextIn steps job machine t (turns.signals j) → IsMachineAt job m machine
     → slice_get machine.tasks.items t ≡ Some state → state.made.items ≢ []
-    → HasMade job m t j state
+    → HasMade job machine m t j state
 has_made job machine m t j state next at found some =
     let owes = owes_here job machine m t j 0 state state.made.items next at found
     (all state.made.items some) in
@@ -609,9 +619,9 @@ made_puts task b j e = by task.kind j refl e
     by Sink j k e = absurd (cc)
 
 -- the turn of a task that made a value out of range at this place of those that it owes
-pub record MadeOver (steps : ℕ) (job : Job) (m : Moment) (t j at : ℕ) (state : TaskState)
+pub record MadeOver (steps : ℕ) (job : Job) (machine : Machine) (m : Moment) (t j at : ℕ) (state : TaskState)
     (vs : List (Result ℤ TooBigValue)) : Type 0 where
-  pub answer : turn_by steps job m t
+  pub answer : turn_in steps job machine m t
       ≡ answers.has_made (place.Task t, length (m.put t j) + at)
   pub begun : state.begun ≡ length (m.put t j) + length vs
   pub few : at < length vs
@@ -619,33 +629,33 @@ pub record MadeOver (steps : ℕ) (job : Job) (m : Moment) (t j at : ℕ) (state
 pub made_over : {steps : ℕ} (job : Job) (machine : Machine) (m : Moment) (t j at : ℕ) (state : TaskState)
     (vs : List (Result ℤ TooBigValue)) → IsNextIn steps job machine t (turns.signals j)
     → IsMachineAt job m machine → slice_get machine.tasks.items t ≡ Some state
-    → OwesHere job m t j state vs → position_from is_value_out 0 vs ≡ Some at
-    → MadeOver steps job m t j at state vs
+    → OwesHere job machine m t j state vs → position_from is_value_out 0 vs ≡ Some at
+    → MadeOver steps job machine m t j at state vs
 made_over {steps} job machine m t j at state vs next stands found owes over =
     by (are_made (task_at job.graph t).kind j) refl
   where
     zs : List ℤ
-    zs = next_values job m t j
+    zs = values_up_to (most_in machine t) job m t j
 
-    place_of_first : OverAt (next_values job m t j) 0 (length (m.put t j)) at
-    place_of_first = first_over (next_values job m t j) vs 0 (length (m.put t j)) at owes.next over
+    place_of_first : OverAt (values_up_to (most_in machine t) job m t j) 0 (length (m.put t j)) at
+    place_of_first = first_over (values_up_to (most_in machine t) job m t j) vs 0 (length (m.put t j)) at owes.next over
 
     event : TaskEvent
     event =
-        signal t j (output_at job t j) (number_on m t (output_at job t j)) (next_values job m t j)
+        signal t j (output_at job t j) (number_on m t (output_at job t j)) (values_up_to (most_in machine t) job m t j)
 
-    out : turn_by steps job m t
+    out : turn_in steps job machine m t
         ≡ cond (are_made (task_at job.graph t).kind j)
         (answers.has_made (place.Task t, length (m.put t j) + at)) is_refused
     out =
         let first = place_of_first in
         let same : first.at ≡ at = (let is = first.is in omega arith) in
-        ap (answer_by steps job m t) (next.is m stands)
-        ∙ stops job m t j (length (m.put t j) + at) (next_values job m t j)
-        (signal t j (output_at job t j) (number_on m t (output_at job t j)) (next_values job m t j))
+        ap (answer_up_to steps (most_in machine t) job m t) (next.is m stands)
+        ∙ stops job m t j (length (m.put t j) + at) (values_up_to (most_in machine t) job m t j)
+        (signal t j (output_at job t j) (number_on m t (output_at job t j)) (values_up_to (most_in machine t) job m t j))
         (first.found ∙ ap (λ n. Some (length (m.put t j) + n)) same)
 
-    by : (b : Bool) → are_made (task_at job.graph t).kind j ≡ b → MadeOver steps job m t j at state vs
+    by : (b : Bool) → are_made (task_at job.graph t).kind j ≡ b → MadeOver steps job machine m t j at state vs
     by true made =
         let it = (stands.tasks t state found).stands in
         let few = signal_few job machine m t j next stands in
@@ -661,10 +671,10 @@ made_over {steps} job machine m t j at state vs next stands found owes over =
         let begun = it.begun in
         let first = place_of_first in
         let is = first.is in
-        let within : first.at < length (next_values job m t j) = first.few in
-        let long : length (map ranged (next_values job m t j)) ≡ length (next_values job m t j) =
-        length-map (next_values job m t j) ranged in
-        let all_vs : length (map ranged (next_values job m t j)) ≡ length vs = ap length owes.next in
+        let within : first.at < length (values_up_to (most_in machine t) job m t j) = first.few in
+        let long : length (map ranged (values_up_to (most_in machine t) job m t j)) ≡ length (values_up_to (most_in machine t) job m t j) =
+        length-map (values_up_to (most_in machine t) job m t j) ranged in
+        let all_vs : length (map ranged (values_up_to (most_in machine t) job m t j)) ≡ length vs = ap length owes.next in
         record {
           answer = out ∙ ap (λ b. cond b (answers.has_made
               (place.Task t, length (m.put t j) + at)) is_refused) made;
@@ -678,7 +688,7 @@ made_over {steps} job machine m t j at state vs next stands found owes over =
 -- it tells the step of that value
 pub over_turn : {steps : ℕ} (job : Job) (old : Machine) (t j at step : ℕ) (state : TaskState)
     (vs : List (Result ℤ TooBigValue)) → IsNextIn steps job old t (turns.signals j)
-    → ((m : Moment) → IsMachineAt job m old → MadeOver steps job m t j at state vs)
+    → ((m : Moment) → IsMachineAt job m old → MadeOver steps job old m t j at state vs)
     → step + length vs ≡ state.begun + at → HadTurn steps job old old t (OutOfRange step)
 over_turn job old t j at step state vs next over count = record {
   shows = λ m stands.
@@ -693,6 +703,7 @@ over_turn job old t j at step state vs next over count = record {
       subst (λ a. KeepsLines job given (after_answer job a m) old.lines.items)
       (sym (over m stands).answer) kept;
   own = λ room all. all;
+  mosts = λ u. refl;
 }
 
 -- ---- samples
@@ -740,8 +751,8 @@ abbrev pub NextSamplesAre : ℕ → Job → Machine → ℕ → List ℤ → Typ
 NextSamplesAre steps job machine t vs = (m : Moment) → IsMachineAt job m machine
     → samples_up_to steps job m t ≡ vs
 
-pub record SamplesSo (steps : ℕ) (job : Job) (m : Moment) (t number p : ℕ) (vs : List ℤ) : Type 0 where
-  pub answer : turn_by steps job m t
+pub record SamplesSo (steps : ℕ) (job : Job) (machine : Machine) (m : Moment) (t number p : ℕ) (vs : List ℤ) : Type 0 where
+  pub answer : turn_in steps job machine m t
       ≡ signal_answer (sample t 0 p number vs) (refusal_of job m p number vs)
   pub sends : AreSends vs
 
@@ -751,7 +762,7 @@ pub samples_so : {steps : ℕ} (job : Job) (machine : Machine) (t number p : ℕ
     → slice_get machine.tasks.items t ≡ Some state → p ≡ output_at job t 0
     → number ≡ get_or state.numbers.items (registration_of_output (task_at job.graph t) 0) 0
     → NextSamplesAre steps job machine t vs → (m : Moment) → IsMachineAt job m machine
-    → SamplesSo steps job m t number p vs
+    → SamplesSo steps job machine m t number p vs
 samples_so {steps} job machine t number p vs state next found phaser numbered value m at =
     by (position_from is_out_of_range (length (m.put t 0)) vs) refl
   where
@@ -761,15 +772,15 @@ samples_so {steps} job machine t number p vs state next found phaser numbered va
     q : ℕ
     q = output_at job t 0
 
-    out : turn_by steps job m t
+    out : turn_in steps job machine m t
         ≡ signal_turn job m t 0 vs
         (sample t 0 (output_at job t 0) (number_on m t (output_at job t 0)) vs)
     out =
-        ap (answer_by steps job m t) (next.is m at)
+        ap (answer_up_to steps (most_in machine t) job m t) (next.is m at)
         ∙ ap (λ l. signal_turn job m t 0 l (sample t 0 q (number_on m t q) l)) (value m at)
 
     by : (o : Option ℕ) → position_from is_out_of_range (length (m.put t 0)) vs ≡ o
-        → SamplesSo steps job m t number p vs
+        → SamplesSo steps job machine m t number p vs
     by (Some step) over =
         absurd (next.answered m at (out
         ∙ stops job m t 0 step vs (sample t 0 q (number_on m t q) vs) over
@@ -794,13 +805,13 @@ pub sampled_turn : {steps : ℕ} (job : Job) (old new : Machine) (t number p pha
     → new.tasks.items ≡ set old.tasks.items t (with_begun state (state.begun + many))
     → new.lines ≡ old.lines → HadTurn steps job old new t (Event p Moved)
 sampled_turn {steps} job old new t number p phase many vs state next found phaser numbered value long reply cores tasks lines =
-    moved_turn job old new t p turns.samples (sample t 0 p number vs)
-    (with_begun state (state.begun + many)) next
+    moved_turn job old new t p turns.samples (sample t 0 p number vs) state
+    (with_begun state (state.begun + many)) next found refl
     (samples_at_place job old next.some.0 t state next next.some.1 found).there refl tt refl
     (λ m. refl) answer stands cores tasks lines
   where
     answer : (m : Moment) → IsMachineAt job m old
-        → turn_by steps job m t ≡ makes (sample t 0 p number vs)
+        → turn_in steps job old m t ≡ makes (sample t 0 p number vs)
     answer =
         accepted steps job old t number p phase vs (sample t 0 p number vs)
         (λ m at. (samples_so job old t number p vs state next found phaser numbered value m at).answer)
@@ -819,12 +830,13 @@ sampled_turn {steps} job old new t number p phase many vs state next found phase
         further-length state.begun vs ∙ ap (λ n. state.begun + n) long in
         record {
           stands =
-              subst (λ n. StandsAt job (after_turn job event m) t
+              subst (λ n. StandsUpTo state.most job (after_turn job event m) t
               (record (place_in_state state) { begun = n })) begun
               (sample_follows job m t 0 p number vs (place_in_state state) at.graph at.reached.ran
               made.next ran made.owes it.stands);
           room = it.room;
           filter = it.filter;
+          most = it.most;
           made_room = it.made_room;
           made_by = it.made_by;
           made_none = it.made_none;
@@ -978,16 +990,16 @@ filter_owes task vs kind = rw kind refl
 
 -- the values that a filter has made fit in a block
 pub made_few : (job : Job) (machine : Machine) (m : Moment) (t j : ℕ) (state : TaskState)
-    → HasMade job m t j state → length state.made.items ≤ (task_at job.graph t).block
+    → HasMade job machine m t j state → length state.made.items ≤ most_in machine t
 made_few job machine m t j state made =
-    let long : length (map ranged (next_values job m t j)) ≡ length (next_values job m t j) =
-    length-map (next_values job m t j) ranged in
-    omega (arith, values_few (task_at job.graph t).block job m t j, ap length made.here.next)
+    let long : length (map ranged (values_up_to (most_in machine t) job m t j)) ≡ length (values_up_to (most_in machine t) job m t j) =
+    length-map (values_up_to (most_in machine t) job m t j) ranged in
+    omega (arith, values_few (most_in machine t) job m t j, ap length made.here.next)
 
 -- and were begun
 pub made_begun : {steps : ℕ} (job : Job) (machine : Machine) (m : Moment) (t j : ℕ) (state : TaskState)
     → IsNextIn steps job machine t (turns.signals j) → IsMachineAt job m machine
-    → slice_get machine.tasks.items t ≡ Some state → HasMade job m t j state
+    → slice_get machine.tasks.items t ≡ Some state → HasMade job machine m t j state
     → state.begun ≡ length (m.put t j) + length state.made.items
 made_begun job machine m t j state next at found made =
     let it = (at.tasks t state found).stands in

@@ -45,9 +45,9 @@ use Rattle.graph_runs.specs.Nexts as turns
 use Rattle.graph_runs.specs.Nexts.{Next, is_live, next_of, number_on}
 use Rattle.graph_runs.specs.Reached.{IsReachable}
 use Rattle.graph_runs.specs.TaskEvents.{TaskEvent, first_wait, exchange_wait, after_turn}
-use Rattle.graph_runs.specs.Answers.{Answer, makes, is_blocked, is_refused, after_answer, wait_answer, block_answer, told_wait, told_got, turn_by, answer_by}
+use Rattle.graph_runs.specs.Answers.{Answer, makes, is_blocked, is_refused, after_answer, wait_answer, block_answer, told_wait, told_got, turn_up_to, answer_up_to}
 use Rattle.graph_runs.specs.TaskPlaces as places
-use Rattle.graph_runs.specs.TaskPlaces.{TaskPlace, StandsAt, owed_after_exchange}
+use Rattle.graph_runs.specs.TaskPlaces.{TaskPlace, StandsUpTo, owed_after_exchange}
 use Rattle.graph_runs.proofs.Signalling.{live-is}
 use Rattle.graph_runs.proofs.Boundaries.{peer_ends}
 use Rattle.graph_runs.proofs.Calling.{waits_as_peer}
@@ -59,10 +59,11 @@ use Rattle.graph_runs.specs.Steps.{owed_of, HasFilter}
 use Rattle.graph_runs.specs.declared.owed.Owed.{Owed}
 use Rattle.graph_runs.specs.declared.owed.Owed.TheVariants as code
 use Rattle.stream_job.specs.Buffers.{HasPlaces}
-use Rattle.stream_job.specs.Stepping.{with_more, IsNextIn, MayStep}
-use Rattle.stream_job.specs.Places.{place_in_state, owed_in, StateHasTaken}
-use Rattle.stream_job.specs.Machines.{IsMachineAt, HasCores, KeepsLines, HasRoom, kept_behind}
-use Rattle.stream_job.specs.Turning.{HadTurn, MadeShows, told_of}
+use Rattle.graph_runs.specs.NextBlocks.{MaySize}
+use Rattle.stream_job.specs.Stepping.{with_more, IsNextIn}
+use Rattle.stream_job.specs.Places.{place_in_state, owed_in, MaySignal, StateHasTaken}
+use Rattle.stream_job.specs.Machines.{IsMachineAt, HasCores, KeepsLines, HasRoom, kept_behind, most_in}
+use Rattle.stream_job.specs.Turning.{HadTurn, MadeShows, told_of, turn_in}
 use Rattle.stream_job.specs.declared.machine.Machine.{Machine}
 use Rattle.stream_job.specs.declared.task_state.TaskState.{TaskState}
 use Rattle.stream_job.specs.declared.made.Made.{Made}
@@ -75,6 +76,7 @@ use Rattle.stream_job.proofs.Begun.{begun_few}
 use Rattle.stream_job.proofs.Ending.{number_of_input}
 use Rattle.stream_job.proofs.Lively.{live_next}
 use Rattle.stream_job.proofs.Makes.{makes_event}
+use Rattle.stream_job.proofs.Mosts.{most_is, mosts_set, stands_in}
 use Rattle.stream_job.proofs.WhatNext.{InStep, waits_begins, exchanges_owes}
 use Rattle.stream_job.proofs.Signals.{blocked_turn}
 use Rattle.stream_job.proofs.Events.{after_own, unchanged}
@@ -300,12 +302,12 @@ exchange_so : {allowed : ℕ} (job : Job) (machine : Machine) (m : Moment) (t n 
     → IsNextIn allowed job machine t turns.exchanges → IsMachineAt job m machine
     → slice_get machine.tasks.items t ≡ Some state → p ≡ input_at (task_at job.graph t) 1
     → n ≡ get_or state.numbers.items 1 0
-    → turn_by allowed job m t ≡ wait_answer (exchange_wait t p n)
+    → turn_in allowed job machine m t ≡ wait_answer (exchange_wait t p n)
     (wait_reply (value_at job p) (limits_at job p) (m.history p) n)
 exchange_so {allowed} job machine m t n p state next at found phaser numbered =
     let w = exchange_waits_at job machine m t state next at found in
     let q = input_at (task_at job.graph t) 1 in
-    ap (answer_by allowed job m t) (next.is m at)
+    ap (answer_up_to allowed (most_in machine t) job m t) (next.is m at)
     ∙ ap (λ k. wait_answer (exchange_wait t q k) (wait_reply (value_at job q) (limits_at job q)
     (m.history q) k)) (w.number ∙ sym numbered)
     ∙ ap (λ r. wait_answer (exchange_wait t r n) (wait_reply (value_at job r) (limits_at job r)
@@ -335,11 +337,11 @@ asks_places {allowed} {job} {old} {t} {k} {steps = steps} {state = state} asks p
 
 first_so : {allowed : ℕ} (job : Job) (old : Machine) (m : Moment) (t k n p steps : ℕ) (state : TaskState)
     → AsksFirst allowed job old t k n p steps state → IsMachineAt job m old
-    → turn_by allowed job m t ≡ block_turn job m t k p n steps
+    → turn_in allowed job old m t ≡ block_turn job m t k p n steps
 first_so {allowed} job old m t k n p steps state asks at =
     let w = first_waits_at job old m t k state asks.next at asks.found in
     let q = input_at (task_at job.graph t) k in
-    ap (answer_by allowed job m t) (asks.next.is m at)
+    ap (answer_up_to allowed (most_in old t) job m t) (asks.next.is m at)
     ∙ ap (λ i. block_turn job m t k q i (block_up_to allowed job m t)) (w.number ∙ sym asks.numbered)
     ∙ ap (λ r. block_turn job m t k r n (block_up_to allowed job m t)) (sym asks.phaser)
     ∙ ap (block_turn job m t k p n) (asks.many m at)
@@ -366,7 +368,7 @@ pub owes_exchange : {allowed : ℕ} (job : Job) (machine : Machine) (m : Moment)
     → (x : ℤ) × (owed_of state.owed ≡ places.exchange x)
 owes_exchange job machine m t state next at found =
     by (owed_of state.owed)
-    (subst (λ l. places.Owes job m t (owed_in state.owed l))
+    (subst (λ l. places.OwesUpTo state.most job m t (owed_in state.owed l))
     (none_made job machine m t state next at found) (at.tasks t state found).stands.owes)
   where
     s : InStep job m t turns.exchanges
@@ -375,7 +377,7 @@ owes_exchange job machine m t state next at found =
     one : (i j : ℕ) → Some i ≡ Some j → i ≡ j
     one i j e = cc
 
-    by : (o : places.Owed) → places.Owes job m t o → (x : ℤ) × (o ≡ places.exchange x)
+    by : (o : places.Owed) → places.OwesUpTo state.most job m t o → (x : ℤ) × (o ≡ places.exchange x)
     by places.nothing owes = absurd (let wrong : None ≡ Some s.output = sym owes ∙ s.owes in cc)
     by (places.values i vs) owes =
         absurd (let same : i ≡ s.output = one i s.output (sym owes.0 ∙ s.owes) in
@@ -398,17 +400,17 @@ exchange_some job machine t state next found never =
     by (code.Exchange y) e x is = never y e
 
 -- the place of a peer after its exchange
-exchange_stands : {allowed : ℕ} (job : Job) (m : Moment) (t p n : ℕ) (outcome : Outcome)
-    (at : TaskPlace) → MayStep job t allowed → 1 ≤ (task_at job.graph t).block → IsGraph job.graph → IsReachable job m
+exchange_stands : {allowed most : ℕ} (job : Job) (m : Moment) (t p n : ℕ) (outcome : Outcome)
+    (at : TaskPlace) → MaySize job.graph t allowed most → 1 ≤ most → IsGraph job.graph → IsReachable job m
     → HasRun job (after_turn job (exchange_wait t p n outcome) m)
-    → turn_by allowed job m t ≡ makes (exchange_wait t p n outcome) → StandsAt job m t at
-    → StandsAt job (after_turn job (exchange_wait t p n outcome) m) t
+    → turn_up_to allowed most job m t ≡ makes (exchange_wait t p n outcome) → StandsUpTo most job m t at
+    → StandsUpTo most job (after_turn job (exchange_wait t p n outcome) m) t
     (record at { owed = owed_after_exchange (task_at job.graph t) at.owed (number outcome) })
-exchange_stands {allowed} job m t p n outcome at sized some is reached now answer stands =
+exchange_stands {allowed} {most} job m t p n outcome at sized some is reached now answer stands =
     let event = exchange_wait t p n outcome in
-    exchange_follows allowed (task_at job.graph t).block job m t p n outcome at some is reached.ran
-    (turn_makes_next allowed (task_at job.graph t).block job m t event sized is reached.ran (λ c due. reached.to_come) answer) now
-    (event_owes allowed (task_at job.graph t).block job m t event answer) stands
+    exchange_follows allowed most job m t p n outcome at some is reached.ran
+    (turn_makes_next allowed most job m t event sized is reached.ran (λ c due. reached.to_come) answer) now
+    (event_owes allowed most job m t event answer) stands
 
 pub exchanged_turn : {allowed : ℕ} (job : Job) (old new : Machine) (t n p phase : ℕ) (x : ℤ)
     (outcome : Outcome) (state : TaskState) (owed : Owed) (told : Turned)
@@ -431,16 +433,17 @@ exchanged_turn {allowed} job old new t n p phase x outcome state owed told next 
           quiet_lines job given m old new t (exchange_wait t p n outcome) next.sized at (answer m at) refl tt
           lines;
       own = same_rooms old new lines;
+      mosts = mosts_set old new t state (with_owed state owed) found tasks refl;
     }
   where
     answer : (m : Moment) → IsMachineAt job m old
-        → turn_by allowed job m t ≡ makes (exchange_wait t p n outcome)
+        → turn_in allowed job old m t ≡ makes (exchange_wait t p n outcome)
     answer m at =
         exchange_so job old m t n p state next at found phaser numbered
         ∙ ap (wait_answer (exchange_wait t p n)) (reply m at)
 
     shows : (m : Moment) → IsMachineAt job m old
-        → MadeShows job m t (turn_by allowed job m t) (Event p told)
+        → MadeShows job m t (turn_in allowed job old m t) (Event p told)
     shows m at =
         subst (λ a. MadeShows job m t a (Event p told)) (sym (answer m at)) (
           refl,
@@ -467,7 +470,7 @@ exchanged_turn {allowed} job old new t n p phase x outcome state owed told next 
         (subst (λ a. IsReachable job (after_answer job a m)) (answer m at) (next.stays m at)).ran
 
     after : (m : Moment) → IsMachineAt job m old → HasAnsweredNone job m
-        → IsMachineAt job (after_answer job (turn_by allowed job m t) m) new
+        → IsMachineAt job (after_answer job (turn_in allowed job old m t) m) new
     after m at none =
         let it = at.tasks t state found in
         let event = exchange_wait t p n outcome in
@@ -478,11 +481,17 @@ exchanged_turn {allowed} job old new t n p phase x outcome state owed told next 
         (number outcome) ≡ owed_in owed state.made.items =
         ap (λ o. owed_after_exchange (task_at job.graph t) o (number outcome)) is
         ∙ sym (ap (owed_in owed) made ∙ after_owes) in
-        let stands : StandsAt job (after_turn job event m) t (place_in_state (with_owed state owed)) =
-        subst (λ o. StandsAt job (after_turn job event m) t (record (place_in_state state) { owed = o }))
-        after_is (exchange_stands job m t p n outcome (place_in_state state) next.sized
-        (at.graph.tasks t (exchange_waits_at job old m t state next at found).there).block.some at.graph at.reached
-        (ran m at) (answer m at) it.stands) in
+        let sized = next.sized (exchange_waits_at job old m t state next at found).there in
+        let stands : StandsUpTo state.most job (after_turn job event m) t
+        (place_in_state (with_owed state owed)) =
+        subst (λ o. StandsUpTo state.most job (after_turn job event m) t
+        (record (place_in_state state) { owed = o })) after_is
+        (subst (λ i. StandsUpTo i job (after_turn job event m) t (record (place_in_state state) {
+          owed = owed_after_exchange (task_at job.graph t) (owed_in state.owed state.made.items)
+              (number outcome);
+        })) (most_is old t state found)
+        (exchange_stands job m t p n outcome (place_in_state state) next.sized sized.owed.some at.graph
+        at.reached (ran m at) (answer m at) (stands_in job old m t state at found))) in
         after_own job m old new t event (with_owed state owed) next.sized at (answer m at) refl
         (exchange_waits_at job old m t state next at found).there (next.stays m at) (next.few m at)
         (cores m at) tasks
@@ -490,6 +499,7 @@ exchanged_turn {allowed} job old new t n p phase x outcome state owed told next 
           stands = stands;
           room = it.room;
           filter = subst (HasFilter (task_at job.graph t) state.filter) (sym (stays m t)) it.filter;
+          most = it.most;
           made_room = it.made_room;
           made_by = λ filters. absurd
               (let peer : (task_at job.graph t).kind ≡ Peer = is_peer job m t (next.is m at) in
@@ -510,15 +520,15 @@ pub blocked_exchange : {allowed : ℕ} (job : Job) (old new : Machine) (t n p : 
     → new.tasks ≡ old.tasks → new.lines ≡ old.lines → HadTurn allowed job old new t (Blocked p)
 blocked_exchange {allowed} job old new t n p state r next found phaser numbered reply cores tasks lines =
     blocked_turn job old new t p turns.exchanges next (sym phaser) answer
-    (λ m at. unchanged job m old new p at (cores m at) tasks lines) lines
+    (λ m at. unchanged job m old new p at (cores m at) tasks lines) tasks lines
   where
     refused : (m : Moment) → IsMachineAt job m old
-        → turn_by allowed job m t ≡ wait_answer (exchange_wait t p n) (Err r)
+        → turn_in allowed job old m t ≡ wait_answer (exchange_wait t p n) (Err r)
     refused m at =
         exchange_so job old m t n p state next at found phaser numbered
         ∙ ap (wait_answer (exchange_wait t p n)) (reply m at)
 
-    answer : (m : Moment) → IsMachineAt job m old → turn_by allowed job m t ≡ is_blocked
+    answer : (m : Moment) → IsMachineAt job m old → turn_in allowed job old m t ≡ is_blocked
     answer m at =
         refused m at ∙ blocks (exchange_wait t p n) r (λ e. next.answered m at (refused m at ∙ e))
 
@@ -567,54 +577,54 @@ zero_first task b k kind is not first = first ∙ by kind is not
     by Sink e never = rw e refl
 
 -- the place of a state that took these
-taken_place : (job : Job) (after : Moment) (t : ℕ) (outcomes : List Outcome) (taken : List ℤ)
+taken_place : (most : ℕ) (job : Job) (after : Moment) (t : ℕ) (outcomes : List Outcome) (taken : List ℤ)
     (old new : TaskState) → StateHasTaken (task_at job.graph t) (map number outcomes) old new
     → HasFilter (task_at job.graph t) old.filter taken
-    → StandsAt job after t (record (place_in_state old) {
+    → StandsUpTo most job after t (record (place_in_state old) {
       begun = further old.begun outcomes;
       owed = places.owed_after_wait (task_at job.graph t) old.begun taken (map number outcomes);
-    }) → StandsAt job after t (place_in_state new)
-taken_place job after t outcomes taken old new took has stands =
+    }) → StandsUpTo most job after t (place_in_state new)
+taken_place most job after t outcomes taken old new took has stands =
     let owes = places.owed_after_wait (task_at job.graph t) old.begun taken (map number outcomes) in
     let many : further old.begun outcomes ≡ old.begun + length outcomes =
     further-length old.begun outcomes in
     let all : new.begun ≡ old.begun + length (map number outcomes) = took.begun in
     let long : length (map number outcomes) ≡ length outcomes = length-map outcomes number in
     let steps : further old.begun outcomes ≡ new.begun = omega arith in
-    subst (λ o. StandsAt job after t (record (place_in_state new) { owed = o })) (sym (took.owed taken has))
-    (subst (λ b. StandsAt job after t (record (place_in_state new) { begun = b; owed = owes })) steps
-    (subst (λ l. StandsAt job after t (record (place_in_state new) {
+    subst (λ o. StandsUpTo most job after t (record (place_in_state new) { owed = o })) (sym (took.owed taken has))
+    (subst (λ b. StandsUpTo most job after t (record (place_in_state new) { begun = b; owed = owes })) steps
+    (subst (λ l. StandsUpTo most job after t (record (place_in_state new) {
       left = l;
       begun = further old.begun outcomes;
       owed = owes;
     })) (sym took.left)
-    (subst (λ v. StandsAt job after t (record (place_in_state old) {
+    (subst (λ v. StandsUpTo most job after t (record (place_in_state old) {
       numbers = v.items;
       begun = further old.begun outcomes;
       owed = owes;
     })) (sym took.numbers) stands)))
 
 -- the place of a task after the first wait of its next steps
-first_stands : {allowed : ℕ} (job : Job) (m : Moment) (t k p n : ℕ) (outcomes : List Outcome)
-    (at : TaskPlace) → MayStep job t allowed → t < length job.graph.tasks → IsGraph job.graph → IsReachable job m
+first_stands : {allowed most : ℕ} (job : Job) (m : Moment) (t k p n : ℕ) (outcomes : List Outcome)
+    (at : TaskPlace) → MaySize job.graph t allowed most → t < length job.graph.tasks → IsGraph job.graph → IsReachable job m
     → HasRun job (after_turn job (first_wait t k p n outcomes) m)
-    → turn_by allowed job m t ≡ makes (first_wait t k p n outcomes) → StandsAt job m t at
-    → StandsAt job (after_turn job (first_wait t k p n outcomes) m) t (record at {
+    → turn_up_to allowed most job m t ≡ makes (first_wait t k p n outcomes) → StandsUpTo most job m t at
+    → StandsUpTo most job (after_turn job (first_wait t k p n outcomes) m) t (record at {
       begun = further at.begun outcomes;
       owed = places.owed_after_wait (task_at job.graph t) at.begun (m.taken t 0)
           (map number outcomes);
     })
-first_stands {allowed} job m t k p n outcomes at sized there is reached now answer stands =
+first_stands {allowed} {most} job m t k p n outcomes at sized there is reached now answer stands =
     let event = first_wait t k p n outcomes in
-    first_wait_follows allowed (task_at job.graph t).block job m t k p n outcomes at (sized there) is reached.ran
-    (turn_makes_next allowed (task_at job.graph t).block job m t event sized is reached.ran (λ c due. reached.to_come) answer) now
-    (event_owes allowed (task_at job.graph t).block job m t event answer) stands
+    first_wait_follows allowed most job m t k p n outcomes at (sized there) is reached.ran
+    (turn_makes_next allowed most job m t event sized is reached.ran (λ c due. reached.to_come) answer) now
+    (event_owes allowed most job m t event answer) stands
 
 -- what the turn answers where the wait got values
 pub first_answer : {allowed : ℕ} (job : Job) (old : Machine) (m : Moment) (t k n p steps phase count : ℕ)
     (outcomes : List Outcome) (state : TaskState) → AsksFirst allowed job old t k n p steps state
     → IsMachineAt job m old → GotAll job m p n steps phase count outcomes
-    → turn_by allowed job m t ≡ makes (first_wait t k p n outcomes)
+    → turn_in allowed job old m t ≡ makes (first_wait t k p n outcomes)
 first_answer job old m t k n p steps phase count outcomes state asks at all =
     first_so job old m t k n p steps state asks at
     ∙ ap (block_answer (λ phase count. first_wait t k p n
@@ -656,10 +666,12 @@ may_take {allowed} job old m t k n p steps phase count outcomes state asks at al
     let block : block_up_to allowed job m t ≤ allowed = block_few allowed job m t in
     record {
       block = made.next.1.block;
-      nothing = nothing_owed state.owed state.made.items (owes_nothing (task_at job.graph t).block job m t
+      nothing = nothing_owed state.owed state.made.items (owes_nothing state.most job m t
           (owed_in state.owed state.made.items) it.stands.owes b.step.none);
-      room = λ fir. (let room : (task_at job.graph t).block ≤ state.made.cap = it.made_room fir in
-          let few = (asks.next.sized made.live.there).few fir in omega arith);
+      room = λ fir. (let room : state.most ≤ state.made.cap = it.made_room fir in
+          let same : most_in old t ≡ state.most = most_is old t state asks.found in
+          let few : allowed ≤ most_in old t = (asks.next.sized made.live.there).few fir in
+          omega arith);
       begun = omega arith;
     }
 
@@ -693,17 +705,18 @@ first_turn {allowed} job old new t k n p steps phase count outcomes state took s
             starts = starts ∙ kept.starts ∙ starts_stay job m event refl;
           };
       own = own;
+      mosts = mosts_set old new t state took asks.found tasks has.most;
     }
   where
     event : TaskEvent
     event = first_wait t k p n outcomes
 
-    answer : (m : Moment) → IsMachineAt job m old → turn_by allowed job m t ≡ makes event
+    answer : (m : Moment) → IsMachineAt job m old → turn_in allowed job old m t ≡ makes event
     answer m at =
         first_answer job old m t k n p steps phase count outcomes state asks at (all m at)
 
     shows : (m : Moment) → IsMachineAt job m old
-        → MadeShows job m t (turn_by allowed job m t) (Event p told)
+        → MadeShows job m t (turn_in allowed job old m t) (Event p told)
     shows m at =
         subst (λ a. MadeShows job m t a (Event p told)) (sym (answer m at))
         (refl, told_is m p n phase outcomes (all m at).first ∙ sym tells)
@@ -739,15 +752,17 @@ first_turn {allowed} job old new t k n p steps phase count outcomes state took s
         (sym (all m at).many) (cores m at)
 
     after : (m : Moment) → IsMachineAt job m old → HasAnsweredNone job m
-        → IsMachineAt job (after_answer job (turn_by allowed job m t) m) new
+        → IsMachineAt job (after_answer job (turn_in allowed job old m t) m) new
     after m at none =
         let it = at.tasks t state asks.found in
         let ran = (subst (λ a. IsReachable job (after_answer job a m)) (answer m at)
         (asks.next.stays m at)).ran in
-        let stands = taken_place job (after_turn job event m) t outcomes (m.taken t 0) state took has
+        let same : most_in old t ≡ took.most = most_is old t state asks.found ∙ sym has.most in
+        let stands = subst (λ i. StandsUpTo i job (after_turn job event m) t (place_in_state took)) same
+        (taken_place (most_in old t) job (after_turn job event m) t outcomes (m.taken t 0) state took has
         it.filter (first_stands job m t k p n outcomes (place_in_state state) asks.next.sized
         (first_waits_at job old m t k state asks.next at asks.found).there at.graph at.reached ran
-        (answer m at) it.stands) in
+        (answer m at) (stands_in job old m t state at asks.found))) in
         after_own job m old new t event took asks.next.sized at (answer m at) refl
         (first_waits_at job old m t k state asks.next at asks.found).there (asks.next.stays m at)
         (asks.next.few m at)
@@ -756,8 +771,11 @@ first_turn {allowed} job old new t k n p steps phase count outcomes state took s
           stands = stands;
           room = subst (λ v. 9 ≤ v.capacity) (sym has.numbers) it.room;
           filter = kept m at;
+          most = subst (MaySignal job t) (sym has.most) it.most;
           made_room = λ fir.
-              subst (λ i. (task_at job.graph t).block ≤ i) (sym has.room) (it.made_room fir);
+              (let fits : state.most ≤ state.made.cap = it.made_room fir in
+              let room : took.made.cap ≡ state.made.cap = has.room in
+              let most : took.most ≡ state.most = has.most in omega arith);
           made_by = has.made_by;
           made_none = has.made_none;
           sink = λ kind. ap (slice_get (sinks_of job)) has.sink ∙ it.sink kind;
@@ -782,7 +800,7 @@ pub blocked_first : {allowed : ℕ} (job : Job) (old new : Machine) (t k n p ste
     → new.tasks ≡ old.tasks → new.lines ≡ old.lines → HadTurn allowed job old new t (Blocked p)
 blocked_first {allowed} job old new t k n p steps state r asks reply cores tasks lines =
     blocked_turn job old new t p (turns.waits k) asks.next (sym asks.phaser) answer
-    (λ m at. unchanged job m old new p at (cores m at) tasks lines) lines
+    (λ m at. unchanged job m old new p at (cores m at) tasks lines) tasks lines
   where
     event : Moment → ℕ → ℕ → TaskEvent
     event m phase count =
@@ -790,12 +808,12 @@ blocked_first {allowed} job old new t k n p steps state r asks reply cores tasks
         (slice_range (stream_of (value_at job p) (m.history p)) phase (phase + count))
 
     refused : (m : Moment) → IsMachineAt job m old
-        → turn_by allowed job m t ≡ block_answer (event m) (Err r)
+        → turn_in allowed job old m t ≡ block_answer (event m) (Err r)
     refused m at =
         first_so job old m t k n p steps state asks at
         ∙ ap (block_answer (event m)) (reply m at)
 
-    answer : (m : Moment) → IsMachineAt job m old → turn_by allowed job m t ≡ is_blocked
+    answer : (m : Moment) → IsMachineAt job m old → turn_in allowed job old m t ≡ is_blocked
     answer m at =
         refused m at ∙ blocks_all (event m) r (λ e. asks.next.answered m at (refused m at ∙ e))
 

@@ -30,13 +30,17 @@ place_in_state state = record {
   owed = owed_in state.owed state.made.items;
 }
 
+-- one event of task t may signal so many values: a block that its line may name, no less than it
+-- names, and no more than a turn has places for
+pub record MaySignal (job : Job) (t most : ℕ) : Type 0 where
+  pub block : HasBlock job.graph (with_block most (task_at job.graph t))
+  pub least : (task_at job.graph t).block ≤ most
+  pub few : most ≤ most_steps job t
+
 -- task t stands in this state at a moment
 pub record IsTaskAt (job : Job) (m : Moment) (t : ℕ) (state : TaskState) : Type 0 where
   pub stands : StandsUpTo state.most job m t (place_in_state state)
-  -- what it signals in one event is a block that its line may name, and holds one that it names
-  pub sized : HasBlock job.graph (with_block state.most (task_at job.graph t))
-  pub least : (task_at job.graph t).block ≤ state.most
-  pub most : state.most ≤ most_steps job t
+  pub most : MaySignal job t state.most
   -- a number for each registration fits without an allocation
   pub room : 9 ≤ state.numbers.capacity
   pub filter : HasFilter (task_at job.graph t) state.filter (m.taken t 0)
