@@ -21,6 +21,7 @@ task_fed job m more t state goes there it = record {
       stands_fed state.most job m more t (place_in_state state) (goes t there) it.stands;
   room = it.room;
   filter = it.filter;
+  most = record { block = it.most.block; least = it.most.least; few = it.most.few };
   made_room = it.made_room;
   made_by = it.made_by;
   made_none = it.made_none;

@@ -9,7 +9,7 @@ use Rattle.graph_runs.specs.Nexts as turns
 use Rattle.graph_runs.specs.Nexts.{is_live}
 use Rattle.graph_runs.specs.TaskEvents.{leave, after_turn}
 use Rattle.graph_runs.specs.Answers as answers
-use Rattle.graph_runs.specs.Answers.{makes, after_answer, accepted_answer, told_event, turn_up_to}
+use Rattle.graph_runs.specs.Answers.{makes, after_answer, accepted_answer, told_event}
 use Rattle.graph_runs.specs.TaskPlaces.{StandsUpTo, registration_at}
 use Rattle.graph_runs.proofs.PlacesFollow.{leave_follows}
 use Rattle.stream_job.specs.Places.{IsTaskAt, place_in_state}

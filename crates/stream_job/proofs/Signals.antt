@@ -49,6 +49,7 @@ use Rattle.graph_runs.proofs.Nexts.{further-length}
 use Rattle.graph_runs.proofs.Signalling.{owed, live-is, sendable, values_few}
 use Rattle.graph_runs.proofs.Stepping.{signal_follows, sample_follows}
 use Rattle.stream_job.specs.Blocking.{called_on}
+use Rattle.stream_job.specs.Buffers.{most_steps}
 use Rattle.stream_job.specs.Stepping as stepping
 use Rattle.stream_job.specs.Stepping.{IsNextIn, OwesMade, is_value_out}
 use Rattle.stream_job.specs.Machines.{IsMachineAt, HasCores, KeepsLines, most_in}
@@ -988,13 +989,18 @@ pub filter_owes : (task : Task) (vs : List ℤ) → task.kind ≡ Fir
     → places.nothing ≡ owed_after_signal task 0 vs
 filter_owes task vs kind = rw kind refl
 
--- the values that a filter has made fit in a block
+-- the values that a filter has made fit in the places of a turn
 pub made_few : (job : Job) (machine : Machine) (m : Moment) (t j : ℕ) (state : TaskState)
-    → HasMade job machine m t j state → length state.made.items ≤ most_in machine t
-made_few job machine m t j state made =
-    let long : length (map ranged (values_up_to (most_in machine t) job m t j)) ≡ length (values_up_to (most_in machine t) job m t j) =
-    length-map (values_up_to (most_in machine t) job m t j) ranged in
-    omega (arith, values_few (most_in machine t) job m t j, ap length made.here.next)
+    → IsMachineAt job m machine → slice_get machine.tasks.items t ≡ Some state
+    → HasMade job machine m t j state → length state.made.items ≤ most_steps job t
+made_few job machine m t j state at found made =
+    let vs = values_up_to (most_in machine t) job m t j in
+    let long : length (map ranged vs) ≡ length vs = length-map vs ranged in
+    let few : length vs ≤ most_in machine t = values_few (most_in machine t) job m t j in
+    let same : most_in machine t ≡ state.most = most_is machine t state found in
+    let most : state.most ≤ most_steps job t = (at.tasks t state found).most.few in
+    let is : length (map ranged vs) ≡ length state.made.items = ap length made.here.next in
+    omega arith
 
 -- and were begun
 pub made_begun : {steps : ℕ} (job : Job) (machine : Machine) (m : Moment) (t j : ℕ) (state : TaskState)

@@ -29,7 +29,8 @@ use Rattle.graph_runs.specs.Beginnings.{opening, root_mode, root_number, roots_j
 use Rattle.graph_runs.proofs.Answered.{met_none}
 use Rattle.graph_runs.proofs.StepsLemmas.{has_inputs}
 use Rattle.graph_runs.proofs.Turning.{turn_makes_next}
-use Rattle.stream_job.specs.Stepping.{with_more, MayStep}
+use Rattle.graph_runs.specs.NextBlocks.{MaySize}
+use Rattle.stream_job.specs.Stepping.{with_more}
 use Rattle.stream_job.specs.Machines.{IsMachineAt}
 use Rattle.stream_job.specs.SinkLines.{kept_by, kept_of, kept_on}
 use Rattle.stream_job.specs.declared.machine.Machine.{Machine}

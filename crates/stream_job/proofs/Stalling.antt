@@ -48,7 +48,10 @@ use Rattle.graph_runs.proofs.Ranged.{sends_ranged, take_ranged, drop_ranged}
 use Rattle.graph_runs.proofs.Signalling.{live-is, owed, values_few}
 use Rattle.graph_runs.proofs.Telling.{turn_told}
 use Rattle.stream_job.specs.Stepping.{blocks_signal, blocks_signal_at, blocks_wait, blocks_wait_at, is_at_rest, would_block, in_range, are_in_range, owed_many}
-use Rattle.stream_job.specs.Places.{MaySignal}
+use Rattle.stream_job.specs.Machines.{HasLineSizes, IsMachineAt}
+use Rattle.stream_job.specs.Places.{MaySignal, place_in_state}
+use Rattle.stream_job.specs.declared.machine.Machine.{Machine}
+use Rattle.stream_job.proofs.Mosts.{element, most_is}
 use Rattle.stream_job.proofs.Lively.{live_next}
 use Rattle.stream_job.proofs.Signals.{all_out, goes_on, owes_values, stops}
 use Rattle.stream_job.proofs.WhatNext.{samples_begins, signals_owes}
@@ -497,6 +500,19 @@ rest_is_still job m t at stands =
     by (signals j) e = all_blocks (task_at job.graph t).block job m t j at stands e
     by (waits k) e = refl
     by exchanges e = refl
+
+-- as the machine has it
+pub rest_in_line : (job : Job) (machine : Machine) (m : Moment) (t : ℕ) → HasLineSizes job machine
+    → IsMachineAt job m machine → t < length job.graph.tasks
+    → is_at_rest job m t ≡ is_still job m t
+rest_in_line job machine m t sizes at there =
+    let many = at.tasks_many in
+    let some = element machine.tasks.items t (omega arith) in
+    let same : some.0.most ≡ (task_at job.graph t).block =
+    sym (most_is machine t some.0 some.1) ∙ sizes t there in
+    rest_is_still job m t (place_in_state some.0)
+    (subst (λ n. StandsUpTo n job m t (place_in_state some.0)) same
+    (at.tasks t some.0 some.1).stands)
 
 -- ---- waits
 

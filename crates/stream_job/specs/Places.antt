@@ -6,6 +6,7 @@ use Rattle.graph_lang.specs.graph_base.Graphs.{Task, task_at}
 use Rattle.graph_lang.specs.graph_base.TaskLines.{HasBlock}
 use Rattle.stream_eval.specs.stream_lists.Jobs.{Job}
 use Rattle.stream_eval.specs.stream_lists.Lists.{sinks_of}
+use Rattle.graph_runs.specs.Beginnings.{opening}
 use Rattle.graph_runs.specs.Moments.{Moment}
 use Rattle.graph_runs.specs.NextBlocks.{with_block}
 use Rattle.graph_runs.specs.TaskPlaces as turns
@@ -49,6 +50,12 @@ pub record IsTaskAt (job : Job) (m : Moment) (t : ℕ) (state : TaskState) : Typ
   pub made_by : (task_at job.graph t).kind ≡ Fir → state.owed ≡ Nothing
   pub made_none : (task_at job.graph t).kind ≢ Fir → state.made.items ≡ []
   pub sink : (task_at job.graph t).kind ≡ Sink → slice_get (sinks_of job) state.sink ≡ Some t
+
+-- task t stands in this state at the opening, where one event of a filter whose line names no block
+-- signals at most so many values: where that is one, each signals a block of its line
+pub record IsOpened (own : ℕ) (job : Job) (t : ℕ) (state : TaskState) : Type 0 where
+  pub at : IsTaskAt job (opening job) t state
+  pub line : own ≡ 1 → state.most ≡ (task_at job.graph t).block
 
 -- a state after its task took these numbers by the first wait of its next steps
 pub record StateHasTaken (task : Task) (xs : List ℤ) (old new : TaskState) : Type 0 where

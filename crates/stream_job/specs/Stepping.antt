@@ -2,7 +2,7 @@
 use Rattle.std.specs.Prelude.{◌≡◌, ℕ, ◌+◌, ◌≤◌, ℤ, List, [], ◌∷◌, ◌++◌, Option, Some, None, slice_get, set, get_or, Bool, true, false, ◌&&◌, ◌||◌, nat_le, Ok, Err, ◌≢◌, ◌==◌, length, map, nat_lt, ◌-◌, Result, if◌then◌else◌}
 use Rattle.std.specs.List.{All}
 use Rattle.std.specs.Vec.{vec_len, vec_capacity}
-use Rattle.graph_runs.specs.Answers.{answer_up_to, was_blocked, after_answer, makes}
+use Rattle.graph_runs.specs.Answers.{answer_up_to, was_blocked, after_answer, makes, output_at}
 use Rattle.graph_runs.specs.TaskEvents.{first_wait}
 use Rattle.graph_runs.specs.NextBlocks.{MaySize}
 use Rattle.phase_any.specs.phase_accum.declared.outcome.Outcome.{Outcome}
@@ -13,8 +13,8 @@ use Rattle.phase_any.specs.phase_base.Members.{entry_of, least, wait_phases}
 use Rattle.phase_any.specs.phase_history.Histories.{History, members_of, done_of}
 use Rattle.phase_any.specs.phase_history.Refusals.{is_ahead, register_refusal, register_now_refusal}
 use Rattle.stream_eval.specs.stream_lists.Jobs.{Job, with_samples}
-use Rattle.graph_runs.specs.Moments.{Moment, made_now}
-use Rattle.graph_runs.specs.Nexts.{Next, has_signaller, is_live, next_of, waits}
+use Rattle.graph_runs.specs.Moments.{Moment, limits_at, made_now}
+use Rattle.graph_runs.specs.Nexts.{Next, has_signaller, is_live, next_of, number_on, waits}
 use Rattle.graph_runs.specs.TaskPlaces.{Owed, nothing, values, exchange}
 use Rattle.graph_lang.specs.stream_filters.declared.fault.TooBigValue.{TooBigValue}
 use Rattle.graph_runs.specs.Reached.{IsReachable}
@@ -155,6 +155,13 @@ OwesMade machine t = (state : TaskState) → slice_get machine.tasks.items t ≡
 abbrev pub is_value_out : Result ℤ TooBigValue → Bool
 is_value_out (Ok v) = false
 is_value_out (Err out) = true
+
+-- task t may signal so many phases on its first output now
+abbrev pub HasPhases : Job → Moment → ℕ → ℕ → Type 0
+HasPhases job m t phases =
+    let p = output_at job t 0 in
+    (many : ℕ) → 1 ≤ many → many ≤ phases
+    → blocks_signal (limits_at job p) (m.history p) (number_on m t p) many ≡ false
 
 -- ---- a child's registration, as a sink that joins now or in this mode
 

@@ -8,9 +8,9 @@ ghost use Rattle.stream_eval.specs.stream_lists.Lists.{is_sink_at};
 ghost use Rattle.graph_runs.specs.NextBlocks.{with_block};
 ghost use Rattle.graph_runs.specs.Nexts.{registrations_at};
 ghost use Rattle.graph_runs.specs.TaskPlaces.{registration_at};
-ghost use Rattle.graph_runs.specs.Beginnings.{root_number, opening};
+ghost use Rattle.graph_runs.specs.Beginnings.{root_number};
 ghost use Rattle.stream_job.specs.Buffers.{most_steps};
-ghost use Rattle.stream_job.specs.Places.{IsTaskAt};
+ghost use Rattle.stream_job.specs.Places.{IsOpened};
 
 use crate::buffers::OWN_STEPS;
 use crate::roots::root_number;
@@ -46,6 +46,7 @@ fn root_numbers(alloc: Global, job: &Job, t: usize) -> SmallVec<u64, 9>
 /// line; or, of a filter whose line names none, so many, and no more than the bound of each of its
 /// phasers.
 fn owed_most(job: &Job, t: usize, own: u64) -> u64
+    requires graph { IsGraph job.now.graph }
     requires task { t < length job.now.graph.tasks }
     requires own { 1 ≤ own }
     ensures sized { HasBlock job.now.graph (with_block result (task_at job.now.graph t)) }
@@ -59,7 +60,8 @@ fn owed_most(job: &Job, t: usize, own: u64) -> u64
     }
     let (_, output) = output_of(job, t, 0);
     let bound = job.graph().phaser(output).bound;
-    own.min(bound).min(job.graph().phaser(input_of(job, t, 0)).bound)
+    own.min(bound)
+        .min(job.graph().phaser(input_of(job, t, 0)).bound)
 }
 
 /// What task number `t` has made, which is nothing, with room for so many values of a filter.
@@ -96,9 +98,7 @@ fn opened_task(
     requires task { t < length job.now.graph.tasks }
     requires sinks { sink ≡ length (filter (is_sink_at job.now) (range_with_len 0 t)) }
     requires own { (1 ≤ own) × (own ≤ OWN_STEPS) }
-    ensures stands { IfOk result (λ state. IsTaskAt job.now (opening job.now) t state) }
-    ensures line { own ≡ 1 → IfOk result (λ state.
-        state.most ≡ (task_at job.now.graph t).block) }
+    ensures { IfOk result (IsOpened own job.now t) }
 {
     let most = owed_most(job, t, own);
     Ok(TaskState {
@@ -119,10 +119,7 @@ pub fn opened_tasks(alloc: Global, job: &Job, own: u64) -> Result<Vec<TaskState>
     requires { (1 ≤ own) × (own ≤ OWN_STEPS) }
     ensures many { IfOk result (λ tasks. length tasks.items ≡ length job.now.graph.tasks) }
     ensures tasks { IfOk result (λ tasks. (t : ℕ) (state : TaskState)
-        → slice_get tasks.items t ≡ Some state → IsTaskAt job.now (opening job.now) t state) }
-    ensures lines { own ≡ 1 → IfOk result (λ tasks. (t : ℕ) (state : TaskState)
-        → slice_get tasks.items t ≡ Some state
-        → state.most ≡ (task_at job.now.graph t).block) }
+        → slice_get tasks.items t ≡ Some state → IsOpened own job.now t state) }
 {
     let mut tasks = Vec::with_capacity(alloc, job.graph().tasks())?;
     let mut sinks = 0;

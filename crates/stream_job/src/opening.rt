@@ -57,12 +57,7 @@ impl Machine {
     ///
     /// It takes memory for a slot of each phase that a phaser may have open, an entry for each
     /// registration, and the window of each filter.
-    pub fn new(
-        alloc: Global,
-        job: &Job,
-        lines: Vec<Lines>,
-        own: u64,
-    ) -> Result<Machine, AllocError>
+    pub fn new(alloc: Global, job: &Job, lines: Vec<Lines>, own: u64) -> Result<Machine, AllocError>
         requires lines { length lines.items ≡ length (sinks_of job.now) }
         requires own { (1 ≤ own) × (own ≤ OWN_STEPS) }
         ensures opening { IfOk result (λ machine. IsMachineAt job.now (opening job.now) machine) }
