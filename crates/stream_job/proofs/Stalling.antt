@@ -391,43 +391,40 @@ take_all (suc n) [] few = refl
 take_all zero (x ∷ xs) few = absurd (omega arith)
 take_all (suc n) (x ∷ xs) few = ap (λ l. x ∷ l) (take_all n xs (omega arith))
 
+-- no more is owed than one event signals
+rest_few : (most : ℕ) (job : Job) (m : Moment) (t j : ℕ) (at : TaskPlace)
+    → StandsUpTo most job m t at → next_of job m t ≡ signals j
+    → length (drop (length (m.put t j)) (made_now job m t j)) ≤ most
+rest_few most job m t j at stands next =
+    let o = owes_values most job m t j at.owed stands.owes next in
+    let there = (owed job m t j (signals_owes job m t j next)).0 in
+    let lacks : length (made_now job m t j)
+    ≡ length (m.put t j) + lacking (task_at job.graph t).kind (values j o.0) j =
+    stands.lacks j there
+    ∙ ap (λ x. length (m.put t j) + lacking (task_at job.graph t).kind x j) o.1 in
+    let here : lacking (task_at job.graph t).kind (values j o.0) j ≡ length o.0 =
+    lacks_here (task_at job.graph t).kind j o.0 in
+    let many : length (map ranged (values_up_to most job m t j)) ≡ length o.0 = ap length o.2 in
+    let long : length (map ranged (values_up_to most job m t j))
+    ≡ length (values_up_to most job m t j) = length-map (values_up_to most job m t j) ranged in
+    let within : length (values_up_to most job m t j) ≤ most = values_few most job m t j in
+    let is : length (drop (length (m.put t j)) (made_now job m t j))
+    ≡ length (made_now job m t j) - length (m.put t j) =
+    length-drop (length (m.put t j)) (made_now job m t j) in
+    omega arith
+
 -- what one event signals is all that is owed
 pub all_is : (most : ℕ) (job : Job) (m : Moment) (t j : ℕ) (at : TaskPlace)
     → StandsUpTo most job m t at → next_of job m t ≡ signals j
     → values_up_to (length (made_now job m t j)) job m t j ≡ values_up_to most job m t j
 all_is most job m t j at stands next =
-    take_all (length made) rest (omega arith) ∙ sym (take_all most rest (omega arith))
-  where
-    made : List ℤ
-    made = made_now job m t j
-
-    rest : List ℤ
-    rest = drop (length (m.put t j)) (made_now job m t j)
-
-    left : length rest ≡ length made - length (m.put t j)
-    left = length-drop (length (m.put t j)) (made_now job m t j)
-
-    kind : Kind
-    kind = (task_at job.graph t).kind
-
-    few : length rest ≤ most
-    few =
-        let o = owes_values most job m t j at.owed stands.owes next in
-        let there = (owed job m t j (signals_owes job m t j next)).0 in
-        let lacks : length (made_now job m t j)
-        ≡ length (m.put t j) + lacking (task_at job.graph t).kind (values j o.0) j =
-        stands.lacks j there
-        ∙ ap (λ x. length (m.put t j) + lacking (task_at job.graph t).kind x j) o.1 in
-        let here : lacking (task_at job.graph t).kind (values j o.0) j ≡ length o.0 =
-        lacks_here (task_at job.graph t).kind j o.0 in
-        let many : length (map ranged (values_up_to most job m t j)) ≡ length o.0 = ap length o.2 in
-        let long : length (map ranged (values_up_to most job m t j))
-        ≡ length (values_up_to most job m t j) = length-map (values_up_to most job m t j) ranged in
-        let within : length (values_up_to most job m t j) ≤ most = values_few most job m t j in
-        let is : length (drop (length (m.put t j)) (made_now job m t j))
-        ≡ length (made_now job m t j) - length (m.put t j) =
-        length-drop (length (m.put t j)) (made_now job m t j) in
-        omega arith
+    let is : length (drop (length (m.put t j)) (made_now job m t j))
+    ≡ length (made_now job m t j) - length (m.put t j) =
+    length-drop (length (m.put t j)) (made_now job m t j) in
+    take_all (length (made_now job m t j)) (drop (length (m.put t j)) (made_now job m t j))
+    (omega arith)
+    ∙ sym (take_all most (drop (length (m.put t j)) (made_now job m t j))
+    (rest_few most job m t j at stands next))
 
 -- so the turn would be blocked as its signal is
 all_blocks : (most : ℕ) (job : Job) (m : Moment) (t j : ℕ) (at : TaskPlace)
