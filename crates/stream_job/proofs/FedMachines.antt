@@ -1,7 +1,6 @@
 -- A machine stands at its moment whatever samples come behind those that were signalled.
 use Rattle.std.proofs.Common.{◌≡◌, ℕ, ℤ, ◌<◌, List, None, length, arith}
 use Rattle.std.proofs.lemmas.Option.{slice_get_within}
-use Rattle.graph_lang.specs.graph_base.Graphs.{task_at}
 use Rattle.stream_eval.specs.stream_lists.Jobs.{Job, with_samples}
 use Rattle.stream_eval.specs.stream_lists.Meetings.{meeting_line}
 use Rattle.graph_runs.specs.Feeds.{Continues}

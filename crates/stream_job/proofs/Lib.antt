@@ -17,6 +17,9 @@ pub mod Numbering
 pub mod Ending
 pub mod InTurn
 pub mod Setting
+pub mod SampleTurns
+pub mod SentValues
+pub mod SignalCalls
 pub mod Signals
 pub mod SinkLines
 pub mod SinksKeep
@@ -24,6 +27,8 @@ pub mod Stopping
 pub mod Taking
 pub mod TaskLists
 pub mod Tellings
+pub mod Exchanges
+pub mod FirstTurns
 pub mod Waits
 pub mod WhatNext
 pub mod Reading

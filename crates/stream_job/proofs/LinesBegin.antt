@@ -19,7 +19,7 @@ use Rattle.stream_job.specs.Worlds.{HasMet}
 use Rattle.stream_job.specs.declared.machine.Machine.{Machine}
 use Rattle.stream_job.proofs.Events.{taken_other}
 use Rattle.stream_job.proofs.SinksKeep.{all_kept, kept_begins, kept_other, kept_wait, sink_reads}
-use Rattle.stream_job.proofs.Waits.{first_is, sink_kind, zero_first}
+use Rattle.stream_job.proofs.FirstTurns.{first_is, sink_kind, zero_first}
 use Rattle.graph_runs.specs.NextBlocks.{MaySize}
 
 -- a list begins an equal one

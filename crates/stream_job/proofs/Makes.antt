@@ -11,7 +11,6 @@ use Rattle.graph_runs.proofs.Turning.{turn_makes_next}
 use Rattle.graph_runs.proofs.Whose.{IsInOrder, task_of, made_by}
 use Rattle.graph_runs.proofs.InOrder.{OwesFor, event_owes}
 use Rattle.graph_runs.specs.NextBlocks.{MaySize}
-use Rattle.graph_lang.specs.graph_base.Graphs.{task_at}
 
 -- it is the next one of the task, which is live, for the registration that comes next, and owes what
 -- it is for

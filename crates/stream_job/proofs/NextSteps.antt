@@ -44,15 +44,15 @@ next_for job m t nothing = at_boundary job m t (first_due job m t)
 next_for job m t (values j vs) = signals j
 next_for job m t (exchange x) = exchanges
 
-owing_next : {most : ℕ} (job : Job) (m : Moment) (t : ℕ) (owed : places.Owed) → is_live job m t ≡ true
+owing_next : (most : ℕ) (job : Job) (m : Moment) (t : ℕ) (owed : places.Owed) → is_live job m t ≡ true
     → OwesUpTo most job m t owed → next_of job m t ≡ next_for job m t owed
-owing_next job m t nothing live owes =
+owing_next most job m t nothing live owes =
     ap (λ b. cond b (of_live job m t (first_owed job m t)) is_not_live) live
     ∙ ap (of_live job m t) owes
-owing_next job m t (values j vs) live owes =
+owing_next most job m t (values j vs) live owes =
     ap (λ b. cond b (of_live job m t (first_owed job m t)) is_not_live) live
     ∙ ap (of_live job m t) owes.0 ∙ owes.1
-owing_next job m t (exchange x) live owes =
+owing_next most job m t (exchange x) live owes =
     ap (λ b. cond b (of_live job m t (first_owed job m t)) is_not_live) live
     ∙ ap (of_live job m t) owes.0 ∙ owes.1
 
@@ -60,8 +60,8 @@ owing_next job m t (exchange x) live owes =
 pub made_next : {most : ℕ} (job : Job) (m : Moment) (t : ℕ) (state : TaskState)
     → StandsUpTo most job m t (place_in_state state) → is_live job m t ≡ true → length state.made.items ≢ 0
     → next_of job m t ≡ signals 0
-made_next job m t state stands live some =
-    owing_next job m t (owed_in state.owed state.made.items) live stands.owes
+made_next {most} job m t state stands live some =
+    owing_next most job m t (owed_in state.owed state.made.items) live stands.owes
     ∙ ap (next_for job m t) (by state.owed state.made.items some)
   where
     by : (owed : Owed) (vs : List (Result ℤ TooBigValue)) → length vs ≢ 0
@@ -73,8 +73,8 @@ made_next job m t state stands live some =
 pub owed_next : {most : ℕ} (job : Job) (m : Moment) (t : ℕ) (state : TaskState)
     → StandsUpTo most job m t (place_in_state state) → is_live job m t ≡ true → length state.made.items ≡ 0
     → next_of job m t ≡ next_for job m t (owed_of state.owed)
-owed_next job m t state stands live none =
-    owing_next job m t (owed_in state.owed state.made.items) live stands.owes
+owed_next {most} job m t state stands live none =
+    owing_next most job m t (owed_in state.owed state.made.items) live stands.owes
     ∙ ap (next_for job m t) (by state.owed state.made.items none)
   where
     by : (owed : Owed) (vs : List (Result ℤ TooBigValue)) → length vs ≡ 0

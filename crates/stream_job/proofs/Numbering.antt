@@ -9,7 +9,7 @@ use Rattle.phase_any.specs.phase_history.declared.event.Event.TheVariants.{Signa
 use Rattle.phase_any.specs.phase_history.Histories.{History, greatest_used}
 use Rattle.phase_any.specs.phase_core.phase_registry.Rosters.{next_after}
 use Rattle.graph_lang.specs.graph_base.declared.limits.TheConstants.{TASKS_MAX}
-use Rattle.graph_lang.specs.graph_base.Graphs.{phaser_at, task_at}
+use Rattle.graph_lang.specs.graph_base.Graphs.{phaser_at}
 use Rattle.graph_lang.specs.graph_base.TaskLines.{IsGraph}
 use Rattle.stream_eval.specs.stream_lists.Jobs.{Job}
 use Rattle.graph_runs.specs.Moments.{one, Moment}

@@ -35,7 +35,8 @@ use Rattle.stream_job.specs.SinkLines.{kept_by}
 use Rattle.stream_job.specs.Turning.{turn_in}
 use Rattle.stream_job.proofs.SinksKeep.{kept_within}
 use Rattle.stream_job.proofs.Lively.{live_next}
-use Rattle.stream_job.proofs.Waits.{sink_kind, waits_few}
+use Rattle.stream_job.proofs.FirstTurns.{sink_kind}
+use Rattle.stream_job.proofs.Waits.{waits_few}
 use Rattle.stream_job.proofs.WhatNext.{Begins, waits_begins}
 
 -- the line of a sink is its task's, with what the task keeps behind what it has handed over

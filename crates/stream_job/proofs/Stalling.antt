@@ -26,7 +26,6 @@ use Rattle.phase_any.specs.phase_history.Replies.{wait_reply, wait_block_reply, 
 use Rattle.phase_any.specs.phase_accum.Sends.{AreSends}
 use Rattle.graph_lang.specs.stream_filters.Range.{ranged}
 use Rattle.graph_lang.specs.graph_base.declared.place.Place.TheVariants as place
-use Rattle.graph_lang.specs.graph_base.declared.line.Kind.{Kind}
 use Rattle.graph_lang.specs.graph_base.declared.line.Kind.TheVariants.{Source}
 use Rattle.graph_lang.specs.graph_base.declared.registration.Registration.{Registration}
 use Rattle.graph_lang.specs.graph_base.Graphs.{task_at, phaser_at}
@@ -53,7 +52,9 @@ use Rattle.stream_job.specs.Places.{MaySignal, place_in_state}
 use Rattle.stream_job.specs.declared.machine.Machine.{Machine}
 use Rattle.stream_job.proofs.Mosts.{element, most_is}
 use Rattle.stream_job.proofs.Lively.{live_next}
-use Rattle.stream_job.proofs.Signals.{all_out, goes_on, owes_values, stops}
+use Rattle.stream_job.proofs.SentValues.{all_out}
+use Rattle.stream_job.proofs.SignalCalls.{goes_on, stops}
+use Rattle.stream_job.proofs.Signals.{owes_values}
 use Rattle.stream_job.proofs.WhatNext.{samples_begins, signals_owes}
 use Rattle.graph_runs.proofs.Stepping.{line_sizes}
 

@@ -20,7 +20,7 @@ pub loop-t-preserved : goal.loop-t-preserved
 loop-t-preserved c = λ m at marked d lt.
     let count : c.tasks-t-end.result ≡ length c.args.job.now.graph.tasks =
     c.tasks-t-end.ensures.count ∙ ap (λ g. length g.tasks) c.graph.ensures.graph in
-    let lt : c.loop-t.t < c.tasks-t-end.result = c.loop-t-test.true in
+    let within : c.loop-t.t < c.tasks-t-end.result = c.loop-t-test.true in
     let here : is_still c.args.job.now m c.loop-t.t ≡ true = elim c.else-not-marks-t.branch [
       | else-not-marks-t-via-then-not-marks-t+else-not-is_still w ↦
           sym (rest_in_line c.args.job.now c.args.self.now m c.loop-t.t c.requires.sizes at

@@ -14,7 +14,8 @@ use Rattle.stream_job.specs.Machines.{IsMachineAt}
 use Rattle.stream_job.specs.Places.{owed_in}
 use Rattle.stream_job.proofs.Lively.{state_read, state_there}
 use Rattle.stream_job.proofs.Setting.{read_same, set_read, bare_cores, full_cores}
-use Rattle.stream_job.proofs.Signals.{HasMade, MadeOver, NextAre, filter_owes, has_made, made_begun, made_few, made_over, over_turn, refused_turn, signalled_turn, signals_at, signals_so, values_sent, with_owing}
+use Rattle.stream_job.proofs.Signals.{HasMade, MadeOver, NextAre, filter_owes, has_made, made_begun, made_few, made_over, over_turn, signalled_turn, signals_at, signals_so, values_sent, with_owing}
+use Rattle.stream_job.proofs.SignalCalls.{refused_turn}
 use Rattle.stream_job.proofs.machine.Machine.signal_made.Goals.{After-index-state, After-len, In-Some, After-deref-3}
 use Rattle.stream_job.proofs.machine.Machine.signal_made.Goals as goal
 

@@ -1,5 +1,5 @@
 -- A filter makes no more steps than one event of it signals.
-use Rattle.std.proofs.Common.{◌≡◌, ℕ, ℤ, List, ◌<◌, ◌≤◌, length, refl, sym, ap, subst, ◌∙◌, arith}
+use Rattle.std.proofs.Common.{◌≡◌, ℕ, ◌<◌, ◌≤◌, length, sym, ap, subst, ◌∙◌, arith}
 use Rattle.graph_lang.specs.graph_base.declared.line.Kind.TheVariants.{Fir}
 use Rattle.graph_lang.specs.graph_base.Graphs.{phaser_at, task_at}
 use Rattle.graph_runs.specs.Answers.{output_at}

@@ -1,5 +1,5 @@
 -- A block of the line, or as many steps as the bound of its phaser allows.
-use Rattle.std.proofs.Common.{◌≡◌, ℕ, ◌<◌, ◌≤◌, true, length, sym, ap, subst, ◌∙◌}
+use Rattle.std.proofs.Common.{◌≡◌, ℕ, ◌≤◌, sym, ap, subst, ◌∙◌}
 use Rattle.graph_lang.specs.graph_base.declared.line.Kind.TheVariants.{Sink, Source}
 use Rattle.graph_lang.specs.graph_base.Graphs.{is_sink, is_source, phaser_at, task_at}
 use Rattle.graph_runs.specs.Answers.{output_at}
@@ -10,7 +10,7 @@ use Rattle.stream_job.specs.Streams.{StreamState}
 use Rattle.stream_job.proofs.Ending.{source_is}
 use Rattle.stream_job.proofs.Mosts.{line_may, may_signal_in}
 use Rattle.stream_job.proofs.OwnSteps.{sink_may, source_may}
-use Rattle.stream_job.proofs.Waits.{sink_kind}
+use Rattle.stream_job.proofs.FirstTurns.{sink_kind}
 use Rattle.stream_job.proofs.stream.Stream.own_steps.Goals as goal
 use Rattle.stream_job.proofs.stream.Stream.own_steps.Goals.{After-line_block-block}
 

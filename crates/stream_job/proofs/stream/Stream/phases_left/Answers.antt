@@ -1,5 +1,5 @@
 -- So many phases are not past the last, and not too far ahead of the slowest waiter.
-use Rattle.std.proofs.Common.{◌≡◌, ℕ, ℤ, List, ◌<◌, ◌+◌, ◌-◌, ◌||◌, false, length, get_or, sym, ap, subst, ◌∙◌, arith}
+use Rattle.std.proofs.Common.{◌≡◌, ℕ, ℤ, List, ◌<◌, ◌+◌, ◌-◌, ◌||◌, length, get_or, sym, ap, subst, ◌∙◌, arith}
 use Rattle.std.specs.Prelude.{nat_lt}
 use Rattle.phase_any.specs.phase_base.Members.{entry_of}
 use Rattle.phase_any.specs.phase_base.declared.limits.TheConstants.{PHASES_MAX}
