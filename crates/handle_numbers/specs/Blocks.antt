@@ -1,7 +1,7 @@
 -- Blocks of phases: what a wait writes.
 use Rattle.std.specs.Prelude.{ℕ, ◌+◌, ℤ, List, ◌++◌, map, drop, slice_range}
-use Rattle.phase_any.specs.phase_accum.declared.outcome.Outcome.{Outcome}
-use Rattle.phase_handle.specs.Numbers.{value_number}
+use Rattle.phase_core.specs.phase_accum.declared.outcome.Outcome.{Outcome}
+use Rattle.handle_numbers.specs.Numbers.{value_number}
 
 -- what stands in the places of a wait that got so many phases of the stream, from the first on: the
 -- number of each one's value, and behind those what stood there

@@ -1,12 +1,12 @@
 //! Numbers of C as what they name, and what calls answer as numbers.
 ghost use Rattle.std.specs.Prelude.{◌≡◌, ℤ, IfSome, None, Option};
-ghost use Rattle.phase_any.specs.phase_accum.declared.single.Single.{Single};
-ghost use Rattle.phase_handle.specs.Numbers.{op_numbered, mode_numbered, mode_number, register_number, signal_number, wait_number, value_number, Names};
+ghost use Rattle.phase_core.specs.phase_accum.declared.single.Single.{Single};
+ghost use Rattle.handle_numbers.specs.Numbers.{op_numbered, mode_numbered, mode_number, register_number, signal_number, wait_number, value_number, Names};
 
 use crate::numbers::*;
-use phase_any::phase_accum::{NO_VALUE, Op, Outcome, Single};
-use phase_any::phase_base::Mode;
-use phase_any::phase_core::{RegisterRefusal, SignalRefusal, WaitRefusal};
+use phase_core::phase_accum::{NO_VALUE, Op, Outcome, Single};
+use phase_core::phase_base::Mode;
+use phase_core::{RegisterRefusal, SignalRefusal, WaitRefusal};
 
 /// The operation of a number.
 pub fn op_of(number: u32) -> Option<Op>
