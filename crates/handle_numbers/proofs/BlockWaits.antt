@@ -16,7 +16,7 @@ use Rattle.phase_core.specs.phase_history.Phases.{stream_of, value_of_phase}
 use Rattle.phase_core.specs.phase_history.Replies.{wait_block_reply}
 use Rattle.phase_core.specs.Blocks.{written}
 use Rattle.phase_core.proofs.phase_history_lemmas.BlockAnswers.{block_answers_law}
-use Rattle.handle_numbers.specs.Blocks.{numbers_written}
+use Rattle.handle_numbers.specs.Blocks.{numbers_written, numbers_after}
 use Rattle.handle_numbers.specs.Numbers.{value_number}
 
 -- the limits of a legal history are within theirs
@@ -99,18 +99,12 @@ numbers-got value h first many now old new got is =
 abbrev pub got : ℕ → ℕ → Result GotBlock WaitRefusal
 got first many = Ok (block.Values first many)
 
--- the numbers that an answer writes
-abbrev numbers_of : Result GotBlock WaitRefusal → List Outcome → List ℤ → List ℤ
-numbers_of (Ok (block.Values first many)) stream old = numbers_written first many stream old
-numbers_of (Ok block.Ended) stream old = old
-numbers_of (Err refusal) stream old = old
-
 -- two names of what was got have the same numbers
 pub numbers-named : (first many phase count : ℕ) (stream : List Outcome) (old new : List ℤ)
     → got phase count ≡ got first many → new ≡ numbers_written phase count stream old
     → new ≡ numbers_written first many stream old
 numbers-named first many phase count stream old new same is =
-    is ∙ ap (λ r. numbers_of r stream old) same
+    is ∙ ap (λ r. numbers_after r stream old) same
 
 -- the reply to a wait for as many phases as were asked for is that for as many as there are places
 pub asked-reply : (limits : Limits) (h : History) (task places lent asked : ℕ)

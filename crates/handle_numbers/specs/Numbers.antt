@@ -32,6 +32,14 @@ op_numbered n =
     else if n == ANY then Some op.Any
     else None
 
+-- the number of an operation
+abbrev pub op_number : Op → ℕ
+op_number op.Sum = SUM
+op_number op.Product = PRODUCT
+op_number op.Least = LEAST
+op_number op.Greatest = GREATEST
+op_number op.Any = ANY
+
 -- the mode of a number
 abbrev pub mode_numbered : ℕ → Option Mode
 mode_numbered n =

@@ -1,7 +1,7 @@
 //! Numbers of C as what they name, and what calls answer as numbers.
 ghost use Rattle.std.specs.Prelude.{◌≡◌, ℤ, IfSome, None, Option};
 ghost use Rattle.phase_core.specs.phase_accum.declared.single.Single.{Single};
-ghost use Rattle.handle_numbers.specs.Numbers.{op_numbered, mode_numbered, mode_number, register_number, signal_number, wait_number, value_number, Names};
+ghost use Rattle.handle_numbers.specs.Numbers.{op_numbered, op_number, mode_numbered, mode_number, register_number, signal_number, wait_number, value_number, Names};
 
 use crate::numbers::*;
 use phase_core::phase_accum::{NO_VALUE, Op, Outcome, Single};
@@ -24,6 +24,19 @@ pub fn op_of(number: u32) -> Option<Op>
         Some(Op::Any)
     } else {
         None
+    }
+}
+
+/// The number of an operation.
+pub fn op_code(op: Op) -> u32
+    ensures { result ≡ op_number op }
+{
+    match op {
+        Op::Sum => SUM,
+        Op::Product => PRODUCT,
+        Op::Least => LEAST,
+        Op::Greatest => GREATEST,
+        Op::Any => ANY,
     }
 }
 

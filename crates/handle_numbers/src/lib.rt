@@ -9,6 +9,7 @@ pub mod numbers;
 
 pub use block_places::{places, write_numbers};
 pub use codes::{
-    mode_code, mode_of, op_of, register_code, signal_code, single_of, value_code, wait_code,
+    mode_code, mode_of, op_code, op_of, register_code, signal_code, single_of, value_code,
+    wait_code,
 };
 pub use phase_core;
