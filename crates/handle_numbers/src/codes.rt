@@ -1,5 +1,5 @@
 //! Numbers of C as what they name, and what calls answer as numbers.
-ghost use Rattle.std.specs.Prelude.{◌≡◌, ℤ, IfSome, None, Option};
+ghost use Rattle.std.specs.Prelude.{◌≡◌, ℤ, IfSome, Some, None, Option};
 ghost use Rattle.phase_core.specs.phase_accum.declared.single.Single.{Single};
 ghost use Rattle.handle_numbers.specs.Numbers.{op_numbered, op_number, mode_numbered, mode_number, register_number, signal_number, wait_number, value_number, Names};
 
@@ -73,6 +73,7 @@ pub fn mode_code(mode: Mode) -> u32
 /// ends are none of a range.
 pub fn single_of(kind: u32, low: i64, high: i64) -> Option<Option<Single>>
     ensures names { IfSome result (λ named. Names kind low high named) }
+    ensures only { (named : Option Single) → Names kind low high named → result ≡ Some named }
     ensures none { result ≡ None → (named : Option Single) → Names kind low high named → ⊥ }
 {
     if kind == NONE {
