@@ -10,7 +10,6 @@ use Rattle.phase_shared.specs.phase_base.declared.mode.Mode.TheVariants as mode
 use Rattle.phase_shared.specs.phase_accum.Sends.{AreSends}
 use Rattle.phase_shared.specs.phase_accum.declared.outcome.Outcome.{Outcome}
 use Rattle.phase_shared.specs.phase_accum.declared.single.Single.{Single}
-use Rattle.phase_shared.specs.phase_core.Blocks.{one_each}
 use Rattle.phase_shared.specs.phase_history.declared.got.Got.{Got}
 use Rattle.phase_shared.specs.phase_history.declared.got.GotBlock.{GotBlock}
 use Rattle.phase_shared.specs.phase_history.declared.refusal.RegisterRefusal.{RegisterRefusal}
@@ -24,7 +23,7 @@ use Rattle.phase_shared.specs.phase_history.Replies.{signal_reply, after_signal}
 use Rattle.phase_shared.specs.phase_history.Others.{OthersCame}
 use Rattle.phase_shared.specs.declared.tried.Tried.{Tried}
 use Rattle.phase_shared.specs.declared.tried.Tried.TheVariants.{Busy, Refused}
-use Rattle.phase_shared.specs.Blocks.{WaitsBlock, entry_after_block, entry_after_values}
+use Rattle.phase_shared.specs.Blocks.{SignalsValues, WaitsBlock, entry_after_block, entry_after_values}
 use Rattle.phase_shared.specs.Calls.{Tries, Waits, MayWait, HasRegistered, RefusesRegister}
 use Rattle.phase_shared.specs.Entries.{entry_stays, entry_after_signal, entry_after_wait, entry_after_both}
 use Rattle.phase_shared.specs.Joins.{HasRegisteredNow}
@@ -78,15 +77,6 @@ SignalsAndWaits value limits me values single old new (Ok answer) =
     HasSignalledAndWaits value limits me values single old new answer
 SignalsAndWaits value limits me values single old new (Err refusal) =
     SignalsSends value limits me values single old new (Err refusal)
-
--- a signal of as many phases as there are values, one send each: events of others, and there the
--- definition's answer; then the signal's event, where it was accepted
-pub record SignalsValues (limits : Limits) (me : ℕ) (values : List ℤ) (single : Option Single)
-    (old new : History) (answer : Result ℕ SignalRefusal) : Type 0 where
-  pub before : History
-  pub others : OthersCame (me ∷ []) old before
-  pub seen : new ≡ after_signal answer me (one_each values) single before
-  pub reply : signal_reply limits before me (one_each values) single ≡ answer
 
 abbrev pub SignalCall : (List ℤ → Outcome) → List ℤ → Option Single → MemberState → MemberState
     → Result ℕ (Tried SignalRefusal) → Type 0

@@ -81,10 +81,12 @@ impl Handle {
         requires asked { (limits : Limits) (h : History) (task : ℕ) → AreLimits limits
             → wait_block_reply limits h task (length out.old)
             ≡ wait_block_reply limits h task (length values.old) }
-        ensures { (m : AnyMember) → held_in self.old.place.kept ≡ Some m
+        ensures call { (m : AnyMember) → held_in self.old.place.kept ≡ Some m
             → Keeps (held_in self.new.place.kept) (λ n. (op_in n ≡ op_in m)
             × NumbersCall (value_by (op_in m)) values.old values.new (member_in m) (member_in n)
             result) }
+        ensures ended { result ≡ Ok GotBlock.Ended → values.new ≡ values.old }
+        ensures err { OnErr result (values.new ≡ values.old) }
     {
         match self.wait_block(alloc, out) {
             Ok(GotBlock::Values { phase, count }) => {
@@ -110,6 +112,9 @@ impl Handle {
             → Keeps (held_in self.new.place.kept) (λ n. (op_in n ≡ op_in m)
             × NumbersCall (value_by (op_in m)) values.old values.new (member_in m) (member_in n)
             answer)) }
+        ensures ended { IfOk result (λ answer. answer ≡ Ok GotBlock.Ended
+            → values.new ≡ values.old) }
+        ensures refused { IfOk result (λ answer. OnErr answer (values.new ≡ values.old)) }
         ensures err { OnErr result ((self.new.place.kept ≡ self.old.place.kept)
             × (values.new ≡ values.old)) }
     {
