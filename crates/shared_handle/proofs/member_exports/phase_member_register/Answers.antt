@@ -1,5 +1,5 @@
 -- C is told what the member answered.
-use Rattle.std.proofs.Common.{◌≡◌, inr, sym, ap, refl, subst, ◌∙◌, w32, to_z, of_z}
+use Rattle.std.proofs.Common.{◌≡◌, Err, inr, sym, ap, refl, subst, ◌∙◌, w32, to_z, of_z}
 use Rattle.phase_shared.specs.phase_base.declared.mode.Mode.{Mode}
 use Rattle.phase_shared.specs.declared.tried.Tried.TheVariants.{Busy, Refused}
 use Rattle.handle_numbers.specs.declared.numbers.TheConstants.{GOOD, BUSY}
@@ -31,7 +31,7 @@ returns-in-Ok-Err-Busy-clause-call c = λ m named is none named_is.
     inr (subst (λ (mode : Mode).
     Keeps after (λ n. TellsRegister (AddCall mode) m n BUSY before before)) e
     (refusal_told (AddCall c.in-Some.named) m after before before c.in-Ok-Err-Busy.field-0 Busy BUSY
-    c.in-Ok-Err-Busy.field-0-is refl refl (c.in-Ok-Err-Busy.ensures.call m is)))
+    (c.in-Ok-Err-Busy.field-0-is ∙ ap Err c.in-Ok-Err-Busy.field-0-0-is) refl refl (c.in-Ok-Err-Busy.ensures.call m is)))
 
 pub returns-in-Ok-Err-Refused-clause-call : goal.returns-in-Ok-Err-Refused-clause-call
 returns-in-Ok-Err-Refused-clause-call c = λ m named is none named_is.
@@ -44,6 +44,6 @@ returns-in-Ok-Err-Refused-clause-call c = λ m named is none named_is.
     inr (subst (λ (mode : Mode).
     Keeps after (λ n. TellsRegister (AddCall mode) m n status before before)) e
     (refusal_told (AddCall c.in-Some.named) m after before before c.in-Ok-Err-Refused.field-0
-    (Refused refusal) status c.in-Ok-Err-Refused.field-0-is
+    (Refused refusal) status (c.in-Ok-Err-Refused.field-0-is ∙ ap Err c.in-Ok-Err-Refused.field-0-0-is)
     (register_told refusal c.register_code.result c.register_code.ensures) refl
     (c.in-Ok-Err-Refused.ensures.call m is)))
