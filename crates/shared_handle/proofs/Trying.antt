@@ -1,13 +1,11 @@
 -- What tries of a registration are as tries of a member.
-use Rattle.std.proofs.Common.{◌≡◌, ℕ, ℤ, List, [], ◌∷◌, ◌++◌, ◌+◌, ◌≤◌, Option, Some, true, length, refl, sym, ap, subst, ◌∙◌, arith, length-append}
+use Rattle.std.proofs.Common.{◌≡◌, ℕ, ℤ, List, [], ◌∷◌, ◌++◌, Option, Some, true, length, refl, sym, ap, subst, ◌∙◌, arith, length-append}
 use Rattle.std.specs.Prelude.{Result, Ok, Err}
 use Rattle.phase_shared.specs.phase_base.Limits.{Limits}
 use Rattle.phase_shared.specs.phase_base.Members.{entry_of}
 use Rattle.phase_shared.specs.phase_base.declared.entry.Entry.{Entry}
-use Rattle.phase_shared.specs.phase_base.declared.limits.TheConstants.{SENDS_MAX}
 use Rattle.phase_shared.specs.phase_accum.Operations.{Operation, AccumulateLaws, IsPartOf, part}
 use Rattle.phase_shared.specs.phase_accum.Parcels.{Parcel, StandsForSends}
-use Rattle.phase_shared.specs.phase_accum.Sends.{AreSends}
 use Rattle.phase_shared.specs.phase_accum.declared.single.Single.{Single}
 use Rattle.phase_shared.proofs.phase_history_lemmas.phase_accum_lemmas.Parts.{IsPartOf-part, IsPartOf-join, value-same}
 use Rattle.phase_shared.specs.phase_history.declared.got.Got.{Got}
@@ -22,7 +20,7 @@ use Rattle.phase_shared.specs.Calls.{IsTry, Tries, Signals, SignalsAndMayWait, M
 use Rattle.phase_shared.specs.Rule.{Allows}
 use Rattle.phase_shared.specs.Regs.{RegState, IsGoodOn, phaser_lock, phaser_terms, phaser_limits}
 use Rattle.phase_shared.proofs.Answering.{Tries-map}
-use Rattle.shared_handle.specs.Members.{MemberState, limits_on, member_state, IsMember, IsAlone}
+use Rattle.shared_handle.specs.Members.{limits_on, member_state, IsMember}
 use Rattle.shared_handle.specs.Calls.{AreAlike, SignalsSends, SignalsAndWaits, IsMemberTry}
 
 module _ {A : Type 0} where
@@ -85,7 +83,7 @@ module _ {A : Type 0} (op : Operation A) (laws : AccumulateLaws op) where
         let many : length sends ≡ length values = sym other.count_is ∙ stands.count_is in
         let x = op.join (op.join (part op front) held.part) (part op back) in
         let whole : (mid : List ℤ) → StandsForSends op held mid → length mid ≡ length values
-            → IsPartOf op x (front ++ mid ++ back) =
+        → IsPartOf op x (front ++ mid ++ back) =
         λ mid is long.
         IsPartOf-join op (op.join (part op front) held.part) (part op back) (front ++ mid) back laws
         (IsPartOf-join op (part op front) held.part front mid laws

@@ -1,5 +1,5 @@
 -- What waits answer.
-use Rattle.std.proofs.Common.{◌≡◌, ℕ, ◌≤◌, ℤ, List, Result, Ok, length, min, sym, subst}
+use Rattle.std.proofs.Common.{◌≡◌, ℕ, ◌≤◌, ℤ, List, Result, Ok, length, sym, subst}
 use Rattle.std.proofs.Math.Nat.{min-le_left}
 use Rattle.phase_shared.specs.phase_base.Limits.{Limits}
 use Rattle.phase_shared.specs.phase_accum.declared.outcome.Outcome.{Outcome}

@@ -1,6 +1,6 @@
 -- What the calls of a registration answer, and how the history that it has seen goes on by them:
 -- by events of others up to the moment of the call, and then by its own, where it makes one.
-use Rattle.std.specs.Prelude.{◌≡◌, ◌≢◌, ℕ, ◌+◌, ◌≤◌, ℤ, List, [], ◌∷◌, ◌++◌, Bool, true, length, Option, Result, Ok, Err}
+use Rattle.std.specs.Prelude.{◌≡◌, ◌≢◌, ℕ, ◌+◌, ◌≤◌, ℤ, List, [], ◌∷◌, ◌++◌, true, length, Option, Result, Ok, Err}
 use Rattle.std.specs.Result.{result_ok}
 use Rattle.phase_shared.specs.phase_base.Limits.{Limits}
 use Rattle.phase_shared.specs.phase_base.declared.entry.Entry.{Entry}

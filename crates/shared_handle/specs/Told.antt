@@ -1,6 +1,6 @@
 -- What C is told of the registration behind a handle: the status and what is written are functions
 -- of the answer of its call.
-use Rattle.std.specs.Prelude.{◌≡◌, ℕ, ℤ, List, length, Option, Some, None, Result, Ok, Err}
+use Rattle.std.specs.Prelude.{◌≡◌, ℕ, ℤ, List, Option, Some, None, Result, Ok, Err}
 use Rattle.phase_shared.specs.phase_base.declared.operation.Op.{Op}
 use Rattle.phase_shared.specs.phase_accum.Values.{value_by}
 use Rattle.phase_shared.specs.phase_accum.declared.single.Single.{Single}

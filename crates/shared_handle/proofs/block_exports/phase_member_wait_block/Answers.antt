@@ -33,10 +33,9 @@ returns-in-Ok-clause-unwritten c = λ none.
     let answer = c.in-Ok.answer in
     let told = wait_block_told answer c.told_wait_block.result c.told_wait_block.ensures in
     let same = wait_block_unwritten answer c.args.phase.now c.args.count.now
-        (λ good. none (told ∙ good)) in
-    (
+    (λ good. none (told ∙ good)) in (
       numbers_unwritten answer c.args.values.now c.wait_numbers.new.values
-      (λ good. none (told ∙ good)) c.in-Ok.ensures.ended c.in-Ok.ensures.refused,
+          (λ good. none (told ∙ good)) c.in-Ok.ensures.ended c.in-Ok.ensures.refused,
       c.write_block.ensures.phase ∙ same.0,
       c.write_block.ensures.count ∙ same.1,
     )

@@ -1,6 +1,5 @@
 -- What was got is written as numbers.
 use Rattle.std.proofs.Common.{◌≡◌, Ok, Err, refl, subst}
-use Rattle.std.specs.Prelude.{Result}
 use Rattle.phase_shared.specs.phase_accum.Values.{value_by}
 use Rattle.phase_shared.specs.phase_history.declared.got.GotBlock.{GotBlock}
 use Rattle.phase_shared.specs.phase_history.declared.got.GotBlock.TheVariants as block
@@ -24,12 +23,15 @@ returns-in-Ok-Values-clause-call c = λ m is.
     (λ n. (op_in n ≡ op_in m)
     × NumbersCall (value_by (op_in m)) before after (member_in m) (member_in n)
     (Ok (block.Values there.phase there.count)))
-    (λ n told. (told.0, numbers_call (value_by (op_in m)) c.args.out.now out before after
-    (member_in m) (member_in n) (Ok (block.Values there.phase there.count)) c.requires.asked
-    c.write_numbers.ensures
-    (subst (λ (got : GotBlock).
-    BlockWaitCall (value_by (op_in m)) c.args.out.now out (member_in m) (member_in n) (Ok got))
-    there.field-0-is told.1)))
+    (λ n told. (
+      told.0,
+      numbers_call (value_by (op_in m)) c.args.out.now out before after
+          (member_in m) (member_in n) (Ok (block.Values there.phase there.count)) c.requires.asked
+          c.write_numbers.ensures
+          (subst (λ (got : GotBlock).
+          BlockWaitCall (value_by (op_in m)) c.args.out.now out (member_in m) (member_in n) (Ok got))
+          there.field-0-is told.1),
+    ))
     (there.ensures.call m is)
 
 pub returns-in-Ok-Ended-clause-call : goal.returns-in-Ok-Ended-clause-call
@@ -43,11 +45,14 @@ returns-in-Ok-Ended-clause-call c = λ m is.
     (Ok there.field-0))
     (λ n. (op_in n ≡ op_in m)
     × NumbersCall (value_by (op_in m)) before before (member_in m) (member_in n) (Ok block.Ended))
-    (λ n told. (told.0, numbers_call (value_by (op_in m)) c.args.out.now out before before
-    (member_in m) (member_in n) (Ok block.Ended) c.requires.asked refl
-    (subst (λ (got : GotBlock).
-    BlockWaitCall (value_by (op_in m)) c.args.out.now out (member_in m) (member_in n) (Ok got))
-    there.field-0-is told.1)))
+    (λ n told. (
+      told.0,
+      numbers_call (value_by (op_in m)) c.args.out.now out before before
+          (member_in m) (member_in n) (Ok block.Ended) c.requires.asked refl
+          (subst (λ (got : GotBlock).
+          BlockWaitCall (value_by (op_in m)) c.args.out.now out (member_in m) (member_in n) (Ok got))
+          there.field-0-is told.1),
+    ))
     (there.ensures.call m is)
 
 pub returns-in-Err-clause-call : goal.returns-in-Err-clause-call
@@ -62,6 +67,9 @@ returns-in-Err-clause-call c = λ m is.
     (λ n. (op_in n ≡ op_in m)
     × NumbersCall (value_by (op_in m)) before before (member_in m) (member_in n)
     (Err there.tried))
-    (λ n told. (told.0, numbers_call (value_by (op_in m)) c.args.out.now out before before
-    (member_in m) (member_in n) (Err there.tried) c.requires.asked refl told.1))
+    (λ n told. (
+      told.0,
+      numbers_call (value_by (op_in m)) c.args.out.now out before before
+          (member_in m) (member_in n) (Err there.tried) c.requires.asked refl told.1,
+    ))
     (there.ensures.call m is)
