@@ -154,9 +154,10 @@ static void ring_at(struct bell *bell, uint64_t number)
 
 static struct phase_gate *gate_new(void)
 {
-    struct phase_gate *gate = calloc(1, sizeof *gate);
+    struct phase_gate *gate = malloc(sizeof *gate);
     if (gate == NULL)
         return NULL;
+    *gate = (struct phase_gate){.owners = 1};
     if (!bell_init(&gate->done)) {
         free(gate);
         return NULL;
@@ -166,7 +167,6 @@ static struct phase_gate *gate_new(void)
         free(gate);
         return NULL;
     }
-    atomic_init(&gate->owners, 1);
     return gate;
 }
 
