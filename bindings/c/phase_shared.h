@@ -14,10 +14,10 @@
  * freed with the last.
  *
  * Calls have three forms. The plain one waits as long as it takes, and is answered neither
- * PHASE_E_AHEAD nor PHASE_E_NOT_YET nor PHASE_E_BUSY. The one with _for tries for so many
- * nanoseconds, or a little longer; then the answer is that of its last try, and may be any of
- * these. The one with try_ answers at once, and so may be answered these, too. A thread that has
- * waited for more than some microseconds sleeps.
+ * PHASE_E_AHEAD nor PHASE_E_NOT_YET. The one with _for tries for so many nanoseconds, or a little
+ * longer, and then the answer is that of its last try, which may be one of these. The one with try_
+ * tries once: it may be answered so, too, and it alone PHASE_E_BUSY, while another call on the
+ * phaser is in the middle. A thread that has waited for more than some microseconds sleeps.
  *
  * What a thread did before its signal is seen by every thread that got the phase: each call is a
  * sequentially consistent exchange on one word of the phaser.

@@ -293,12 +293,12 @@ static void pause_for(const struct aim *aim, struct patience *patience)
 static bool signals_again(phase_registration *registration, uint64_t count, int32_t status,
                           struct patience *patience)
 {
-    if ((status != PHASE_E_BUSY && status != PHASE_E_AHEAD) || left(patience) == 0)
-        return false;
     if (status == PHASE_E_BUSY) {
         snooze(patience);
         return true;
     }
+    if (status != PHASE_E_AHEAD || left(patience) == 0)
+        return false;
     uint64_t next = registration->signal_phase + count, bound = registration->bound;
     struct aim room = {registration, &registration->gate->base, next > bound ? next - bound : 0};
     pause_for(&room, patience);
@@ -322,11 +322,11 @@ static void pause_for_phase(phase_registration *registration, uint64_t count,
 /* Whether a wait that was answered so is tried again. */
 static bool waits_again(int32_t status, struct patience *patience)
 {
-    if ((status != PHASE_E_BUSY && status != PHASE_E_NOT_YET) || left(patience) == 0)
-        return false;
-    if (status == PHASE_E_BUSY)
+    if (status == PHASE_E_BUSY) {
         snooze(patience);
-    return true;
+        return true;
+    }
+    return status == PHASE_E_NOT_YET && left(patience) != 0;
 }
 
 /* ---- Registering and leaving. */

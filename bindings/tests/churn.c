@@ -110,7 +110,7 @@ static int32_t goes_next(struct task *task, uint64_t nanoseconds)
     do
         status = phase_shared_next_for(&task->registration, &one, 1, PHASE_NO_SINGLE, 0, 0, &phase,
                                        &value, nanoseconds);
-    while (status == PHASE_E_AHEAD || status == PHASE_E_BUSY);
+    while (status == PHASE_E_AHEAD);
     if (status < 0)
         return status;
     note_sent(phase);

@@ -46,7 +46,7 @@ pub enum PhaserError {
     /// The phase is not complete, and a signaller is registered.
     NotYet,
     /// Another call on the phaser is in the middle. It comes to calls of [`shared`](crate::shared)
-    /// alone, which try once or for some time.
+    /// alone, and of these to those that try once.
     Busy,
     /// Memory ran out.
     OutOfMemory,

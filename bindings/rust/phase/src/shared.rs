@@ -57,9 +57,10 @@
 //!
 //! # Three forms of each call
 //!
-//! The plain one waits as long as it takes, and is refused neither as `Ahead` nor as `NotYet` nor as
-//! `Busy`. The one with `_for` tries for so long, or a little longer, and the one with `try_` once;
-//! so they may be refused so, too. Any refusal leaves the registration as it was.
+//! The plain one waits as long as it takes, and is refused neither as `Ahead` nor as `NotYet`. The
+//! one with `_for` tries for so long, or a little longer, and may be refused so. The one with `try_`
+//! tries once: it may be refused so, too, and it alone as `Busy`, while another call on the phaser is
+//! in the middle. Any refusal leaves the registration as it was.
 //!
 //! # What is proved
 //!

@@ -229,7 +229,7 @@ impl Step for Registration<SigWait> {
             return Ok(churn.note_got(self.wait()?));
         }
         match self.next_for(&[1], None, Duration::from_micros(seed % 40)) {
-            Err(PhaserError::Ahead | PhaserError::Busy) => Ok(true),
+            Err(PhaserError::Ahead) => Ok(true),
             Err(why) => Err(why),
             Ok(Next::Value(PhaseValue { phase, value })) => {
                 churn.note_sent(phase);
