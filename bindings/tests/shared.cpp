@@ -17,7 +17,7 @@ static void has(bool is_so, const char *what)
 
 static_assert(!std::is_copy_constructible_v<phase::registration>, "a registration is not copied");
 static_assert(!std::is_copy_assignable_v<phase::phaser>, "a phaser is not copied");
-static_assert(std::is_nothrow_move_constructible_v<phase::registration>, "it may stand in a vector");
+static_assert(std::is_nothrow_move_constructible_v<phase::registration>, "a vector may have it");
 
 static int64_t sum_of(phase::registration own, int64_t number)
 {

@@ -59,8 +59,8 @@ impl PhaseRegistration {
 
 unsafe extern "C" {
     /// # Safety
-    /// As of `phase_check`. A place is `NONE` or as the last call left it, and no other call on it is
-    /// running; those of a parent and its child are two. The same goes for the calls below.
+    /// As of `phase_check`. A place is `NONE` or as the last call left it, and no other call on it
+    /// is running; those of a parent and its child are two. The same goes for the calls below.
     pub fn phase_shared_new(
         operation: u32,
         bound: u64,

@@ -58,9 +58,9 @@
 //! # Three forms of each call
 //!
 //! The plain one waits as long as it takes, and is refused neither as `Ahead` nor as `NotYet`. The
-//! one with `_for` tries for so long, or a little longer, and may be refused so. The one with `try_`
-//! tries once: it may be refused so, too, and it alone as `Busy`, while another call on the phaser is
-//! in the middle. Any refusal leaves the registration as it was.
+//! one with `_for` tries for so long, or a little longer, and may be refused so. The one with
+//! `try_` tries once: it may be refused so, too, and it alone as `Busy`, while another call on the
+//! phaser is in the middle. Any refusal leaves the registration as it was.
 //!
 //! # What is proved
 //!
@@ -120,8 +120,8 @@ unsafe impl<M: mode::Mode> Send for Registration<M> {}
 
 impl Registration<mode::Single> {
     /// Makes a phaser of `phases` phases, from 1 to 2^62, whose signallers may be `bound` phases
-    /// ahead of its slowest waiter, from 1 to 65,536, and its founder at phase 0. Where threads meet
-    /// at a barrier, each of which signals a phase and waits for it, the bound should be 2.
+    /// ahead of its slowest waiter, from 1 to 65,536, and its founder at phase 0. Where threads
+    /// meet at a barrier, each of which signals a phase and waits for it, the bound should be 2.
     ///
     /// It is refused as `BadBound`, `BadPhases` or `OutOfMemory`.
     ///
@@ -228,9 +228,9 @@ impl<M: mode::Mode> Registration<M> {
         standing
     }
 
-    /// Returns how far the phaser is, as far as the calls that have ended tell: the phases below the
-    /// first number are complete, and every waiter got those below the second. Each is `u64::MAX`
-    /// where nobody is left to wait for. It is a hint for when to try.
+    /// Returns how far the phaser is, as far as the calls that have ended tell: the phases below
+    /// the first number are complete, and every waiter got those below the second. Each is
+    /// `u64::MAX` where nobody is left to wait for. It is a hint for when to try.
     pub fn told(&self) -> (u64, u64) {
         let (mut complete, mut got) = (0, 0);
         // SAFETY: as in `standing`.

@@ -1,5 +1,5 @@
 //! What threads get from a phaser, beside values worked out by hand: barriers, streams and blocks,
-//! time limits, those that leave or panic while others wait, and threads that come and go at random.
+//! time limits, those that leave or panic while others wait, and threads that come and go.
 use phase::shared::mode::{Mode, Sig, SigWait, Signals, Single, Wait, Waits};
 use phase::shared::{Next, PhaseValue, Registration};
 use phase::{Got, GotBlock, Operation, PhaserError, Single as Once, Standing};
