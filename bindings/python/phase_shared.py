@@ -13,9 +13,9 @@
 [0, 6, 12]
 
 A registration is used by one thread at a time: a second one that calls it meanwhile gets a
-RuntimeError. The interpreter's lock is let go in every call, so that other threads run while one
-waits; without such a lock the calls are as safe. A wait ends by a KeyboardInterrupt within some 10
-milliseconds. What a thread did before its signal is seen by every thread that got the phase.
+RuntimeError. A call that has to wait lets the interpreter's lock go, so that other threads run; in
+a build without such a lock the calls are as safe. A wait ends by a KeyboardInterrupt within some
+10 milliseconds. What a thread did before its signal is seen by every thread that got the phase.
 """
 from __future__ import annotations
 
@@ -31,6 +31,7 @@ import numpy
 from numpy.typing import ArrayLike, NDArray
 
 import phase
+from phase import ENDED, OK, SIG, SIGNALLED
 from phase import BadMode, Clamp, Got, GotBlock, Mode, NoWait, Standing
 
 __all__ = ["SharedPhaser", "Registration", "Signalled"]
@@ -41,11 +42,14 @@ _SLICE = 10_000_000
 # More nanoseconds than any wait takes.
 _LONGEST = 2**62
 
-# What a call is answered whose time is over.
+# What a call is answered whose time is over, and what is tried again.
 _EARLY = frozenset((phase.E_AHEAD, phase.E_NOT_YET))
+_AGAIN = _EARLY | {phase.E_BUSY}
 
 # The single of a signal that names none.
-_NO_SINGLE = (phase.NO_SINGLE, 0, 0)
+_NO_SINGLE = (int(phase.NO_SINGLE), 0, 0)
+
+_NO_VALUE = phase._NO_VALUE
 
 
 class Signalled(TimeoutError):
@@ -78,46 +82,64 @@ class _Standing(ctypes.Structure):
     ]
 
 
-def _load():
-    lib, place, few = phase._lib, [ctypes.POINTER(_Place)], ctypes.c_uint32
-    whole, number = ctypes.c_uint64, [ctypes.POINTER(ctypes.c_uint64)]
-    value, count = [ctypes.POINTER(ctypes.c_int64)], [ctypes.POINTER(ctypes.c_size_t)]
-    row = [ctypes.c_void_p, ctypes.c_size_t]
-    sends = row + [few, ctypes.c_int64, ctypes.c_int64] + number
-    calls = {
-        "new": [few, whole, whole] + place,
-        "register": place + [few] + place,
-        "register_now": place + place + number,
-        "signal_for": place + sends + [whole],
-        "signal_block_for": place + sends + [whole],
-        "next_for": place + sends + value + [whole],
-        "wait_for": place + number + value + [whole],
-        "wait_block_for": place + row + number + count + [whole],
-        "leave": place,
-        "view": place + [ctypes.POINTER(_Standing)],
-        "told": place + number + number,
-    }
+def _load(lib, calls):
     for name, arguments in calls.items():
         call = getattr(lib, "phase_shared_" + name)
         call.argtypes, call.restype = arguments, ctypes.c_int32
     return lib
 
 
-_lib = _load()
+def _load_all():
+    """The library as its calls let the interpreter's lock go, and as those that try once do not."""
+    place, few = [ctypes.POINTER(_Place)], ctypes.c_uint32
+    whole, number = ctypes.c_uint64, [ctypes.POINTER(ctypes.c_uint64)]
+    value, count = [ctypes.POINTER(ctypes.c_int64)], [ctypes.POINTER(ctypes.c_size_t)]
+    row = [ctypes.c_void_p, ctypes.c_size_t]
+    sends = row + [few, ctypes.c_int64, ctypes.c_int64] + number
+    waiting = {
+        "signal": place + sends,
+        "signal_block": place + sends,
+        "next": place + sends + value,
+        "wait": place + number + value,
+        "wait_block": place + row + number + count,
+    }
+    others = {
+        "new": [few, whole, whole] + place,
+        "register": place + [few] + place,
+        "register_now": place + place + number,
+        "leave": place,
+        "view": place + [ctypes.POINTER(_Standing)],
+        "told": place + number + number,
+    }
+    timed = {f"{name}_for": arguments + [whole] for name, arguments in waiting.items()}
+    tried = {f"try_{name}": arguments for name, arguments in waiting.items()}
+    return _load(phase._lib, timed | others), _load(ctypes.PyDLL(phase._lib._name), tried)
+
+
+_lib, _quick = _load_all()
+# Each call as it is tried once, and as it goes on for some time.
+_SIGNAL = _quick.phase_shared_try_signal, _lib.phase_shared_signal_for
+_SIGNAL_BLOCK = _quick.phase_shared_try_signal_block, _lib.phase_shared_signal_block_for
+_NEXT = _quick.phase_shared_try_next, _lib.phase_shared_next_for
+_WAIT = _quick.phase_shared_try_wait, _lib.phase_shared_wait_for
+_WAIT_BLOCK = _quick.phase_shared_try_wait_block, _lib.phase_shared_wait_block_for
 
 
 class _Turn:
     """What a thread has while it is in the middle of a call on a registration."""
 
+    __slots__ = ("_acquire", "_release")
+
     def __init__(self) -> None:
-        self._lock = threading.Lock()
+        lock = threading.Lock()
+        self._acquire, self._release = lock.acquire, lock.release
 
     def __enter__(self) -> None:
-        if not self._lock.acquire(False):
+        if not self._acquire(False):
             raise RuntimeError("another thread is in the middle of a call on this registration")
 
     def __exit__(self, *_: object) -> None:
-        self._lock.release()
+        self._release()
 
 
 class Registration:
@@ -177,7 +199,7 @@ class Registration:
         It raises NoPhaser, BadSingle, TooManySends, BadValue, NoSignal, NotSingle, SignalTwice,
         Spent, SingleDiffers, PhaseFull or TimeoutError.
         """
-        return self._signals(_lib.phase_shared_signal_for, values, single, timeout)
+        return self._signals(_SIGNAL, values, single, timeout)
 
     def signal_block(
         self,
@@ -191,7 +213,7 @@ class Registration:
 
         It raises what `signal` does where one of the signals would, and BadBlock or MemoryError.
         """
-        return self._signals(_lib.phase_shared_signal_block_for, values, single, timeout)
+        return self._signals(_SIGNAL_BLOCK, values, single, timeout)
 
     def next(
         self,
@@ -209,16 +231,15 @@ class Registration:
         >>> phase.SharedPhaser(phase.SUM, 2, 100).next([4, 5], phase.HALVE)
         Got(phase=0, value=4)
         """
-        if self.mode == phase.SIG:
+        if self.mode is SIG:
             raise NoWait
         until = _until(timeout)
         with self._turn:
             lent, row = self._sends(values)
-            words = *row, *_single(single), self._phase_at, self._value_at
-            status = self._tries(_lib.phase_shared_next_for, words, until)
-            if status == phase.SIGNALLED:
-                words = self._phase_at, self._value_at
-                status = self._tries(_lib.phase_shared_wait_for, words, until)
+            got = self._phase_at, self._value_at
+            status = self._tries(_NEXT, (*row, *_single(single), *got), until)
+            if status == SIGNALLED:
+                status = self._goes_on(_WAIT[1], got, until)
                 if status in _EARLY:
                     raise Signalled(self._phase.value)
             _done(status)
@@ -241,8 +262,8 @@ class Registration:
         """
         until, words = _until(timeout), (self._phase_at, self._value_at)
         with self._turn:
-            status = self._tries(_lib.phase_shared_wait_for, words, until)
-            if status == phase.ENDED:
+            status = self._tries(_WAIT, words, until)
+            if status == ENDED:
                 return None
             _done(status)
             return self._got()
@@ -267,8 +288,8 @@ class Registration:
         values, count, until = phase._places(out), ctypes.c_size_t(), _until(timeout)
         words = values.ctypes.data, len(values), self._phase_at, count
         with self._turn:
-            status = self._tries(_lib.phase_shared_wait_block_for, words, until)
-            if status == phase.ENDED:
+            status = self._tries(_WAIT_BLOCK, words, until)
+            if status == ENDED:
                 return None
             _done(status)
             return GotBlock(self._phase.value, values[: count.value])
@@ -315,16 +336,22 @@ class Registration:
     def __reduce__(self) -> Any:
         raise TypeError("a registration is not copied")
 
-    def _signals(self, call, values, single, timeout):
+    def _signals(self, calls, values, single, timeout):
         until = _until(timeout)
         with self._turn:
             lent, row = self._sends(values)
             words = *row, *_single(single), self._phase_at
-            _done(self._tries(call, words, until))
+            _done(self._tries(calls, words, until))
             return self._phase.value
 
-    def _tries(self, call, words, until):
-        """What a call is answered in the end, slice by slice, so that signals are seen between."""
+    def _tries(self, calls, words, until):
+        """What a call is answered in the end: once, and then slice by slice, so that the signals of
+        the system are seen between."""
+        once, for_some_time = calls
+        status = once(self._at, *words)
+        return self._goes_on(for_some_time, words, until) if status in _AGAIN else status
+
+    def _goes_on(self, call, words, until):
         while True:
             left = _SLICE if until is None else min(_SLICE, max(0, until - time.monotonic_ns()))
             status = call(self._at, *words, left)
@@ -333,7 +360,7 @@ class Registration:
 
     def _sends(self, values):
         """What has the sends, and where C finds them and how many they are."""
-        if isinstance(values, (int, numpy.integer)):
+        if type(values) is int or isinstance(values, (int, numpy.integer)):
             value = operator.index(values)
             if not -(2**63) <= value < 2**63:
                 raise OverflowError("a send is above 2**63 - 1, or below -2**63")
@@ -344,7 +371,7 @@ class Registration:
 
     def _got(self):
         value = self._value.value
-        return Got(self._phase.value, value if value != phase._NO_VALUE else None)
+        return Got(self._phase.value, value if value != _NO_VALUE else None)
 
     def _standing(self):
         standing = _Standing()
@@ -393,6 +420,8 @@ def _until(timeout):
 
 
 def _done(status):
+    if status == OK:
+        return
     if status in _EARLY:
         raise TimeoutError(str(phase._REFUSALS[status]()))
     phase._done(status)

@@ -1,6 +1,6 @@
 """What phasers between threads of phase.py answer: barriers, streams and blocks beside values
-worked out alone; time limits; Ctrl-C in the middle of a wait; each refusal, which leaves all as it was;
-registrations that are let go of; and a second thread on one registration."""
+worked out alone; time limits; Ctrl-C in the middle of a wait; each refusal, which leaves all
+as it was; registrations that are let go of; and a second thread on one registration."""
 import copy
 import gc
 import os
