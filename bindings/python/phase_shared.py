@@ -69,6 +69,7 @@ class _Place(ctypes.Structure):
         ("signal_phase", ctypes.c_uint64),
         ("wait_phase", ctypes.c_uint64),
         ("mode", ctypes.c_uint32),
+        ("apart", ctypes.c_uint64 * 9),
     ]
 
 

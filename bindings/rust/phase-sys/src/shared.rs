@@ -43,6 +43,8 @@ pub struct PhaseRegistration {
     pub wait_phase: u64,
     /// The number of its mode.
     pub mode: u32,
+    /// Nothing: threads do not write beside each other's in an array.
+    pub apart: [u64; 9],
 }
 
 impl PhaseRegistration {
@@ -54,6 +56,7 @@ impl PhaseRegistration {
         signal_phase: 0,
         wait_phase: 0,
         mode: 0,
+        apart: [0; 9],
     };
 }
 
