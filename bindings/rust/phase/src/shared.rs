@@ -191,6 +191,7 @@ impl<M: mode::Mode> Registration<M> {
 
     /// The same, tried once: where another call on the phaser is in the middle, the registration
     /// comes back.
+    #[allow(clippy::result_large_err, reason = "it is the registration that was given")]
     pub fn try_leave(self) -> Result<(), Registration<M>> {
         // SAFETY: the place has a registration of this thread.
         match unsafe { phase_shared_try_leave(self.place.get()) } {
