@@ -112,10 +112,9 @@ static int32_t goes_next(struct task *task, uint64_t nanoseconds)
     uint64_t phase = 0;
     int64_t value = 0;
     int32_t status;
-    do
-        status = phase_shared_next_for(&task->registration, &one, 1, PHASE_NO_SINGLE, 0, 0, &phase,
-                                       &value, nanoseconds);
-    while (status == PHASE_E_AHEAD);
+    while ((status = phase_shared_next_for(&task->registration, &one, 1, PHASE_NO_SINGLE, 0, 0,
+                                           &phase, &value, nanoseconds)) == PHASE_E_AHEAD)
+        rest();
     if (status < 0)
         return status;
     note_sent(phase);
