@@ -25,7 +25,7 @@
 #endif
 
 /* How often a pause looks while it spins, and how often it then yields. */
-enum { LOOKS = 15, YIELDS = 60 };
+enum { LOOKS = 15, YIELDS = 15 };
 
 /* After a try whose turn was another's: how often a pause spins, each time twice as long, before it
  * yields, and how many nanoseconds it then sleeps. */
