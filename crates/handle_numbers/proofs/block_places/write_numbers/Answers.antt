@@ -1,9 +1,9 @@
 -- One more number stands behind those before it.
 use Rattle.std.proofs.Common.{◌≡◌, ◌<◌, length, pos, set, w64, to_z, of_z, ap, ◌∙◌, arith}
 use Rattle.std.proofs.lemmas.Int.{ints}
-use Rattle.phase_any.specs.phase_accum.declared.outcome.Outcome.TheVariants as outcome
-use Rattle.phase_handle.proofs.BlockWaits.{write-more}
-use Rattle.phase_handle.proofs.block_places.write_numbers.Goals as goal
+use Rattle.phase_core.specs.phase_accum.declared.outcome.Outcome.TheVariants as outcome
+use Rattle.handle_numbers.proofs.BlockWaits.{write-more}
+use Rattle.handle_numbers.proofs.block_places.write_numbers.Goals as goal
 
 pub loop-k-preserved : goal.loop-k-preserved
 loop-k-preserved c =

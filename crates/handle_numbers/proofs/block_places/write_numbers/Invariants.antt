@@ -1,7 +1,7 @@
 -- The first numbers stand in the first places, and behind them what stood there.
 use Rattle.std.proofs.Common.{◌≡◌, ◌++◌, map, take, drop}
-use Rattle.phase_handle.specs.Numbers.{value_number}
-use Rattle.phase_handle.proofs.block_places.write_numbers.Given as goal
+use Rattle.handle_numbers.specs.Numbers.{value_number}
+use Rattle.handle_numbers.proofs.block_places.write_numbers.Given as goal
 
 abbrev pub invariant-loop-k : goal.invariant-loop-k
 invariant-loop-k l =

@@ -7,6 +7,9 @@ pub const GOOD: i32 = 0;
 /// No signaller is registered, and the task has got every phase.
 pub const ENDED: i32 = 1;
 
+/// The registration signalled its phase, and its wait is still to be made.
+pub const SIGNALLED: i32 = 2;
+
 /// A growth was refused.
 pub const OUT_OF_MEMORY: i32 = -6;
 
@@ -81,6 +84,9 @@ pub const SIGNAL_FIRST: i32 = -42;
 
 /// The phase is not complete, and a signaller is registered.
 pub const NOT_YET: i32 = -43;
+
+/// Another registration of the phaser is in the middle of a call, and nothing changed.
+pub const BUSY: i32 = -44;
 
 /// The sends of a phase are added up.
 pub const SUM: u32 = 1;

@@ -1,31 +1,26 @@
 -- Waits for blocks: the limits of the phaser, and what is written.
-use Rattle.std.proofs.Common.{◌≡◌, ℕ, ◌+◌, ◌-◌, ◌<◌, ◌≤◌, List, [], ◌∷◌, ◌++◌, Option, Some, None, Result, Ok, Err, ℤ, pos, map, length, take, drop, set, get_or, slice_range, sym, ap, subst, ◌∙◌, arith}
+use Rattle.std.proofs.Common.{◌≡◌, ℕ, ◌+◌, ◌-◌, ◌<◌, ◌≤◌, List, [], ◌∷◌, ◌++◌, Result, Ok, ℤ, pos, map, length, take, drop, set, get_or, slice_range, sym, ap, ◌∙◌, arith}
 use Rattle.std.specs.List.{range_with_len}
 use Rattle.std.proofs.Math.Seq.{take-append_seam}
 use Rattle.std.proofs.lemmas.List.FromFn.{length-range_with_len}
 use Rattle.std.proofs.lemmas.List.{append_assoc, drop_more, length-drop, length-map, length-take-le, map_more, set-append_right}
-use Rattle.phase_any.specs.phase_base.Limits.{Limits, AreLimits}
-use Rattle.phase_any.specs.phase_base.declared.operation.Op.{Op}
-use Rattle.phase_any.specs.phase_accum.declared.outcome.Outcome.{Outcome}
-use Rattle.phase_any.specs.phase_history.declared.event.Event.TheVariants.{Made, Registered, RegisteredNow, Signalled, Waited, Dropped}
-use Rattle.phase_any.specs.phase_history.declared.got.GotBlock.{GotBlock}
-use Rattle.phase_any.specs.phase_history.declared.got.GotBlock.TheVariants as block
-use Rattle.phase_any.specs.phase_history.declared.refusal.WaitRefusal.{WaitRefusal}
-use Rattle.phase_any.specs.phase_history.Histories.{History, done_of}
-use Rattle.phase_any.specs.phase_history.Legal.{IsLegal}
-use Rattle.phase_any.specs.phase_history.Phases.{stream_of, value_of_phase}
-use Rattle.phase_any.specs.phase_history.Replies.{wait_block_reply}
-use Rattle.phase_any.specs.phase_core.Blocks.{written}
-use Rattle.phase_any.proofs.phase_history_lemmas.BlockAnswers.{block_answers_law}
-use Rattle.phase_handle.specs.Blocks.{numbers_written}
-use Rattle.phase_handle.specs.Numbers.{value_number}
-use Rattle.phase_any.specs.Phasers.{PhaserStandsFor}
-use Rattle.phase_handle.specs.Phasers.{Holds}
-use Rattle.phase_any.specs.declared.any_phaser.AnyPhaser.{AnyPhaser}
-use Rattle.phase_any.specs.declared.any_phaser.AnyPhaser.TheVariants as any
+use Rattle.phase_core.specs.phase_base.Limits.{Limits, AreLimits}
+use Rattle.phase_core.specs.phase_accum.declared.outcome.Outcome.{Outcome}
+use Rattle.phase_core.specs.phase_history.declared.event.Event.TheVariants.{Made, Registered, RegisteredNow, Signalled, Waited, Dropped}
+use Rattle.phase_core.specs.phase_history.declared.got.GotBlock.{GotBlock}
+use Rattle.phase_core.specs.phase_history.declared.got.GotBlock.TheVariants as block
+use Rattle.phase_core.specs.phase_history.declared.refusal.WaitRefusal.{WaitRefusal}
+use Rattle.phase_core.specs.phase_history.Histories.{History, done_of}
+use Rattle.phase_core.specs.phase_history.Legal.{IsLegal}
+use Rattle.phase_core.specs.phase_history.Phases.{stream_of, value_of_phase}
+use Rattle.phase_core.specs.phase_history.Replies.{wait_block_reply}
+use Rattle.phase_core.specs.Blocks.{written}
+use Rattle.phase_core.proofs.phase_history_lemmas.BlockAnswers.{block_answers_law}
+use Rattle.handle_numbers.specs.Blocks.{numbers_written, numbers_after}
+use Rattle.handle_numbers.specs.Numbers.{value_number}
 
 -- the limits of a legal history are within theirs
-legal-limits : (limits : Limits) (h : History) → IsLegal limits h → AreLimits limits
+pub legal-limits : (limits : Limits) (h : History) → IsLegal limits h → AreLimits limits
 legal-limits limits [] legal = absurd legal
 legal-limits limits (Made task ∷ before) legal = legal.0
 legal-limits limits (Registered parent child mode ∷ before) legal =
@@ -36,25 +31,6 @@ legal-limits limits (Signalled task lists single ∷ before) legal =
     legal-limits limits before legal.0
 legal-limits limits (Waited task n ∷ before) legal = legal-limits limits before legal.0
 legal-limits limits (Dropped task ∷ before) legal = legal-limits limits before legal.0
-
--- so are those of a phaser
-stands-limits : (phaser : AnyPhaser) (op : Op) (limits : Limits) (h : History)
-    → PhaserStandsFor phaser op limits h → AreLimits limits
-stands-limits (any.Sum c) op limits h stands =
-    subst AreLimits stands.limits_are (legal-limits c.limits h stands.has_history.legal)
-stands-limits (any.Product c) op limits h stands =
-    subst AreLimits stands.limits_are (legal-limits c.limits h stands.has_history.legal)
-stands-limits (any.Least c) op limits h stands =
-    subst AreLimits stands.limits_are (legal-limits c.limits h stands.has_history.legal)
-stands-limits (any.Greatest c) op limits h stands =
-    subst AreLimits stands.limits_are (legal-limits c.limits h stands.has_history.legal)
-stands-limits (any.Any c) op limits h stands =
-    subst AreLimits stands.limits_are (legal-limits c.limits h stands.has_history.legal)
-
-pub holds-limits : (held : Option AnyPhaser) (op : Op) (limits : Limits) (h : History)
-    → Holds held op limits h → AreLimits limits
-holds-limits None op limits h holds = absurd holds
-holds-limits (Some phaser) op limits h holds = stands-limits phaser op limits h holds
 
 -- ---- what is written
 
@@ -123,18 +99,12 @@ numbers-got value h first many now old new got is =
 abbrev pub got : ℕ → ℕ → Result GotBlock WaitRefusal
 got first many = Ok (block.Values first many)
 
--- the numbers that an answer writes
-abbrev numbers_of : Result GotBlock WaitRefusal → List Outcome → List ℤ → List ℤ
-numbers_of (Ok (block.Values first many)) stream old = numbers_written first many stream old
-numbers_of (Ok block.Ended) stream old = old
-numbers_of (Err refusal) stream old = old
-
 -- two names of what was got have the same numbers
 pub numbers-named : (first many phase count : ℕ) (stream : List Outcome) (old new : List ℤ)
     → got phase count ≡ got first many → new ≡ numbers_written phase count stream old
     → new ≡ numbers_written first many stream old
 numbers-named first many phase count stream old new same is =
-    is ∙ ap (λ r. numbers_of r stream old) same
+    is ∙ ap (λ r. numbers_after r stream old) same
 
 -- the reply to a wait for as many phases as were asked for is that for as many as there are places
 pub asked-reply : (limits : Limits) (h : History) (task places lent asked : ℕ)

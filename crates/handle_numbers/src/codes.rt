@@ -1,12 +1,12 @@
 //! Numbers of C as what they name, and what calls answer as numbers.
-ghost use Rattle.std.specs.Prelude.{◌≡◌, ℤ, IfSome, None, Option};
-ghost use Rattle.phase_any.specs.phase_accum.declared.single.Single.{Single};
-ghost use Rattle.phase_handle.specs.Numbers.{op_numbered, mode_numbered, mode_number, register_number, signal_number, wait_number, value_number, Names};
+ghost use Rattle.std.specs.Prelude.{◌≡◌, ℤ, IfSome, Some, None, Option};
+ghost use Rattle.phase_core.specs.phase_accum.declared.single.Single.{Single};
+ghost use Rattle.handle_numbers.specs.Numbers.{op_numbered, op_number, mode_numbered, mode_number, register_number, signal_number, wait_number, value_number, Names};
 
 use crate::numbers::*;
-use phase_any::phase_accum::{NO_VALUE, Op, Outcome, Single};
-use phase_any::phase_base::Mode;
-use phase_any::phase_core::{RegisterRefusal, SignalRefusal, WaitRefusal};
+use phase_core::phase_accum::{NO_VALUE, Op, Outcome, Single};
+use phase_core::phase_base::Mode;
+use phase_core::{RegisterRefusal, SignalRefusal, WaitRefusal};
 
 /// The operation of a number.
 pub fn op_of(number: u32) -> Option<Op>
@@ -24,6 +24,19 @@ pub fn op_of(number: u32) -> Option<Op>
         Some(Op::Any)
     } else {
         None
+    }
+}
+
+/// The number of an operation.
+pub fn op_code(op: Op) -> u32
+    ensures { result ≡ op_number op }
+{
+    match op {
+        Op::Sum => SUM,
+        Op::Product => PRODUCT,
+        Op::Least => LEAST,
+        Op::Greatest => GREATEST,
+        Op::Any => ANY,
     }
 }
 
@@ -60,6 +73,7 @@ pub fn mode_code(mode: Mode) -> u32
 /// ends are none of a range.
 pub fn single_of(kind: u32, low: i64, high: i64) -> Option<Option<Single>>
     ensures names { IfSome result (λ named. Names kind low high named) }
+    ensures only { (named : Option Single) → Names kind low high named → result ≡ Some named }
     ensures none { result ≡ None → (named : Option Single) → Names kind low high named → ⊥ }
 {
     if kind == NONE {
