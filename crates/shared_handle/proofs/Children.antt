@@ -1,5 +1,5 @@
 -- What C is told of a child, by what its registration answered.
-use Rattle.std.proofs.Common.{◌≡◌, ℕ, ℤ, Option, Some, sym, subst, ◌∙◌}
+use Rattle.std.proofs.Common.{◌≡◌, ℕ, ℤ, Option, Some, sym, subst}
 use Rattle.std.specs.Prelude.{Result, Ok, Err, IfOk, OnErr}
 use Rattle.phase_shared.specs.phase_base.declared.operation.Op.{Op}
 use Rattle.phase_shared.specs.phase_history.declared.refusal.RegisterRefusal.{RegisterRefusal}

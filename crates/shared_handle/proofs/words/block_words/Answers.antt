@@ -1,5 +1,5 @@
 -- The first refusal is told, and a single that is named is found.
-use Rattle.std.proofs.Common.{◌≡◌, Err, true, ap, arith}
+use Rattle.std.proofs.Common.{◌≡◌, Err, true, ap}
 use Rattle.std.proofs.lemmas.Int.{to_z-of_z}
 use Rattle.shared_handle.proofs.FirstRefusals.{no_single_in_block, no_sends_in_block, all_good_in_block}
 use Rattle.shared_handle.proofs.words.block_words.Goals as goal
