@@ -68,11 +68,12 @@ typedef struct phase_registration {
     uint64_t signal_phase;
     uint64_t wait_phase;
     uint32_t mode;
-    uint64_t apart[9]; /* nothing: threads do not write beside each other's in an array */
+    uint64_t crowded;  /* whether others want the processor */
+    uint64_t apart[8]; /* nothing: threads do not write beside each other's in an array */
 } phase_registration;
 
 /* A place with no registration. */
-#define PHASE_REGISTRATION_INIT {{NULL, false}, NULL, 0, 0, 0, 0, {0}}
+#define PHASE_REGISTRATION_INIT {{NULL, false}, NULL, 0, 0, 0, 0, 0, {0}}
 
 /* Makes a phaser of at most this many phases, whose signallers may be `bound` phases ahead of its
  * slowest waiter, and its founder, in the mode PHASE_SINGLE at phase 0. Where threads meet at a

@@ -25,7 +25,11 @@
 #endif
 
 /* How often a pause looks while it spins, and how often it then yields. */
-enum { LOOKS = 15, YIELDS = 15 };
+enum { LOOKS = 15, YIELDS = 60 };
+
+/* A yield of more than so many nanoseconds went to others that want the processor. The next so many
+ * pauses look more often in place of yields, since a thread that slept gets it back sooner. */
+enum { YIELD_MAX = 200000, CROWDED_PAUSES = 200, CROWDED_LOOKS = 100 };
 
 /* After a try whose turn was another's: how often a pause spins, each time twice as long, before it
  * yields, and how many nanoseconds it then sleeps. */
@@ -236,18 +240,27 @@ static void relax(void)
 #endif
 }
 
+/* Yields, and notes whether others want the processor. */
+static void yield(phase_registration *registration)
+{
+    uint64_t before = now();
+    sched_yield();
+    if (now() - before > YIELD_MAX)
+        registration->crowded = CROWDED_PAUSES;
+}
+
 /* Pauses after a try whose turn was another's, longer each time. It sleeps in the end, so that one
  * that has the turn goes on where it gets no processor beside those that yield. */
-static void snooze(struct patience *patience)
+static void snooze(phase_registration *registration, struct patience *patience)
 {
-    const struct timespec sleep = {0, SNOOZE};
+    const struct timespec time = {0, SNOOZE};
     if (patience->turns <= SPINS) {
         for (uint32_t spins = 1u << patience->turns; spins > 0; spins--)
             relax();
-    } else if (patience->turns <= SPINS + YIELDS) {
-        sched_yield();
+    } else if (patience->turns <= SPINS + YIELDS && registration->crowded == 0) {
+        yield(registration);
     } else {
-        nanosleep(&sleep, NULL);
+        nanosleep(&time, NULL);
         return;
     }
     patience->turns++;
@@ -272,15 +285,17 @@ static bool is_reached(const struct aim *aim)
 /* Whether the number is reached, or no time is left, after some looks and then some yields. */
 static bool is_over_soon(const struct aim *aim, struct patience *patience)
 {
-    for (int look = 0; look < LOOKS; look++) {
+    uint64_t *crowded = &aim->registration->crowded;
+    for (int looks = *crowded > 0 ? CROWDED_LOOKS : LOOKS; looks > 0; looks--) {
         if (is_reached(aim))
             return true;
         relax();
     }
-    for (int look = 0; look < YIELDS; look++) {
+    *crowded -= *crowded > 0;
+    for (int looks = YIELDS; looks > 0 && *crowded == 0; looks--) {
         if (is_reached(aim) || left(patience) == 0)
             return true;
-        sched_yield();
+        yield(aim->registration);
     }
     return false;
 }
@@ -303,7 +318,7 @@ static bool signals_again(phase_registration *registration, uint64_t count, int3
                           struct patience *patience)
 {
     if (status == PHASE_E_BUSY) {
-        snooze(patience);
+        snooze(registration, patience);
         return true;
     }
     if (status != PHASE_E_AHEAD || left(patience) == 0)
@@ -329,10 +344,11 @@ static void pause_for_phase(phase_registration *registration, uint64_t count,
 }
 
 /* Whether a wait that was answered so is tried again. */
-static bool waits_again(int32_t status, struct patience *patience)
+static bool waits_again(phase_registration *registration, int32_t status,
+                        struct patience *patience)
 {
     if (status == PHASE_E_BUSY) {
-        snooze(patience);
+        snooze(registration, patience);
         return true;
     }
     return status == PHASE_E_NOT_YET && left(patience) != 0;
@@ -360,6 +376,7 @@ int32_t phase_shared_new(uint32_t operation, uint64_t bound, uint64_t phases,
     founder->signal_phase = 0;
     founder->wait_phase = 0;
     founder->mode = PHASE_SINGLE;
+    founder->crowded = 0;
     return PHASE_OK;
 }
 
@@ -372,6 +389,7 @@ static void fill(phase_registration *parent, uint32_t mode, phase_registration *
     child->signal_phase = parent->signal_phase;
     child->wait_phase = parent->wait_phase;
     child->mode = mode;
+    child->crowded = 0;
 }
 
 int32_t phase_shared_try_register(phase_registration *parent, uint32_t mode,
@@ -389,7 +407,7 @@ int32_t phase_shared_register(phase_registration *parent, uint32_t mode,
     struct patience patience = {.nanoseconds = FOR_EVER};
     int32_t status;
     while ((status = phase_shared_try_register(parent, mode, child)) == PHASE_E_BUSY)
-        snooze(&patience);
+        snooze(parent, &patience);
     return status;
 }
 
@@ -411,7 +429,7 @@ int32_t phase_shared_register_now(phase_registration *parent, phase_registration
     struct patience patience = {.nanoseconds = FOR_EVER};
     int32_t status;
     while ((status = phase_shared_try_register_now(parent, child, phase)) == PHASE_E_BUSY)
-        snooze(&patience);
+        snooze(parent, &patience);
     return status;
 }
 
@@ -433,7 +451,7 @@ int32_t phase_shared_leave(phase_registration *registration)
     struct patience patience = {.nanoseconds = FOR_EVER};
     int32_t status;
     while ((status = phase_shared_try_leave(registration)) == PHASE_E_BUSY)
-        snooze(&patience);
+        snooze(registration, &patience);
     return status;
 }
 
@@ -529,7 +547,7 @@ static int32_t wait_with(phase_registration *registration, uint64_t *phase, int6
     do {
         pause_for_phase(registration, 1, patience);
         status = phase_shared_try_wait(registration, phase, value);
-    } while (waits_again(status, patience));
+    } while (waits_again(registration, status, patience));
     return status;
 }
 
@@ -566,7 +584,7 @@ int32_t phase_shared_wait_block_for(phase_registration *registration, int64_t *v
     do {
         pause_for_phase(registration, values_len, &patience);
         status = phase_shared_try_wait_block(registration, values, values_len, phase, count);
-    } while (waits_again(status, &patience));
+    } while (waits_again(registration, status, &patience));
     return status;
 }
 

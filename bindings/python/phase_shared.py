@@ -71,7 +71,8 @@ class _Place(ctypes.Structure):
         ("signal_phase", ctypes.c_uint64),
         ("wait_phase", ctypes.c_uint64),
         ("mode", ctypes.c_uint32),
-        ("apart", ctypes.c_uint64 * 9),
+        ("crowded", ctypes.c_uint64),
+        ("apart", ctypes.c_uint64 * 8),
     ]
 
 

@@ -43,8 +43,10 @@ pub struct PhaseRegistration {
     pub wait_phase: u64,
     /// The number of its mode.
     pub mode: u32,
+    /// Whether others want the processor.
+    pub crowded: u64,
     /// Nothing: threads do not write beside each other's in an array.
-    pub apart: [u64; 9],
+    pub apart: [u64; 8],
 }
 
 impl PhaseRegistration {
@@ -56,7 +58,8 @@ impl PhaseRegistration {
         signal_phase: 0,
         wait_phase: 0,
         mode: 0,
-        apart: [0; 9],
+        crowded: 0,
+        apart: [0; 8],
     };
 }
 
