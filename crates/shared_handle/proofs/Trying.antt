@@ -20,6 +20,7 @@ use Rattle.phase_shared.specs.Calls.{IsTry, Tries, Signals, SignalsAndMayWait, M
 use Rattle.phase_shared.specs.Rule.{Allows}
 use Rattle.phase_shared.specs.Regs.{RegState, IsGoodOn, phaser_lock, phaser_terms, phaser_limits}
 use Rattle.phase_shared.proofs.Answering.{Tries-map}
+use Rattle.phase_shared.proofs.OneValue.{one_list}
 use Rattle.shared_handle.specs.Members.{limits_by, as_registration, IsInItsHistory}
 use Rattle.shared_handle.specs.Calls.{AreAlike, SignalsSends, SignalsAndWaits, IsMemberTry}
 
@@ -80,6 +81,8 @@ module _ {A : Type 0} (op : Operation A) (laws : AccumulateLaws op) where
   alike held values sends stands other = record {
     are_sends = other.part_is.are_sends;
     many = sym other.count_is ∙ stands.count_is;
+    one = λ v is. one_list op held v sends laws
+        (subst (λ (l : List ℤ). StandsForSends op held l) is stands) other;
     same = λ front back before behind few.
         let many : length sends ≡ length values = sym other.count_is ∙ stands.count_is in
         let x = op.join (op.join (part op front) held.part) (part op back) in

@@ -43,10 +43,11 @@ pub record IsMemberTry {X R : Type 0} (no_task : R) (after : Option X → Entry 
 -- ---- signals
 
 -- as many sends as these values, which a phase cannot tell from them: wherever they stand in it, it
--- has the value that it has with these. One send is the value itself
+-- has the value that it has with these
 pub record AreAlike (value : List ℤ → Outcome) (values sends : List ℤ) : Type 0 where
   pub are_sends : AreSends sends
   pub many : length sends ≡ length values
+  pub one : (v : ℤ) → values ≡ v ∷ [] → sends ≡ v ∷ []
   pub same : (front back : List ℤ) → AreSends front → AreSends back
       → length front + length values + length back ≤ SENDS_MAX
       → value (front ++ sends ++ back) ≡ value (front ++ values ++ back)
