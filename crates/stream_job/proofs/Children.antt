@@ -24,8 +24,8 @@ use Rattle.graph_runs.specs.Turned.{with_at}
 use Rattle.graph_runs.specs.Nexts.{is_live, is_due, next_of, number_on, first_due, registrations_at, registers, signals, exchanges, samples, waits}
 use Rattle.graph_runs.specs.TaskEvents.{TaskEvent, sample, signal, first_wait, exchange_wait, leave, child, child_now, after_turn}
 use Rattle.graph_runs.specs.Answers as answers
-use Rattle.graph_runs.specs.Answers.{makes, after_answer, accepted_answer, call_register, register_answer, told_event, turn_by, answer_by}
-use Rattle.graph_runs.specs.TaskPlaces.{TaskPlace, StandsAt, registration_at, own_place, child_of, number_given}
+use Rattle.graph_runs.specs.Answers.{makes, after_answer, accepted_answer, call_register, register_answer, told_event, turn_up_to, answer_up_to}
+use Rattle.graph_runs.specs.TaskPlaces.{TaskPlace, StandsUpTo, registration_at, own_place, child_of, number_given}
 use Rattle.graph_runs.specs.Steps.{HasFilter}
 use Rattle.graph_runs.proofs.Signalling.{live-is, found_below}
 use Rattle.graph_runs.proofs.Standing.{missing}
@@ -33,9 +33,9 @@ use Rattle.graph_runs.proofs.PlacesFollow.{child_follows, parent_follows}
 use Rattle.graph_runs.proofs.TurnRegistering.{due_child}
 use Rattle.graph_runs.proofs.PlacesLemmas.{on_ends}
 use Rattle.stream_job.specs.Places.{IsTaskAt, place_in_state}
-use Rattle.stream_job.specs.Machines.{IsMachineAt, HasCores, UsesFew, KeepsLines, kept_behind, none_given}
+use Rattle.stream_job.specs.Machines.{IsMachineAt, HasCores, UsesFew, KeepsLines, kept_behind, most_in, none_given}
 use Rattle.stream_job.specs.SinkLines.{sink_begins_at}
-use Rattle.stream_job.specs.Turning.{HadTurn, MadeShows, phaser_of}
+use Rattle.stream_job.specs.Turning.{HadTurn, MadeShows, phaser_of, turn_in}
 use Rattle.stream_job.specs.Stepping.{IsNextIn, child_refusal, add_event, begins_with, LineHasBegun}
 use Rattle.stream_eval.specs.declared.whole.Lines.{Lines}
 use Rattle.stream_job.specs.declared.machine.Machine.{Machine}
@@ -44,6 +44,7 @@ use Rattle.stream_job.specs.declared.made.Made.TheVariants.{Event}
 use Rattle.stream_job.specs.declared.turned.Turned.TheVariants.{Moved}
 use Rattle.stream_job.proofs.SinksKeep.{NoSinkWaits, lines_stay}
 use Rattle.stream_job.proofs.SinkLines.{map_same}
+use Rattle.stream_job.proofs.Mosts.{mosts_set}
 use Rattle.stream_job.proofs.Makes.{MakesEvent, makes_event}
 use Rattle.stream_job.proofs.Ending.{all_numbered, number-at}
 use Rattle.stream_job.proofs.Lively.{live_next, phaser_there}
@@ -77,7 +78,7 @@ child_due job m t c is = by (doing job m t (registers c) is (λ e. absurd (cc)))
     by (stepping s) = start (begins_is job m t (registers c) s.is)
 
 -- where the child comes next
-pub record ChildAt (steps : ℕ) (job : Job) (m : Moment) (t c : ℕ) (state : TaskState) : Type 0 where
+pub record ChildAt (steps most : ℕ) (job : Job) (m : Moment) (t c : ℕ) (state : TaskState) : Type 0 where
   pub live : is_live job m t ≡ true
   pub there : t < length job.graph.tasks
   pub child_there : c < length job.graph.tasks
@@ -85,7 +86,7 @@ pub record ChildAt (steps : ℕ) (job : Job) (m : Moment) (t c : ℕ) (state : T
   pub phaser : (registration_at job c (length state.numbers.items)).phaser
       < length job.graph.phasers
   pub answer : let r = registration_at job c (length state.numbers.items) in
-      turn_by steps job m t ≡ register_answer m t c r (task_at job.graph c).joins_now
+      turn_up_to steps most job m t ≡ register_answer m t c r (task_at job.graph c).joins_now
 
 pub child_below : {steps : ℕ} (job : Job) (machine : Machine) (t c : ℕ)
     → IsNextIn steps job machine t (registers c) → c < length machine.tasks.items
@@ -105,7 +106,7 @@ child_read {steps} {job} {machine} {t} {c} {state} next read =
 
 pub child_at : {steps : ℕ} (job : Job) (machine : Machine) (m : Moment) (t c : ℕ) (state : TaskState)
     → IsNextIn steps job machine t (registers c) → IsMachineAt job m machine
-    → slice_get machine.tasks.items c ≡ Some state → ChildAt steps job m t c state
+    → slice_get machine.tasks.items c ≡ Some state → ChildAt steps (most_in machine t) job m t c state
 child_at {steps} job machine m t c state next at found =
     let is = next.is m at in
     let live = live_next job m t (registers c) is (λ e. absurd (cc)) in
@@ -123,7 +124,7 @@ child_at {steps} job machine m t c state next at found =
       child_there = below;
       few = few;
       phaser = phaser_there job c (length state.numbers.items) at.graph below few;
-      answer = ap (answer_by steps job m t) is
+      answer = ap (answer_up_to steps (most_in machine t) job m t) is
           ∙ ap (call_register job m t c) (miss
           ∙ slice_get-get_or (registrations_at job c) (length state.numbers.items) no_registration few);
     }
@@ -153,7 +154,7 @@ pub child_so : {steps : ℕ} (job : Job) (machine : Machine) (m : Moment) (t c p
     → (registration_at job c (length state.numbers.items)).phaser ≡ p
     → (registration_at job c (length state.numbers.items)).mode ≡ mode
     → number_on m t p ≡ n → greatest_used (m.history p) + 1 ≡ a
-    → turn_by steps job m t
+    → turn_in steps job machine m t
     ≡ accepted_answer (child_event job t p n c a mode)
     (child_refusal job c (m.history p) n a mode)
 child_so job machine m t c p n a mode state next at found phaser in_mode numbered new =
@@ -347,11 +348,11 @@ now_input job c i is there now lt =
     ∙ get_or-map (λ r. r.phaser) rs i no_registration 0 lt
 
 -- a parent stays where it is
-parent_stays : {steps : ℕ} (job : Job) (m : Moment) (t c : ℕ) (event : TaskEvent) (at : TaskPlace)
-    → MakesEvent steps job m t event → child_of event ≡ Some c → StandsAt job m t at
-    → StandsAt job (after_turn job event m) t at
-parent_stays job m t c event at made of_child stands =
-    subst (λ place. StandsAt job (after_turn job event m) t place) (own_same job m event at c of_child)
+parent_stays : {steps most owes : ℕ} (job : Job) (m : Moment) (t c : ℕ) (event : TaskEvent) (at : TaskPlace)
+    → MakesEvent steps most job m t event → child_of event ≡ Some c → StandsUpTo owes job m t at
+    → StandsUpTo owes job (after_turn job event m) t at
+parent_stays {steps} {most} {owes} job m t c event at made of_child stands =
+    subst (λ place. StandsUpTo owes job (after_turn job event m) t place) (own_same job m event at c of_child)
     (parent_follows job m t c event at made.next made.own of_child stands)
 
 -- what the table says of the event of a child's registration
@@ -441,6 +442,7 @@ child_turn {steps} job old new t c p n a mode state numbers next found phaser in
                 (sink_begins_at job (after_turn job event m)) (sinks_of job) (it m at).begins;
           });
       own = (lines next.some.0 next.some.1).own;
+      mosts = mosts_set old new c state (with_numbers state numbers) found tasks refl;
     }
   where
     event : TaskEvent
@@ -453,12 +455,12 @@ child_turn {steps} job old new t c p n a mode state numbers next found phaser in
         (child_at job old m t c state next at found).child_there now
         (child_at job old m t c state next at found).few ∙ phaser)
 
-    answer : (m : Moment) → IsMachineAt job m old → turn_by steps job m t ≡ makes event
+    answer : (m : Moment) → IsMachineAt job m old → turn_in steps job old m t ≡ makes event
     answer m at =
         child_so job old m t c p n a mode state next at found phaser in_mode (numbered m at) (fresh m at)
         ∙ ap (accepted_answer event) (accepted m at)
 
-    made : (m : Moment) → IsMachineAt job m old → MakesEvent steps job m t event
+    made : (m : Moment) → IsMachineAt job m old → MakesEvent steps (most_in old t) job m t event
     made m at = makes_event job m t event next.sized at.graph at.reached (answer m at)
 
     here : (m : Moment) → IsMachineAt job m old
@@ -467,12 +469,13 @@ child_turn {steps} job old new t c p n a mode state numbers next found phaser in
         let its = at.tasks c state found in
         let e = it m at in
         record {
-          stands = subst (λ ns. StandsAt job (after_turn job event m) c
+          stands = subst (λ ns. StandsUpTo state.most job (after_turn job event m) c
               (record (place_in_state state) { numbers = ns })) (sym items)
               (child_follows job m c a event (place_in_state state) at.graph at.reached.ran (made m at).next
               (made m at).order e.of_child e.number its.stands);
           room = (let room = its.room in omega arith);
           filter = subst (HasFilter (task_at job.graph c) state.filter) (sym (e.taken c 0)) its.filter;
+          most = its.most;
           made_room = its.made_room;
           made_by = its.made_by;
           made_none = its.made_none;
@@ -497,10 +500,11 @@ child_turn {steps} job old new t c p n a mode state numbers next found phaser in
         by true f =
             let same : u ≡ t = eqb-true u t f in
             record {
-              stands = subst (λ v. StandsAt job (after_turn job event m) v (place_in_state s)) (sym same)
+              stands = subst (λ v. StandsUpTo s.most job (after_turn job event m) v (place_in_state s)) (sym same)
                   (parent_stays job m t c event (place_in_state s) (made m at) e.of_child
-                  (subst (λ v. StandsAt job m v (place_in_state s)) same its.stands));
+                  (subst (λ v. StandsUpTo s.most job m v (place_in_state s)) same its.stands));
               room = its.room;
+              most = its.most;
               filter = subst (HasFilter (task_at job.graph u) s.filter) (sym (e.taken u 0)) its.filter;
               made_room = its.made_room;
               made_by = its.made_by;
@@ -515,7 +519,7 @@ child_turn {steps} job old new t c p n a mode state numbers next found phaser in
             (λ same. apart (sym (some_is c u (sym e.of_child ∙ same)))) its
 
     after : (m : Moment) → IsMachineAt job m old
-        → IsMachineAt job (after_answer job (turn_by steps job m t) m) new
+        → IsMachineAt job (after_answer job (turn_in steps job old m t) m) new
     after m at =
         let state_c = with_numbers state numbers in
         let e = it m at in

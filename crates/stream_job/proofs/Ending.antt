@@ -14,7 +14,7 @@ use Rattle.graph_lang.specs.graph_base.declared.line.Kind.TheVariants.{Source, F
 use Rattle.stream_eval.specs.stream_lists.Jobs.{Job, samples_at}
 use Rattle.graph_runs.specs.Moments.{Moment, HasRun, input_at, first_input}
 use Rattle.graph_runs.specs.Nexts.{is_live, is_cut, has_input_ended, has_run_out, has_signaller, number_on, has_left, registrations_at}
-use Rattle.graph_runs.specs.TaskPlaces.{TaskPlace, StandsAt, registration_at, registration_of_output}
+use Rattle.graph_runs.specs.TaskPlaces.{TaskPlace, StandsUpTo, registration_at, registration_of_output}
 use Rattle.graph_runs.proofs.Signalling.{live-is, stays}
 use Rattle.graph_runs.proofs.Boundaries.{goes_on, or_false}
 use Rattle.graph_runs.proofs.Standing.{of_input, of_output, many}
@@ -25,13 +25,13 @@ use Rattle.stream_job.specs.Machines.{is_over}
 use Rattle.stream_job.proofs.Reading.{complete}
 
 -- a live task has a number for each registration
-pub all_numbered : (job : Job) (m : Moment) (t : ℕ) (at : TaskPlace) → StandsAt job m t at
+pub all_numbered : {most : ℕ} (job : Job) (m : Moment) (t : ℕ) (at : TaskPlace) → StandsUpTo most job m t at
     → is_live job m t ≡ true → length at.numbers ≡ length (registrations_at job t)
 all_numbered job m t at stands live =
     omega (arith, stands.few, complete job m t at stands (ap is_some (live-is job m t live).all))
 
 -- the number that stands at place i is the task's there
-pub number-at : (job : Job) (m : Moment) (t i : ℕ) (at : TaskPlace) → StandsAt job m t at
+pub number-at : {most : ℕ} (job : Job) (m : Moment) (t i : ℕ) (at : TaskPlace) → StandsUpTo most job m t at
     → i < length at.numbers
     → m.number (registration_at job t i).phaser t ≡ Some (get_or at.numbers i 0)
 number-at job m t i at stands lt =
@@ -39,8 +39,8 @@ number-at job m t i at stands lt =
     stands.numbered i (omega arith) ∙ slice_get-get_or at.numbers i 0 lt
 
 -- a live task that has left a phaser has ended
-pub over_left : (job : Job) (m : Moment) (t : ℕ) (at : TaskPlace) → IsGraph job.graph
-    → HasRun job m → StandsAt job m t at → is_live job m t ≡ true → 0 < at.left
+pub over_left : {most : ℕ} (job : Job) (m : Moment) (t : ℕ) (at : TaskPlace) → IsGraph job.graph
+    → HasRun job m → StandsUpTo most job m t at → is_live job m t ≡ true → 0 < at.left
     → is_over job m t ≡ true
 over_left job m t at is ran stands live left = by (is_over job m t) refl
   where
@@ -76,8 +76,8 @@ ended_by_input job m t Peer never = refl
 ended_by_input job m t Sink never = refl
 
 -- a live task that has left no phaser is a waiter on each input
-pub waits_on : (job : Job) (m : Moment) (t k : ℕ) (at : TaskPlace) → IsGraph job.graph
-    → HasRun job m → StandsAt job m t at → is_live job m t ≡ true → at.left ≡ 0
+pub waits_on : {most : ℕ} (job : Job) (m : Moment) (t k : ℕ) (at : TaskPlace) → IsGraph job.graph
+    → HasRun job m → StandsUpTo most job m t at → is_live job m t ≡ true → at.left ≡ 0
     → k < length (task_at job.graph t).inputs
     → input_at (task_at job.graph t) k < length job.graph.phasers
     → Waiter job m t k
@@ -92,8 +92,8 @@ waits_on job m t k at is ran stands live none few there =
     waiter job m t k is ran living few there (rw here at staying)
 
 -- the number of a live task on its input k
-pub number_of_input : (job : Job) (m : Moment) (t k : ℕ) (at : TaskPlace) → IsGraph job.graph
-    → StandsAt job m t at → is_live job m t ≡ true
+pub number_of_input : {most : ℕ} (job : Job) (m : Moment) (t k : ℕ) (at : TaskPlace) → IsGraph job.graph
+    → StandsUpTo most job m t at → is_live job m t ≡ true
     → k < length (task_at job.graph t).inputs
     → (k < length at.numbers)
     × (number_on m t (input_at (task_at job.graph t) k) ≡ get_or at.numbers k 0)
@@ -110,8 +110,8 @@ number_of_input job m t k at is stands live few =
 
 -- whether a live task that has left no phaser makes no further step, by its entry on the input that
 -- its next step would wait for first
-pub over_by_input : (job : Job) (m : Moment) (t k q : ℕ) (at : TaskPlace) (result : Bool)
-    → IsGraph job.graph → HasRun job m → StandsAt job m t at → is_live job m t ≡ true
+pub over_by_input : {most : ℕ} (job : Job) (m : Moment) (t k q : ℕ) (at : TaskPlace) (result : Bool)
+    → IsGraph job.graph → HasRun job m → StandsUpTo most job m t at → is_live job m t ≡ true
     → at.left ≡ 0 → is_cut (task_at job.graph t).until (m.begun t) ≡ false
     → (task_at job.graph t).kind ≢ Source
     → k ≡ first_input (task_at job.graph t) (m.begun t)
@@ -163,7 +163,7 @@ over_by_samples job m t rest uncut source is =
     ∙ ap (has_input_ended job m t) source ∙ none_left (samples_at job t) rest (m.begun t) is
 
 -- whether `until` cuts a task, by its state
-pub cut_is : (job : Job) (m : Moment) (t : ℕ) (at : TaskPlace) → StandsAt job m t at
+pub cut_is : {most : ℕ} (job : Job) (m : Moment) (t : ℕ) (at : TaskPlace) → StandsUpTo most job m t at
     → (until : Option ℕ) → until ≡ (task_at job.graph t).until
     → is_cut (task_at job.graph t).until (m.begun t) ≡ is_cut until at.begun
 cut_is job m t at stands until same =
@@ -187,8 +187,8 @@ no_source Peer e = λ f. absurd (cc)
 no_source Sink e = λ f. absurd (cc)
 
 -- the number of a live task on its output j
-pub number_of_output : (job : Job) (m : Moment) (t j : ℕ) (at : TaskPlace) → IsGraph job.graph
-    → StandsAt job m t at → is_live job m t ≡ true
+pub number_of_output : {most : ℕ} (job : Job) (m : Moment) (t j : ℕ) (at : TaskPlace) → IsGraph job.graph
+    → StandsUpTo most job m t at → is_live job m t ≡ true
     → j < length (signalled_by (task_at job.graph t))
     → (registration_of_output (task_at job.graph t) j < length at.numbers)
     × (number_on m t (output_at job t j)

@@ -9,7 +9,7 @@ use Rattle.graph_lang.specs.graph_base.TaskLines.{IsGraph}
 use Rattle.stream_eval.specs.stream_lists.Jobs.{Job}
 use Rattle.graph_runs.specs.Moments.{Moment}
 use Rattle.graph_runs.specs.TaskEvents.{TaskEvent, sample, signal, first_wait, exchange_wait, leave, child, child_now, after_turn}
-use Rattle.graph_runs.specs.Answers.{makes, after_answer, turn_by}
+use Rattle.graph_runs.specs.Answers.{makes, after_answer, turn_up_to}
 use Rattle.graph_runs.specs.Reached.{IsReachable}
 use Rattle.graph_runs.specs.TaskPlaces.{child_of}
 use Rattle.graph_runs.proofs.Whose.{task_of}
@@ -23,7 +23,7 @@ use Rattle.stream_job.specs.declared.machine.Machine.{Machine}
 use Rattle.stream_job.specs.declared.task_state.TaskState.{TaskState}
 use Rattle.stream_job.proofs.Setting.{slice_get-set_same, slice_get-set_other, same_cores}
 use Rattle.graph_runs.specs.Turned.{with_at}
-use Rattle.stream_job.specs.Stepping.{MayStep}
+use Rattle.graph_runs.specs.NextBlocks.{MaySize}
 
 -- what another task has taken
 pub taken_other : (job : Job) (m : Moment) (event : TaskEvent) (u k : ℕ) → u ≢ task_of event
@@ -48,8 +48,8 @@ begins_same job m (child t p n c a mode) u none = absurd (cc)
 begins_same job m (child_now t p n c a) u none = absurd (cc)
 
 -- another task is as it was
-pub keeps_other : {steps : ℕ} (job : Job) (m : Moment) (t u : ℕ) (event : TaskEvent)
-    (state : TaskState) → MayStep job t steps → IsGraph job.graph → IsReachable job m → turn_by steps job m t ≡ makes event
+pub keeps_other : {steps most : ℕ} (job : Job) (m : Moment) (t u : ℕ) (event : TaskEvent)
+    (state : TaskState) → MaySize job.graph t steps most → IsGraph job.graph → IsReachable job m → turn_up_to steps most job m t ≡ makes event
     → u < length job.graph.tasks → u ≢ t → child_of event ≢ Some u → IsTaskAt job m u state
     → IsTaskAt job (after_turn job event m) u state
 keeps_other job m t u event state sized is reached answer there apart another at =
@@ -62,6 +62,7 @@ keeps_other job m t u event state sized is reached answer there apart another at
           (λ same. apart (same ∙ own)) another at.stands;
       room = at.room;
       filter = subst (HasFilter (task_at job.graph u) state.filter) (sym taken) at.filter;
+      most = at.most;
       made_room = at.made_room;
       made_by = at.made_by;
       made_none = at.made_none;
@@ -94,16 +95,16 @@ set_state job after tasks x state many there here others u other found = by (eqb
         others u other (omega arith) apart (slice_get-set_other tasks x u state other apart found)
 
 -- the machine after an event that registers no child
-pub after_own : {steps : ℕ} (job : Job) (m : Moment) (old new : Machine) (t : ℕ) (event : TaskEvent)
-    (state : TaskState) → MayStep job t steps → IsMachineAt job m old → turn_by steps job m t ≡ makes event
+pub after_own : {steps most : ℕ} (job : Job) (m : Moment) (old new : Machine) (t : ℕ) (event : TaskEvent)
+    (state : TaskState) → MaySize job.graph t steps most → IsMachineAt job m old → turn_up_to steps most job m t ≡ makes event
     → child_of event ≡ None → t < length job.graph.tasks
-    → IsReachable job (after_answer job (turn_by steps job m t) m)
-    → UsesFew job (after_answer job (turn_by steps job m t) m)
+    → IsReachable job (after_answer job (turn_up_to steps most job m t) m)
+    → UsesFew job (after_answer job (turn_up_to steps most job m t) m)
     → HasCores job (after_turn job event m).history new.cores.items
     → new.tasks.items ≡ set old.tasks.items t state
     → IsTaskAt job (after_turn job event m) t state
     → length new.lines.items ≡ length old.lines.items
-    → IsMachineAt job (after_answer job (turn_by steps job m t) m) new
+    → IsMachineAt job (after_answer job (turn_up_to steps most job m t) m) new
 after_own job m old new t event state sized at answer none there reached few cores tasks here lines =
     let after = after_turn job event m in
     let long = length-set old.tasks.items t state in

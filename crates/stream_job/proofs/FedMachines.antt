@@ -1,7 +1,6 @@
 -- A machine stands at its moment whatever samples come behind those that were signalled.
 use Rattle.std.proofs.Common.{◌≡◌, ℕ, ℤ, ◌<◌, List, None, length, arith}
 use Rattle.std.proofs.lemmas.Option.{slice_get_within}
-use Rattle.graph_lang.specs.graph_base.Graphs.{task_at}
 use Rattle.stream_eval.specs.stream_lists.Jobs.{Job, with_samples}
 use Rattle.stream_eval.specs.stream_lists.Meetings.{meeting_line}
 use Rattle.graph_runs.specs.Feeds.{Continues}
@@ -18,9 +17,10 @@ task_fed : (job : Job) (m : Moment) (more : List (List ℤ)) (t : ℕ) (state : 
     → IsTaskAt (with_samples more job) m t state
 task_fed job m more t state goes there it = record {
   stands =
-      stands_fed (task_at job.graph t).block job m more t (place_in_state state) (goes t there) it.stands;
+      stands_fed state.most job m more t (place_in_state state) (goes t there) it.stands;
   room = it.room;
   filter = it.filter;
+  most = record { block = it.most.block; least = it.most.least; few = it.most.few };
   made_room = it.made_room;
   made_by = it.made_by;
   made_none = it.made_none;

@@ -13,11 +13,11 @@ use Rattle.graph_lang.specs.graph_base.Graphs.{task_at}
 use Rattle.stream_eval.specs.stream_lists.Jobs.{Job, samples_in, with_samples}
 use Rattle.stream_eval.specs.stream_lists.Ranges.{Where}
 use Rattle.stream_eval.specs.declared.whole.Lines.{Lines}
-use Rattle.graph_runs.specs.Answers.{Answer, makes, is_blocked, is_gone, has_made, is_refused, after_answer, call_leave, call_register, next_values, output_at, register_answer, turn_by, answer_by, samples_up_to, after_turns_by}
+use Rattle.graph_runs.specs.Answers.{Answer, makes, is_blocked, is_gone, has_made, is_refused, after_answer, call_leave, call_register, output_at, register_answer, answer_up_to, samples_up_to, turn_up_to, values_up_to}
 use Rattle.graph_runs.specs.Feeds.{IsOpenAt, NotStarved, is_starved}
 use Rattle.graph_runs.specs.Moments.{Moment, HasAnsweredNone, HasRun, HasSamples, input_at, value_at}
 use Rattle.graph_runs.specs.Moves.{further}
-use Rattle.graph_runs.specs.NextBlocks.{block_up_to}
+use Rattle.graph_runs.specs.NextBlocks.{MaySize, block_up_to}
 use Rattle.graph_runs.specs.Nexts as nexts
 use Rattle.graph_runs.specs.Nexts.{Next, first_kept, first_missing, is_live, next_of, number_on}
 use Rattle.graph_runs.specs.TaskEvents as events
@@ -29,9 +29,9 @@ use Rattle.graph_runs.proofs.Nexts.{further-length}
 use Rattle.graph_runs.proofs.Signalling.{signalled}
 use Rattle.graph_runs.proofs.Turning.{turn_makes_next}
 use Rattle.stream_job.specs.Stepping.{HasRoomNext, MayStep}
-use Rattle.stream_job.specs.Machines.{IsMachineAt}
-use Rattle.stream_job.specs.Streams.{AreKept, StreamGoesOn, IsStreamAt, InputKeeps, StreamState, ended_at, is_hungry}
-use Rattle.stream_job.specs.Turning.{HadTurn, met_by, told_of}
+use Rattle.stream_job.specs.Machines.{IsMachineAt, most_in}
+use Rattle.stream_job.specs.Streams.{AreKept, StreamGoesOn, IsStreamAt, InputKeeps, SizedTurn, StreamState, after_sized, ended_at, is_hungry}
+use Rattle.stream_job.specs.Turning.{HadTurn, met_by, told_of, turn_in}
 use Rattle.stream_job.specs.Tellings.{told_by}
 use Rattle.stream_job.specs.Worlds.{HasMet}
 use Rattle.stream_job.specs.declared.input.Input.{Input}
@@ -48,7 +48,7 @@ use Rattle.stream_job.proofs.Tellings.{turn_met_so, turn_told_so}
 
 -- where the line has room for a block there is room for what the turn gets
 pub has_room_by : (steps : ℕ) (job : Job) (machine : Machine) (m : Moment) (t block : ℕ)
-    (state : TaskState) (line : Lines) → MayStep job t steps → IsMachineAt job m machine → slice_get machine.tasks.items t ≡ Some state
+    (state : TaskState) (line : Lines) → MayStep job machine t steps → IsMachineAt job m machine → slice_get machine.tasks.items t ≡ Some state
     → slice_get machine.lines.items state.sink ≡ Some line
     → (m.begun t ≡ state.begun → block_up_to steps job m t ≡ block)
     → vec_len line.values + block ≤ vec_capacity line.values → HasRoomNext steps job machine t
@@ -74,9 +74,9 @@ none_starves : (job : Job) (ended : ℕ → Bool) (m : Moment) (made event : Tas
     → made ≡ event → NotStarved job ended m made → NotStarved job ended m event
 none_starves job ended m made event same none = subst (NotStarved job ended m) same none
 
-registering : (steps : ℕ) (job : Job) (ended : ℕ → Bool) (m : Moment) (t c : ℕ) (event : TaskEvent)
-    → answer_by steps job m t (nexts.registers c) ≡ makes event → NotStarved job ended m event
-registering steps job ended m t c event e = by (first_missing job m c) e
+registering : (steps most : ℕ) (job : Job) (ended : ℕ → Bool) (m : Moment) (t c : ℕ) (event : TaskEvent)
+    → answer_up_to steps most job m t (nexts.registers c) ≡ makes event → NotStarved job ended m event
+registering steps most job ended m t c event e = by (first_missing job m c) e
   where
     by : (o : Option Registration) → call_register job m t c o ≡ makes event
         → NotStarved job ended m event
@@ -97,10 +97,10 @@ registering steps job ended m t c event e = by (first_missing job m c) e
             (accepted (events.child t r.phaser n c a r.mode) event
             (register_refusal (m.history r.phaser) n a r.mode) e).1 tt
 
-leaving : (steps : ℕ) (job : Job) (ended : ℕ → Bool) (m : Moment) (t : ℕ) (event : TaskEvent)
+leaving : (steps most : ℕ) (job : Job) (ended : ℕ → Bool) (m : Moment) (t : ℕ) (event : TaskEvent)
     → (is_starved job m t && not (ended t)) ≡ false
-    → answer_by steps job m t nexts.leaves ≡ makes event → NotStarved job ended m event
-leaving steps job ended m t event fed e = by (first_kept job m t) e
+    → answer_up_to steps most job m t nexts.leaves ≡ makes event → NotStarved job ended m event
+leaving steps most job ended m t event fed e = by (first_kept job m t) e
   where
     by : (o : Option Registration) → call_leave m t o ≡ makes event → NotStarved job ended m event
     by None e = absurd (cc)
@@ -112,30 +112,30 @@ leaving steps job ended m t event fed e = by (first_kept job m t) e
         ∙ ap (λ b. is_starved job m t && not b) (sym still) ∙ fed)
 
 -- nor does a turn, where no starved source that has not ended leaves next
-not_starved : (steps : ℕ) (job : Job) (ended : ℕ → Bool) (m : Moment) (t : ℕ) (next : Next) (event : TaskEvent)
+not_starved : (steps most : ℕ) (job : Job) (ended : ℕ → Bool) (m : Moment) (t : ℕ) (next : Next) (event : TaskEvent)
     → (next ≡ nexts.leaves → (is_starved job m t && not (ended t)) ≡ false)
-    → answer_by steps job m t next ≡ makes event → NotStarved job ended m event
-not_starved steps job ended m t nexts.is_not_live event fed e = absurd (cc)
-not_starved steps job ended m t (nexts.registers c) event fed e = registering steps job ended m t c event e
-not_starved steps job ended m t nexts.leaves event fed e = leaving steps job ended m t event (fed refl) e
-not_starved steps job ended m t nexts.samples event fed e =
+    → answer_up_to steps most job m t next ≡ makes event → NotStarved job ended m event
+not_starved steps most job ended m t nexts.is_not_live event fed e = absurd (cc)
+not_starved steps most job ended m t (nexts.registers c) event fed e = registering steps most job ended m t c event e
+not_starved steps most job ended m t nexts.leaves event fed e = leaving steps most job ended m t event (fed refl) e
+not_starved steps most job ended m t nexts.samples event fed e =
     let p = output_at job t 0 in
     let vs = samples_up_to steps job m t in
     let made = events.sample t 0 p (number_on m t p) vs in
     none_starves job ended m made event (signalled job m t 0 vs made event e).2 tt
-not_starved steps job ended m t (nexts.signals j) event fed e =
+not_starved steps most job ended m t (nexts.signals j) event fed e =
     let p = output_at job t j in
-    let vs = next_values job m t j in
+    let vs = values_up_to most job m t j in
     let made = events.signal t j p (number_on m t p) vs in
     none_starves job ended m made event (signalled job m t j vs made event e).2 tt
-not_starved steps job ended m t (nexts.waits k) event fed e =
+not_starved steps most job ended m t (nexts.waits k) event fed e =
     let p = input_at (task_at job.graph t) k in
     let made = events.first_wait t k p (number_on m t p) in
     let a = answered_all job m t p (block_up_to steps job m t) made event e in
     none_starves job ended m
     (made (slice_range (stream_of (value_at job p) (m.history p)) a.phase (a.phase + a.count)))
     event a.is tt
-not_starved steps job ended m t nexts.exchanges event fed e =
+not_starved steps most job ended m t nexts.exchanges event fed e =
     let p = input_at (task_at job.graph t) 1 in
     let a = answered job m t p (events.exchange_wait t p (number_on m t p)) event e in
     none_starves job ended m (events.exchange_wait t p (number_on m t p) a.outcome) event a.is tt
@@ -153,19 +153,19 @@ fed_by job ended m t none next = by (is_starved job m t && not (ended t)) refl
         let wrong : true ≡ false = sym hungry ∙ none in cc)
 
 -- no source but one that has ended has left after a turn of a task that is not hungry
-pub turn_opens : {steps : ℕ} (job : Job) (ended : ℕ → Bool) (m : Moment) (machine : Machine)
-    (t : ℕ) → MayStep job t steps → ((event : TaskEvent) → IsNext job m event → NotStarved job ended m event
+pub turn_opens : {steps most : ℕ} (job : Job) (ended : ℕ → Bool) (m : Moment) (machine : Machine)
+    (t : ℕ) → MaySize job.graph t steps most → ((event : TaskEvent) → IsNext job m event → NotStarved job ended m event
     → IsOpenAt job ended (after_turn job event m))
     → IsMachineAt job m machine → is_hungry job ended m t ≡ false → IsOpenAt job ended m
-    → IsOpenAt job ended (after_answer job (turn_by steps job m t) m)
-turn_opens {steps} job ended m machine t sized law at none opens = by (turn_by steps job m t) refl
+    → IsOpenAt job ended (after_answer job (turn_up_to steps most job m t) m)
+turn_opens {steps} {most} job ended m machine t sized law at none opens = by (turn_up_to steps most job m t) refl
   where
-    by : (answer : Answer) → turn_by steps job m t ≡ answer
+    by : (answer : Answer) → turn_up_to steps most job m t ≡ answer
         → IsOpenAt job ended (after_answer job answer m)
     by (makes event) e =
         law event
-        (turn_makes_next steps (task_at job.graph t).block job m t event sized at.graph at.reached.ran (λ c due. at.reached.to_come) e)
-        (not_starved steps job ended m t (next_of job m t) event (fed_by job ended m t none) e)
+        (turn_makes_next steps most job m t event sized at.graph at.reached.ran (λ c due. at.reached.to_come) e)
+        (not_starved steps most job ended m t (next_of job m t) event (fed_by job ended m t none) e)
     by is_blocked e = opens
     by is_gone e = opens
     by (has_made where_is) e = opens
@@ -249,14 +249,14 @@ pub turn_stands : (steps : ℕ) (old : StreamState) (new : Machine) (met : Optio
     → NotStarved (with_samples s old.job) (ended_at old) m event
     → IsOpenAt (with_samples s old.job) (ended_at old)
     (after_turn (with_samples s old.job) event m))
-    → MayStep old.job t steps → old.met ≡ None → is_hungry (with_samples s old.job) (ended_at old) m t ≡ false
+    → MayStep old.job old.machine t steps → old.met ≡ None → is_hungry (with_samples s old.job) (ended_at old) m t ≡ false
     → HadTurn steps (with_samples s old.job) old.machine new t it → word ≡ told_by it t
     → met ≡ met_by None word → IsStreamAt old s m given
     → IsStreamAt record { job = old.job; machine = new; inputs = old.inputs; met = met } s
-    (after_answer (with_samples s old.job) (turn_by steps (with_samples s old.job) m t) m) given
+    (after_answer (with_samples s old.job) (turn_in steps (with_samples s old.job) old.machine m t) m) given
 turn_stands steps old new met s m given t it word law sized none fed had told is at =
     let job = with_samples s old.job in
-    let now = after_answer job (turn_by steps job m t) m in
+    let now = after_answer job (turn_in steps job old.machine m t) m in
     let answered : HasAnsweredNone job m = subst (HasMet job m) none at.met in
     let after : IsMachineAt job now new = had.after m at.machine answered in
     record {
@@ -265,26 +265,26 @@ turn_stands steps old new met s m given t it word law sized none fed had told is
       lines = without_samples_lines s old.job given now new.lines.items
           (had.lines given m at.machine answered
           (with_samples_lines s old.job given m old.machine.lines.items at.lines));
-      kept = kept_after old.job s m (turn_by steps job m t) old.inputs after.reached.ran at.kept;
+      kept = kept_after old.job s m (turn_in steps job old.machine m t) old.inputs after.reached.ran at.kept;
       stays_open = turn_opens job (ended_at old) m old.machine t sized law at.machine fed at.stays_open;
       met = subst (HasMet job now) (sym is)
-          (turn_met_so job old.machine new m t it word sized had at.machine answered
-          (turn_told_so steps job m t it word (had.shows m at.machine) told));
-      faults = λ there more is_met goes ready. fault_fed steps (task_at job.graph t).block job m t there more
+          (turn_met_so job old.machine m t word sized at.machine after answered
+          (turn_told_so steps (most_in old.machine t) job m t it word (had.shows m at.machine) told));
+      faults = λ there more is_met goes ready. fault_fed steps (most_in old.machine t) job m t there more
           sized ready
           at.machine.reached after.reached.ran
-          (turn_told_so steps job m t it word (had.shows m at.machine) told
+          (turn_told_so steps (most_in old.machine t) job m t it word (had.shows m at.machine) told
           ∙ ap (λ w. Some w) (met_told word there (sym is ∙ is_met)))
           goes;
     }
 
 -- ---- turns one after the other
 
-pub turns_twice : (job : Job) (m : Moment) (ts us : List (ℕ × ℕ))
-    → after_turns_by job m (ts ++ us) ≡ after_turns_by job (after_turns_by job m ts) us
+pub turns_twice : (job : Job) (m : Moment) (ts us : List SizedTurn)
+    → after_sized job m (ts ++ us) ≡ after_sized job (after_sized job m ts) us
 turns_twice job m [] us = refl
 turns_twice job m (t ∷ ts) us =
-    turns_twice job (after_answer job (turn_by t.1 job m t.0) m) ts us
+    turns_twice job (after_answer job (turn_up_to t.steps t.most job m t.task) m) ts us
 
 pub goes_on_none : (stream : StreamState) → StreamGoesOn stream stream
 goes_on_none stream = record {
@@ -297,9 +297,9 @@ pub goes_on_twice : (a b c : StreamState) → StreamGoesOn a b → StreamGoesOn 
 goes_on_twice a b c first then = record {
   later = λ s m given at.
       (let one = first.later s m given at in
-      let two = then.later s (after_turns_by (with_samples s a.job) m one.0) given one.1 in
+      let two = then.later s (after_sized (with_samples s a.job) m one.0) given one.1 in
       let P : Job → Type 0 = λ j.
-      IsStreamAt c s (after_turns_by (with_samples s j) (after_turns_by (with_samples s a.job) m one.0)
+      IsStreamAt c s (after_sized (with_samples s j) (after_sized (with_samples s a.job) m one.0)
       two.0) given in (
         one.0 ++ two.0,
         subst (λ now. IsStreamAt c s now given)

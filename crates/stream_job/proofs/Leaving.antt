@@ -9,12 +9,12 @@ use Rattle.graph_runs.specs.Nexts as turns
 use Rattle.graph_runs.specs.Nexts.{is_live}
 use Rattle.graph_runs.specs.TaskEvents.{leave, after_turn}
 use Rattle.graph_runs.specs.Answers as answers
-use Rattle.graph_runs.specs.Answers.{makes, after_answer, accepted_answer, told_event, turn_by}
-use Rattle.graph_runs.specs.TaskPlaces.{StandsAt, registration_at}
+use Rattle.graph_runs.specs.Answers.{makes, after_answer, accepted_answer, told_event}
+use Rattle.graph_runs.specs.TaskPlaces.{StandsUpTo, registration_at}
 use Rattle.graph_runs.proofs.PlacesFollow.{leave_follows}
 use Rattle.stream_job.specs.Places.{IsTaskAt, place_in_state}
-use Rattle.stream_job.specs.Machines.{IsMachineAt, HasCores}
-use Rattle.stream_job.specs.Turning.{HadTurn, MadeShows, told_of}
+use Rattle.stream_job.specs.Machines.{IsMachineAt, HasCores, most_in}
+use Rattle.stream_job.specs.Turning.{HadTurn, MadeShows, told_of, turn_in}
 use Rattle.stream_job.specs.Stepping.{IsNextIn}
 use Rattle.stream_job.specs.declared.machine.Machine.{Machine}
 use Rattle.stream_job.specs.declared.task_state.TaskState.{TaskState}
@@ -26,6 +26,7 @@ use Rattle.stream_job.proofs.Setting.{read_same}
 use Rattle.phase_any.specs.phase_history.declared.refusal.NoTask.{NoTask}
 use Rattle.stream_job.proofs.Reading.{live_by}
 use Rattle.stream_job.proofs.Events.{after_own}
+use Rattle.stream_job.proofs.Mosts.{mosts_set}
 use Rattle.stream_job.proofs.Makes.{MakesEvent, makes_event}
 
 abbrev pub left_once : TaskState → TaskState
@@ -51,16 +52,17 @@ left_turn {steps} job old new t p number state told next found phaser numbered a
       lines = λ given m at none.
           quiet_lines job given m old new t (leave t p number) next.sized at (answer m at) refl tt lines;
       own = same_rooms old new lines;
+      mosts = mosts_set old new t state (left_once state) found tasks refl;
     }
   where
     is : (m : Moment) → IsMachineAt job m old → IsTaskAt job m t state
     is m at = at.tasks t state found
 
-    place : (m : Moment) → IsMachineAt job m old → LeavesAt steps job m t (place_in_state state)
-    place m at = leaves_at steps job m t (place_in_state state) at.graph (is m at).stands (next.is m at)
+    place : (m : Moment) → IsMachineAt job m old → LeavesAt steps (most_in old t) job m t (place_in_state state)
+    place m at = leaves_at steps (most_in old t) job m t (place_in_state state) at.graph (is m at).stands (next.is m at)
 
     answer : (m : Moment) → IsMachineAt job m old
-        → turn_by steps job m t ≡ makes (leave t p number)
+        → turn_in steps job old m t ≡ makes (leave t p number)
     answer m at =
         (place m at).answer
         ∙ ap (λ q. accepted_answer (leave t q (get_or state.numbers.items state.left 0))
@@ -68,20 +70,20 @@ left_turn {steps} job old new t p number state told next found phaser numbered a
         ∙ ap (λ n. accepted_answer (leave t p n) (drop_refusal (m.history p) n)) numbered
         ∙ ap (accepted_answer (leave t p number)) (accepted m at)
 
-    made : (m : Moment) → IsMachineAt job m old → MakesEvent steps job m t (leave t p number)
+    made : (m : Moment) → IsMachineAt job m old → MakesEvent steps (most_in old t) job m t (leave t p number)
     made m at = makes_event job m t (leave t p number) next.sized at.graph at.reached (answer m at)
 
     stands : (m : Moment) → IsMachineAt job m old
-        → StandsAt job (after_turn job (leave t p number) m) t (place_in_state (left_once state))
+        → StandsUpTo state.most job (after_turn job (leave t p number) m) t (place_in_state (left_once state))
     stands m at =
         let one : state.left + 1 ≡ suc state.left = omega arith in
-        subst (λ k. StandsAt job (after_turn job (leave t p number) m) t
+        subst (λ k. StandsUpTo state.most job (after_turn job (leave t p number) m) t
         (record (place_in_state state) { left = k })) (sym one)
         (leave_follows job m t p number (place_in_state state) at.graph (made m at).live (made m at).next
         (made m at).order (is m at).stands)
 
     shows : (m : Moment) (at : IsMachineAt job m old)
-        → MadeShows job m t (turn_by steps job m t) (Event p told)
+        → MadeShows job m t (turn_in steps job old m t) (Event p told)
     shows m at =
         let after = after_turn job (leave t p number) m in
         let l = place m at in
@@ -93,7 +95,7 @@ left_turn {steps} job old new t p number state told next found phaser numbered a
         subst (λ a. MadeShows job m t a (Event p told)) (sym (answer m at)) (refl, word)
 
     after : (m : Moment) (at : IsMachineAt job m old)
-        → IsMachineAt job (after_answer job (turn_by steps job m t) m) new
+        → IsMachineAt job (after_answer job (turn_in steps job old m t) m) new
     after m at =
         let it = is m at in
         after_own job m old new t (leave t p number) (left_once state) next.sized at (answer m at) refl
@@ -102,6 +104,7 @@ left_turn {steps} job old new t p number state told next found phaser numbered a
           stands = stands m at;
           room = it.room;
           filter = it.filter;
+          most = it.most;
           made_room = it.made_room;
           made_by = it.made_by;
           made_none = it.made_none;
@@ -114,7 +117,7 @@ leaves_so : {steps : ℕ} (job : Job) (old : Machine) (t p number : ℕ) (state 
     → IsNextIn steps job old t turns.leaves → slice_get old.tasks.items t ≡ Some state
     → (registration_at job t state.left).phaser ≡ p
     → get_or state.numbers.items state.left 0 ≡ number → (m : Moment) → IsMachineAt job m old
-    → turn_by steps job m t ≡ accepted_answer (leave t p number) (drop_refusal (m.history p) number)
+    → turn_in steps job old m t ≡ accepted_answer (leave t p number) (drop_refusal (m.history p) number)
 leaves_so job old t p number state next found phaser numbered m at =
     let n = get_or state.numbers.items state.left 0 in
     (leaves_now job old m t state next at found).answer

@@ -18,7 +18,7 @@ use Rattle.graph_runs.specs.TaskEvents.{TaskEvent, IsNext, sample, signal, first
 use Rattle.graph_runs.specs.TaskPlaces.{child_of}
 use Rattle.graph_runs.specs.Nexts.{comes_by, first_due, first_missing, has_registered, is_due, is_live, registrations_at}
 use Rattle.graph_runs.specs.Reached.{IsReachable}
-use Rattle.graph_runs.specs.Answers.{makes, turn_by}
+use Rattle.graph_runs.specs.Answers.{makes, turn_up_to}
 use Rattle.graph_runs.proofs.PlacesFollow.{others_follow}
 use Rattle.graph_runs.proofs.Signalling.{live-is}
 use Rattle.graph_runs.proofs.Whose.{IsInOrder, task_of}
@@ -28,7 +28,7 @@ use Rattle.stream_job.specs.Turning.{phaser_of}
 use Rattle.stream_job.specs.declared.machine.Machine.{Machine}
 use Rattle.stream_job.proofs.Makes.{makes_event}
 use Rattle.stream_job.proofs.Reading.{live_by, complete}
-use Rattle.stream_job.specs.Stepping.{MayStep}
+use Rattle.graph_runs.specs.NextBlocks.{MaySize}
 
 -- task u is as it was, and has the children to register that it had; no phaser but p had an event
 pub record LeavesAlone (job : Job) (before after : Moment) (u p : ℕ) : Type 0 where
@@ -175,8 +175,8 @@ some_at [] i lt = absurd (omega arith)
 some_at (x ∷ xs) zero lt = (x, refl)
 some_at (x ∷ xs) (suc i) lt = some_at xs i (omega arith)
 
-pub lives_on : {steps : ℕ} (job : Job) (m : Moment) (machine : Machine) (t u : ℕ)
-    (event : TaskEvent) → MayStep job t steps → IsMachineAt job m machine → turn_by steps job m t ≡ makes event → u ≢ t
+pub lives_on : {steps most : ℕ} (job : Job) (m : Moment) (machine : Machine) (t u : ℕ)
+    (event : TaskEvent) → MaySize job.graph t steps most → IsMachineAt job m machine → turn_up_to steps most job m t ≡ makes event → u ≢ t
     → child_of event ≢ Some u → is_live job m u ≡ true
     → is_live job (after_turn job event m) u ≡ true
 lives_on job m machine t u event sized at answer apart other live =

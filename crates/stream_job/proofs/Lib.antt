@@ -4,6 +4,7 @@ pub mod LinesAfter
 pub mod LinesBegin
 pub mod Lively
 pub mod Makes
+pub mod Mosts
 pub mod OpeningPhasers
 pub mod OpeningTasks
 pub mod Awaiting
@@ -16,6 +17,9 @@ pub mod Numbering
 pub mod Ending
 pub mod InTurn
 pub mod Setting
+pub mod SampleTurns
+pub mod SentValues
+pub mod SignalCalls
 pub mod Signals
 pub mod SinkLines
 pub mod SinksKeep
@@ -23,6 +27,8 @@ pub mod Stopping
 pub mod Taking
 pub mod TaskLists
 pub mod Tellings
+pub mod Exchanges
+pub mod FirstTurns
 pub mod Waits
 pub mod WhatNext
 pub mod Reading

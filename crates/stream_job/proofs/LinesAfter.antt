@@ -11,7 +11,7 @@ use Rattle.graph_runs.specs.Beginnings.{opening}
 use Rattle.graph_runs.specs.Moments.{Moment}
 use Rattle.graph_runs.specs.TaskEvents.{TaskEvent, after_turn}
 use Rattle.graph_runs.specs.TaskPlaces.{child_of}
-use Rattle.graph_runs.specs.Answers.{makes, after_answer, turn_by}
+use Rattle.graph_runs.specs.Answers.{makes, after_answer, turn_up_to}
 use Rattle.stream_job.specs.Machines.{HasRoom, IsMachineAt, KeepsLines, kept_behind, none_given}
 use Rattle.stream_job.specs.SinkLines.{sink_begins_at, kept_by}
 use Rattle.stream_job.specs.declared.machine.Machine.{Machine}
@@ -19,7 +19,7 @@ use Rattle.stream_job.proofs.Begins.{opened_begins}
 use Rattle.stream_job.proofs.Events.{begins_same}
 use Rattle.stream_job.proofs.SinkLines.{map_same}
 use Rattle.stream_job.proofs.SinksKeep.{NoSinkWaits, lines_stay, opened_kept}
-use Rattle.stream_job.specs.Stepping.{MayStep}
+use Rattle.graph_runs.specs.NextBlocks.{MaySize}
 
 -- lines that are the same keep the same
 pub same_lines : (job : Job) (given : ℕ → List ℤ) (m : Moment) (old new : Machine)
@@ -42,11 +42,11 @@ starts_stay job m event none =
     (λ u. begins_same job m event u none)
 
 -- the lines after an event by which no sink waits and no child comes
-pub quiet_lines : {steps : ℕ} (job : Job) (given : ℕ → List ℤ) (m : Moment) (old new : Machine) (t : ℕ)
-    (event : TaskEvent) → MayStep job t steps → IsMachineAt job m old → turn_by steps job m t ≡ makes event
+pub quiet_lines : {steps most : ℕ} (job : Job) (given : ℕ → List ℤ) (m : Moment) (old new : Machine) (t : ℕ)
+    (event : TaskEvent) → MaySize job.graph t steps most → IsMachineAt job m old → turn_up_to steps most job m t ≡ makes event
     → child_of event ≡ None → NoSinkWaits job event → new.lines ≡ old.lines
     → KeepsLines job given m old.lines.items
-    → KeepsLines job given (after_answer job (turn_by steps job m t) m) new.lines.items
+    → KeepsLines job given (after_answer job (turn_up_to steps most job m t) m) new.lines.items
 quiet_lines job given m old new t event sized at answer none quiet lines kept =
     subst (λ a. KeepsLines job given (after_answer job a m) new.lines.items) (sym answer) record {
       values = ap (λ l. map (kept_behind given) l.items) lines ∙ kept.values

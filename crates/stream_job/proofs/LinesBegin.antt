@@ -11,7 +11,7 @@ use Rattle.stream_eval.specs.stream_lists.Lists.{is_sink_at, number}
 use Rattle.stream_eval.specs.stream_lists.Ranges.{Where}
 use Rattle.graph_runs.specs.Moments.{Moment, HasAnsweredNone}
 use Rattle.graph_runs.specs.TaskEvents.{TaskEvent, IsNext, sample, signal, first_wait, exchange_wait, leave, child, child_now, after_turn}
-use Rattle.graph_runs.specs.Answers.{Answer, makes, is_blocked, is_gone, has_made, is_refused, after_answer, turn_by}
+use Rattle.graph_runs.specs.Answers.{Answer, makes, is_blocked, is_gone, has_made, is_refused, after_answer, turn_up_to}
 use Rattle.graph_runs.proofs.Turning.{turn_makes_next}
 use Rattle.stream_job.specs.Machines.{IsMachineAt}
 use Rattle.stream_job.specs.SinkLines.{kept_by, kept_of, KeepsBeginnings}
@@ -19,8 +19,8 @@ use Rattle.stream_job.specs.Worlds.{HasMet}
 use Rattle.stream_job.specs.declared.machine.Machine.{Machine}
 use Rattle.stream_job.proofs.Events.{taken_other}
 use Rattle.stream_job.proofs.SinksKeep.{all_kept, kept_begins, kept_other, kept_wait, sink_reads}
-use Rattle.stream_job.proofs.Waits.{first_is, sink_kind, zero_first}
-use Rattle.stream_job.specs.Stepping.{MayStep}
+use Rattle.stream_job.proofs.FirstTurns.{first_is, sink_kind, zero_first}
+use Rattle.graph_runs.specs.NextBlocks.{MaySize}
 
 -- a list begins an equal one
 same_begins : (xs ys : List ℤ) → xs ≡ ys → IsPrefix xs ys
@@ -116,16 +116,16 @@ event_begins job m machine event at none next u there sink = by event next
         (kept_other job m (child_now t p n c a) u at.reached.ran next there tt) refl
 
 -- after one turn more
-pub turn_begins : {steps : ℕ} (job : Job) (m : Moment) (machine : Machine) (t : ℕ)
-    → MayStep job t steps → IsMachineAt job m machine → HasAnsweredNone job m
-    → KeepsBeginnings job (after_answer job (turn_by steps job m t) m)
-turn_begins {steps} job m machine t sized at none = by (turn_by steps job m t) refl
+pub turn_begins : {steps most : ℕ} (job : Job) (m : Moment) (machine : Machine) (t : ℕ)
+    → MaySize job.graph t steps most → IsMachineAt job m machine → HasAnsweredNone job m
+    → KeepsBeginnings job (after_answer job (turn_up_to steps most job m t) m)
+turn_begins {steps} {most} job m machine t sized at none = by (turn_up_to steps most job m t) refl
   where
-    by : (answer : Answer) → turn_by steps job m t ≡ answer
+    by : (answer : Answer) → turn_up_to steps most job m t ≡ answer
         → KeepsBeginnings job (after_answer job answer m)
     by (makes event) e =
         event_begins job m machine event at none
-        (turn_makes_next steps (task_at job.graph t).block job m t event sized at.graph at.reached.ran (λ c due. at.reached.to_come) e)
+        (turn_makes_next steps most job m t event sized at.graph at.reached.ran (λ c due. at.reached.to_come) e)
     by is_blocked e = none_begins job m machine at none
     by is_gone e = none_begins job m machine at none
     by (has_made there) e = none_begins job m machine at none

@@ -11,13 +11,13 @@ use Rattle.graph_runs.specs.Moments.{Moment}
 use Rattle.graph_runs.proofs.OnLines.{on_phaser}
 use Rattle.graph_runs.specs.Nexts.{Next, is_not_live, leaves, next_of, is_live, of_live, first_owed, number_on, registrations_at}
 use Rattle.graph_runs.specs.TaskEvents.{leave}
-use Rattle.graph_runs.specs.Answers.{call_leave, accepted_answer, turn_by, answer_by}
-use Rattle.graph_runs.specs.TaskPlaces.{TaskPlace, StandsAt, registration_at}
+use Rattle.graph_runs.specs.Answers.{call_leave, accepted_answer, turn_up_to, answer_up_to}
+use Rattle.graph_runs.specs.TaskPlaces.{TaskPlace, StandsUpTo, registration_at}
 use Rattle.graph_runs.proofs.Signalling.{live-is}
 use Rattle.graph_runs.proofs.Standing.{kept}
 use Rattle.graph_runs.proofs.TurnRegistering.{is_for}
 use Rattle.stream_job.specs.Places.{place_in_state}
-use Rattle.stream_job.specs.Machines.{IsMachineAt}
+use Rattle.stream_job.specs.Machines.{IsMachineAt, most_in}
 use Rattle.stream_job.specs.Stepping.{IsNextIn}
 use Rattle.stream_job.specs.declared.machine.Machine.{Machine}
 use Rattle.stream_job.specs.declared.task_state.TaskState.{TaskState}
@@ -43,7 +43,7 @@ phaser_there job t k is there few =
     on_phaser job t (registration_at job t k).phaser is there (is_for job t k is there few).on_line
 
 -- where a task leaves next
-pub record LeavesAt (steps : ℕ) (job : Job) (m : Moment) (t : ℕ) (at : TaskPlace) : Type 0 where
+pub record LeavesAt (steps most : ℕ) (job : Job) (m : Moment) (t : ℕ) (at : TaskPlace) : Type 0 where
   pub live : is_live job m t ≡ true
   pub there : t < length job.graph.tasks
   pub all : length at.numbers ≡ length (registrations_at job t)
@@ -51,11 +51,11 @@ pub record LeavesAt (steps : ℕ) (job : Job) (m : Moment) (t : ℕ) (at : TaskP
   pub phaser : (registration_at job t at.left).phaser < length job.graph.phasers
   pub answer : let p = (registration_at job t at.left).phaser in
       let n = get_or at.numbers at.left 0 in
-      turn_by steps job m t ≡ accepted_answer (leave t p n) (drop_refusal (m.history p) n)
+      turn_up_to steps most job m t ≡ accepted_answer (leave t p n) (drop_refusal (m.history p) n)
 
-pub leaves_at : (steps : ℕ) (job : Job) (m : Moment) (t : ℕ) (at : TaskPlace) → IsGraph job.graph
-    → StandsAt job m t at → next_of job m t ≡ leaves → LeavesAt steps job m t at
-leaves_at steps job m t at is stands next =
+pub leaves_at : {owes : ℕ} (steps most : ℕ) (job : Job) (m : Moment) (t : ℕ) (at : TaskPlace) → IsGraph job.graph
+    → StandsUpTo owes job m t at → next_of job m t ≡ leaves → LeavesAt steps most job m t at
+leaves_at steps most job m t at is stands next =
     let live = live_next job m t leaves next (λ e. (cc)) in
     let living = live-is job m t live in
     let all = all_numbered job m t at stands live in
@@ -71,7 +71,7 @@ leaves_at steps job m t at is stands next =
       all = all;
       stays = low;
       phaser = phaser_there job t at.left is living.there (omega arith);
-      answer = ap (answer_by steps job m t) next
+      answer = ap (answer_up_to steps most job m t) next
           ∙ ap (call_leave m t) (kept job m t at stands all
           ∙ slice_get-get_or (registrations_at job t) at.left no_registration (omega arith))
           ∙ ap (λ x. accepted_answer (leave t p x) (drop_refusal (m.history p) x)) number;
@@ -96,9 +96,10 @@ state_read {machine = machine} {t = t} {state = state} is never read =
 -- where a task leaves next, by the state that was read
 pub leaves_now : {steps : ℕ} (job : Job) (machine : Machine) (m : Moment) (t : ℕ) (state : TaskState)
     → IsNextIn steps job machine t leaves → IsMachineAt job m machine
-    → slice_get machine.tasks.items t ≡ Some state → LeavesAt steps job m t (place_in_state state)
+    → slice_get machine.tasks.items t ≡ Some state
+    → LeavesAt steps (most_in machine t) job m t (place_in_state state)
 leaves_now {steps} job machine m t state next at found =
-    leaves_at steps job m t (place_in_state state) at.graph (at.tasks t state found).stands (next.is m at)
+    leaves_at steps (most_in machine t) job m t (place_in_state state) at.graph (at.tasks t state found).stands (next.is m at)
 
 -- how many phasers it has left fits the machine's words
 pub few_left : {steps : ℕ} (job : Job) (machine : Machine) (t : ℕ) (state : TaskState) (numbers : List ℕ)

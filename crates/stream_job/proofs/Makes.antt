@@ -4,29 +4,27 @@ use Rattle.graph_lang.specs.graph_base.TaskLines.{IsGraph}
 use Rattle.stream_eval.specs.stream_lists.Jobs.{Job}
 use Rattle.graph_runs.specs.Moments.{Moment}
 use Rattle.graph_runs.specs.TaskEvents.{TaskEvent, IsNext}
-use Rattle.graph_runs.specs.Answers.{makes, turn_by}
+use Rattle.graph_runs.specs.Answers.{makes, turn_up_to}
 use Rattle.graph_runs.specs.Reached.{IsReachable}
 use Rattle.graph_runs.proofs.Signalling.{Live}
 use Rattle.graph_runs.proofs.Turning.{turn_makes_next}
 use Rattle.graph_runs.proofs.Whose.{IsInOrder, task_of, made_by}
 use Rattle.graph_runs.proofs.InOrder.{OwesFor, event_owes}
-use Rattle.stream_job.specs.Stepping.{MayStep}
-use Rattle.graph_lang.specs.graph_base.Graphs.{task_at}
+use Rattle.graph_runs.specs.NextBlocks.{MaySize}
 
 -- it is the next one of the task, which is live, for the registration that comes next, and owes what
 -- it is for
-pub record MakesEvent (steps : ℕ) (job : Job) (m : Moment) (t : ℕ) (event : TaskEvent) : Type 0 where
+pub record MakesEvent (steps most : ℕ) (job : Job) (m : Moment) (t : ℕ) (event : TaskEvent) : Type 0 where
   pub next : IsNext job m event
   pub live : Live job m t
   pub own : task_of event ≡ t
   pub order : IsInOrder job m event
-  pub owes : OwesFor steps (task_at job.graph t).block job m event
+  pub owes : OwesFor steps most job m event
 
-pub makes_event : {steps : ℕ} (job : Job) (m : Moment) (t : ℕ) (event : TaskEvent)
-    → MayStep job t steps → IsGraph job.graph
-    → IsReachable job m → turn_by steps job m t ≡ makes event → MakesEvent steps job m t event
-makes_event {steps} job m t event sized is reached answer =
-    let most = (task_at job.graph t).block in
+pub makes_event : {steps most : ℕ} (job : Job) (m : Moment) (t : ℕ) (event : TaskEvent)
+    → MaySize job.graph t steps most → IsGraph job.graph
+    → IsReachable job m → turn_up_to steps most job m t ≡ makes event → MakesEvent steps most job m t event
+makes_event {steps} {most} job m t event sized is reached answer =
     let by = made_by steps most job m t event answer in
     record {
       next = turn_makes_next steps most job m t event sized is reached.ran

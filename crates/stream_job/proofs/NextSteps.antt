@@ -10,7 +10,7 @@ use Rattle.graph_runs.specs.Moments.{Moment}
 use Rattle.graph_runs.specs.Nexts.{Next, is_not_live, signals, exchanges, next_of, of_live, at_boundary, first_due, first_kept, first_missing, first_owed, is_live}
 use Rattle.graph_runs.specs.Steps.{owed_of}
 use Rattle.graph_runs.specs.TaskPlaces as places
-use Rattle.graph_runs.specs.TaskPlaces.{Owes, nothing, values, exchange, StandsAt}
+use Rattle.graph_runs.specs.TaskPlaces.{OwesUpTo, nothing, values, exchange, StandsUpTo}
 use Rattle.stream_job.specs.Machines.{IsMachineAt}
 use Rattle.stream_job.specs.Places.{IsTaskAt, owed_in, place_in_state}
 use Rattle.stream_job.specs.declared.machine.Machine.{Machine}
@@ -44,24 +44,24 @@ next_for job m t nothing = at_boundary job m t (first_due job m t)
 next_for job m t (values j vs) = signals j
 next_for job m t (exchange x) = exchanges
 
-owing_next : (job : Job) (m : Moment) (t : ℕ) (owed : places.Owed) → is_live job m t ≡ true
-    → Owes job m t owed → next_of job m t ≡ next_for job m t owed
-owing_next job m t nothing live owes =
+owing_next : (most : ℕ) (job : Job) (m : Moment) (t : ℕ) (owed : places.Owed) → is_live job m t ≡ true
+    → OwesUpTo most job m t owed → next_of job m t ≡ next_for job m t owed
+owing_next most job m t nothing live owes =
     ap (λ b. cond b (of_live job m t (first_owed job m t)) is_not_live) live
     ∙ ap (of_live job m t) owes
-owing_next job m t (values j vs) live owes =
+owing_next most job m t (values j vs) live owes =
     ap (λ b. cond b (of_live job m t (first_owed job m t)) is_not_live) live
     ∙ ap (of_live job m t) owes.0 ∙ owes.1
-owing_next job m t (exchange x) live owes =
+owing_next most job m t (exchange x) live owes =
     ap (λ b. cond b (of_live job m t (first_owed job m t)) is_not_live) live
     ∙ ap (of_live job m t) owes.0 ∙ owes.1
 
 -- a live task that has made values signals them
-pub made_next : (job : Job) (m : Moment) (t : ℕ) (state : TaskState)
-    → StandsAt job m t (place_in_state state) → is_live job m t ≡ true → length state.made.items ≢ 0
+pub made_next : {most : ℕ} (job : Job) (m : Moment) (t : ℕ) (state : TaskState)
+    → StandsUpTo most job m t (place_in_state state) → is_live job m t ≡ true → length state.made.items ≢ 0
     → next_of job m t ≡ signals 0
-made_next job m t state stands live some =
-    owing_next job m t (owed_in state.owed state.made.items) live stands.owes
+made_next {most} job m t state stands live some =
+    owing_next most job m t (owed_in state.owed state.made.items) live stands.owes
     ∙ ap (next_for job m t) (by state.owed state.made.items some)
   where
     by : (owed : Owed) (vs : List (Result ℤ TooBigValue)) → length vs ≢ 0
@@ -70,11 +70,11 @@ made_next job m t state stands live some =
     by owed (v ∷ vs) some = refl
 
 -- another one does what it owes
-pub owed_next : (job : Job) (m : Moment) (t : ℕ) (state : TaskState)
-    → StandsAt job m t (place_in_state state) → is_live job m t ≡ true → length state.made.items ≡ 0
+pub owed_next : {most : ℕ} (job : Job) (m : Moment) (t : ℕ) (state : TaskState)
+    → StandsUpTo most job m t (place_in_state state) → is_live job m t ≡ true → length state.made.items ≡ 0
     → next_of job m t ≡ next_for job m t (owed_of state.owed)
-owed_next job m t state stands live none =
-    owing_next job m t (owed_in state.owed state.made.items) live stands.owes
+owed_next {most} job m t state stands live none =
+    owing_next most job m t (owed_in state.owed state.made.items) live stands.owes
     ∙ ap (next_for job m t) (by state.owed state.made.items none)
   where
     by : (owed : Owed) (vs : List (Result ℤ TooBigValue)) → length vs ≡ 0

@@ -9,7 +9,7 @@ use Rattle.phase_any.specs.phase_history.declared.event.Event.TheVariants.{Signa
 use Rattle.phase_any.specs.phase_history.Histories.{History, greatest_used}
 use Rattle.phase_any.specs.phase_core.phase_registry.Rosters.{next_after}
 use Rattle.graph_lang.specs.graph_base.declared.limits.TheConstants.{TASKS_MAX}
-use Rattle.graph_lang.specs.graph_base.Graphs.{phaser_at, task_at}
+use Rattle.graph_lang.specs.graph_base.Graphs.{phaser_at}
 use Rattle.graph_lang.specs.graph_base.TaskLines.{IsGraph}
 use Rattle.stream_eval.specs.stream_lists.Jobs.{Job}
 use Rattle.graph_runs.specs.Moments.{one, Moment}
@@ -18,14 +18,14 @@ use Rattle.graph_runs.proofs.InBlocks.{next_samples_are, next_signals_are, first
 use Rattle.graph_runs.proofs.JoinsNow.{next_child_now_is}
 use Rattle.graph_runs.proofs.Turned.{exchange_wait_is, next_leave_is, next_child_is}
 use Rattle.graph_runs.specs.TaskEvents.{TaskEvent, IsNext, sample, signal, first_wait, exchange_wait, leave, child, child_now, after_turn}
-use Rattle.graph_runs.specs.Answers.{Answer, makes, is_blocked, is_gone, has_made, is_refused, after_answer, turn_by}
+use Rattle.graph_runs.specs.Answers.{Answer, makes, is_blocked, is_gone, has_made, is_refused, after_answer, turn_up_to}
 use Rattle.graph_runs.specs.Beginnings.{opening, root_mode, root_number, roots_joined, number_after_founder, with_root}
 use Rattle.graph_runs.specs.Reached.{IsReachable}
 use Rattle.graph_runs.proofs.Turning.{turn_makes_next}
 use Rattle.graph_runs.proofs.Whose.{IsInOrder, made_by}
 use Rattle.stream_job.specs.Machines.{IsMachineAt, numbered, UsesFew}
 use Rattle.stream_job.specs.declared.machine.Machine.{Machine}
-use Rattle.stream_job.specs.Stepping.{MayStep}
+use Rattle.graph_runs.specs.NextBlocks.{MaySize}
 
 -- ---- how many have a number
 
@@ -180,15 +180,15 @@ few_after_event job m (child_now t p n c a) reached next order few =
     s.other_numbers s.elsewhere (ap greatest_used s.here) order.3 few
 
 -- what a turn leaves
-pub few_after : {steps : ℕ} (job : Job) (m : Moment) (t : ℕ) → MayStep job t steps → IsGraph job.graph → IsReachable job m
-    → UsesFew job m → UsesFew job (after_answer job (turn_by steps job m t) m)
-few_after {steps} job m t sized is reached few = by (turn_by steps job m t) refl
+pub few_after : {steps most : ℕ} (job : Job) (m : Moment) (t : ℕ) → MaySize job.graph t steps most → IsGraph job.graph → IsReachable job m
+    → UsesFew job m → UsesFew job (after_answer job (turn_up_to steps most job m t) m)
+few_after {steps} {most} job m t sized is reached few = by (turn_up_to steps most job m t) refl
   where
-    by : (a : Answer) → turn_by steps job m t ≡ a → UsesFew job (after_answer job a m)
+    by : (a : Answer) → turn_up_to steps most job m t ≡ a → UsesFew job (after_answer job a m)
     by (makes event) e =
         few_after_event job m event reached
-        (turn_makes_next steps (task_at job.graph t).block job m t event sized is reached.ran (λ c due. reached.to_come) e)
-        (made_by steps (task_at job.graph t).block job m t event e).1.missing few
+        (turn_makes_next steps most job m t event sized is reached.ran (λ c due. reached.to_come) e)
+        (made_by steps most job m t event e).1.missing few
     by is_blocked e = few
     by is_gone e = few
     by (has_made at) e = few

@@ -19,7 +19,7 @@ use Rattle.graph_runs.proofs.Opened.{none_dropped}
 use Rattle.graph_runs.proofs.Lacking.{none_put, nothing_lacks}
 use Rattle.graph_runs.specs.Beginnings.{mode_on, root_mode, root_number, number_after_founder, roots_joined, opening}
 use Rattle.graph_runs.specs.Nexts.{registrations_at, number_on, has_left, is_owed, first_owed}
-use Rattle.graph_runs.specs.TaskPlaces.{registration_at, StandsAt, at_start}
+use Rattle.graph_runs.specs.TaskPlaces.{registration_at, StandsUpTo, at_start}
 use Rattle.graph_runs.proofs.AtOpening.{phaser_opened, opening_has_begun}
 use Rattle.graph_runs.proofs.Boundaries.{made_many}
 use Rattle.graph_runs.proofs.PlacesLemmas.{find-none}
@@ -125,12 +125,12 @@ stays job t i numbers is there few at lt =
         (on_phaser job t (registration_at job t i).phaser is there
         (is_for job t i is there few).on_line)
 
-pub opening_stands : (job : Job) (t : ℕ) (numbers : List ℕ) → IsGraph job.graph
+pub opening_stands : (most : ℕ) (job : Job) (t : ℕ) (numbers : List ℕ) → IsGraph job.graph
     → t < length job.graph.tasks → length numbers ≤ length (registrations_at job t)
     → ((i : ℕ) → i < length (registrations_at job t)
     → root_number job (registration_at job t i).phaser t ≡ slice_get numbers i)
-    → StandsAt job (opening job) t (at_start numbers)
-opening_stands job t numbers is there few at = record {
+    → StandsUpTo most job (opening job) t (at_start numbers)
+opening_stands most job t numbers is there few at = record {
   few = few;
   few_left = omega arith;
   numbered = at;

@@ -6,11 +6,11 @@ use Rattle.graph_lang.specs.graph_base.Registrations.{no_registration}
 use Rattle.stream_eval.specs.stream_lists.Jobs.{Job}
 use Rattle.graph_runs.specs.Moments.{Moment}
 use Rattle.graph_runs.specs.Nexts.{registrations_at, first_missing, first_kept, is_live}
-use Rattle.graph_runs.specs.TaskPlaces.{TaskPlace, StandsAt}
+use Rattle.graph_runs.specs.TaskPlaces.{TaskPlace, StandsUpTo}
 use Rattle.graph_runs.proofs.Standing.{missing, kept}
 
 -- a task is registered on all its phasers where it has a number for each
-pub registered_by : (job : Job) (m : Moment) (t : ℕ) (at : TaskPlace) → StandsAt job m t at
+pub registered_by : {most : ℕ} (job : Job) (m : Moment) (t : ℕ) (at : TaskPlace) → StandsUpTo most job m t at
     → is_some (first_missing job m t)
     ≡ not (nat_le (length (registrations_at job t)) (length at.numbers))
 registered_by job m t at stands =
@@ -30,7 +30,7 @@ registered_by job m t at stands =
         ∙ sym (ap not (le-leb (length (registrations_at job t)) (length at.numbers) le))
 
 -- a task that is registered on all its phasers is live where it has not left as many
-pub live_by : (job : Job) (m : Moment) (t : ℕ) (at : TaskPlace) → StandsAt job m t at
+pub live_by : {most : ℕ} (job : Job) (m : Moment) (t : ℕ) (at : TaskPlace) → StandsUpTo most job m t at
     → t < length job.graph.tasks → length (registrations_at job t) ≤ length at.numbers
     → is_live job m t ≡ nat_lt at.left (length at.numbers)
 live_by job m t at stands there le =
@@ -57,7 +57,7 @@ live_by job m t at stands there le =
         ∙ sym (le-ltb at.left (length at.numbers) past)
 
 -- a task that misses no registration has a number for each
-pub complete : (job : Job) (m : Moment) (t : ℕ) (at : TaskPlace) → StandsAt job m t at
+pub complete : {most : ℕ} (job : Job) (m : Moment) (t : ℕ) (at : TaskPlace) → StandsUpTo most job m t at
     → is_some (first_missing job m t) ≡ false
     → length (registrations_at job t) ≤ length at.numbers
 complete job m t at stands none =

@@ -22,7 +22,7 @@ use Rattle.graph_runs.proofs.Whole.{stands_all}
 use Rattle.graph_runs.proofs.Started.{run_started, ready_as}
 use Rattle.graph_runs.proofs.StepsLemmas.{has_inputs}
 use Rattle.graph_runs.specs.Nexts.{next_of, waits, number_on}
-use Rattle.graph_runs.specs.Answers.{makes, after_answer, turn_by}
+use Rattle.graph_runs.specs.Answers.{makes, after_answer}
 use Rattle.graph_runs.specs.Reached.{IsReachable}
 use Rattle.graph_runs.specs.TaskEvents.{first_wait, after_turn}
 use Rattle.graph_runs.proofs.Boundaries.{all_taken}
@@ -32,9 +32,11 @@ use Rattle.stream_job.specs.Machines.{HasRoom, IsLineOf, IsMachineAt, KeepsLines
 use Rattle.stream_job.specs.declared.machine.Machine.{Machine}
 use Rattle.stream_job.specs.declared.task_state.TaskState.{TaskState}
 use Rattle.stream_job.specs.SinkLines.{kept_by}
+use Rattle.stream_job.specs.Turning.{turn_in}
 use Rattle.stream_job.proofs.SinksKeep.{kept_within}
 use Rattle.stream_job.proofs.Lively.{live_next}
-use Rattle.stream_job.proofs.Waits.{sink_kind, waits_few}
+use Rattle.stream_job.proofs.FirstTurns.{sink_kind}
+use Rattle.stream_job.proofs.Waits.{waits_few}
 use Rattle.stream_job.proofs.WhatNext.{Begins, waits_begins}
 
 -- the line of a sink is its task's, with what the task keeps behind what it has handed over
@@ -77,8 +79,8 @@ steps_left job m t k p n outcomes ready live few reached numbered =
 room_at : (steps : ℕ) (job : Job) (old : Machine) (m : Moment) (t k p n : ℕ) (outcomes : List Outcome)
     (state : TaskState) → KeepsLines job none_given m old.lines.items
     → All (IsLineOf job) old.lines.items
-    → IsReachable job (after_answer job (turn_by steps job m t) m) → IsMachineAt job m old
-    → next_of job m t ≡ waits k → turn_by steps job m t ≡ makes (first_wait t k p n outcomes)
+    → IsReachable job (after_answer job (turn_in steps job old m t) m) → IsMachineAt job m old
+    → next_of job m t ≡ waits k → turn_in steps job old m t ≡ makes (first_wait t k p n outcomes)
     → slice_get old.tasks.items t ≡ Some state → (task_at job.graph t).kind ≡ Sink
     → HasRoomIn old.lines.items (length outcomes) state.sink
 room_at steps job old m t k p n outcomes state kept owns stays at next answer found kind =
@@ -129,7 +131,7 @@ room_at steps job old m t k p n outcomes state kept owns stays at next answer fo
 -- where the lines keep all, and have room for all, there is room for what a turn gets
 pub sink_room : (steps : ℕ) (job : Job) (old : Machine) (m : Moment) (t : ℕ)
     → KeepsLines job none_given m old.lines.items → All (IsLineOf job) old.lines.items
-    → IsReachable job (after_answer job (turn_by steps job m t) m) → IsMachineAt job m old
+    → IsReachable job (after_answer job (turn_in steps job old m t) m) → IsMachineAt job m old
     → HasRoomAt steps job old t m
 sink_room steps job old m t kept owns stays at = λ k p n outcomes state next answer found sink.
     room_at steps job old m t k p n outcomes state kept owns stays at next answer found

@@ -24,12 +24,13 @@ use Rattle.graph_runs.proofs.InBlocks.{next_samples_are, next_signals_are, first
 use Rattle.graph_runs.proofs.JoinsNow.{next_child_now_is}
 use Rattle.graph_runs.proofs.Turned.{exchange_wait_is, next_leave_is, next_child_is}
 use Rattle.graph_runs.specs.TaskEvents.{TaskEvent, IsNext, sample, signal, first_wait, exchange_wait, leave, child, child_now, after_turn}
-use Rattle.graph_runs.specs.Answers.{makes, turn_by}
+use Rattle.graph_runs.specs.Answers.{makes, turn_up_to}
 use Rattle.graph_runs.specs.Beginnings.{opening, root_mode, root_number, roots_joined, with_root}
 use Rattle.graph_runs.proofs.Answered.{met_none}
 use Rattle.graph_runs.proofs.StepsLemmas.{has_inputs}
 use Rattle.graph_runs.proofs.Turning.{turn_makes_next}
-use Rattle.stream_job.specs.Stepping.{with_more, MayStep}
+use Rattle.graph_runs.specs.NextBlocks.{MaySize}
+use Rattle.stream_job.specs.Stepping.{with_more}
 use Rattle.stream_job.specs.Machines.{IsMachineAt}
 use Rattle.stream_job.specs.SinkLines.{kept_by, kept_of, kept_on}
 use Rattle.stream_job.specs.declared.machine.Machine.{Machine}
@@ -307,11 +308,11 @@ abbrev pub NoSinkWaits : Job → TaskEvent → Type 0
 NoSinkWaits job (first_wait t k p n outcomes) = is_sink_at job t ≡ false
 NoSinkWaits job event = Unit {0}
 
-pub lines_stay : {steps : ℕ} (job : Job) (m : Moment) (machine : Machine) (t : ℕ)
-    (event : TaskEvent) → MayStep job t steps → IsMachineAt job m machine → turn_by steps job m t ≡ makes event → NoSinkWaits job event
+pub lines_stay : {steps most : ℕ} (job : Job) (m : Moment) (machine : Machine) (t : ℕ)
+    (event : TaskEvent) → MaySize job.graph t steps most → IsMachineAt job m machine → turn_up_to steps most job m t ≡ makes event → NoSinkWaits job event
     → map {B = ℕ × List ℤ} (λ u. (u, kept_by job m u)) (sinks_of job)
     ≡ map {B = ℕ × List ℤ} (λ u. (u, kept_by job (after_turn job event m) u)) (sinks_of job)
-lines_stay {steps} job m machine t event sized at answer no_sink =
+lines_stay {steps} {most} job m machine t event sized at answer no_sink =
     map_found (is_sink_at job) (λ u. (u, kept_by job m u))
     (λ u. (u, kept_by job (after_turn job event m) u)) 0 (length job.graph.tasks)
     (λ u lt sink. ap (λ l. (u, l)) (kept_other job m event u at.reached.ran next (omega arith)
@@ -319,7 +320,7 @@ lines_stay {steps} job m machine t event sized at answer no_sink =
   where
     next : IsNext job m event
     next =
-        turn_makes_next steps (task_at job.graph t).block job m t event sized at.graph at.reached.ran (λ c due. at.reached.to_come) answer
+        turn_makes_next steps most job m t event sized at.graph at.reached.ran (λ c due. at.reached.to_come) answer
 
     quiet : (event : TaskEvent) → IsNext job m event → NoSinkWaits job event → (u : ℕ)
         → is_sink_at job u ≡ true → DoesNotWait u event
@@ -335,13 +336,13 @@ lines_stay {steps} job m machine t event sized at answer no_sink =
     quiet (child_now t p n c a) next none u sink = tt
 
 -- a sink that waits keeps what it got, before the first that is too big
-pub lines_keep : {steps : ℕ} (job : Job) (m : Moment) (machine : Machine) (t k p n i : ℕ)
-    (outcomes : List Outcome) → MayStep job t steps → IsMachineAt job m machine → HasAnsweredNone job m
-    → turn_by steps job m t ≡ makes (first_wait t k p n outcomes) → k ≡ 0
+pub lines_keep : {steps most : ℕ} (job : Job) (m : Moment) (machine : Machine) (t k p n i : ℕ)
+    (outcomes : List Outcome) → MaySize job.graph t steps most → IsMachineAt job m machine → HasAnsweredNone job m
+    → turn_up_to steps most job m t ≡ makes (first_wait t k p n outcomes) → k ≡ 0
     → slice_get (sinks_of job) i ≡ Some t
     → with_more (Some i) (kept_of outcomes) (map (λ u. (u, kept_by job m u)) (sinks_of job))
     ≡ map (λ u. (u, kept_by job (after_turn job (first_wait t k p n outcomes) m) u)) (sinks_of job)
-lines_keep {steps} job m machine t k p n i outcomes sized at none answer first sink =
+lines_keep {steps} {most} job m machine t k p n i outcomes sized at none answer first sink =
     let f : ℕ → List ℤ = λ u. cond (eqb u t) (kept_by job after u) (kept_by job m u) in
     let own : f t ≡ kept_by job after t =
     ap (λ b. cond b (kept_by job after t) (kept_by job m t)) (eq-eqb t t refl) in
@@ -358,7 +359,7 @@ lines_keep {steps} job m machine t k p n i outcomes sized at none answer first s
 
     next : IsNext job m (first_wait t k p n outcomes)
     next =
-        turn_makes_next steps (task_at job.graph t).block job m t (first_wait t k p n outcomes) sized
+        turn_makes_next steps most job m t (first_wait t k p n outcomes) sized
         at.graph at.reached.ran
         (λ c due. at.reached.to_come) answer
 

@@ -1,5 +1,5 @@
 -- Whether the call of a live task is blocked, where no turn is refused.
-use Rattle.std.proofs.Common.{◌≡◌, ◌≢◌, ℕ, suc, ◌+◌, ◌-◌, ◌<◌, ◌≤◌, Bool, true, false, not, eqb, ◌&&◌, ◌||◌, cond, ℤ, pos, List, [], ◌∷◌, Option, Some, None, is_some, map, drop, min, refl, sym, ap, subst, ◌∙◌, arith}
+use Rattle.std.proofs.Common.{◌≡◌, ◌≢◌, ℕ, zero, suc, ◌+◌, ◌-◌, ◌<◌, ◌≤◌, Bool, true, false, not, eqb, ◌&&◌, ◌||◌, cond, ℤ, pos, List, [], ◌∷◌, Option, Some, None, is_some, map, take, drop, min, refl, sym, ap, subst, ◌∙◌, arith}
 use Rattle.std.specs.Prelude.{nat_le, nat_lt, length}
 use Rattle.std.specs.List.{position_from}
 use Rattle.std.proofs.lemmas.Bool.{leb-true, leb-false, le-leb, lt-ltb, le-ltb}
@@ -32,23 +32,29 @@ use Rattle.graph_lang.specs.graph_base.Graphs.{task_at, phaser_at}
 use Rattle.graph_lang.specs.graph_base.TaskLines.{IsGraph}
 use Rattle.stream_eval.specs.stream_lists.Jobs.{Job, samples_at}
 use Rattle.stream_eval.specs.stream_lists.Ranges.{are_made, is_out_of_range}
-use Rattle.graph_runs.specs.Moments.{one, Moment, limits_at, value_at, input_at}
-use Rattle.graph_runs.specs.NextBlocks.{block_of, sample_block_of}
+use Rattle.graph_runs.specs.Moments.{one, Moment, limits_at, made_now, value_at, input_at}
+use Rattle.graph_runs.specs.NextBlocks.{MaySize, block_of, sample_block_of}
 use Rattle.graph_runs.specs.TaskEvents.{TaskEvent, sample, signal, exchange_wait}
-use Rattle.graph_runs.specs.Nexts.{Next, registers, leaves, samples, signals, waits, exchanges, has_input_ended, has_signaller, next_of, number_on, first_missing, first_kept}
-use Rattle.graph_runs.specs.Answers.{has_made, is_refused, signal_answer, block_answer, wait_answer, accepted_answer, register_answer, was_blocked, answer_to, signal_turn, call_leave, call_register, output_at, next_samples, next_values}
-use Rattle.graph_runs.specs.TaskPlaces.{Owed, Owes}
+use Rattle.graph_runs.specs.Nexts.{Next, is_live, is_not_live, registers, leaves, samples, signals, waits, exchanges, has_input_ended, has_signaller, next_of, number_on, first_missing, first_kept}
+use Rattle.graph_runs.specs.Answers.{has_made, is_refused, is_still, signal_answer, block_answer, wait_answer, accepted_answer, register_answer, was_blocked, answer_to, answer_up_to, signal_turn, call_leave, call_register, output_at, next_samples, values_up_to}
+use Rattle.graph_runs.specs.TaskPlaces.{Owed, OwesUpTo, StandsAt, StandsUpTo, TaskPlace, lacking, values}
 use Rattle.graph_runs.specs.Reached.{IsReachable}
 use Rattle.graph_runs.proofs.Blocks.{block_some}
 use Rattle.graph_runs.proofs.Found.{all_fail}
-use Rattle.graph_runs.proofs.Lacking.{next_begins}
+use Rattle.graph_runs.proofs.Lacking.{lacks_here, next_begins}
 use Rattle.graph_runs.proofs.NotRefused.{IsTold}
 use Rattle.graph_runs.proofs.Ranged.{sends_ranged, take_ranged, drop_ranged}
-use Rattle.graph_runs.proofs.Signalling.{live-is, owed}
+use Rattle.graph_runs.proofs.Signalling.{live-is, owed, values_few}
 use Rattle.graph_runs.proofs.Telling.{turn_told}
-use Rattle.stream_job.specs.Stepping.{blocks_signal, blocks_signal_at, blocks_wait, blocks_wait_at, would_block, in_range, are_in_range, owed_many}
+use Rattle.stream_job.specs.Stepping.{blocks_signal, blocks_signal_at, blocks_wait, blocks_wait_at, is_at_rest, would_block, in_range, are_in_range, owed_many}
+use Rattle.stream_job.specs.Machines.{HasLineSizes, IsMachineAt}
+use Rattle.stream_job.specs.Places.{MaySignal, place_in_state}
+use Rattle.stream_job.specs.declared.machine.Machine.{Machine}
+use Rattle.stream_job.proofs.Mosts.{element, most_is}
 use Rattle.stream_job.proofs.Lively.{live_next}
-use Rattle.stream_job.proofs.Signals.{all_out, goes_on, owes_values, stops}
+use Rattle.stream_job.proofs.SentValues.{all_out}
+use Rattle.stream_job.proofs.SignalCalls.{goes_on, stops}
+use Rattle.stream_job.proofs.Signals.{owes_values}
 use Rattle.stream_job.proofs.WhatNext.{samples_begins, signals_owes}
 use Rattle.graph_runs.proofs.Stepping.{line_sizes}
 
@@ -251,12 +257,12 @@ block_blocked event limits h n steps = by (entry_of (members_of h) n)
 -- ---- what a task does next
 
 -- the answer to what is next is none of a refusal
-never_refused : (job : Job) (m : Moment) (t : ℕ) (next : Next) → IsGraph job.graph
-    → AreSends (samples_at job t) → IsReachable job m → next_of job m t ≡ next
-    → answer_to job m t next ≢ is_refused
-never_refused job m t next is sends reached at refused =
-    subst IsTold (ap (answer_to job m t) at ∙ refused) (turn_told (task_at job.graph t).block (task_at job.graph t).block job m t (line_sizes job t is)
-    is sends reached)
+never_refused : {steps most : ℕ} (job : Job) (m : Moment) (t : ℕ) (next : Next)
+    → MaySize job.graph t steps most → IsGraph job.graph → AreSends (samples_at job t)
+    → IsReachable job m → next_of job m t ≡ next → answer_up_to steps most job m t next ≢ is_refused
+never_refused {steps} {most} job m t next sized is sends reached at refused =
+    subst IsTold (ap (answer_up_to steps most job m t) at ∙ refused)
+    (turn_told steps most job m t sized is sends reached)
 
 -- a drop and a registration are never blocked
 accepted_moves : {R : Type 0} (event : TaskEvent) (o : Option R)
@@ -342,7 +348,7 @@ sample_blocks job m t is sends reached next =
     let long : length vs ≡ sample_block_of job m t = s.long in
     let some : 1 ≤ sample_block_of job m t = s.some in
     signal_turn_blocked job m t 0 vs (sample t 0 p (number_on m t p) vs) (omega arith) s.none
-    (never_refused job m t samples is sends reached next)
+    (never_refused job m t samples (line_sizes job t is) is sends reached next)
     ∙ ap (blocks_signal (limits_at job p) (m.history p) (number_on m t p)) long
 
 -- how many they are, by the samples that the source awaits
@@ -364,54 +370,147 @@ samples_some job m t is sends reached next = (samples_next job m t is sends reac
 -- ---- the values that are owed
 
 -- a value is owed where a task signals
-pub values_some : (job : Job) (m : Moment) (t j : ℕ) → IsGraph job.graph
-    → t < length job.graph.tasks → next_of job m t ≡ signals j → 1 ≤ length (next_values job m t j)
-values_some job m t j is there next =
+pub values_some : (most : ℕ) (job : Job) (m : Moment) (t j : ℕ) → 1 ≤ most
+    → next_of job m t ≡ signals j → 1 ≤ length (values_up_to most job m t j)
+values_some most job m t j some next =
     let more = (owed job m t j (signals_owes job m t j next)).1 in
-    let begins = next_begins (task_at job.graph t).block job m t j (is.tasks t there).block.some more in
+    let begins = next_begins most job m t j some more in
     omega (arith, ap length begins)
 
 -- so many, where they are in range
-pub values_many : (job : Job) (m : Moment) (t j : ℕ) (owed : Owed) → Owes job m t owed
-    → next_of job m t ≡ signals j → length (next_values job m t j) ≡ owed_many owed
-values_many job m t j owed owes next =
-    let o = owes_values job m t j owed owes next in
-    sym (length-map (next_values job m t j) ranged) ∙ ap length o.2 ∙ sym (ap owed_many o.1)
+pub values_many : (most : ℕ) (job : Job) (m : Moment) (t j : ℕ) (owed : Owed)
+    → OwesUpTo most job m t owed → next_of job m t ≡ signals j
+    → length (values_up_to most job m t j) ≡ owed_many owed
+values_many most job m t j owed owes next =
+    let o = owes_values most job m t j owed owes next in
+    sym (length-map (values_up_to most job m t j) ranged) ∙ ap length o.2 ∙ sym (ap owed_many o.1)
 
-pub value_blocks : (job : Job) (m : Moment) (t j : ℕ) (owed : Owed) → IsGraph job.graph
-    → AreSends (samples_at job t) → IsReachable job m → t < length job.graph.tasks
-    → next_of job m t ≡ signals j → Owes job m t owed → are_in_range owed ≡ true
+-- of a list no longer than this all is taken
+take_all : {X : Type 0} (n : ℕ) (xs : List X) → length xs ≤ n → take n xs ≡ xs
+take_all zero [] few = refl
+take_all (suc n) [] few = refl
+take_all zero (x ∷ xs) few = absurd (omega arith)
+take_all (suc n) (x ∷ xs) few = ap (λ l. x ∷ l) (take_all n xs (omega arith))
+
+-- no more is owed than one event signals
+rest_few : (most : ℕ) (job : Job) (m : Moment) (t j : ℕ) (at : TaskPlace)
+    → StandsUpTo most job m t at → next_of job m t ≡ signals j
+    → length (drop (length (m.put t j)) (made_now job m t j)) ≤ most
+rest_few most job m t j at stands next =
+    let o = owes_values most job m t j at.owed stands.owes next in
+    let there = (owed job m t j (signals_owes job m t j next)).0 in
+    let lacks : length (made_now job m t j)
+    ≡ length (m.put t j) + lacking (task_at job.graph t).kind (values j o.0) j =
+    stands.lacks j there
+    ∙ ap (λ x. length (m.put t j) + lacking (task_at job.graph t).kind x j) o.1 in
+    let here : lacking (task_at job.graph t).kind (values j o.0) j ≡ length o.0 =
+    lacks_here (task_at job.graph t).kind j o.0 in
+    let many : length (map ranged (values_up_to most job m t j)) ≡ length o.0 = ap length o.2 in
+    let long : length (map ranged (values_up_to most job m t j))
+    ≡ length (values_up_to most job m t j) = length-map (values_up_to most job m t j) ranged in
+    let within : length (values_up_to most job m t j) ≤ most = values_few most job m t j in
+    let is : length (drop (length (m.put t j)) (made_now job m t j))
+    ≡ length (made_now job m t j) - length (m.put t j) =
+    length-drop (length (m.put t j)) (made_now job m t j) in
+    omega arith
+
+-- what one event signals is all that is owed
+pub all_is : (most : ℕ) (job : Job) (m : Moment) (t j : ℕ) (at : TaskPlace)
+    → StandsUpTo most job m t at → next_of job m t ≡ signals j
+    → values_up_to (length (made_now job m t j)) job m t j ≡ values_up_to most job m t j
+all_is most job m t j at stands next =
+    let is : length (drop (length (m.put t j)) (made_now job m t j))
+    ≡ length (made_now job m t j) - length (m.put t j) =
+    length-drop (length (m.put t j)) (made_now job m t j) in
+    take_all (length (made_now job m t j)) (drop (length (m.put t j)) (made_now job m t j))
+    (omega arith)
+    ∙ sym (take_all most (drop (length (m.put t j)) (made_now job m t j))
+    (rest_few most job m t j at stands next))
+
+-- so the turn would be blocked as its signal is
+all_blocks : (most : ℕ) (job : Job) (m : Moment) (t j : ℕ) (at : TaskPlace)
+    → StandsUpTo most job m t at → next_of job m t ≡ signals j → would_block job m t (signals j)
+    ≡ was_blocked (answer_up_to (task_at job.graph t).block most job m t (signals j))
+all_blocks most job m t j at stands next =
+    let p = output_at job t j in
+    ap (λ vs. was_blocked (signal_turn job m t j vs (signal t j p (number_on m t p) vs)))
+    (all_is most job m t j at stands next)
+
+-- a block of a line and what one event signals are sizes of a turn
+pub signal_sizes : (job : Job) (t most : ℕ) → IsGraph job.graph → MaySignal job t most
+    → MaySize job.graph t (task_at job.graph t).block most
+signal_sizes job t most is may there = record {
+  block = (line_sizes job t is there).block;
+  owed = may.block;
+  few = λ fir. may.least;
+}
+
+pub value_blocks : (most : ℕ) (job : Job) (m : Moment) (t j : ℕ) (at : TaskPlace)
+    → MaySignal job t most → IsGraph job.graph → AreSends (samples_at job t) → IsReachable job m
+    → next_of job m t ≡ signals j → StandsUpTo most job m t at → are_in_range at.owed ≡ true
     → would_block job m t (signals j)
     ≡ blocks_signal (limits_at job (output_at job t j)) (m.history (output_at job t j))
-    (number_on m t (output_at job t j)) (owed_many owed)
-value_blocks job m t j owed is sends reached there next owes all =
+    (number_on m t (output_at job t j)) (owed_many at.owed)
+value_blocks most job m t j at may is sends reached next stands all =
     let p = output_at job t j in
-    let vs = next_values job m t j in
-    let o = owes_values job m t j owed owes next in
+    let vs = values_up_to most job m t j in
+    let o = owes_values most job m t j at.owed stands.owes next in
     let good : in_range o.0 ≡ true = sym (ap are_in_range o.1) ∙ all in
-    signal_turn_blocked job m t j vs (signal t j p (number_on m t p) vs)
-    (values_some job m t j is there next)
+    all_blocks most job m t j at stands next
+    ∙ signal_turn_blocked job m t j vs (signal t j p (number_on m t p) vs)
+    (values_some most job m t j may.block.some next)
     ((all_out vs o.0 (length (m.put t j)) o.2).0 good)
-    (never_refused job m t (signals j) is sends reached next)
+    (never_refused job m t (signals j) (signal_sizes job t most is may) is sends reached next)
     ∙ ap (blocks_signal (limits_at job p) (m.history p) (number_on m t p))
-    (values_many job m t j owed owes next)
+    (values_many most job m t j at.owed stands.owes next)
 
 -- where one is out of range none is signalled
-pub value_moves : (job : Job) (m : Moment) (t j : ℕ) (owed : Owed) → next_of job m t ≡ signals j
-    → Owes job m t owed → are_in_range owed ≡ false → would_block job m t (signals j) ≡ false
-value_moves job m t j owed next owes some =
+pub value_moves : (most : ℕ) (job : Job) (m : Moment) (t j : ℕ) (at : TaskPlace)
+    → next_of job m t ≡ signals j → StandsUpTo most job m t at → are_in_range at.owed ≡ false
+    → would_block job m t (signals j) ≡ false
+value_moves most job m t j at next stands some =
     let p = output_at job t j in
-    let vs = next_values job m t j in
-    let o = owes_values job m t j owed owes next in
+    let vs = values_up_to most job m t j in
+    let o = owes_values most job m t j at.owed stands.owes next in
     let bad : in_range o.0 ≡ false = sym (ap are_in_range o.1) ∙ some in
     let over = (all_out vs o.0 (length (m.put t j)) o.2).1 bad in
-    ap was_blocked (stops job m t j over.0 vs (signal t j p (number_on m t p) vs) over.1)
+    all_blocks most job m t j at stands next
+    ∙ ap was_blocked (stops job m t j over.0 vs (signal t j p (number_on m t p) vs) over.1)
     ∙ by over.0 (are_made (task_at job.graph t).kind j)
   where
     by : (step : ℕ) (b : Bool)
         → was_blocked (cond b (has_made (place.Task t, step)) is_refused) ≡ false
     by step true = refl
     by step false = refl
+
+-- where one event signals a block of the line, a task rests as the table has it
+pub rest_is_still : (job : Job) (m : Moment) (t : ℕ) (at : TaskPlace) → StandsAt job m t at
+    → is_at_rest job m t ≡ is_still job m t
+rest_is_still job m t at stands =
+    ap (λ b. cond (is_live job m t) b true) (by (next_of job m t) refl)
+  where
+    by : (next : Next) → next_of job m t ≡ next
+        → would_block job m t next ≡ was_blocked (answer_to job m t next)
+    by is_not_live e = refl
+    by (registers c) e = refl
+    by leaves e = refl
+    by samples e = refl
+    by (signals j) e = all_blocks (task_at job.graph t).block job m t j at stands e
+    by (waits k) e = refl
+    by exchanges e = refl
+
+-- as the machine has it
+pub rest_in_line : (job : Job) (machine : Machine) (m : Moment) (t : ℕ) → HasLineSizes job machine
+    → IsMachineAt job m machine → t < length job.graph.tasks
+    → is_at_rest job m t ≡ is_still job m t
+rest_in_line job machine m t sizes at there =
+    let many = at.tasks_many in
+    let some = element machine.tasks.items t (omega arith) in
+    let same : some.0.most ≡ (task_at job.graph t).block =
+    sym (most_is machine t some.0 some.1) ∙ sizes t there in
+    rest_is_still job m t (place_in_state some.0)
+    (subst (λ n. StandsUpTo n job m t (place_in_state some.0)) same
+    (at.tasks t some.0 some.1).stands)
 
 -- ---- waits
 
@@ -424,7 +523,7 @@ first_wait_blocks job m t k is sends reached next =
     let p = input_at (task_at job.graph t) k in
     let n = number_on m t p in
     block_blocked _ (limits_at job p) (m.history p) n (block_of job m t)
-    (never_refused job m t (waits k) is sends reached next)
+    (never_refused job m t (waits k) (line_sizes job t is) is sends reached next)
 
 pub exchange_blocks : (job : Job) (m : Moment) (t : ℕ) → IsGraph job.graph
     → AreSends (samples_at job t) → IsReachable job m → next_of job m t ≡ exchanges
@@ -435,4 +534,4 @@ exchange_blocks job m t is sends reached next =
     let p = input_at (task_at job.graph t) 1 in
     let n = number_on m t p in
     wait_blocked (exchange_wait t p n) (value_at job p) (limits_at job p) (m.history p) n
-    (never_refused job m t exchanges is sends reached next)
+    (never_refused job m t exchanges (line_sizes job t is) is sends reached next)

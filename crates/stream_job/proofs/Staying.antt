@@ -29,7 +29,7 @@ use Rattle.stream_job.specs.Machines.{IsMachineAt}
 use Rattle.stream_job.specs.Turning.{phaser_of}
 use Rattle.stream_job.specs.declared.machine.Machine.{Machine}
 use Rattle.stream_job.proofs.LeftAlone.{LeavesAlone, alone, found_same, lives_on, no_child}
-use Rattle.stream_job.proofs.Signals.{goes_on, stops}
+use Rattle.stream_job.proofs.SignalCalls.{goes_on, stops}
 use Rattle.stream_job.proofs.Stalling.{leave_moves, register_moves}
 use Rattle.stream_job.proofs.WhatNext.{AtStep, Doing, doing, owing, parent, leaving, stepping, begins_is}
 use Rattle.graph_runs.proofs.Stepping.{line_sizes}

@@ -17,7 +17,7 @@ use Rattle.stream_job.specs.declared.input.Input.{Input}
 use Rattle.stream_job.specs.declared.machine.Machine.{Machine}
 use Rattle.stream_job.specs.declared.task_state.TaskState.{TaskState}
 use Rattle.stream_job.proofs.Rooms.{line_is}
-use Rattle.stream_job.proofs.Waits.{sink_kind}
+use Rattle.stream_job.proofs.FirstTurns.{sink_kind}
 
 -- ---- the states
 

@@ -22,6 +22,7 @@ pub record TookSoFar (task : Task) (xs : List ℤ) (old new : TaskState) : Type 
   pub left : new.left ≡ old.left
   pub sink : new.sink ≡ old.sink
   pub begun : new.begun ≡ old.begun + length xs
+  pub most : new.most ≡ old.most
   pub room : new.made.cap ≡ old.made.cap
   pub made : (taken : List ℤ) → HasFilter task old.filter taken → task.kind ≡ Fir
       → new.made.items ≡ map ranged (outputs_of_block task.taps task.shift taken xs)
@@ -39,6 +40,7 @@ took_none task old owed made = record {
   left = refl;
   sink = refl;
   begun = omega arith;
+  most = refl;
   room = refl;
   made = λ taken has fir. made;
   made_by = λ fir. owed;
@@ -86,10 +88,10 @@ pub took_filtered : (task : Task) (xs ys : List ℤ) (x : ℤ) (old mid new : Ta
     → ((taken : List ℤ) → HasFilter task mid.filter taken
     → HasFilter task new.filter (taken ++ x ∷ []))
     → new.numbers ≡ mid.numbers → new.left ≡ mid.left → new.sink ≡ mid.sink
-    → new.begun ≡ mid.begun + 1 → new.owed ≡ mid.owed
+    → new.most ≡ mid.most → new.begun ≡ mid.begun + 1 → new.owed ≡ mid.owed
     → new.made.items ≡ mid.made.items ++ made ∷ [] → new.made.cap ≡ mid.made.cap
     → TookSoFar task ys old new
-took_filtered task xs ys x old mid new made more took fir answer filters numbers left sink begun owed items cap =
+took_filtered task xs ys x old mid new made more took fir answer filters numbers left sink same_most begun owed items cap =
     let long = length-append xs (x ∷ []) in
     let was = took.begun in
     subst (λ l. TookSoFar task l old new) (sym more)
@@ -98,6 +100,7 @@ took_filtered task xs ys x old mid new made more took fir answer filters numbers
       left = left ∙ took.left;
       sink = sink ∙ took.sink;
       begun = omega arith;
+      most = same_most ∙ took.most;
       room = cap ∙ took.room;
       made = λ taken has is.
           items
@@ -150,9 +153,9 @@ pub took_other : (task : Task) (many : ℕ) (xs ys : List ℤ) (x : ℤ) (old mi
     → ((taken : List ℤ) → HasFilter task mid.filter taken
     → HasFilter task new.filter (taken ++ x ∷ []))
     → new.numbers ≡ mid.numbers → new.left ≡ mid.left → new.sink ≡ mid.sink
-    → new.begun ≡ mid.begun + 1 → new.made ≡ mid.made
+    → new.most ≡ mid.most → new.begun ≡ mid.begun + 1 → new.made ≡ mid.made
     → TookSoFar task ys old new
-took_other task many xs ys x old mid new more took other block few owes filters numbers left sink begun made =
+took_other task many xs ys x old mid new more took other block few owes filters numbers left sink same_most begun made =
     let long = length-append xs (x ∷ []) in
     let was = took.begun in
     subst (λ l. TookSoFar task l old new) (sym more)
@@ -161,6 +164,7 @@ took_other task many xs ys x old mid new more took other block few owes filters 
       left = left ∙ took.left;
       sink = sink ∙ took.sink;
       begun = omega arith;
+      most = same_most ∙ took.most;
       room = ap (λ v. v.cap) made ∙ took.room;
       made = λ taken has is. absurd (other is);
       made_by = λ is. absurd (other is);
@@ -182,6 +186,7 @@ took_all task xs old new took some = record {
   left = took.left;
   sink = took.sink;
   begun = took.begun;
+  most = took.most;
   room = took.room;
   owed = λ taken has. owes taken has task.kind refl;
   made_by = took.made_by;

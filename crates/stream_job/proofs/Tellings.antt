@@ -1,5 +1,5 @@
 -- What the code tells of a turn is what the table tells.
-use Rattle.std.proofs.Common.{◌≡◌, ◌≢◌, ℕ, ◌<◌, ◌≤◌, true, false, List, [], Option, Some, None, length, get_or, refl, sym, ap, subst, ◌∙◌, arith, inr}
+use Rattle.std.proofs.Common.{◌≡◌, ◌≢◌, ℕ, ℤ, ◌<◌, ◌≤◌, true, false, List, [], Option, Some, None, length, get_or, refl, sym, ap, subst, ◌∙◌, arith, ◌⊎◌, inl, inr}
 use Rattle.std.proofs.lemmas.List.{length-set}
 use Rattle.graph_lang.specs.graph_base.declared.limits.TheConstants.{TASKS_MAX}
 use Rattle.graph_lang.specs.graph_base.Graphs.{task_at}
@@ -14,14 +14,14 @@ use Rattle.graph_runs.proofs.ToldFaults.{told_fault}
 use Rattle.graph_runs.proofs.OnLines.{on_phaser}
 use Rattle.graph_runs.specs.TaskEvents.{TaskEvent, IsNext, sample, signal, first_wait, exchange_wait, leave, child, child_now, after_turn}
 use Rattle.graph_runs.specs.Nexts.{Next, is_not_live, registers, leaves, samples, signals, waits, exchanges, next_of}
-use Rattle.graph_runs.specs.Answers.{Answer, Moved, Blocked, Ended, Gone, TooBig, makes, is_blocked, is_gone, has_made, is_refused, answer_to, answer_of_turn, after_answer, word_of_answer, turn_tells, was_blocked, turn_by, answer_by, tells_up_to}
+use Rattle.graph_runs.specs.Answers.{Answer, Moved, Blocked, Ended, Gone, TooBig, makes, is_blocked, is_gone, has_made, is_refused, answer_to, answer_of_turn, answer_up_to, after_answer, word_of_answer, turn_tells, turn_up_to, was_blocked, tells_up_to}
 use Rattle.graph_runs.specs.Reached.{IsReachable}
 use Rattle.graph_runs.proofs.Signalling.{live-is}
 use Rattle.graph_runs.proofs.Turning.{turn_makes_next}
 use Rattle.graph_runs.proofs.Outputs.{output_there}
-use Rattle.stream_job.specs.Machines.{IsMachineAt, KeepsLines, none_given}
+use Rattle.stream_job.specs.Machines.{HasLineSizes, HasRoom, IsMachineAt, KeepsLines, most_in, none_given}
 use Rattle.stream_job.specs.Blocking.{called_on, AreBlocked}
-use Rattle.stream_job.specs.Turning.{MadeShows, HadTurn, after_turn_of, met_by, phaser_of, parked_after, parked_by, told_of}
+use Rattle.stream_job.specs.Turning.{MadeShows, HadTurn, after_turn_of, met_by, phaser_of, parked_after, parked_by, told_of, turn_in}
 use Rattle.stream_job.specs.Parking.{with_task}
 use Rattle.stream_job.specs.Worlds.{WorldState, HasMet, IsWorldAt}
 use Rattle.stream_job.specs.Tellings.{told_by, parked_with, IsOnPhaser}
@@ -35,7 +35,10 @@ use Rattle.stream_job.proofs.LinesBegin.{turn_begins}
 use Rattle.stream_job.proofs.Lively.{live_next}
 use Rattle.stream_job.proofs.Stalling.{leave_moves, register_moves}
 use Rattle.stream_job.proofs.Stepping.{sample_output, signal_output, wait_input, exchange_input}
-use Rattle.stream_job.specs.Stepping.{MayStep}
+use Rattle.graph_runs.specs.NextBlocks.{MaySize}
+use Rattle.stream_job.proofs.NextSteps.{past_next}
+use Rattle.std.proofs.lemmas.Bool.{cases_lt}
+use Rattle.std.specs.List.{All}
 use Rattle.graph_runs.proofs.Stepping.{line_sizes}
 
 -- ---- what is word_of_answer
@@ -180,17 +183,18 @@ gone_turn {steps} job machine t gone = record {
       subst (λ a. KeepsLines job given (after_answer job a m) machine.lines.items)
       (sym (answer m at)) kept;
   own = λ room all. all;
+  mosts = λ u. refl;
 }
   where
-    answer : (m : Moment) → IsMachineAt job m machine → turn_by steps job m t ≡ is_gone
-    answer m at = ap (answer_by steps job m t) (gone m at)
+    answer : (m : Moment) → IsMachineAt job m machine → turn_in steps job machine m t ≡ is_gone
+    answer m at = ap (answer_up_to steps (most_in machine t) job m t) (gone m at)
 
     shows : (m : Moment) → IsMachineAt job m machine
-        → MadeShows job m t (turn_by steps job m t) made.Nothing
+        → MadeShows job m t (turn_in steps job machine m t) made.Nothing
     shows m at = subst (λ a. MadeShows job m t a made.Nothing) (sym (answer m at)) tt
 
     after : (m : Moment) → (at : IsMachineAt job m machine)
-        → IsMachineAt job (after_answer job (turn_by steps job m t) m) machine
+        → IsMachineAt job (after_answer job (turn_in steps job machine m t) m) machine
     after m at =
         subst (λ a. IsMachineAt job (after_answer job a m) machine) (sym (answer m at)) at
 
@@ -217,16 +221,58 @@ turn_parks_so world m t it parked none s same =
         world.parked
     as_is world none = rw none refl
 
--- of so many steps
-pub turn_told_so : (steps : ℕ) (job : Job) (m : Moment) (t : ℕ) (it : Made) (word : Turned)
-    → MadeShows job m t (turn_by steps job m t) it → word ≡ told_by it t
-    → tells_up_to steps (task_at job.graph t).block job m t ≡ Some (told_of word)
-turn_told_so steps job m t it word s same =
-    tells_so job m t (turn_by steps job m t) it s ∙ ap (λ w. Some (told_of w)) (sym same)
+-- of these sizes
+pub turn_told_so : (steps most : ℕ) (job : Job) (m : Moment) (t : ℕ) (it : Made) (word : Turned)
+    → MadeShows job m t (turn_up_to steps most job m t) it → word ≡ told_by it t
+    → tells_up_to steps most job m t ≡ Some (told_of word)
+turn_told_so steps most job m t it word s same =
+    tells_so job m t (turn_up_to steps most job m t) it s ∙ ap (λ w. Some (told_of w)) (sym same)
+
+-- ---- a turn that makes a block of the line
+
+-- what it makes is what the table says, where one event signals such a block
+pub turn_of_line : (job : Job) (machine : Machine) (m : Moment) (t : ℕ) → HasLineSizes job machine
+    → turn_in (task_at job.graph t).block job machine m t ≡ answer_of_turn job m t
+turn_of_line job machine m t sizes = by (cases_lt t (length job.graph.tasks))
+  where
+    by : (t < length job.graph.tasks) ⊎ (length job.graph.tasks ≤ t)
+        → turn_in (task_at job.graph t).block job machine m t ≡ answer_of_turn job m t
+    by (inl there) =
+        ap (λ n. turn_up_to (task_at job.graph t).block n job m t) (sizes t there)
+    by (inr past) =
+        let none = past_next job m t past in
+        ap (answer_up_to (task_at job.graph t).block (most_in machine t) job m t) none
+        ∙ sym (ap (answer_to job m t) none)
+
+-- the machine had it
+pub record HadLine (job : Job) (old new : Machine) (t : ℕ) (it : Made) : Type 0 where
+  pub shows : (m : Moment) → IsMachineAt job m old → MadeShows job m t (answer_of_turn job m t) it
+  pub after : (m : Moment) → IsMachineAt job m old → HasAnsweredNone job m
+      → IsMachineAt job (after_answer job (answer_of_turn job m t) m) new
+  pub lines : (given : ℕ → List ℤ) (m : Moment) → IsMachineAt job m old → HasAnsweredNone job m
+      → KeepsLines job given m old.lines.items
+      → KeepsLines job given (after_answer job (answer_of_turn job m t) m) new.lines.items
+  pub own : (room : ℕ → ℕ) → All (HasRoom room) old.lines.items
+      → All (HasRoom room) new.lines.items
+  pub sizes : HasLineSizes job new
+
+pub had_line : (job : Job) (old new : Machine) (t : ℕ) (it : Made) → HasLineSizes job old
+    → HadTurn (task_at job.graph t).block job old new t it → HadLine job old new t it
+had_line job old new t it sizes had = record {
+  shows = λ m at. subst (λ a. MadeShows job m t a it) (turn_of_line job old m t sizes)
+      (had.shows m at);
+  after = λ m at none. subst (λ a. IsMachineAt job (after_answer job a m) new)
+      (turn_of_line job old m t sizes) (had.after m at none);
+  lines = λ given m at none kept.
+      subst (λ a. KeepsLines job given (after_answer job a m) new.lines.items)
+      (turn_of_line job old m t sizes) (had.lines given m at none kept);
+  own = had.own;
+  sizes = λ u there. had.mosts u ∙ sizes u there;
+}
 
 -- the tasks in the lists are blocked after the turn
 pub turn_blocks_so : (job : Job) (old new : Machine) (m : Moment) (t : ℕ) (it : Made)
-    (parked after : List (List ℕ)) → HadTurn (task_at job.graph t).block job old new t it → after ≡ parked_with it t parked
+    (parked after : List (List ℕ)) → HadLine job old new t it → after ≡ parked_with it t parked
     → IsMachineAt job m old → AreBlocked job m parked
     → AreBlocked job (after_answer job (answer_of_turn job m t) m) after
 turn_blocks_so job old new m t it parked after had same at were =
@@ -250,41 +296,41 @@ started_same job m is_gone at told = refl
 started_same job m (has_made place) at told = refl
 started_same job m is_refused at told = refl
 
--- what a world has met after the turn
-pub turn_met_so : {steps : ℕ} (job : Job) (old new : Machine) (m : Moment) (t : ℕ) (it : Made)
-    (word : Turned) → MayStep job t steps → HadTurn steps job old new t it → IsMachineAt job m old → HasAnsweredNone job m
-    → tells_up_to steps (task_at job.graph t).block job m t ≡ Some (told_of word)
-    → HasMet job (after_answer job (turn_by steps job m t) m) (met_by None word)
-turn_met_so {steps} job old new m t it word sized had at none told = by word told
+-- what is met after a turn
+pub turn_met_so : {steps most : ℕ} {new : Machine} (job : Job) (old : Machine) (m : Moment) (t : ℕ)
+    (word : Turned) → MaySize job.graph t steps most → IsMachineAt job m old
+    → IsMachineAt job (after_answer job (turn_up_to steps most job m t) m) new
+    → HasAnsweredNone job m → tells_up_to steps most job m t ≡ Some (told_of word)
+    → HasMet job (after_answer job (turn_up_to steps most job m t) m) (met_by None word)
+turn_met_so {steps} {most} {new} job old m t word sized at after none told = by word told
   where
-    kept : ((there : Where) → tells_up_to steps (task_at job.graph t).block job m t ≢ Some (TooBig there))
-        → HasAnsweredNone job (after_answer job (turn_by steps job m t) m)
-    kept never = turn_answers_none steps (task_at job.graph t).block job m t sized at.graph at.reached none never
+    kept : ((there : Where) → tells_up_to steps most job m t ≢ Some (TooBig there))
+        → HasAnsweredNone job (after_answer job (turn_up_to steps most job m t) m)
+    kept never = turn_answers_none steps most job m t sized at.graph at.reached none never
 
-    runs : (event : TaskEvent) → turn_by steps job m t ≡ makes event
+    runs : (event : TaskEvent) → turn_up_to steps most job m t ≡ makes event
         → HasRun job (after_turn job event m)
-    runs event e =
-        (subst (λ a. IsMachineAt job (after_answer job a m) new) e (had.after m at none)).reached.ran
+    runs event e = (subst (λ a. IsMachineAt job (after_answer job a m) new) e after).reached.ran
 
-    by : (word : Turned) → tells_up_to steps (task_at job.graph t).block job m t ≡ Some (told_of word)
-        → HasMet job (after_answer job (turn_by steps job m t) m) (met_by None word)
+    by : (word : Turned) → tells_up_to steps most job m t ≡ Some (told_of word)
+        → HasMet job (after_answer job (turn_up_to steps most job m t) m) (met_by None word)
     by turned.Moved told = kept (λ there same. (let wrong : Some Moved ≡ Some (TooBig there) = sym told ∙ same in cc))
     by turned.Blocked told = kept (λ there same. (let wrong : Some Blocked ≡ Some (TooBig there) = sym told ∙ same in cc))
     by turned.Ended told = kept (λ there same. (let wrong : Some Ended ≡ Some (TooBig there) = sym told ∙ same in cc))
     by turned.Gone told = kept (λ there same. (let wrong : Some Gone ≡ Some (TooBig there) = sym told ∙ same in cc))
     by (turned.TooBig place phase) told = record {
       fault = subst (λ j. IsFaultAt j (place, phase))
-          (sym (started_same job m (turn_by steps job m t) (place, phase) told))
-          (told_fault steps (task_at job.graph t).block job m t (place, phase) sized (record { graph = at.graph; apart = at.apart })
-          at.reached runs told);
-      last = turn_answers_one steps (task_at job.graph t).block job m t none;
+          (sym (started_same job m (turn_up_to steps most job m t) (place, phase) told))
+          (told_fault steps most job m t (place, phase) sized
+          (record { graph = at.graph; apart = at.apart }) at.reached runs told);
+      last = turn_answers_one steps most job m t none;
       lines = turn_begins job m old t sized at none;
     }
 
 -- the world stands at the moment after the turn
 pub turn_stands_so : (world : WorldState) (new : Machine) (parked : List (List ℕ))
     (met : Option Where) (m : Moment) (t : ℕ) (it : Made) (word : Turned) → world.met ≡ None
-    → HadTurn (task_at world.job.graph t).block world.job world.machine new t it → parked ≡ parked_with it t world.parked
+    → HadLine world.job world.machine new t it → parked ≡ parked_with it t world.parked
     → word ≡ told_by it t → met ≡ met_by None word → IsWorldAt world m
     → IsWorldAt record { job = world.job; machine = new; met = met; parked = parked }
     (after_turn_of world m t)
@@ -297,8 +343,9 @@ turn_stands_so world new parked met m t it word none had same says as_told at =
       parked = turn_blocks_so world.job world.machine new m t it world.parked parked had same
           at.machine at.parked;
       met = subst (HasMet world.job (after_answer world.job (answer_of_turn world.job m t) m))
-          (sym as_told) (turn_met_so world.job world.machine new m t it word
-          (line_sizes world.job t at.machine.graph) had at.machine
+          (sym as_told) (turn_met_so world.job world.machine m t word
+          (line_sizes world.job t at.machine.graph) at.machine
+          (had.after m at.machine (subst (HasMet world.job m) none at.met))
           (subst (HasMet world.job m) none at.met)
           (turn_tells_so world.job None m t it word refl (had.shows m at.machine) says));
     }

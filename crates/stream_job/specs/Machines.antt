@@ -42,6 +42,14 @@ abbrev pub UsesFew : Job → Moment → Type 0
 UsesFew job m = (p : ℕ) → p < length job.graph.phasers
     → greatest_used (m.history p) ≤ numbered (m.number p) (length job.graph.tasks)
 
+-- how many of the values that task t owes one event of it signals, at most
+abbrev pub most_in : Machine → ℕ → ℕ
+most_in machine t = of (slice_get machine.tasks.items t)
+  where
+    of : Option TaskState → ℕ
+    of None = 1
+    of (Some state) = state.most
+
 -- the machine stands at a moment that turns lead to: each core has the history of its phaser, each
 -- task is in its state, and there is a line for each sink
 pub record IsMachineAt (job : Job) (m : Moment) (machine : Machine) : Type 0 where
@@ -54,6 +62,11 @@ pub record IsMachineAt (job : Job) (m : Moment) (machine : Machine) : Type 0 whe
   pub tasks : (t : ℕ) (state : TaskState) → slice_get machine.tasks.items t ≡ Some state
       → IsTaskAt job m t state
   pub lines_many : length machine.lines.items ≡ length (sinks_of job)
+
+-- each task signals a block of its line in one event, at most
+abbrev pub HasLineSizes : Job → Machine → Type 0
+HasLineSizes job machine = (t : ℕ) → t < length job.graph.tasks
+    → most_in machine t ≡ (task_at job.graph t).block
 
 -- the machine stands at some moment
 abbrev pub IsMachine : Job → Machine → Type 0

@@ -2,7 +2,7 @@
 use Rattle.std.specs.Prelude.{◌≡◌, ℕ, ◌+◌, ◌≤◌, ℤ, List, [], ◌∷◌, ◌++◌, Option, Some, None, slice_get, set, get_or, Bool, true, false, ◌&&◌, ◌||◌, nat_le, Ok, Err, ◌≢◌, ◌==◌, length, map, nat_lt, ◌-◌, Result, if◌then◌else◌}
 use Rattle.std.specs.List.{All}
 use Rattle.std.specs.Vec.{vec_len, vec_capacity}
-use Rattle.graph_runs.specs.Answers.{answer_to, was_blocked, turn_by, after_answer, makes}
+use Rattle.graph_runs.specs.Answers.{answer_up_to, was_blocked, after_answer, makes, output_at}
 use Rattle.graph_runs.specs.TaskEvents.{first_wait}
 use Rattle.graph_runs.specs.NextBlocks.{MaySize}
 use Rattle.phase_any.specs.phase_accum.declared.outcome.Outcome.{Outcome}
@@ -13,8 +13,8 @@ use Rattle.phase_any.specs.phase_base.Members.{entry_of, least, wait_phases}
 use Rattle.phase_any.specs.phase_history.Histories.{History, members_of, done_of}
 use Rattle.phase_any.specs.phase_history.Refusals.{is_ahead, register_refusal, register_now_refusal}
 use Rattle.stream_eval.specs.stream_lists.Jobs.{Job, with_samples}
-use Rattle.graph_runs.specs.Moments.{Moment}
-use Rattle.graph_runs.specs.Nexts.{Next, has_signaller, next_of, waits}
+use Rattle.graph_runs.specs.Moments.{Moment, limits_at, made_now}
+use Rattle.graph_runs.specs.Nexts.{Next, has_signaller, is_live, next_of, number_on, waits}
 use Rattle.graph_runs.specs.TaskPlaces.{Owed, nothing, values, exchange}
 use Rattle.graph_lang.specs.stream_filters.declared.fault.TooBigValue.{TooBigValue}
 use Rattle.graph_runs.specs.Reached.{IsReachable}
@@ -26,13 +26,13 @@ use Rattle.phase_any.specs.phase_history.declared.event.Event.TheVariants.{Regis
 use Rattle.phase_any.specs.phase_history.declared.refusal.RegisterRefusal.{RegisterRefusal}
 use Rattle.graph_lang.specs.graph_base.Graphs.{task_at}
 use Rattle.stream_eval.specs.stream_lists.Lists.{is_sink_at, sinks_of}
-use Rattle.stream_job.specs.Machines.{IsMachine, IsMachineAt, UsesFew, HasRoom, kept_behind}
+use Rattle.stream_job.specs.Machines.{IsMachine, IsMachineAt, UsesFew, HasRoom, kept_behind, most_in}
 use Rattle.stream_job.specs.Buffers.{most_steps}
 use Rattle.stream_job.specs.SinkLines.{sink_begins_at}
 use Rattle.stream_job.specs.declared.task_state.TaskState.{TaskState}
 use Rattle.stream_job.specs.declared.machine.Machine.{Machine}
 use Rattle.stream_job.specs.declared.made.Made.{Made}
-use Rattle.stream_job.specs.Turning.{HadTurn}
+use Rattle.stream_job.specs.Turning.{HadTurn, turn_in}
 
 -- a sink's values with these behind them
 abbrev pub more : List ℤ → ℕ × List ℤ → ℕ × List ℤ
@@ -69,9 +69,21 @@ blocks_wait_at h (Some entry) = nat_le (done_of h) entry.wait_phase && has_signa
 abbrev pub blocks_wait : History → ℕ → Bool
 blocks_wait h n = blocks_wait_at h (entry_of (members_of h) n)
 
--- whether the turn of task t would be blocked, where this is what it does next
+-- how many values there are of all that task t owes, at most, where this is what it does next
+abbrev pub all_owed : Job → Moment → ℕ → Next → ℕ
+all_owed job m t (turns.signals j) = length (made_now job m t j)
+all_owed job m t next = 1
+
+-- whether the turn of task t would be blocked, where this is what it does next: a block of its
+-- line, or the signal of all that it owes
 abbrev pub would_block : Job → Moment → ℕ → Next → Bool
-would_block job m t next = was_blocked (answer_to job m t next)
+would_block job m t next =
+    was_blocked
+    (answer_up_to (task_at job.graph t).block (all_owed job m t next) job m t next)
+
+-- whether task t is not live, or its turn would be blocked
+abbrev pub is_at_rest : Job → Moment → ℕ → Bool
+is_at_rest job m t = if is_live job m t then would_block job m t (next_of job m t) else true
 
 -- whether all of these are in range
 abbrev pub in_range : List (Result ℤ TooBigValue) → Bool
@@ -91,24 +103,24 @@ owed_many nothing = 0
 owed_many (values j vs) = length vs
 owed_many (exchange x) = 0
 
--- task t may make so many steps in a turn, and what it owes is no more than a block of its line
-abbrev pub MayStep : Job → ℕ → ℕ → Type 0
-MayStep job t steps = MaySize job.graph t steps (task_at job.graph t).block
+-- task t may make so many steps in a turn, and a filter no more than one event of it signals
+abbrev pub MayStep : Job → Machine → ℕ → ℕ → Type 0
+MayStep job machine t steps = MaySize job.graph t steps (most_in machine t)
 
 -- at each moment of the machine this is what task t does next, which may make so many steps, and
 -- its phaser does not refuse it
 pub record IsNextIn (steps : ℕ) (job : Job) (machine : Machine) (t : ℕ) (next : turns.Next)
     : Type 0 where
   pub some : IsMachine job machine
-  pub sized : MayStep job t steps
+  pub sized : MayStep job machine t steps
   pub small : steps ≤ most_steps job t
   pub is : (m : Moment) → IsMachineAt job m machine → turns.next_of job m t ≡ next
   pub stays : (m : Moment) → IsMachineAt job m machine
-      → IsReachable job (after_answer job (turn_by steps job m t) m)
+      → IsReachable job (after_answer job (turn_in steps job machine m t) m)
   pub few : (m : Moment) → IsMachineAt job m machine
-      → UsesFew job (after_answer job (turn_by steps job m t) m)
+      → UsesFew job (after_answer job (turn_in steps job machine m t) m)
   pub answered : (m : Moment) → IsMachineAt job m machine
-      → turn_by steps job m t ≢ answers.is_refused
+      → turn_in steps job machine m t ≢ answers.is_refused
 
 -- with some samples this is what task t does next
 abbrev pub MayDo : Job → Machine → ℕ → Next → Type 0
@@ -125,7 +137,7 @@ HasDone job old new t next it = (s : List (List ℤ)) (steps : ℕ)
 abbrev pub HasRoomAt : ℕ → Job → Machine → ℕ → Moment → Type 0
 HasRoomAt steps job machine t m = (k p n : ℕ) (outcomes : List Outcome) (state : TaskState)
     → next_of job m t ≡ waits k
-    → turn_by steps job m t ≡ makes (first_wait t k p n outcomes)
+    → turn_in steps job machine m t ≡ makes (first_wait t k p n outcomes)
     → slice_get machine.tasks.items t ≡ Some state → is_sink_at job t ≡ true
     → HasRoomIn machine.lines.items (length outcomes) state.sink
 
@@ -143,6 +155,13 @@ OwesMade machine t = (state : TaskState) → slice_get machine.tasks.items t ≡
 abbrev pub is_value_out : Result ℤ TooBigValue → Bool
 is_value_out (Ok v) = false
 is_value_out (Err out) = true
+
+-- task t may signal so many phases on its first output now
+abbrev pub HasPhases : Job → Moment → ℕ → ℕ → Type 0
+HasPhases job m t phases =
+    let p = output_at job t 0 in
+    (many : ℕ) → 1 ≤ many → many ≤ phases
+    → blocks_signal (limits_at job p) (m.history p) (number_on m t p) many ≡ false
 
 -- ---- a child's registration, as a sink that joins now or in this mode
 

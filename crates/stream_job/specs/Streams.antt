@@ -1,6 +1,6 @@
 -- What a run that is fed stands for: all samples that came so far, which nobody keeps, a moment of
 -- their run, and what each sink has handed over; and when it stops.
-use Rattle.std.specs.Prelude.{◌≡◌, ℕ, ℤ, ◌+◌, ◌-◌, ◌<◌, ◌≤◌, ◌||◌, ◌&&◌, ◌==◌, ◌++◌, Bool, true, false, nat_lt, List, [], Option, Some, None, length, drop, get_or, set, slice_get, min, max, map, replicate, is_some, vec_capacity, if◌then◌else◌}
+use Rattle.std.specs.Prelude.{◌≡◌, ℕ, ℤ, ◌+◌, ◌-◌, ◌<◌, ◌≤◌, ◌||◌, ◌&&◌, ◌==◌, ◌++◌, Bool, true, false, nat_lt, List, [], ◌∷◌, Option, Some, None, length, drop, get_or, set, slice_get, min, max, map, replicate, is_some, vec_capacity, if◌then◌else◌}
 use Rattle.std.specs.List.{find, list_all, list_any, range_with_len}
 use Rattle.phase_any.specs.phase_accum.Sends.{AreSends}
 use Rattle.graph_lang.specs.graph_base.Graphs.{Graph, source_number, sources_of, task_at}
@@ -9,7 +9,7 @@ use Rattle.stream_eval.specs.stream_lists.Jobs.{Job, samples_in, with_samples}
 use Rattle.stream_eval.specs.stream_lists.Lists.{is_sink_at, sinks_of}
 use Rattle.stream_eval.specs.stream_lists.Meetings.{meeting_line}
 use Rattle.stream_eval.specs.stream_lists.Ranges.{Where}
-use Rattle.graph_runs.specs.Answers.{after_turns_by, is_still}
+use Rattle.graph_runs.specs.Answers.{after_answer, turn_up_to}
 use Rattle.graph_runs.specs.Feeds.{Call, Continues, IsOpenAt, call_of, hungers}
 use Rattle.graph_runs.specs.Moments.{Moment, started}
 use Rattle.graph_runs.specs.NextBlocks.{block_up_to}
@@ -18,6 +18,7 @@ use Rattle.graph_runs.specs.Settled.{IsFaultAt, IsReady}
 use Rattle.graph_runs.specs.Nexts.{Next, is_live, next_of}
 use Rattle.stream_job.specs.Machines.{IsMachineAt, KeepsLines}
 use Rattle.stream_job.specs.SinkLines.{kept_by}
+use Rattle.stream_job.specs.Stepping.{is_at_rest}
 use Rattle.stream_job.specs.Worlds.{HasMet}
 use Rattle.stream_job.specs.declared.input.Input.{Input}
 use Rattle.stream_eval.specs.stream_lists.declared.sample_counts.TheConstants.{COUNT_MAX}
@@ -143,10 +144,10 @@ is_hungry job ended m t = of (call_of job ended m t)
     of hungers = true
     of call = false
 
--- whether task t makes no event now: it is not live, its turn would be blocked, it waits for a
--- sample, or it has no room
+-- whether task t makes no event now: it is not live, its turn would be blocked, which signals all
+-- that it owes, it waits for a sample, or it has no room
 abbrev pub rests : Job → (ℕ → Bool) → Moment → (ℕ → List ℤ) → ℕ → Bool
-rests job ended m given t = is_still job m t || is_hungry job ended m t || is_full job m given t
+rests job ended m given t = is_at_rest job m t || is_hungry job ended m t || is_full job m given t
 
 -- the numbers of all tasks
 abbrev pub all_tasks : Job → List ℕ
@@ -199,13 +200,27 @@ StreamStopsAt stream s m given stop =
     × stop_by job (first_full job m given) (first_hungry job (ended_at stream) m)
     (is_some_live job m) stop
 
--- a stream went on by turns, in which a source or a sink may make more steps than its line names:
--- for whatever samples came, whatever moment it stood at, and whatever the sinks had handed over,
--- it stands for the same samples at a moment that turns lead to, and no sink has handed over more
+-- a turn of a task, of at most so many steps, or of at most so many of the values that it owes
+pub record SizedTurn : Type 0 where
+  pub task : ℕ
+  pub steps : ℕ
+  pub most : ℕ
+
+-- the moment after such turns, one after the other
+abbrev pub after_sized : Job → Moment → List SizedTurn → Moment
+after_sized job m [] = m
+after_sized job m (turn ∷ turns) =
+    after_sized job
+    (after_answer job (turn_up_to turn.steps turn.most job m turn.task) m) turns
+
+-- a stream went on by turns, in which a source, a filter or a sink may make more steps than its
+-- line names: for whatever samples came, whatever moment it stood at, and whatever the sinks had
+-- handed over, it stands for the same samples at a moment that turns lead to, and no sink has
+-- handed over more
 pub record StreamGoesOn (old new : StreamState) : Type 0 where
   pub later : (s : List (List ℤ)) (m : Moment) (given : ℕ → List ℤ) → IsStreamAt old s m given
-      → (turns : List (ℕ × ℕ))
-      × IsStreamAt new s (after_turns_by (with_samples s old.job) m turns) given
+      → (turns : List SizedTurn)
+      × IsStreamAt new s (after_sized (with_samples s old.job) m turns) given
   pub job : new.job ≡ old.job
   pub inputs : new.inputs ≡ old.inputs
 

@@ -9,10 +9,10 @@ use Rattle.graph_runs.specs.TaskEvents as events
 use Rattle.graph_runs.specs.TaskEvents.{TaskEvent}
 use Rattle.graph_runs.specs.Nexts as turns
 use Rattle.graph_runs.specs.Answers as answers
-use Rattle.graph_runs.specs.Answers.{Answer, Told, answer_of_turn, turn_by, after_answer}
+use Rattle.graph_runs.specs.Answers.{Answer, Told, answer_of_turn, turn_up_to, after_answer}
 use Rattle.stream_job.specs.Blocking.{called_on}
 use Rattle.stream_job.specs.Parking.{with_task}
-use Rattle.stream_job.specs.Machines.{IsMachineAt, KeepsLines, HasRoom}
+use Rattle.stream_job.specs.Machines.{IsMachineAt, KeepsLines, HasRoom, most_in}
 use Rattle.stream_job.specs.Worlds.{WorldState}
 use Rattle.stream_job.specs.declared.machine.Machine.{Machine}
 use Rattle.stream_job.specs.declared.made.Made.{Made}
@@ -62,19 +62,25 @@ MadeShows job m t (answers.has_made at) (made.OutOfRange step) = at ≡ (place.T
 MadeShows job m t answers.is_gone made.Nothing = Unit {0}
 MadeShows job m t answer it = ⊥
 
+-- what a turn of task t makes of at most so many steps, or of as much of what it owes as one event
+-- of it signals
+abbrev pub turn_in : ℕ → Job → Machine → Moment → ℕ → Answer
+turn_in steps job machine m t = turn_up_to steps (most_in machine t) job m t
+
 -- the machine had a turn of task t of at most so many steps, of which the code tells so: at each
 -- moment that the machine stood for it tells the answer of the table, and the machine stands for
 -- the moment after, where no wait was answered a value too big before. The lines have kept what the
--- sinks received, and have the room that they had
+-- sinks received, and have the room that they had, and each task signals as much in one event
 pub record HadTurn (steps : ℕ) (job : Job) (old new : Machine) (t : ℕ) (it : Made) : Type 0 where
-  pub shows : (m : Moment) → IsMachineAt job m old → MadeShows job m t (turn_by steps job m t) it
+  pub shows : (m : Moment) → IsMachineAt job m old → MadeShows job m t (turn_in steps job old m t) it
   pub after : (m : Moment) → IsMachineAt job m old → HasAnsweredNone job m
-      → IsMachineAt job (after_answer job (turn_by steps job m t) m) new
+      → IsMachineAt job (after_answer job (turn_in steps job old m t) m) new
   pub lines : (given : ℕ → List ℤ) (m : Moment) → IsMachineAt job m old → HasAnsweredNone job m
       → KeepsLines job given m old.lines.items
-      → KeepsLines job given (after_answer job (turn_by steps job m t) m) new.lines.items
+      → KeepsLines job given (after_answer job (turn_in steps job old m t) m) new.lines.items
   pub own : (room : ℕ → ℕ) → All (HasRoom room) old.lines.items
       → All (HasRoom room) new.lines.items
+  pub mosts : (u : ℕ) → most_in new u ≡ most_in old u
 
 -- ---- a world
 

@@ -1,11 +1,12 @@
 //! The opening of a run.
-ghost use Rattle.std.specs.Prelude.{◌≡◌, ◌<◌, [], length, map, None, IfOk};
+ghost use Rattle.std.specs.Prelude.{◌≡◌, ◌<◌, ◌≤◌, [], length, map, None, IfOk};
 ghost use Rattle.std.specs.List.{All};
 ghost use Rattle.stream_eval.specs.Results.{sink_values};
 ghost use Rattle.stream_eval.specs.stream_lists.Lists.{sinks_of};
 ghost use Rattle.graph_runs.specs.Beginnings.{opening};
 ghost use Rattle.stream_job.specs.Machines.{IsLineOf};
 
+use crate::buffers::OWN_STEPS;
 use crate::machine::Machine;
 use crate::opened_cores::opened_cores;
 use crate::opened_tasks::opened_tasks;
@@ -48,22 +49,25 @@ pub fn opened_lines(alloc: Global, job: &Job) -> Result<Vec<Lines>, AllocError>
 }
 
 impl Machine {
-    ghost use Rattle.stream_job.specs.Machines.{IsMachineAt};
+    ghost use Rattle.stream_job.specs.Machines.{HasLineSizes, IsMachineAt};
 
     /// Makes the phasers of a graph, on which its tasks without a parent are registered, in the
-    /// order of their lines, with these lines of its sinks.
+    /// order of their lines, with these lines of its sinks. A filter whose line names no block
+    /// makes at most so many steps of its own accord.
     ///
     /// It takes memory for a slot of each phase that a phaser may have open, an entry for each
     /// registration, and the window of each filter.
-    pub fn new(alloc: Global, job: &Job, lines: Vec<Lines>) -> Result<Machine, AllocError>
-        requires { length lines.items ≡ length (sinks_of job.now) }
+    pub fn new(alloc: Global, job: &Job, lines: Vec<Lines>, own: u64) -> Result<Machine, AllocError>
+        requires lines { length lines.items ≡ length (sinks_of job.now) }
+        requires own { (1 ≤ own) × (own ≤ OWN_STEPS) }
         ensures opening { IfOk result (λ machine. IsMachineAt job.now (opening job.now) machine) }
         ensures lines { IfOk result (λ machine. machine.lines ≡ lines) }
+        ensures sizes { own ≡ 1 → IfOk result (HasLineSizes job.now) }
     {
         let _tasks = job.graph().tasks();
         Ok(Machine {
             cores: opened_cores(alloc, job)?,
-            tasks: opened_tasks(alloc, job)?,
+            tasks: opened_tasks(alloc, job, own)?,
             lines,
         })
     }

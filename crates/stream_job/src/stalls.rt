@@ -11,7 +11,7 @@ ghost use Rattle.phase_any.specs.Phasers.{PhaserStandsFor};
 ghost use Rattle.graph_runs.specs.Moments.{Moment, limits_at, input_at};
 ghost use Rattle.graph_runs.specs.Nexts.{has_signaller, is_live, number_on, samples, signals};
 ghost use Rattle.graph_runs.specs.Answers.{is_stalled, is_still, output_at};
-ghost use Rattle.stream_job.specs.Stepping.{blocks_signal, blocks_wait, would_block};
+ghost use Rattle.stream_job.specs.Stepping.{blocks_signal, blocks_wait, is_at_rest, would_block};
 ghost use Rattle.stream_job.specs.Blocking.{AreBlocked};
 ghost use Rattle.stream_job.specs.Machines.{next_by};
 ghost use Rattle.stream_job.specs.Plans.{IsPlan};
@@ -29,13 +29,14 @@ use phase_any::phase_base::PHASES_MAX;
 use stream_eval::stream_lists::Job;
 
 impl Machine {
-    ghost use Rattle.stream_job.specs.Machines.{IsLiveSome, IsMachine, IsMachineAt, IsSome, MayHaveCome};
+    ghost use Rattle.stream_job.specs.Machines.{HasLineSizes, IsLiveSome, IsMachine, IsMachineAt, IsSome, MayHaveCome};
     ghost use Rattle.stream_job.specs.Stalls.{MakesNext, MayMakeNext};
 
     /// Whether some task is live, and the turn of each live task would be blocked. It asks the
     /// phasers for those tasks alone that stand in no list.
     pub fn is_stalled(&self, job: &Job, plan: &Plan, parked: &Parked) -> bool
         requires machine { IsMachine job.now self.now }
+        requires sizes { HasLineSizes job.now self.now }
         requires plan { IsPlan job.now plan.now }
         ensures { (m : Moment) → IsMachineAt job.now m self.now → AreBlocked job.now m parked.now
             → is_stalled job.now m ≡ result }
@@ -61,6 +62,7 @@ impl Machine {
     /// Whether the turn of each live task would be blocked, as that of each marked one is.
     fn are_still(&self, job: &Job, plan: &Plan, marks: &[bool; TASKS_MAX]) -> bool
         requires machine { IsMachine job.now self.now }
+        requires sizes { HasLineSizes job.now self.now }
         requires plan { IsPlan job.now plan.now }
         ensures { (m : Moment) → IsMachineAt job.now m self.now
             → ((t : ℕ) → get_or marks.now t false ≡ true → is_still job.now m t ≡ true)
@@ -76,14 +78,14 @@ impl Machine {
     }
 
     /// Whether task number `t`, which, where it is a source, has these samples still to signal, is
-    /// not live, or its turn would be blocked.
+    /// not live, or its turn would be blocked, which signals all that it owes.
     pub fn is_still(&self, job: &Job, plan: &Plan, t: usize, awaits: &[i64]) -> bool
         requires came { (s : List (List ℤ)) × MayHaveCome job.now self.now t awaits.now s }
         requires plan { IsPlan job.now plan.now }
         requires task { t < length job.now.graph.tasks }
         ensures { (s : List (List ℤ)) (m : Moment) → MayHaveCome job.now self.now t awaits.now s
             → IsMachineAt (with_samples s job.now) m self.now
-            → is_still (with_samples s job.now) m t ≡ result }
+            → is_at_rest (with_samples s job.now) m t ≡ result }
     {
         if !self.state(job, t).is_live(job, t) {
             return true;

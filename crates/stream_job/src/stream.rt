@@ -17,7 +17,7 @@ ghost use Rattle.stream_eval.specs.stream_lists.JobFields.{items_of};
 ghost use Rattle.stream_job.specs.Machines.{none_given};
 ghost use Rattle.stream_job.specs.Streams.{AreInputs, IsApart, IsStreamAt, InputKeeps, has_ended, most_of, none_came};
 
-use crate::buffers::Buffers;
+use crate::buffers::{Buffers, OWN_STEPS};
 use crate::input::Input;
 use crate::machine::Machine;
 use crate::plan::Plan;
@@ -219,7 +219,7 @@ fn opened(alloc: Global, job: Job) -> Result<Stream, AllocError>
         → has_ended stream.inputs source ≡ false) }
 {
     let plan = Plan::new(alloc, &job)?;
-    let machine = Machine::new(alloc, &job, bounded_lines(alloc, &job)?)?;
+    let machine = Machine::new(alloc, &job, bounded_lines(alloc, &job)?, OWN_STEPS)?;
     let buffers = Buffers::new(alloc, &job)?;
     let inputs = new_inputs(alloc, &job)?;
     Ok(Stream {

@@ -172,7 +172,7 @@ impl Stream {
     /// steps.
     pub fn is_full_by(&self, t: usize, most: u64) -> bool
         requires task { t < length self.now.job.graph.tasks }
-        requires most { MayStep self.now.job t most }
+        requires most { MayStep self.now.job self.now.machine t most }
         ensures full { (s : List (List ℤ)) (m : Moment) (given : ℕ → List ℤ)
             → IsStreamAt self.now s m given
             → is_full_by most (with_samples s self.now.job) m given t ≡ result }
@@ -193,7 +193,7 @@ impl Stream {
     fn lacks_room(&self, t: usize, most: u64) -> bool
         requires task { t < length self.now.job.graph.tasks }
         requires sink { is_sink_at self.now.job t ≡ true }
-        requires most { MayStep self.now.job t most }
+        requires most { MayStep self.now.job self.now.machine t most }
         ensures lacks { (s : List (List ℤ)) (m : Moment) (given : ℕ → List ℤ)
             → IsStreamAt self.now s m given
             → let job = with_samples s self.now.job in

@@ -1,11 +1,17 @@
 //! The turns of a run that is fed.
-ghost use Rattle.std.specs.Prelude.{◌≡◌, ◌≢◌, ◌<◌, ◌≤◌, ℕ, ℤ, List, Ok, IfOk, length, map, false, true, None, Some};
+ghost use Rattle.std.specs.Prelude.{◌≡◌, ◌≢◌, ◌<◌, ◌≤◌, ◌+◌, ◌-◌, ◌||◌, nat_lt, ℕ, ℤ, List, Ok, IfOk, length, map, false, true, None, Some};
 ghost use Rattle.stream_eval.specs.stream_lists.Jobs.{with_samples};
 ghost use Rattle.stream_eval.specs.stream_lists.Ranges.{answer_of};
 ghost use Rattle.graph_lang.specs.graph_base.declared.place.Place.{Place as PlaceValue};
+ghost use Rattle.graph_lang.specs.graph_base.declared.line.Kind.TheVariants.{Fir as filters};
+ghost use Rattle.graph_lang.specs.graph_base.Graphs.{phaser_at, task_at};
+ghost use Rattle.graph_lang.specs.graph_base.Registrations.{signalled_by};
+ghost use Rattle.graph_runs.specs.Answers.{output_at};
 ghost use Rattle.graph_runs.specs.Feeds.{IsFed};
 ghost use Rattle.graph_runs.specs.Moments.{Moment, started};
 ghost use Rattle.graph_runs.specs.Settled.{IsFaultAt, IsReady};
+ghost use Rattle.graph_runs.specs.TaskPlaces.{registration_of_output};
+ghost use Rattle.phase_any.specs.phase_history.Refusals.{is_ahead};
 
 use crate::buffers::OWN_STEPS;
 use crate::plan_blocks::line_block;
@@ -14,7 +20,8 @@ use crate::stopped::Stopped;
 use crate::stream::Stream;
 use crate::stream_stops::awaited;
 use crate::turned::Turned;
-use graph_runs::{feeds, input_of, outcomes, output_of};
+use graph_lang::graph_base::Kind;
+use graph_runs::{feeds, input_of, kind_of, outcomes, output_of};
 use phase_any::phase_base::PHASES_MAX;
 use std::alloc::AllocError;
 
@@ -23,7 +30,7 @@ const TURNS: usize = 64;
 
 impl Stream {
     ghost use Rattle.stream_job.specs.Buffers.{most_steps};
-    ghost use Rattle.stream_job.specs.Stepping.{MayStep};
+    ghost use Rattle.stream_job.specs.Stepping.{HasPhases, MayStep};
     ghost use Rattle.stream_job.specs.Machines.{kept_behind};
     ghost use Rattle.stream_job.specs.Streams.{StreamGoesOn, IsStreamAt, StreamStopsAt, ended_at};
     ghost use Rattle.stream_job.specs.declared.stopped.Stopped.TheVariants.{Done, TooBig};
@@ -121,7 +128,7 @@ impl Stream {
     /// or a sink whose line names none, as many as there is room for.
     fn own_steps(&self, t: usize) -> u64
         requires { t < length self.now.job.graph.tasks }
-        ensures may { MayStep self.now.job t result }
+        ensures may { MayStep self.now.job self.now.machine t result }
         ensures few { result ≤ most_steps self.now.job t }
     {
         let job = &self.job;
@@ -138,34 +145,54 @@ impl Stream {
             let p = input_of(job, t, 0);
             return own_steps(job.graph().phaser(p).bound, self.values_left(t));
         }
+        if kind_of(job, t) == Kind::Fir {
+            return self.filter_steps(t);
+        }
         block
     }
 
-    /// How many phases a task may signal now on phaser `p` of this bound, which it signals by its
-    /// registration `k`, as a hint for how many steps it makes.
-    fn phases_left(&self, t: usize, k: usize, p: usize, bound: u64) -> u64 {
+    /// How many steps the next turn of a filter whose line names no block makes at most: as many as
+    /// one event signals, and no more than its output has room for, but for one.
+    fn filter_steps(&self, t: usize) -> u64
+        requires task { t < length self.now.job.graph.tasks }
+        requires kind { (task_at self.now.job.graph t).kind ≡ filters }
+        ensures may { MayStep self.now.job self.now.machine t result }
+        ensures few { result ≤ most_steps self.now.job t }
+        ensures room { 1 < result → (s : List (List ℤ)) (m : Moment) (given : ℕ → List ℤ)
+            → IsStreamAt self.now s m given → HasPhases self.now.job m t result }
+    {
+        let state = &self.machine.tasks[t];
+        if state.most == 1 || !state.made.is_empty() {
+            return 1;
+        }
+        let (k, p) = output_of(&self.job, t, 0);
+        let bound = self.job.graph().phaser(p).bound;
+        own_steps(state.most, self.phases_left(t, k, p, bound))
+    }
+
+    /// How many phases a task may signal now on its first output, phaser `p` of this bound, which it
+    /// signals by its registration `k`. With bound 1 it does not look.
+    fn phases_left(&self, t: usize, k: usize, p: usize, bound: u64) -> u64
+        requires task { t < length self.now.job.graph.tasks }
+        requires output { 0 < length (signalled_by (task_at self.now.job.graph t)) }
+        requires place { (k ≡ registration_of_output (task_at self.now.job.graph t) 0)
+            × (p ≡ output_at self.now.job t 0) }
+        requires bound { bound ≡ (phaser_at self.now.job.graph p).bound }
+        ensures { bound ≢ 1 → (s : List (List ℤ)) (m : Moment) (given : ℕ → List ℤ)
+            → IsStreamAt self.now s m given → HasPhases self.now.job m t result }
+    {
         if bound == 1 {
             return 1;
         }
-        let (Some(state), Some(core)) = (self.machine.tasks.get(t), self.machine.cores.get(p))
-        else {
+        let numbers = &self.machine.tasks[t].numbers;
+        if k >= numbers.len() {
+            return 0;
+        }
+        let core = self.machine.core(&self.job, p);
+        let Some(entry) = core.view(numbers[k]) else {
             return 0;
         };
-        let Some(number) = state.numbers.get(k) else {
-            return 0;
-        };
-        let Some(entry) = core.view(*number) else {
-            return 0;
-        };
-        let last = PHASES_MAX.saturating_sub(entry.signal_phase);
-        let Some(slowest) = core.least_wait() else {
-            return last;
-        };
-        last.min(
-            slowest
-                .saturating_add(bound)
-                .saturating_sub(entry.signal_phase),
-        )
+        phases_left(entry.signal_phase, core.least_wait(), bound)
     }
 
     /// For how many values the line of a sink has room, as a hint for how many steps it makes.
@@ -187,6 +214,20 @@ fn own_steps(bound: u64, room: u64) -> u64
     ensures some { 1 ≤ result }
     ensures few { result ≤ OWN_STEPS }
     ensures bound { result ≤ bound }
+    ensures room { 1 < result → result ≤ room }
 {
     OWN_STEPS.min(bound).min(room).max(1)
+}
+
+/// How many phases may be signalled from this one on, where this is the slowest waiter: none past
+/// the last, and none that is ahead of the waiter by the bound.
+fn phases_left(from: u64, slowest: Option<u64>, bound: u64) -> u64
+    ensures { (many : ℕ) → 1 ≤ many → many ≤ result
+        → (nat_lt PHASES_MAX (from + many) || is_ahead slowest bound (from + many - 1)) ≡ false }
+{
+    let left = PHASES_MAX.saturating_sub(from);
+    match slowest {
+        None => left,
+        Some(slowest) => left.min(slowest.saturating_add(bound).saturating_sub(from)),
+    }
 }

@@ -9,7 +9,7 @@ ghost use Rattle.stream_eval.specs.stream_lists.Jobs.{with_samples};
 ghost use Rattle.graph_runs.specs.Steps.{HasFilter};
 ghost use Rattle.graph_runs.specs.Moments.{Moment};
 ghost use Rattle.graph_runs.specs.Nexts.{first_missing, is_live};
-ghost use Rattle.graph_runs.specs.TaskPlaces.{StandsAt};
+ghost use Rattle.graph_runs.specs.TaskPlaces.{StandsUpTo};
 
 use graph_lang::graph_base::Kind;
 use graph_lang::stream_filters::{Fir, TooBigValue};
@@ -31,6 +31,8 @@ pub struct TaskState {
     pub owed: Owed,
     /// The filter of a task that is one.
     pub filter: Option<Fir>,
+    /// How many of the values that it owes one event of it signals, at most.
+    pub most: u64,
     /// What it has made and not signalled: all that a filter owes.
     pub made: Vec<Result<i64, TooBigValue>>,
     /// How many sinks stand above the task.
@@ -45,7 +47,7 @@ impl TaskState {
     pub fn is_registered(&self, job: &Job, t: usize) -> bool
         requires { t < length job.now.graph.tasks }
         ensures { (s : List (List ℤ)) (m : Moment)
-            → StandsAt (with_samples s job.now) m t (place_in_state self.now)
+            → StandsUpTo self.now.most (with_samples s job.now) m t (place_in_state self.now)
             → is_some (first_missing job.now m t) ≡ not result }
     {
         self.numbers.len() >= job.graph().registrations(t)
@@ -55,7 +57,7 @@ impl TaskState {
     pub fn is_live(&self, job: &Job, t: usize) -> bool
         requires { t < length job.now.graph.tasks }
         ensures { (s : List (List ℤ)) (m : Moment)
-            → StandsAt (with_samples s job.now) m t (place_in_state self.now)
+            → StandsUpTo self.now.most (with_samples s job.now) m t (place_in_state self.now)
             → is_live job.now m t ≡ result }
     {
         self.is_registered(job, t) && self.left < self.numbers.len()

@@ -6,7 +6,7 @@ ghost use Rattle.graph_lang.specs.graph_base.declared.line.Kind.TheVariants.{Fir
 ghost use Rattle.phase_any.specs.phase_history.Histories.{History, done_of};
 ghost use Rattle.graph_lang.specs.stream_filters.Range.{ranged};
 ghost use Rattle.graph_runs.specs.Moments.{Moment};
-ghost use Rattle.graph_runs.specs.Answers.{next_values, told_got};
+ghost use Rattle.graph_runs.specs.Answers.{values_up_to, told_got};
 ghost use Rattle.graph_runs.specs.Turned.{with_at};
 ghost use Rattle.graph_runs.specs.Nexts as turns;
 ghost use Rattle.graph_runs.specs.Nexts.{is_live, number_on};
@@ -37,7 +37,7 @@ use std::alloc::AllocError;
 use stream_eval::stream_lists::Job;
 
 impl Machine {
-    ghost use Rattle.stream_job.specs.Machines.{HasCores, HasRoom, IsLiveSome, IsMachineAt, IsSome, MayHaveCome, kept_behind, next_by};
+    ghost use Rattle.stream_job.specs.Machines.{HasCores, HasRoom, IsLiveSome, IsMachineAt, IsSome, MayHaveCome, kept_behind, most_in, next_by};
 
     /// Gives a turn to task number `t`, which, where it is a source, has these samples still to
     /// signal: it makes its next call, of at most so many steps. Where it is a sink, there is room
@@ -53,7 +53,7 @@ impl Machine {
     ) -> Result<Made, AllocError>
         requires came { (s : List (List ℤ)) × MayHaveCome job.now self.old t awaits.now s
             × HasRoomNext most (with_samples s job.now) self.old t }
-        requires most { MayStep job.now t most × (most ≤ most_steps job.now t) }
+        requires most { MayStep job.now self.old t most × (most ≤ most_steps job.now t) }
         requires plan { IsPlan job.now plan.now }
         requires places { HasPlaces job.now buffers.old }
         ensures made { IfOk result (λ made. (s : List (List ℤ))
@@ -222,7 +222,8 @@ impl Machine {
         requires value { (s : List (List ℤ)) (steps : ℕ) (m : Moment)
             → IsNextIn steps (with_samples s job.now) self.old t (turns.signals output)
             → IsMachineAt (with_samples s job.now) m self.old
-            → map ranged (next_values (with_samples s job.now) m t output) ≡ Ok x ∷ [] }
+            → map ranged (values_up_to (most_in self.old t) (with_samples s job.now) m t output)
+            ≡ Ok x ∷ [] }
         ensures { HasDone job.now self.old self.new t (turns.signals output) result }
     {
         let (k, phaser) = output_of(job, t, output);

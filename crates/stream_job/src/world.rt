@@ -48,7 +48,7 @@ impl<'a> Model for World<'a> {
     ghost use Rattle.graph_runs.specs.Moments.{Moment};
     ghost use Rattle.stream_job.specs.Worlds.{WorldState, IsWorldAt};
     ghost use Rattle.stream_job.specs.Blocking.{AreBlocked};
-    ghost use Rattle.stream_job.specs.Machines.{IsLineOf, IsMachineAt, KeepsLines, none_given};
+    ghost use Rattle.stream_job.specs.Machines.{HasLineSizes, IsLineOf, IsMachineAt, KeepsLines, none_given};
     ghost use Rattle.stream_job.specs.Plans.{IsPlan};
     ghost use Rattle.stream_job.specs.Buffers.{HasPlaces};
 
@@ -67,7 +67,7 @@ impl<'a> Model for World<'a> {
       met = w.met;
       parked = w.parked;
     }) m) × (length w.parked ≡ length w.job.now.graph.phasers) × IsPlan w.job.now w.plan
-        × HasPlaces w.job.now w.buffers };
+        × HasPlaces w.job.now w.buffers × HasLineSizes w.job.now w.machine };
 }
 
 impl<'a> World<'a> {
@@ -91,7 +91,7 @@ impl<'a> World<'a> {
         ensures parked { IfOk result (λ world. (p : ℕ) → get_or world.parked p [] ≡ []) }
     {
         let plan = Plan::new(alloc, job)?;
-        let machine = Machine::new(alloc, job, opened_lines(alloc, job)?)?;
+        let machine = Machine::new(alloc, job, opened_lines(alloc, job)?, 1)?;
         let buffers = Buffers::new(alloc, job)?;
         let parked = Parked::new(alloc, job.graph().phasers())?;
         Ok(World {

@@ -6,8 +6,7 @@ use Rattle.std.proofs.lemmas.List.{length-append}
 use Rattle.stream_eval.specs.stream_lists.Lists.{is_sink_at}
 use Rattle.stream_eval.proofs.stream_lists_lemmas.Firsts.{filter-skip, filter-take}
 use Rattle.graph_lang.specs.graph_base.Graphs.{is_sink, task_at}
-use Rattle.graph_runs.specs.Beginnings.{opening}
-use Rattle.stream_job.specs.Places.{IsTaskAt}
+use Rattle.stream_job.specs.Places.{IsOpened}
 use Rattle.stream_job.proofs.OpeningPhasers.{each-push}
 use Rattle.stream_job.proofs.opened_tasks.opened_tasks.Goals as goal
 use Rattle.stream_job.proofs.opened_tasks.opened_tasks.Goals.{then-is_sink, else-is_sink}
@@ -22,9 +21,9 @@ loop-t-preserved c =
     let many : length tasks ≡ t = c.loop-t.invariant.0 in
     let more = length-append tasks (one ∷ []) in
     let long : length c.push.new.self.items ≡ length (tasks ++ one ∷ []) = ap length items in
-    let here : IsTaskAt job (opening job) (length tasks) one =
-    subst (λ u. IsTaskAt job (opening job) u one) (sym many) c.in_ok-opened_task.ensures in
-    let all = each-push (IsTaskAt job (opening job)) tasks one c.loop-t.invariant.1 here in
+    let here : IsOpened c.args.own job (length tasks) one =
+    subst (λ u. IsOpened c.args.own job u one) (sym many) c.in_ok-opened_task.ensures in
+    let all = each-push (IsOpened c.args.own job) tasks one c.loop-t.invariant.1 here in
     let count = c.loop-t.invariant.2 in
     let few = c.loop-t.invariant.3 in
     let same = ap (λ graph. is_sink (task_at graph t).kind) (sym c.graph-in-loop-t.ensures.graph) in

@@ -1,7 +1,7 @@
 -- A live task's turn is blocked where its next call is.
 use Rattle.std.proofs.Common.{ℤ, List, true, cond, ap, ◌∙◌}
 use Rattle.stream_eval.specs.stream_lists.Jobs.{with_samples}
-use Rattle.graph_runs.specs.Answers.{answer_of_turn, was_blocked}
+use Rattle.graph_runs.specs.Nexts.{next_of}
 use Rattle.stream_job.specs.Stepping.{would_block}
 use Rattle.stream_job.specs.Machines.{MayHaveCome, next_by}
 use Rattle.stream_job.specs.Stalls.{MakesNext}
@@ -11,7 +11,7 @@ use Rattle.stream_job.proofs.machine.Machine.is_still.Goals.{After-next}
 pub returns-then-not-is_live : goal.returns-then-not-is_live
 returns-then-not-is_live c = λ s m came at.
     let job = with_samples s c.args.job.now in
-    ap (λ b. cond b (was_blocked (answer_of_turn job m c.args.t)) true)
+    ap (λ b. cond b (would_block job m c.args.t (next_of job m c.args.t)) true)
     (c.is_live.ensures s m (c.state.ensures s m at).stands ∙ c.if-not-is_live.true)
 
 makes : (c : After-next) → (s : List (List ℤ))
@@ -35,6 +35,6 @@ pub returns : goal.returns
 returns c = λ s m came at.
     let job = with_samples s c.args.job.now in
     let made = makes (goal.at.returns c).After-next s came in
-    ap (λ b. cond b (was_blocked (answer_of_turn job m c.args.t)) true) (made.live m at)
+    ap (λ b. cond b (would_block job m c.args.t (next_of job m c.args.t)) true) (made.live m at)
     ∙ ap (would_block job m c.args.t) (made.is m at)
     ∙ c.step_blocks.ensures s m came made at

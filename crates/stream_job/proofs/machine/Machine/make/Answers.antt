@@ -4,7 +4,7 @@ use Rattle.stream_eval.specs.stream_lists.Jobs.{with_samples}
 use Rattle.graph_runs.proofs.Signalling.{live-is}
 use Rattle.graph_runs.specs.Nexts.{is_not_live}
 use Rattle.stream_job.specs.Stepping.{IsNextIn}
-use Rattle.stream_job.specs.Machines.{MayHaveCome, next_by}
+use Rattle.stream_job.specs.Machines.{MayHaveCome, most_in, next_by}
 use Rattle.stream_job.specs.Turning.{IsRegistration}
 use Rattle.stream_job.specs.declared.step.Step.{Step}
 use Rattle.stream_job.specs.declared.step.Step.TheVariants as step
@@ -14,7 +14,6 @@ use Rattle.stream_job.proofs.Setting.{if_ok, on_err}
 use Rattle.stream_job.proofs.Tellings.{gone_turn}
 use Rattle.stream_job.proofs.machine.Machine.make.Goals.{After-turns_up_to}
 use Rattle.stream_job.proofs.machine.Machine.make.Goals as goal
-use Rattle.graph_lang.specs.graph_base.Graphs.{task_at}
 
 -- a step that is one
 makes_one : (it : Step) → it ≢ step.NotLive → next_by it ≢ is_not_live
@@ -37,11 +36,11 @@ next_in c s may =
       sized = c.requires.most.0;
       small = c.requires.most.1;
       is = λ m at. c.next-step.ensures s m at (may.awaits m at);
-      stays = λ m at. c.turns_up_to.ensures.reached c.args.most (task_at job.graph c.args.t).block job
-          m c.args.t c.requires.most.0 at.graph at.reached;
+      stays = λ m at. c.turns_up_to.ensures.reached c.args.most
+          (most_in c.args.self.now c.args.t) job m c.args.t c.requires.most.0 at.graph at.reached;
       few = λ m at. few_after job m c.args.t c.requires.most.0 at.graph at.reached at.few;
       answered = λ m at.
-          c.turns_up_to.ensures.answered c.args.most (task_at job.graph c.args.t).block job m c.args.t
+          c.turns_up_to.ensures.answered c.args.most (most_in c.args.self.now c.args.t) job m c.args.t
           c.requires.most.0 at.graph
           (may.sends (live-is job m c.args.t (live_next job m c.args.t (next_by c.next-step.result)
           (c.next-step.ensures s m at (may.awaits m at))

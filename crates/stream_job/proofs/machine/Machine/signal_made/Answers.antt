@@ -14,14 +14,15 @@ use Rattle.stream_job.specs.Machines.{IsMachineAt}
 use Rattle.stream_job.specs.Places.{owed_in}
 use Rattle.stream_job.proofs.Lively.{state_read, state_there}
 use Rattle.stream_job.proofs.Setting.{read_same, set_read, bare_cores, full_cores}
-use Rattle.stream_job.proofs.Signals.{HasMade, MadeOver, NextAre, filter_owes, has_made, made_begun, made_few, made_over, over_turn, refused_turn, signalled_turn, signals_at, signals_so, values_sent, with_owing}
+use Rattle.stream_job.proofs.Signals.{HasMade, MadeOver, NextAre, filter_owes, has_made, made_begun, made_few, made_over, over_turn, signalled_turn, signals_at, signals_so, values_sent, with_owing}
+use Rattle.stream_job.proofs.SignalCalls.{refused_turn}
 use Rattle.stream_job.proofs.machine.Machine.signal_made.Goals.{After-index-state, After-len, In-Some, After-deref-3}
 use Rattle.stream_job.proofs.machine.Machine.signal_made.Goals as goal
 
 -- what the filter has made
 has_all : {steps : ℕ} (s : List (List ℤ)) (c : After-index-state)
     (next : IsNextIn steps (with_samples s c.args.job.now) c.args.self.now c.args.t (signals 0)) (m : Moment) → IsMachineAt (with_samples s c.args.job.now) m c.args.self.now
-    → HasMade (with_samples s c.args.job.now) m c.args.t 0 c.index-state.result.now
+    → HasMade (with_samples s c.args.job.now) c.args.self.now m c.args.t 0 c.index-state.result.now
 has_all s c next m at =
     let found = state_read next (λ e. (cc)) c.index-state.ensures in
     has_made (with_samples s c.args.job.now) c.args.self.now m c.args.t 0 c.index-state.result.now next at
@@ -30,7 +31,7 @@ has_all s c next m at =
 -- it began no later than with the first of them
 begun : {steps : ℕ} (s : List (List ℤ)) (c : After-len)
     (next : IsNextIn steps (with_samples s c.args.job.now) c.args.self.now c.args.t (signals 0)) → ((m : Moment) → IsMachineAt (with_samples s c.args.job.now) m c.args.self.now
-    → HasMade (with_samples s c.args.job.now) m c.args.t 0 c.index-state.result.now)
+    → HasMade (with_samples s c.args.job.now) c.args.self.now m c.args.t 0 c.index-state.result.now)
     → c.len.result ≤ c.index-state.result.now.begun
 begun s c next has =
     let m = next.some.0 in
@@ -42,9 +43,9 @@ begun s c next has =
 -- the first that is too big
 over : {steps : ℕ} (s : List (List ℤ)) (c : In-Some)
     (next : IsNextIn steps (with_samples s c.args.job.now) c.args.self.now c.args.t (signals 0)) → ((m : Moment) → IsMachineAt (with_samples s c.args.job.now) m c.args.self.now
-    → HasMade (with_samples s c.args.job.now) m c.args.t 0 c.index-state.result.now) → (m : Moment)
+    → HasMade (with_samples s c.args.job.now) c.args.self.now m c.args.t 0 c.index-state.result.now) → (m : Moment)
     → IsMachineAt (with_samples s c.args.job.now) m c.args.self.now
-    → MadeOver steps (with_samples s c.args.job.now) m c.args.t 0 c.in-Some.place c.index-state.result.now
+    → MadeOver steps (with_samples s c.args.job.now) c.args.self.now m c.args.t 0 c.in-Some.place c.index-state.result.now
     c.index-state.result.now.made.items
 over s c next has m at =
     made_over (with_samples s c.args.job.now) c.args.self.now m c.args.t 0 c.in-Some.place c.index-state.result.now
@@ -55,7 +56,7 @@ over s c next has m at =
 -- or else these are all in range
 are : {steps : ℕ} (s : List (List ℤ)) (c : After-deref-3)
     (next : IsNextIn steps (with_samples s c.args.job.now) c.args.self.now c.args.t (signals 0)) → ((m : Moment) → IsMachineAt (with_samples s c.args.job.now) m c.args.self.now
-    → HasMade (with_samples s c.args.job.now) m c.args.t 0 c.index-state.result.now)
+    → HasMade (with_samples s c.args.job.now) c.args.self.now m c.args.t 0 c.index-state.result.now)
     → NextAre (with_samples s c.args.job.now) c.args.self.now c.args.t 0 c.deref-3.result.now
 are s c next has m at =
     (has m at).here.next ∙ sym c.deref.ensures.value ∙ sym (c.in_default.ensures.none refl)
@@ -80,7 +81,7 @@ put_values-requires c =
     let has = has_all s a.After-index-state next in
     let m = next.some.0 in
     let at = next.some.1 in
-    let few = made_few job c.args.self.now m c.args.t 0 c.index-state.result.now
+    let few = made_few job c.args.self.now m c.args.t 0 c.index-state.result.now at found
     (has m at) in
     let there = (signals_at job c.args.self.now m c.args.t 0 c.index-state.result.now
     next at found).there in
@@ -149,7 +150,7 @@ signal_values_on-requires-clause-room c =
     let has = has_all s a.After-index-state next in
     let m = next.some.0 in
     let at = next.some.1 in
-    let few = made_few job c.args.self.now m c.args.t 0 c.index-state.result.now
+    let few = made_few job c.args.self.now m c.args.t 0 c.index-state.result.now at found
     (has m at) in
     let there = (signals_at job c.args.self.now m c.args.t 0 c.index-state.result.now
     next at found).there in

@@ -16,7 +16,7 @@ use Rattle.stream_job.proofs.machine.Machine.signal_owed.Goals as goal
 -- a value that is too big, which it owes
 over : {steps : ℕ} (s : List (List ℤ)) (c : In-Err)
     (next : IsNextIn steps (with_samples s c.args.job.now) c.args.self.now c.args.t (signals c.args.output)) (m : Moment) → IsMachineAt (with_samples s c.args.job.now) m c.args.self.now
-    → MadeOver steps (with_samples s c.args.job.now) m c.args.t c.args.output 0 c.index-state.result.now
+    → MadeOver steps (with_samples s c.args.job.now) c.args.self.now m c.args.t c.args.output 0 c.index-state.result.now
     (Err c.in-Err.field-0 ∷ [])
 over s c next m at =
     let found = state_read next (λ e. (cc)) c.index-state.ensures in

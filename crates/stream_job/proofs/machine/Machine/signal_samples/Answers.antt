@@ -15,7 +15,8 @@ use Rattle.stream_job.specs.declared.task_state.TaskState.{TaskState}
 use Rattle.stream_job.proofs.Begun.{samples_few}
 use Rattle.stream_job.proofs.Lively.{state_read, state_there}
 use Rattle.stream_job.proofs.Setting.{bare_cores, full_cores, set_read}
-use Rattle.stream_job.proofs.Signals.{sample_few, samples_at_place, samples_so, ReadSamples, read_samples, refused_turn, sampled_turn, with_begun}
+use Rattle.stream_job.proofs.SampleTurns.{sample_few, samples_at_place, samples_so, ReadSamples, read_samples, sampled_turn, with_begun}
+use Rattle.stream_job.proofs.SignalCalls.{refused_turn}
 use Rattle.stream_job.proofs.machine.Machine.signal_samples.Goals.{After-min-many}
 use Rattle.stream_job.proofs.machine.Machine.signal_samples.Goals as goal
 

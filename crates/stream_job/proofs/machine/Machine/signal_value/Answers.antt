@@ -7,7 +7,8 @@ use Rattle.stream_eval.specs.stream_lists.Jobs.{with_samples}
 use Rattle.stream_job.specs.Places.{owed_in}
 use Rattle.stream_job.proofs.Lively.{state_read, state_there}
 use Rattle.stream_job.proofs.Setting.{set_read, bare_cores, full_cores}
-use Rattle.stream_job.proofs.Signals.{signal_few, signals_at, signals_so, values_sent, refused_turn, signalled_turn, with_owing}
+use Rattle.stream_job.proofs.Signals.{signal_few, signals_at, signals_so, values_sent, signalled_turn, with_owing}
+use Rattle.stream_job.proofs.SignalCalls.{refused_turn}
 use Rattle.stream_job.proofs.machine.Machine.signal_value.Goals as goal
 
 pub output_of-k-requires-clause-output : goal.output_of-k-requires-clause-output

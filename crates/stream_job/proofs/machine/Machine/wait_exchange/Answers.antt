@@ -10,7 +10,8 @@ use Rattle.stream_eval.specs.stream_lists.Jobs.{with_samples}
 use Rattle.stream_job.specs.Machines.{HasCores}
 use Rattle.stream_job.proofs.Lively.{state_read, state_there}
 use Rattle.stream_job.proofs.Setting.{set_read, bare_cores, full_cores}
-use Rattle.stream_job.proofs.Waits.{exchange_waits_at, exchange_some, exchanged_turn, blocked_exchange, never_ended, phase_few, with_owed}
+use Rattle.stream_job.proofs.Waits.{exchange_waits_at, phase_few}
+use Rattle.stream_job.proofs.Exchanges.{exchange_some, exchanged_turn, blocked_exchange, never_ended, with_owed}
 use Rattle.stream_job.proofs.machine.Machine.wait_exchange.Goals as goal
 
 pub bounds-deref-1 : goal.bounds-deref-1

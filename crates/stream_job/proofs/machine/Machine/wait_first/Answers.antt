@@ -23,7 +23,8 @@ use Rattle.stream_job.specs.Machines.{HasCores, HasRoom, IsMachineAt, kept_behin
 use Rattle.stream_job.proofs.Lively.{state_read, state_there}
 use Rattle.stream_job.proofs.Setting.{read_same, bare_cores, full_cores}
 use Rattle.stream_job.proofs.Rooms.{room_of}
-use Rattle.stream_job.proofs.Waits.{AsksFirst, asks_places, GotAll, got_answered, MayTake, may_take, done_few, had_as, first_waits_at, first_answer, first_few, first_turn, blocked_first, first_never_ended, sink_there}
+use Rattle.stream_job.proofs.Waits.{AsksFirst, asks_places, GotAll, got_answered, done_few, first_waits_at, first_few}
+use Rattle.stream_job.proofs.FirstTurns.{MayTake, may_take, had_as, first_answer, first_turn, blocked_first, first_never_ended, sink_there}
 use Rattle.stream_job.proofs.machine.Machine.wait_first.Goals.{After-wait_block_on, In-Ok-Values, After-index_mut, in-Ok-Values, in-Err}
 use Rattle.stream_job.proofs.machine.Machine.wait_first.Goals as goal
 

@@ -1,19 +1,20 @@
 -- A block of its line is a number of steps that a task may make.
 use Rattle.std.proofs.Common.{◌≡◌, sym, subst}
 use Rattle.graph_lang.specs.graph_base.Graphs.{task_at}
-use Rattle.graph_runs.proofs.Stepping.{line_sizes}
 use Rattle.stream_eval.specs.stream_lists.Jobs.{with_samples}
 use Rattle.stream_job.specs.Stepping.{MayStep}
 use Rattle.stream_job.specs.Streams.{StreamState, is_full_by}
+use Rattle.stream_job.proofs.Mosts.{line_may}
 use Rattle.stream_job.proofs.stream.Stream.is_full.Goals as goal
 
 pub is_full_by-requires-clause-most : goal.is_full_by-requires-clause-most
 is_full_by-requires-clause-most c =
-    let P : StreamState → Type 0 = λ w. MayStep w.job c.args.t c.line_block.result in
+    let P : StreamState → Type 0 = λ w. MayStep w.job w.machine c.args.t c.line_block.result in
     let job = c.self.inside.job in
     subst P c.self.view_is
-    (subst (λ n. MayStep job c.args.t n) (sym c.line_block.ensures)
-    (line_sizes job c.args.t c.self.invariant.0.3.machine.graph))
+    (subst (λ n. MayStep job c.self.inside.machine c.args.t n) (sym c.line_block.ensures)
+    (line_may (with_samples c.self.invariant.0.0 job) c.self.inside.machine c.self.invariant.0.1
+    c.args.t c.self.invariant.0.3.machine))
 
 pub returns : goal.returns
 returns c =

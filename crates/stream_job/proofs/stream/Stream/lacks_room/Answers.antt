@@ -27,9 +27,9 @@ sink_is c =
     let P : StreamState → Type 0 = λ w. is_sink_at w.job c.args.t ≡ true in
     subst P (sym c.self.view_is) c.requires.sink
 
-may : (c : After-block-steps) → MayStep c.self.inside.job c.args.t c.args.most
+may : (c : After-block-steps) → MayStep c.self.inside.job c.self.inside.machine c.args.t c.args.most
 may c =
-    let P : StreamState → Type 0 = λ w. MayStep w.job c.args.t c.args.most in
+    let P : StreamState → Type 0 = λ w. MayStep w.job w.machine c.args.t c.args.most in
     subst P (sym c.self.view_is) c.requires.most
 
 pub index-requires : goal.index-requires

@@ -1,8 +1,8 @@
 -- It rests where one of the three says so.
 use Rattle.std.proofs.Common.{◌≡◌, ℕ, ℤ, List, ◌||◌, sym, ap, subst, ◌∙◌}
 use Rattle.stream_eval.specs.stream_lists.Jobs.{with_samples}
-use Rattle.graph_runs.specs.Answers.{is_still}
 use Rattle.graph_runs.specs.Moments.{Moment}
+use Rattle.stream_job.specs.Stepping.{is_at_rest}
 use Rattle.stream_job.specs.Streams.{AreKept, IsStreamAt, StreamState, ended_at, is_full, is_hungry}
 use Rattle.stream_job.proofs.stream.Stream.rests.Goals as goal
 use Rattle.stream_job.proofs.stream.Stream.rests.Goals.{After-is_still}
@@ -20,11 +20,11 @@ is_still-requires-clause-came c =
 -- whether it is still, as the machine says
 still : (c : After-is_still) (s : List (List ℤ)) (m : Moment) (given : ℕ → List ℤ)
     → IsStreamAt c.args.self.now s m given
-    → is_still (with_samples s c.args.self.now.job) m c.args.t ≡ c.is_still.result
+    → is_at_rest (with_samples s c.args.self.now.job) m c.args.t ≡ c.is_still.result
 still c =
     let P : StreamState → Type 0 = λ w. (s : List (List ℤ)) (m : Moment) (given : ℕ → List ℤ)
     → IsStreamAt w s m given
-    → is_still (with_samples s w.job) m c.args.t ≡ c.is_still.result in
+    → is_at_rest (with_samples s w.job) m c.args.t ≡ c.is_still.result in
     subst P c.self.view_is (λ s m given at.
     c.is_still.ensures s m
     (c.awaited-awaits.ensures s m at.each at.machine

@@ -11,7 +11,7 @@ use Rattle.stream_job.specs.declared.stopped.Stopped.TheVariants as stopped
 use Rattle.stream_job.proofs.Awaiting.{planned}
 use Rattle.stream_job.proofs.FedStops.{found_in, full_sink}
 use Rattle.stream_job.proofs.Stopping.{state_at}
-use Rattle.stream_job.proofs.Waits.{sink_kind}
+use Rattle.stream_job.proofs.FirstTurns.{sink_kind}
 use Rattle.stream_job.proofs.stream.Stream.stop.Goals as goal
 use Rattle.stream_job.proofs.stream.Stream.stop.Goals.{In-Some-first_full, In-Some-first_hungry}
 

@@ -1,12 +1,13 @@
 -- A turn leads to a moment that the stream then stands for, of the same samples.
 use Rattle.std.proofs.Common.{◌≡◌, ◌≤◌, ℕ, ℤ, List, [], ◌∷◌, false, refl, sym, subst, ◌∙◌}
 use Rattle.stream_eval.specs.stream_lists.Jobs.{with_samples}
-use Rattle.graph_runs.specs.Answers.{after_answer, turn_by}
+use Rattle.graph_runs.specs.Answers.{after_answer}
 use Rattle.graph_runs.specs.Moments.{Moment}
 use Rattle.stream_job.specs.Buffers.{HasPlaces, most_steps}
 use Rattle.stream_job.specs.Stepping.{HasRoomNext, MayStep}
-use Rattle.stream_job.specs.Machines.{MayHaveCome}
+use Rattle.stream_job.specs.Machines.{MayHaveCome, most_in}
 use Rattle.stream_job.specs.Streams.{AreKept, StreamGoesOn, IsStreamAt, StreamState, ended_at, is_hungry, line_room}
+use Rattle.stream_job.specs.Turning.{turn_in}
 use Rattle.stream_job.specs.contracts.stream.Stream.{the_view}
 use Rattle.stream_job.proofs.FedTurns.{none_met, turn_stands}
 use Rattle.stream_job.proofs.stream.Stream.turn.Goals as goal
@@ -37,14 +38,14 @@ make-requires-clause-came c =
     )
 
 -- the task may make so many steps
-may : (c : Joined-matches) → MayStep c.self.inside.job c.args.t c.own_steps-most.result
+may : (c : Joined-matches) → MayStep c.self.inside.job c.self.inside.machine c.args.t c.own_steps-most.result
 may c =
-    let P : StreamState → Type 0 = λ w. MayStep w.job c.args.t c.own_steps-most.result in
+    let P : StreamState → Type 0 = λ w. MayStep w.job w.machine c.args.t c.own_steps-most.result in
     subst P (sym c.self.view_is) c.own_steps-most.ensures.may
 
 pub make-requires-clause-most : goal.make-requires-clause-most
 make-requires-clause-most c =
-    let P : StreamState → Type 0 = λ w. MayStep w.job c.args.t c.own_steps-most.result
+    let P : StreamState → Type 0 = λ w. MayStep w.job w.machine c.args.t c.own_steps-most.result
     × (c.own_steps-most.result ≤ most_steps w.job c.args.t) in
     subst P (sym c.self.view_is) (c.own_steps-most.ensures.may, c.own_steps-most.ensures.few)
 
@@ -57,7 +58,7 @@ stands : (c : Joined-matches) (s : List (List ℤ)) (m : Moment) (given : ℕ �
       inputs = c.self.inside.inputs.items;
       met = c.too_big-self-inside.result;
     } s (after_answer (with_samples s c.self.inside.job)
-    (turn_by c.own_steps-most.result (with_samples s c.self.inside.job) m c.args.t) m) given
+    (turn_in c.own_steps-most.result (with_samples s c.self.inside.job) c.self.inside.machine m c.args.t) m) given
 stands c s m given at =
     let job = with_samples s c.self.inside.job in
     let old = the_view c.self.inside in
@@ -91,7 +92,7 @@ invariant_of-self-2 c =
     (subst (AreKept c.self.inside.job s m) (sym c.deref.ensures.value) at.kept)) in (
       (
         s,
-        after_answer job (turn_by c.own_steps-most.result job m c.args.t) m,
+        after_answer job (turn_in c.own_steps-most.result job c.self.inside.machine m c.args.t) m,
         given,
         stands j s m given at,
       ),
@@ -112,7 +113,14 @@ returns c =
       met = c.too_big-self-inside.result;
     } in
     subst P c.self.view_is record {
-      later = λ s m given at. ((c.args.t, c.own_steps-most.result) ∷ [], stands j s m given at);
+      later = λ s m given at. (
+        record {
+          task = c.args.t;
+          steps = c.own_steps-most.result;
+          most = most_in c.self.inside.machine c.args.t;
+        } ∷ [],
+        stands j s m given at,
+      );
       job = refl;
       inputs = refl;
     }

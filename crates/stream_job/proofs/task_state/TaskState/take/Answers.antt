@@ -61,7 +61,7 @@ loop-outcome-preserved c =
           ∙ ap (λ y. ranged (output_after task.taps task.shift (taken ++ y ∷ []))) got)
           (λ taken has. subst (λ y. HasFilter task w.filtered.new.filter (taken ++ y ∷ [])) got
           (w.filtered.ensures.filter taken has))
-          refl refl refl refl refl w.push_reserved.ensures.items w.push_reserved.ensures.capacity)
+          refl refl refl refl refl refl w.push_reserved.ensures.items w.push_reserved.ensures.capacity)
       | else-eq w ↦
           let other : (task_at c.args.job.now.graph c.args.t).kind ≢ Fir = search rules in
           let few : length xs < length outcomes = omega arith in
@@ -73,7 +73,7 @@ loop-outcome-preserved c =
           ∙ ap (λ y. owed_after_wait task c.loop-outcome.self.begun taken (y ∷ [])) got)
           (λ taken has. subst (λ y. HasFilter task w.owed_after_wait-self.new.filter (taken ++ y ∷ []))
           got (w.owed_after_wait-self.ensures.filter taken has))
-          refl refl refl refl refl)
+          refl refl refl refl refl refl)
     ]
 
 pub returns : goal.returns

@@ -1,5 +1,5 @@
 -- At the opening no task is blocked, and no wait was answered.
-use Rattle.std.proofs.Common.{◌≡◌, true, false, length, sym, ap, subst, ◌∙◌}
+use Rattle.std.proofs.Common.{◌≡◌, true, false, length, refl, sym, ap, subst, ◌∙◌}
 use Rattle.std.specs.List.{All, list_any}
 use Rattle.std.specs.Prelude.{◌==◌, None}
 use Rattle.graph_lang.specs.graph_base.Graphs.{Graph}
@@ -41,6 +41,7 @@ invariant_of-result c =
           ∙ ap (λ (g : Graph). length g.phasers) c.graph.ensures.graph,
       c.in_ok-plan.ensures,
       c.in_ok-buffers.ensures,
+      c.in_ok-machine.ensures.sizes refl,
     )
 
 pub returns-clause-opening : goal.returns-clause-opening

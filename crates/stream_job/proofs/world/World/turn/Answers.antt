@@ -1,28 +1,31 @@
 -- A turn tells, and keeps of blocked tasks, what its call did.
 use Rattle.std.proofs.Common.{◌≡◌, ◌≤◌, Some, length, sym, ap, subst, ◌∙◌, arith}
 use Rattle.graph_runs.specs.Moments.{Moment}
-use Rattle.graph_runs.specs.Answers.{turn_tells}
+use Rattle.graph_runs.specs.Answers.{after_answer, turn_tells}
+use Rattle.graph_runs.specs.Reached.{IsReachable}
 use Rattle.graph_runs.specs.Nexts.{next_of}
 use Rattle.stream_job.specs.Buffers.{HasPlaces, most_steps}
 use Rattle.stream_job.specs.Tellings.{IsOnPhaser}
 use Rattle.stream_job.specs.Turning.{HadTurn, IsRegistration, after_turn_of, told_of, parked_by}
 use Rattle.stream_job.specs.Worlds.{WorldState, IsWorldAt}
-use Rattle.stream_job.proofs.Tellings.{made_there, turn_tells_so, turn_parks_so, turn_stands_so, parked_many}
+use Rattle.stream_job.proofs.Tellings.{HadLine, had_line, turn_of_line, made_there, turn_tells_so, turn_parks_so, turn_stands_so, parked_many}
 use Rattle.stream_job.proofs.Rooms.{sink_room}
 use Rattle.stream_job.proofs.Setting.{err_of}
 use Rattle.stream_job.proofs.world.World.turn.Goals.{In_ok-made}
 use Rattle.stream_job.proofs.world.World.turn.Goals as goal
 use Rattle.stream_job.specs.Stepping.{HasRoomNext, MayStep}
-use Rattle.graph_runs.proofs.Stepping.{line_sizes}
+use Rattle.stream_job.proofs.Mosts.{line_may}
 use Rattle.graph_lang.specs.graph_base.Graphs.{task_at}
 
 -- the machine had a turn with the job's samples
-had : (c : In_ok-made) → HadTurn (task_at c.self.inside.job.now.graph c.args.task).block
-    c.self.inside.job.now c.self.inside.machine c.make.new.self c.args.task c.in_ok-made.made
+had : (c : In_ok-made) → HadLine c.self.inside.job.now c.self.inside.machine c.make.new.self
+    c.args.task c.in_ok-made.made
 had c =
-    subst (λ n. HadTurn n c.self.inside.job.now c.self.inside.machine c.make.new.self c.args.task
+    had_line c.self.inside.job.now c.self.inside.machine c.make.new.self c.args.task
+    c.in_ok-made.made c.self.invariant.4
+    (subst (λ n. HadTurn n c.self.inside.job.now c.self.inside.machine c.make.new.self c.args.task
     c.in_ok-made.made) c.line_block-block.ensures
-    (c.in_ok-made.ensures.made c.self.inside.job.now.samples c.awaits-awaits.ensures)
+    (c.in_ok-made.ensures.made c.self.inside.job.now.samples c.awaits-awaits.ensures))
 
 pub make-requires-clause-came : goal.make-requires-clause-came
 make-requires-clause-came c =
@@ -37,7 +40,9 @@ make-requires-clause-came c =
             at.machine,
             sink_room (task_at job.graph c.args.task).block job c.self.inside.machine m c.args.task
                 at.lines at.own
-                (c.turns_stay_reached.ensures.turn job m c.args.task at.machine.graph at.machine.reached)
+                (subst (λ a. IsReachable job (after_answer job a m))
+                (sym (turn_of_line job c.self.inside.machine m c.args.task c.self.invariant.4))
+                (c.turns_stay_reached.ensures.turn job m c.args.task at.machine.graph at.machine.reached))
                 at.machine,
           ),
     )
@@ -46,9 +51,11 @@ pub make-requires-clause-most : goal.make-requires-clause-most
 make-requires-clause-most c =
     let job = c.self.inside.job.now in
     let at = c.self.invariant.0.1 in
-    subst (λ n. MayStep job c.args.task n × (n ≤ most_steps job c.args.task))
-    (sym c.line_block-block.ensures)
-    (line_sizes job c.args.task at.machine.graph, omega arith)
+    subst (λ n. MayStep job c.self.inside.machine c.args.task n
+    × (n ≤ most_steps job c.args.task)) (sym c.line_block-block.ensures) (
+      line_may job c.self.inside.machine c.self.invariant.0.0 c.args.task at.machine,
+      omega arith,
+    )
 
 pub note-requires : goal.note-requires
 note-requires c =
@@ -82,6 +89,7 @@ invariant_of-self-2 c =
           ∙ c.self.invariant.1,
       c.pass.ensures,
       subst (HasPlaces job) (sym c.make.ensures.places) c.self.invariant.3,
+      (had here).sizes,
     )
 
 pub returns-clause-table : goal.returns-clause-table
