@@ -1,6 +1,6 @@
 //! A phaser for one thread under any of the five operations, for whoever learns the operation when
 //! it runs. The first calls are `AnyPhaser::new`, `AnyPhaser::signal` and `AnyPhaser::wait`.
-//! `Parcels` are places for the sends of blocks of phases.
+//! `Parcels` are places for the sends of blocks of phases, and `held` makes the sends of one phase.
 #![tactic(auto)]
 
 mod any_phaser;
@@ -13,3 +13,4 @@ pub use any_phaser::AnyPhaser;
 pub use parcels::Parcels;
 pub use phase_core;
 pub use phase_core::{phase_accum, phase_base, phase_history};
+pub use sends::held;

@@ -10,8 +10,8 @@ ghost use Rattle.phase_core.specs.Cores.{StandsFor};
 use phase_core::phase_accum::{Accumulate, Pending, Single};
 use phase_core::{PhaserCore, SignalRefusal, one_send};
 
-/// The pending sends of a task that holds these.
-fn held<A: Accumulate>(values: &[i64]) -> Pending<A>
+/// Makes the pending sends of a task that holds these. It takes no memory.
+pub fn held<A: Accumulate>(values: &[i64]) -> Pending<A>
     requires sends { AreSends values.now }
     requires few { length values.now ≤ SENDS_MAX }
     ensures { StandsForSends A.operation result values.now }

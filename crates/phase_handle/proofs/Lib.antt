@@ -1,3 +1,3 @@
-pub mod BlockWaits
 pub mod Holding
+pub mod PhaserLimits
 pub mod PlaceSteps

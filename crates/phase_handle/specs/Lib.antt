@@ -1,4 +1,2 @@
-pub mod Blocks
-pub mod Numbers
 pub mod Phasers
 pub mod Places

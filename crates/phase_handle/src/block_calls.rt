@@ -7,11 +7,11 @@ ghost use Rattle.phase_any.specs.phase_history.Histories.{History};
 ghost use Rattle.phase_any.specs.phase_history.Phases.{stream_of};
 ghost use Rattle.phase_any.specs.phase_history.Replies.{signal_reply, after_signal, wait_block_reply, after_wait_block};
 ghost use Rattle.phase_any.specs.phase_core.Blocks.{one_each, written};
-ghost use Rattle.phase_handle.specs.Blocks.{numbers_written};
+ghost use Rattle.handle_numbers.specs.Blocks.{numbers_written};
 ghost use Rattle.phase_handle.specs.Phasers.{Holds};
 
-use crate::block_places::{places, write_numbers};
 use crate::handle::Handle;
+use handle_numbers::{places, write_numbers};
 use phase_any::phase_accum::{Op, Outcome, Single};
 use phase_any::phase_core::{GotBlock, SignalRefusal, WaitRefusal};
 use std::alloc::{AllocError, Global};

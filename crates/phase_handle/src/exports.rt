@@ -10,13 +10,13 @@ ghost use Rattle.phase_any.specs.phase_history.declared.event.Event.TheVariants.
 ghost use Rattle.phase_any.specs.phase_history.declared.got.Got.TheVariants as got;
 ghost use Rattle.phase_any.specs.phase_history.Histories.{History};
 ghost use Rattle.phase_any.specs.phase_history.Replies.{signal_reply, after_signal, wait_reply, after_wait};
-ghost use Rattle.phase_handle.specs.Numbers.{op_numbered, Names, signal_status, wait_status, value_number, phase_or};
+ghost use Rattle.handle_numbers.specs.Numbers.{op_numbered, Names, signal_status, wait_status, value_number, phase_or};
 ghost use Rattle.phase_handle.specs.Phasers.{Holds};
-ghost use Rattle.phase_handle.specs.declared.numbers.TheConstants.{GOOD, ENDED, NO_PHASER, HAS_PHASER, BAD_OPERATION, BAD_BOUND, BAD_PHASES, OUT_OF_MEMORY, BAD_SINGLE, BAD_VALUE, TOO_MANY_SENDS};
+ghost use Rattle.handle_numbers.specs.declared.numbers.TheConstants.{GOOD, ENDED, NO_PHASER, HAS_PHASER, BAD_OPERATION, BAD_BOUND, BAD_PHASES, OUT_OF_MEMORY, BAD_SINGLE, BAD_VALUE, TOO_MANY_SENDS};
 
-use crate::codes::{op_of, signal_code, single_of, value_code, wait_code};
 use crate::handle::Handle;
-use crate::numbers::*;
+use handle_numbers::numbers::*;
+use handle_numbers::{op_of, signal_code, single_of, value_code, wait_code};
 use phase_any::AnyPhaser;
 use phase_any::phase_accum::Op;
 use phase_any::phase_base::{SENDS_MAX, Spec, SpecFault};

@@ -1,19 +1,16 @@
 //! A phaser for one thread behind a handle, for C: what a static library exports. The handle is a
 //! struct that the caller keeps. A call answers `GOOD`, or why it was refused, by a number of
-//! `numbers`. The first calls are `phase_phaser_new`, `phase_phaser_signal` and
+//! `handle_numbers`. The first calls are `phase_phaser_new`, `phase_phaser_signal` and
 //! `phase_phaser_wait`.
 #![tactic(auto)]
 
 mod block_calls;
 mod block_exports;
-mod block_places;
 mod calls;
-mod codes;
 mod exports;
 mod handle;
 mod member_calls;
 mod member_exports;
-mod numbers;
 mod place;
 
 pub use block_exports::{phase_phaser_signal_block, phase_phaser_wait_block};

@@ -8,14 +8,14 @@ ghost use Rattle.phase_any.specs.phase_history.declared.refusal.RegisterRefusal.
 ghost use Rattle.phase_any.specs.phase_history.declared.refusal.NoTask.{NoTask};
 ghost use Rattle.phase_any.specs.phase_history.Histories.{History, members_of, done_of};
 ghost use Rattle.phase_any.specs.phase_history.Refusals.{register_refusal, register_now_refusal, drop_refusal};
-ghost use Rattle.phase_handle.specs.Numbers.{mode_numbered, mode_number, register_number};
+ghost use Rattle.handle_numbers.specs.Numbers.{mode_numbered, mode_number, register_number};
 ghost use Rattle.phase_any.specs.Phasers.{next_task};
 ghost use Rattle.phase_handle.specs.Phasers.{Holds};
-ghost use Rattle.phase_handle.specs.declared.numbers.TheConstants.{GOOD, NO_PHASER, BAD_MODE, NO_TASK, OUT_OF_MEMORY};
+ghost use Rattle.handle_numbers.specs.declared.numbers.TheConstants.{GOOD, NO_PHASER, BAD_MODE, NO_TASK, OUT_OF_MEMORY};
 
-use crate::codes::{mode_code, mode_of, register_code};
 use crate::handle::Handle;
-use crate::numbers::*;
+use handle_numbers::numbers::*;
+use handle_numbers::{mode_code, mode_of, register_code};
 use phase_any::phase_accum::Op;
 use phase_any::phase_base::Mode;
 use phase_any::phase_core::RegisterRefusal;

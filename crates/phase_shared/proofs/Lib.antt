@@ -2,6 +2,7 @@ pub mod Later
 pub mod Opening
 pub mod NextSteps
 pub mod OneValue
+pub mod OneLists
 pub mod PartSteps
 pub mod LaterBlocks
 pub mod BlockPartSteps

@@ -125,6 +125,6 @@ module _ (value : List ℤ → Outcome) (limits : Limits) (me : ℕ) (middle new
 
   -- it has no answer yet
   pub unanswered : (asked : Bool) (got : Option Got) → is_some got ≡ false → MayWait asked value limits me middle new got → new ≡ middle
-  unanswered true None none w = w
+  unanswered true None none w = w.0
   unanswered false None none w = w
   unanswered asked (Some got) none w = absurd (cc)

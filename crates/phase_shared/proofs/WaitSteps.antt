@@ -1,5 +1,5 @@
 -- A wait under the turn.
-use Rattle.std.proofs.Common.{◌≡◌, ℕ, ℤ, Bool, true, false, List, [], ◌∷◌, Some, refl, ap, ◌∙◌}
+use Rattle.std.proofs.Common.{◌≡◌, ℕ, ℤ, Bool, true, false, List, [], ◌∷◌, Some, refl, sym, ap, subst, ◌∙◌}
 use Rattle.std.specs.Prelude.{Ok, Err, Result, is_some, IsErr}
 use Rattle.std.specs.Result.{result_ok}
 use Rattle.phase_core.specs.phase_accum.Operations.{Operation}
@@ -39,7 +39,8 @@ pub may_wait : (asked : Bool) (value : List ℤ → Outcome) (limits : Limits) (
     → MayWait asked value limits me middle new (result_ok answer)
 may_wait true value limits me middle new (Ok got) seen reply none = record { before = middle; others = OthersCame-refl (me ∷ []) middle; seen = seen; reply = reply refl }
 may_wait false value limits me middle new (Ok got) seen reply none = absurd (let z : false ≡ true = none refl in cc)
-may_wait true value limits me middle new (Err refusal) seen reply none = seen
+may_wait true value limits me middle new (Err refusal) seen reply none =
+    (seen, subst (λ (r : Result Got WaitRefusal). IsErr r) (sym (reply refl)) refl)
 may_wait false value limits me middle new (Err refusal) seen reply none = seen
 
 -- after a wait the task is a member, whatever was answered

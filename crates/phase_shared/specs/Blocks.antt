@@ -15,7 +15,7 @@ use Rattle.phase_core.specs.phase_history.Histories.{History}
 use Rattle.phase_core.specs.phase_history.Phases.{stream_of}
 use Rattle.phase_core.specs.phase_history.Replies.{signal_reply, after_signal, wait_block_reply, after_wait_block}
 use Rattle.phase_core.specs.phase_history.Others.{OthersCame}
-use Rattle.phase_core.specs.Blocks.{StandForLists, written}
+use Rattle.phase_core.specs.Blocks.{StandForLists, one_each, written}
 use Rattle.phase_shared.specs.declared.rule.Terms.{Terms}
 use Rattle.phase_shared.specs.Rule.{Allows, IsGoodAt}
 use Rattle.phase_shared.specs.Regs.{RegState}
@@ -34,6 +34,15 @@ pub record SignalsBlock {A : Type 0} (op : Operation A) (limits : Limits) (me : 
   -- the same, whichever lists of sends those are
   pub reply : (lists : List (List ℤ)) → StandForLists op parcels lists
       → signal_reply limits before me lists single ≡ answer
+
+-- a signal of these values, one a phase: events of others, and there the definition's answer; then
+-- the signal's event, where it was accepted
+pub record SignalsValues (limits : Limits) (me : ℕ) (values : List ℤ) (single : Option Single)
+    (old new : History) (answer : Result ℕ SignalRefusal) : Type 0 where
+  pub before : History
+  pub others : OthersCame (me ∷ []) old before
+  pub seen : new ≡ after_signal answer me (one_each values) single before
+  pub reply : signal_reply limits before me (one_each values) single ≡ answer
 
 -- a wait for as many phases as there are places, at most: events of others, and there the
 -- definition's answer; then the wait's event, where it got values. They stand in the first places,

@@ -2,7 +2,7 @@
 -- after it. The records of single calls are those of the steps of its seat: the history that its
 -- task has seen goes on by events of others, up to the moment of the call, and then by the call's
 -- own event, where it makes one.
-use Rattle.std.specs.Prelude.{◌≡◌, ℕ, ℤ, Bool, true, false, List, [], ◌∷◌, Option, Result, Ok, Err, None, Some, min, ◌+◌, ◌-◌, ◌^◌, ◌≢◌}
+use Rattle.std.specs.Prelude.{◌≡◌, ℕ, ℤ, Bool, true, false, List, [], ◌∷◌, Option, Result, Ok, Err, IsErr, None, Some, min, ◌+◌, ◌-◌, ◌^◌, ◌≢◌}
 use Rattle.phase_core.specs.phase_base.Limits.{Limits}
 use Rattle.phase_core.specs.phase_base.declared.mode.Mode.{Mode}
 use Rattle.phase_core.specs.phase_accum.Operations.{Operation}
@@ -99,14 +99,17 @@ pub record LeavesSeat {K : Type 0} (allows : K → Allows) (terms : Terms K) (me
   pub rests : v ≡ resting (Dropped me ∷ before) (me ∷ [])
   pub good : IsGoodAt allows terms (Dropped me ∷ before)
 
--- for the code: a wait right after, where one is asked for. Where it got nothing, nothing came
+-- a wait right after, where one is asked for. Where it got nothing, nothing came, and none was asked
+-- for or it has no answer there but a refusal
 abbrev pub MayWait : Bool → (List ℤ → Outcome) → Limits → ℕ → History → History → Option Got
     → Type 0
 MayWait true value limits me old new (Some got) = Waits value limits me old new (Ok got)
 MayWait false value limits me old new (Some got) = ⊥
-MayWait asked value limits me old new None = new ≡ old
+MayWait true value limits me old new None =
+    (new ≡ old) × IsErr (wait_reply value limits old me)
+MayWait false value limits me old new None = new ≡ old
 
--- for the code: an accepted signal, up to the middle, and then such a wait
+-- an accepted signal, up to the middle, and then such a wait
 pub record HasSignalledAndMayWait {A : Type 0} (asked : Bool) (op : Operation A) (limits : Limits)
     (me : ℕ) (held : Parcel A) (single : Option Single) (old new : History)
     (answer : ℕ × Option Got) : Type 0 where
@@ -114,7 +117,7 @@ pub record HasSignalledAndMayWait {A : Type 0} (asked : Bool) (op : Operation A)
   pub signals : Signals op limits me held single old middle (Ok answer.0)
   pub waits : MayWait asked op.value limits me middle new answer.1
 
--- for the code: the same, or the signal is refused, and then there is no wait
+-- the same, or the signal is refused, and then there is no wait
 abbrev pub SignalsAndMayWait : {A : Type 0} → Bool → Operation A → Limits → ℕ → Parcel A
     → Option Single → History → History → Result (ℕ × Option Got) SignalRefusal → Type 0
 SignalsAndMayWait asked op limits me held single old new (Ok answer) =

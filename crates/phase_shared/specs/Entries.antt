@@ -30,7 +30,7 @@ abbrev pub entry_after_wait : Option Got → Entry → Entry
 entry_after_wait got entry =
     record entry { wait_phase = phase_after_wait got entry.wait_phase }
 
--- for the code: after a signal with this answer, and a wait under its turn
+-- after a signal with this answer, and a wait under its turn
 abbrev pub entry_after_both : Option (ℕ × Option Got) → Entry → Entry
 entry_after_both (Some answer) entry =
     entry_after_wait answer.1 (entry_after_signal (Some answer.0) entry)

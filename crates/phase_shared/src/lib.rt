@@ -111,6 +111,7 @@
 
 mod blocks;
 pub mod laws;
+mod loose;
 mod next;
 pub mod one_send;
 mod past;
@@ -125,6 +126,7 @@ mod trying;
 mod waiting;
 mod waiting_blocks;
 
+pub use loose::Loose;
 pub use next::Next;
 pub use past::Past;
 pub use phase_core;
@@ -132,6 +134,6 @@ pub use phase_core::{phase_accum, phase_base};
 pub use phaser::Phaser;
 pub use refusal::SendRefusal;
 pub use reg::Reg;
-pub use rule::{NoRule, SignalRule, Terms};
+pub use rule::{NoRule, SignalRule, Terms, Unwoken};
 pub use tried::Tried;
 pub use turn_lock;

@@ -65,4 +65,13 @@ impl<A: Accumulate, K: SignalRule> Phaser<A, K> {
         };
         Ok((Phaser { locked }, founder))
     }
+
+    /// Returns two numbers as far as the turns that have ended tell: the phases below the first are
+    /// complete, and every waiter got the phases below the second. Each is 2^64 - 1 where nobody is
+    /// left to wait for. It takes no turn, and neither number ever falls.
+    ///
+    /// It is a hint for when to try again, and no contract speaks of it.
+    pub fn told(&self) -> (u64, u64) {
+        self.locked.hints.told()
+    }
 }

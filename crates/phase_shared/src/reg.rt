@@ -79,6 +79,17 @@ impl<A: Accumulate, K: SignalRule> Reg<A, K> {
         }
     }
 
+    /// Holds these sends, and no others. It takes no turn and no memory.
+    ///
+    /// They may be more than its mode allows: then its signal is refused.
+    pub fn hold_these(&mut self, sends: Pending<A>)
+        ensures held { self.new.held ≡ sends }
+        ensures same { (self.new.at ≡ self.old.at) × (self.new.number ≡ self.old.number)
+            × (self.new.entry ≡ self.old.entry) × (self.new.seen ≡ self.old.seen) }
+    {
+        self.pending = sends;
+    }
+
     /// Returns how many sends it holds.
     pub fn pending(&self) -> u64
         ensures value { result ≡ self.now.held.count }

@@ -4,6 +4,7 @@ ghost use Rattle.phase_core.specs.phase_accum.declared.single.Single.{Single};
 ghost use Rattle.phase_core.specs.phase_history.Histories.{History};
 
 use phase_core::phase_base::Spec;
+use std::sync::atomic::AtomicU64;
 
 /// Which signals a phaser allows: plain data, by which every task on the phaser abides.
 ///
@@ -13,6 +14,12 @@ pub trait SignalRule: Copy {
     /// Whether a signal is allowed after a history: of a task, with its lists of sends and its
     /// single.
     ghost allows: { Self → History → ℕ → List (List ℤ) → Option Single → Type 0 };
+
+    /// Wakes those that sleep on a number of the phaser. A library for C, which may wake nobody,
+    /// does nothing here, and its callers sleep and wake elsewhere.
+    fn wake(number: &AtomicU64) {
+        number.wake_all();
+    }
 }
 
 /// The rule that allows every signal.
@@ -21,6 +28,16 @@ pub struct NoRule;
 
 impl SignalRule for NoRule {
     ghost allows = { λ rule h task lists single. Unit {0} };
+}
+
+/// The rule that allows every signal, on a phaser that wakes nobody: its callers wait elsewhere.
+#[derive(Clone, Copy, Debug, PartialEq, Eq)]
+pub struct Unwoken;
+
+impl SignalRule for Unwoken {
+    ghost allows = { λ rule h task lists single. Unit {0} };
+
+    fn wake(_number: &AtomicU64) {}
 }
 
 /// What a phaser is told when it is made.

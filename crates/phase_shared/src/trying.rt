@@ -44,9 +44,9 @@ impl<A: Accumulate, K: SignalRule> Reg<A, K> {
         }
     }
 
-    // Signals, as `try_signal` does, and then waits where that is asked for and answers at once:
-    // both under one turn.
-    pub(crate) fn try_signal_and_wait(
+    /// Signals, as `try_signal` does, and then waits where that is asked for and answers at once:
+    /// both under one turn.
+    pub fn try_signal_and_wait(
         &mut self,
         phaser: &Phaser<A, K>,
         single: Option<Single>,

@@ -1,2 +1,2 @@
 mod Looks
-mod OneLists
+mod Putting

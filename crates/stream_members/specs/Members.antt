@@ -8,13 +8,11 @@ use Rattle.phase_shared.specs.phase_base.declared.entry.Entry.{Entry}
 use Rattle.phase_shared.specs.phase_base.declared.mode.Mode.{Mode}
 use Rattle.phase_shared.specs.phase_base.declared.mode.Mode.TheVariants.{Wait}
 use Rattle.phase_shared.specs.phase_accum.declared.single.Single.{Single}
-use Rattle.phase_shared.specs.phase_core.Blocks.{one_each}
 use Rattle.phase_shared.specs.phase_history.declared.refusal.RegisterRefusal.{RegisterRefusal}
 use Rattle.phase_shared.specs.phase_history.declared.event.Event.TheVariants.{RegisteredNow}
 use Rattle.phase_shared.specs.phase_history.Histories.{History, members_of, greatest_used, done_of}
 use Rattle.phase_shared.specs.phase_history.declared.refusal.SignalRefusal.{SignalRefusal}
 use Rattle.phase_shared.specs.phase_history.Refusals.{register_now_refusal}
-use Rattle.phase_shared.specs.phase_history.Replies.{signal_reply, after_signal}
 use Rattle.phase_shared.specs.phase_history.Legal.{IsLegal}
 use Rattle.phase_shared.specs.phase_history.Others.{OthersCame, OnlyUsed}
 use Rattle.phase_shared.specs.phase_base.Lists.{is_distinct}
@@ -22,6 +20,7 @@ use Rattle.phase_shared.specs.declared.rule.Terms.{Terms}
 use Rattle.phase_shared.specs.declared.tried.Tried.{Tried}
 use Rattle.phase_shared.specs.declared.tried.Tried.TheVariants as tried
 use Rattle.phase_shared.specs.declared.rule.NoRule.{NoRule}
+use Rattle.phase_shared.specs.Blocks.{SignalsValues}
 use Rattle.phase_shared.specs.Calls.{HasRegistered, RefusesRegister, Leaves}
 use Rattle.phase_shared.specs.Regs.{RegState, PastState}
 use Rattle.stream_members.specs.declared.refusal.PutRefusal.{PutRefusal}
@@ -79,15 +78,6 @@ pub record IsAlone (m : MemberState) : Type 0 where
   pub only : OnlyUsed (m.number ∷ []) m.seen
 
 -- ---- values that are put
-
--- a signal of these values, one a phase: events of others, and there the definition's answer; then
--- the signal's event, where it was accepted
-pub record SignalsValues (limits : Limits) (me : ℕ) (values : List ℤ) (single : Option Single)
-    (old new : History) (answer : Result ℕ SignalRefusal) : Type 0 where
-  pub before : History
-  pub others : OthersCame (me ∷ []) old before
-  pub seen : new ≡ after_signal answer me (one_each values) single before
-  pub reply : signal_reply limits before me (one_each values) single ≡ answer
 
 -- values that are put by a signal, or the refusal: where the phaser was not asked, all stayed as it
 -- was

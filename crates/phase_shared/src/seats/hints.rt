@@ -1,4 +1,5 @@
 //! When a waiting call tries again. No contract speaks of it: a wrong number costs time alone.
+use crate::rule::SignalRule;
 use crossbeam_utils::CachePadded;
 use phase_core::PhaserCore;
 use phase_core::phase_accum::Accumulate;
@@ -35,13 +36,13 @@ impl Hint {
     }
 
     // Raises the number, where it is lower, and wakes those that sleep on it.
-    fn raise(&self, number: u64) {
+    fn raise<K: SignalRule>(&self, number: u64) {
         if self.is_at(number) {
             return;
         }
         let _ = self.number.fetch_max(number, SeqCst);
         if self.sleepers.load(SeqCst) != 0 {
-            self.number.wake_all();
+            K::wake(&self.number);
         }
     }
 
@@ -119,9 +120,14 @@ impl Hints {
 
     // Tells the others how far the phaser is, after the turn: who hears of it while another has the
     // turn would try in vain.
-    pub fn tell(&self, reached: Reached) {
-        self.done.raise(reached.done);
-        self.base.raise(reached.base);
+    pub fn tell<K: SignalRule>(&self, reached: Reached) {
+        self.done.raise::<K>(reached.done);
+        self.base.raise::<K>(reached.base);
+    }
+
+    // Returns both numbers, as far as was told.
+    pub fn told(&self) -> (u64, u64) {
+        (self.done.number.load(SeqCst), self.base.number.load(SeqCst))
     }
 
     // Pauses while the phase is not complete, before a wait for so many phases. A wait for none, or

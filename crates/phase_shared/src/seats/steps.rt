@@ -65,7 +65,7 @@ pub(crate) fn put_back<A: Accumulate, K: SignalRule, E: Plan, X: Copy>(
 {
     let _ = told;
     let seat = phaser.lock.give::<OnGive<E>>(turn);
-    phaser.hints.tell(reached);
+    phaser.hints.tell::<K>(reached);
     seat
 }
 

@@ -3,7 +3,7 @@ use Rattle.std.proofs.Common.{ap, ◌∙◌, Ok}
 use Rattle.phase_any.specs.phase_accum.Values.{value_by}
 use Rattle.phase_any.specs.phase_history.Phases.{stream_of}
 use Rattle.phase_any.specs.phase_core.Blocks.{written}
-use Rattle.phase_handle.proofs.BlockWaits.{got_of, numbers-got, numbers-named}
+use Rattle.handle_numbers.proofs.BlockWaits.{got_of, numbers-got, numbers-named}
 use Rattle.phase_handle.proofs.handle.Handle.wait_into.Goals as goal
 
 pub returns-in-Ok-Values-clause-got : goal.returns-in-Ok-Values-clause-got

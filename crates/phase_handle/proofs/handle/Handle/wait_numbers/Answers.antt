@@ -1,6 +1,7 @@
 -- The places are as many as the answer needs.
 use Rattle.std.proofs.Common.{◌≡◌, length, ap, arith}
-use Rattle.phase_handle.proofs.BlockWaits.{asked-reply, holds-limits}
+use Rattle.handle_numbers.proofs.BlockWaits.{asked-reply}
+use Rattle.phase_handle.proofs.PhaserLimits.{holds-limits}
 use Rattle.phase_handle.proofs.handle.Handle.wait_numbers.Goals as goal
 
 pub returns-clause-reply : goal.returns-clause-reply

@@ -1,7 +1,7 @@
 -- Each send can be told from its part.
 use Rattle.std.proofs.Common.{length, take, subst}
 use Rattle.stream_members.specs.Members.{MemberState, member_state, Puts}
-use Rattle.stream_members.proofs.OneLists.{puts_values}
+use Rattle.stream_members.proofs.Putting.{puts_values}
 use Rattle.stream_members.proofs.member.Member.try_put_all.Goals as goal
 
 pub returns-clause-call : goal.returns-clause-call

@@ -1,0 +1,38 @@
+//! A registration that may be thrown away.
+ghost use Rattle.std.specs.Prelude.{◌≡◌};
+
+use crate::reg::Reg;
+use crate::rule::SignalRule;
+use phase_core::phase_accum::Accumulate;
+
+/// A registration that may be thrown away. It then stays registered for ever, and no phase that
+/// lacks its signal is ever complete.
+///
+/// It is for who keeps registrations where nothing can be proved of them, as behind a pointer that
+/// another language has.
+pub struct Loose<A: Accumulate, K: SignalRule> {
+    pub reg: Reg<A, K>,
+}
+
+impl<A: Accumulate, K: SignalRule> Loose<A, K> {
+    /// Returns the registration, which cannot be thrown away.
+    pub fn into_reg(self) -> Reg<A, K>
+        ensures { result ≡ self.reg }
+    {
+        let Loose { reg } = self;
+        reg
+    }
+}
+
+impl<A: Accumulate, K: SignalRule> Drop for Loose<A, K> {
+    fn drop(self) {
+        let Loose { reg } = self;
+        let Reg {
+            seat,
+            number: _,
+            entry: _,
+            pending: _,
+        } = reg;
+        drop(seat);
+    }
+}

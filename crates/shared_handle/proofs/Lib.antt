@@ -1,0 +1,7 @@
+pub mod Children
+pub mod Keeping
+pub mod NumberWaits
+pub mod PlaceSteps
+pub mod Statuses
+pub mod Trying
+pub mod Waiting

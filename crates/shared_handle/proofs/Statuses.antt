@@ -1,0 +1,146 @@
+-- Statuses: each is a number of 32 bits, and where one tells that nothing was got, nothing is
+-- written.
+use Rattle.std.proofs.Common.{◌≡◌, ◌≢◌, ℕ, ℤ, List, Option, Some, None, refl, ap, ◌∙◌, w32, to_z, of_z}
+use Rattle.std.specs.Prelude.{Result, Ok, Err, OnErr}
+use Rattle.phase_shared.specs.phase_history.declared.got.Got.{Got}
+use Rattle.phase_shared.specs.phase_history.declared.got.Got.TheVariants as got
+use Rattle.phase_shared.specs.phase_history.declared.got.GotBlock.{GotBlock}
+use Rattle.phase_shared.specs.phase_history.declared.got.GotBlock.TheVariants as block
+use Rattle.phase_shared.specs.phase_history.declared.refusal.RegisterRefusal.{RegisterRefusal}
+use Rattle.phase_shared.specs.phase_history.declared.refusal.RegisterRefusal.TheVariants as register
+use Rattle.phase_shared.specs.phase_history.declared.refusal.SignalRefusal.{SignalRefusal}
+use Rattle.phase_shared.specs.phase_history.declared.refusal.SignalRefusal.TheVariants as signal
+use Rattle.phase_shared.specs.phase_history.declared.refusal.WaitRefusal.{WaitRefusal}
+use Rattle.phase_shared.specs.phase_history.declared.refusal.WaitRefusal.TheVariants as wait
+use Rattle.phase_shared.specs.declared.tried.Tried.{Tried}
+use Rattle.phase_shared.specs.declared.tried.Tried.TheVariants.{Busy, Refused}
+use Rattle.handle_numbers.specs.Numbers.{register_number, signal_number, wait_number, signal_status, wait_status, wait_block_status, phase_or}
+use Rattle.handle_numbers.specs.declared.numbers.TheConstants.{GOOD, ENDED, SIGNALLED}
+use Rattle.shared_handle.specs.Told.{tried_status, next_status, phase_signalled, value_after, phase_got, value_got, first_got, count_got}
+
+-- the number fits
+abbrev pub IsStatus : ℤ → Type 0
+IsStatus status = to_z w32 (of_z w32 status) ≡ status
+
+signal_number_fits : (refusal : SignalRefusal) → IsStatus (signal_number refusal)
+signal_number_fits signal.NoTask = refl
+signal_number_fits signal.NoSignal = refl
+signal_number_fits signal.NotSingle = refl
+signal_number_fits signal.BadBlock = refl
+signal_number_fits signal.SignalTwice = refl
+signal_number_fits signal.Spent = refl
+signal_number_fits signal.Ahead = refl
+signal_number_fits signal.SingleDiffers = refl
+signal_number_fits signal.PhaseFull = refl
+
+wait_number_fits : (refusal : WaitRefusal) → IsStatus (wait_number refusal)
+wait_number_fits wait.NoTask = refl
+wait_number_fits wait.NoWait = refl
+wait_number_fits wait.BadBlock = refl
+wait_number_fits wait.SignalFirst = refl
+wait_number_fits wait.NotYet = refl
+
+register_number_fits : (refusal : RegisterRefusal) → IsStatus (register_number refusal)
+register_number_fits register.NoTask = refl
+register_number_fits register.NotAllowed = refl
+register_number_fits register.NotNew = refl
+register_number_fits register.TooManyTasks = refl
+register_number_fits register.OutOfMemory = refl
+
+pub signal_fits : (answer : Result ℕ (Tried SignalRefusal))
+    → IsStatus (tried_status signal_status answer)
+signal_fits (Ok phase) = refl
+signal_fits (Err Busy) = refl
+signal_fits (Err (Refused refusal)) = signal_number_fits refusal
+
+pub next_fits : (answer : Result (ℕ × Option Got) (Tried SignalRefusal))
+    → IsStatus (tried_status next_status answer)
+next_fits (Ok (phase, Some (got.Value first outcome))) = refl
+next_fits (Ok (phase, Some got.Ended)) = refl
+next_fits (Ok (phase, None)) = refl
+next_fits (Err Busy) = refl
+next_fits (Err (Refused refusal)) = signal_number_fits refusal
+
+pub wait_fits : (answer : Result Got (Tried WaitRefusal))
+    → IsStatus (tried_status wait_status answer)
+wait_fits (Ok (got.Value phase outcome)) = refl
+wait_fits (Ok got.Ended) = refl
+wait_fits (Err Busy) = refl
+wait_fits (Err (Refused refusal)) = wait_number_fits refusal
+
+pub wait_block_fits : (answer : Result GotBlock (Tried WaitRefusal))
+    → IsStatus (tried_status wait_block_status answer)
+wait_block_fits (Ok (block.Values first many)) = refl
+wait_block_fits (Ok block.Ended) = refl
+wait_block_fits (Err Busy) = refl
+wait_block_fits (Err (Refused refusal)) = wait_number_fits refusal
+
+-- ---- what a call answers is the status of its answer
+
+pub signal_told : (answer : Result ℕ (Tried SignalRefusal)) (code : ℤ)
+    → code ≡ tried_status signal_status answer
+    → to_z w32 (of_z w32 code) ≡ tried_status signal_status answer
+signal_told answer code is = ap (λ r. to_z w32 (of_z w32 r)) is ∙ signal_fits answer
+
+pub next_told : (answer : Result (ℕ × Option Got) (Tried SignalRefusal)) (code : ℤ)
+    → code ≡ tried_status next_status answer
+    → to_z w32 (of_z w32 code) ≡ tried_status next_status answer
+next_told answer code is = ap (λ r. to_z w32 (of_z w32 r)) is ∙ next_fits answer
+
+pub wait_told : (answer : Result Got (Tried WaitRefusal)) (code : ℤ)
+    → code ≡ tried_status wait_status answer
+    → to_z w32 (of_z w32 code) ≡ tried_status wait_status answer
+wait_told answer code is = ap (λ r. to_z w32 (of_z w32 r)) is ∙ wait_fits answer
+
+pub wait_block_told : (answer : Result GotBlock (Tried WaitRefusal)) (code : ℤ)
+    → code ≡ tried_status wait_block_status answer
+    → to_z w32 (of_z w32 code) ≡ tried_status wait_block_status answer
+wait_block_told answer code is = ap (λ r. to_z w32 (of_z w32 r)) is ∙ wait_block_fits answer
+
+pub register_told : (refusal : RegisterRefusal) (code : ℤ) → code ≡ register_number refusal
+    → to_z w32 (of_z w32 code) ≡ register_number refusal
+register_told refusal code is =
+    ap (λ r. to_z w32 (of_z w32 r)) is ∙ register_number_fits refusal
+
+-- ---- where nothing was got
+
+pub signal_unwritten : (answer : Result ℕ (Tried SignalRefusal)) (old : ℕ)
+    → tried_status signal_status answer ≢ GOOD → phase_or answer old ≡ old
+signal_unwritten (Ok phase) old none = absurd (none refl)
+signal_unwritten (Err tried) old none = refl
+
+pub next_unwritten : (answer : Result (ℕ × Option Got) (Tried SignalRefusal)) (old : ℤ)
+    → tried_status next_status answer ≢ GOOD → value_after answer old ≡ old
+next_unwritten (Ok (phase, Some (got.Value first outcome))) old none = absurd (none refl)
+next_unwritten (Ok (phase, Some got.Ended)) old none = refl
+next_unwritten (Ok (phase, None)) old none = refl
+next_unwritten (Err tried) old none = refl
+
+pub next_no_phase : (answer : Result (ℕ × Option Got) (Tried SignalRefusal)) (old : ℕ)
+    → tried_status next_status answer ≢ GOOD → tried_status next_status answer ≢ SIGNALLED
+    → tried_status next_status answer ≢ ENDED → phase_signalled answer old ≡ old
+next_no_phase (Ok (phase, Some (got.Value first outcome))) old none wait ended = absurd (none refl)
+next_no_phase (Ok (phase, Some got.Ended)) old none wait ended = absurd (ended refl)
+next_no_phase (Ok (phase, None)) old none wait ended = absurd (wait refl)
+next_no_phase (Err tried) old none wait ended = refl
+
+pub wait_unwritten : (answer : Result Got (Tried WaitRefusal)) (phase : ℕ) (value : ℤ)
+    → tried_status wait_status answer ≢ GOOD
+    → (phase_got answer phase ≡ phase) × (value_got answer value ≡ value)
+wait_unwritten (Ok (got.Value first outcome)) phase value none = absurd (none refl)
+wait_unwritten (Ok got.Ended) phase value none = (refl, refl)
+wait_unwritten (Err tried) phase value none = (refl, refl)
+
+pub wait_block_unwritten : (answer : Result GotBlock (Tried WaitRefusal)) (phase count : ℕ)
+    → tried_status wait_block_status answer ≢ GOOD
+    → (first_got answer phase ≡ phase) × (count_got answer count ≡ count)
+wait_block_unwritten (Ok (block.Values first many)) phase count none = absurd (none refl)
+wait_block_unwritten (Ok block.Ended) phase count none = (refl, refl)
+wait_block_unwritten (Err tried) phase count none = (refl, refl)
+
+pub numbers_unwritten : (answer : Result GotBlock (Tried WaitRefusal)) (old new : List ℤ)
+    → tried_status wait_block_status answer ≢ GOOD → (answer ≡ Ok block.Ended → new ≡ old)
+    → OnErr answer (new ≡ old) → new ≡ old
+numbers_unwritten (Ok (block.Values first many)) old new none ended err = absurd (none refl)
+numbers_unwritten (Ok block.Ended) old new none ended err = ended refl
+numbers_unwritten (Err tried) old new none ended err = err

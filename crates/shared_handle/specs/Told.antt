@@ -1,0 +1,165 @@
+-- What C is told of the registration behind a handle: the status and what is written are functions
+-- of the answer of its call.
+use Rattle.std.specs.Prelude.{◌≡◌, ℕ, ℤ, List, Option, Some, None, Result, Ok, Err}
+use Rattle.phase_shared.specs.phase_base.declared.operation.Op.{Op}
+use Rattle.phase_shared.specs.phase_accum.Values.{value_by}
+use Rattle.phase_shared.specs.phase_accum.declared.single.Single.{Single}
+use Rattle.phase_shared.specs.phase_history.declared.got.Got.{Got}
+use Rattle.phase_shared.specs.phase_history.declared.got.Got.TheVariants as got
+use Rattle.phase_shared.specs.phase_history.declared.got.GotBlock.{GotBlock}
+use Rattle.phase_shared.specs.phase_history.declared.got.GotBlock.TheVariants as block
+use Rattle.phase_shared.specs.phase_history.declared.refusal.RegisterRefusal.{RegisterRefusal}
+use Rattle.phase_shared.specs.phase_history.declared.refusal.SignalRefusal.{SignalRefusal}
+use Rattle.phase_shared.specs.phase_history.declared.refusal.WaitRefusal.{WaitRefusal}
+use Rattle.phase_shared.specs.declared.tried.Tried.{Tried}
+use Rattle.phase_shared.specs.declared.tried.Tried.TheVariants.{Busy, Refused}
+use Rattle.handle_numbers.specs.Numbers.{signal_status, wait_status, wait_block_status, signal_number, register_number, value_number, mode_number, op_number, phase_or}
+use Rattle.handle_numbers.specs.declared.numbers.TheConstants.{GOOD, ENDED, SIGNALLED, BUSY}
+use Rattle.shared_handle.specs.Members.{MemberState}
+use Rattle.shared_handle.specs.Calls.{SignalCall, NextCall, WaitCall, BlockSignalCall}
+use Rattle.shared_handle.specs.NumberBlocks.{NumbersCall}
+use Rattle.shared_handle.specs.AnyMembers.{op_in, member_in, state_of, held_in}
+use Rattle.shared_handle.specs.declared.any_member.AnyMember.{AnyMember}
+use Rattle.shared_handle.specs.declared.kept.Kept.{Kept}
+use Rattle.shared_handle.specs.declared.member_exports.Standing.{Standing}
+
+-- ---- statuses
+
+-- the status of a try, by that of the call's answer
+abbrev pub tried_status : {X R : Type 0} → (Result X R → ℤ) → Result X (Tried R) → ℤ
+tried_status status (Ok answer) = status (Ok answer)
+tried_status status (Err Busy) = BUSY
+tried_status status (Err (Refused refusal)) = status (Err refusal)
+
+-- the status of a next phase: its value is there, or it is signalled and its wait still to be made
+abbrev pub next_status : Result (ℕ × Option Got) SignalRefusal → ℤ
+next_status (Ok (phase, Some (got.Value first outcome))) = GOOD
+next_status (Ok (phase, Some got.Ended)) = ENDED
+next_status (Ok (phase, None)) = SIGNALLED
+next_status (Err refusal) = signal_number refusal
+
+-- the status of a registration
+abbrev pub register_status : {X : Type 0} → Result X RegisterRefusal → ℤ
+register_status (Ok child) = GOOD
+register_status (Err refusal) = register_number refusal
+
+-- the handle is refused with this status, and what is behind it stays as it was
+abbrev pub RefusedAs : ℤ → ℤ → Option Kept → Option Kept → Type 0
+RefusedAs refusal status old new = (status ≡ refusal) × (new ≡ old)
+
+-- ---- what is written
+
+-- the phase that a next phase signalled, or what stood there
+abbrev pub phase_signalled : {R : Type 0} → Result (ℕ × Option Got) R → ℕ → ℕ
+phase_signalled (Ok answer) old = answer.0
+phase_signalled (Err refusal) old = old
+
+-- the number of the value that was got, or what stood there
+abbrev pub number_got : Option Got → ℤ → ℤ
+number_got (Some (got.Value first outcome)) old = value_number outcome
+number_got (Some got.Ended) old = old
+number_got None old = old
+
+-- the same of a next phase
+abbrev pub value_after : {R : Type 0} → Result (ℕ × Option Got) R → ℤ → ℤ
+value_after (Ok answer) old = number_got answer.1 old
+value_after (Err refusal) old = old
+
+-- the phase that a wait got, or what stood there
+abbrev pub phase_got : {R : Type 0} → Result Got R → ℕ → ℕ
+phase_got (Ok (got.Value phase outcome)) old = phase
+phase_got (Ok got.Ended) old = old
+phase_got (Err refusal) old = old
+
+-- the number of the value that a wait got, or what stood there
+abbrev pub value_got : {R : Type 0} → Result Got R → ℤ → ℤ
+value_got (Ok (got.Value phase outcome)) old = value_number outcome
+value_got (Ok got.Ended) old = old
+value_got (Err refusal) old = old
+
+-- the first phase that a wait for a block got, or what stood there
+abbrev pub first_got : {R : Type 0} → Result GotBlock R → ℕ → ℕ
+first_got (Ok (block.Values first many)) old = first
+first_got (Ok block.Ended) old = old
+first_got (Err refusal) old = old
+
+-- how many phases a wait for a block got, or what stood there
+abbrev pub count_got : {R : Type 0} → Result GotBlock R → ℕ → ℕ
+count_got (Ok (block.Values first many)) old = many
+count_got (Ok block.Ended) old = old
+count_got (Err refusal) old = old
+
+-- the child is behind the handle that was given for it, under its parent's operation; or what was
+-- there still is
+abbrev pub GivesChild : {R : Type 0} → Op → Result AnyMember R → Option Kept → Option Kept → Type 0
+GivesChild op (Ok child) old new = (held_in new ≡ Some child) × (op_in child ≡ op)
+GivesChild op (Err refusal) old new = new ≡ old
+
+-- ---- calls
+
+-- a signal: its answer, its status, and what it writes
+pub record TellsSignal (values : List ℤ) (single : Option Single) (old new : AnyMember)
+    (status : ℤ) (old_phase new_phase : ℕ) : Type 0 where
+  pub answer : Result ℕ (Tried SignalRefusal)
+  pub call : SignalCall (value_by (op_in old)) values single (member_in old) (member_in new) answer
+  pub op : op_in new ≡ op_in old
+  pub status_is : status ≡ tried_status signal_status answer
+  pub phase_is : new_phase ≡ phase_or answer old_phase
+
+-- a next phase
+pub record TellsNext (values : List ℤ) (single : Option Single) (old new : AnyMember)
+    (status : ℤ) (old_phase new_phase : ℕ) (old_value new_value : ℤ) : Type 0 where
+  pub answer : Result (ℕ × Option Got) (Tried SignalRefusal)
+  pub call : NextCall (value_by (op_in old)) values single (member_in old) (member_in new) answer
+  pub op : op_in new ≡ op_in old
+  pub status_is : status ≡ tried_status next_status answer
+  pub phase_is : new_phase ≡ phase_signalled answer old_phase
+  pub value_is : new_value ≡ value_after answer old_value
+
+-- a wait
+pub record TellsWait (old new : AnyMember) (status : ℤ) (old_phase new_phase : ℕ)
+    (old_value new_value : ℤ) : Type 0 where
+  pub answer : Result Got (Tried WaitRefusal)
+  pub call : WaitCall (value_by (op_in old)) (member_in old) (member_in new) answer
+  pub op : op_in new ≡ op_in old
+  pub status_is : status ≡ tried_status wait_status answer
+  pub phase_is : new_phase ≡ phase_got answer old_phase
+  pub value_is : new_value ≡ value_got answer old_value
+
+-- a signal of a block
+pub record TellsBlockSignal (values : List ℤ) (single : Option Single) (old new : AnyMember)
+    (status : ℤ) (old_phase new_phase : ℕ) : Type 0 where
+  pub answer : Result ℕ (Tried SignalRefusal)
+  pub call : BlockSignalCall values single (member_in old) (member_in new) answer
+  pub op : op_in new ≡ op_in old
+  pub status_is : status ≡ tried_status signal_status answer
+  pub phase_is : new_phase ≡ phase_or answer old_phase
+
+-- a wait for a block
+pub record TellsBlockWait (old_values new_values : List ℤ) (old new : AnyMember) (status : ℤ)
+    (old_phase new_phase old_count new_count : ℕ) : Type 0 where
+  pub answer : Result GotBlock (Tried WaitRefusal)
+  pub call : NumbersCall (value_by (op_in old)) old_values new_values (member_in old)
+      (member_in new) answer
+  pub op : op_in new ≡ op_in old
+  pub status_is : status ≡ tried_status wait_block_status answer
+  pub phase_is : new_phase ≡ first_got answer old_phase
+  pub count_is : new_count ≡ count_got answer old_count
+
+-- a registration, by one of the two calls: what it says of the parent before and after it
+pub record TellsRegister
+    (call : MemberState → MemberState → Result MemberState (Tried RegisterRefusal) → Type 0)
+    (old new : AnyMember) (status : ℤ) (old_child new_child : Option Kept) : Type 0 where
+  pub answer : Result AnyMember (Tried RegisterRefusal)
+  pub call_is : call (member_in old) (member_in new) (state_of answer)
+  pub op : op_in new ≡ op_in old
+  pub status_is : status ≡ tried_status register_status answer
+  pub child : GivesChild (op_in old) answer old_child new_child
+
+-- where a registration stands, in the numbers of C
+pub record IsStanding (m : AnyMember) (standing : Standing) : Type 0 where
+  pub number : standing.number ≡ (member_in m).number
+  pub signal_phase : standing.signal_phase ≡ (member_in m).entry.signal_phase
+  pub wait_phase : standing.wait_phase ≡ (member_in m).entry.wait_phase
+  pub mode : standing.mode ≡ mode_number (member_in m).entry.mode
+  pub operation : standing.operation ≡ op_number (op_in m)

@@ -1,0 +1,80 @@
+//! Calls of the registration of a handle on single phases.
+ghost use Rattle.std.specs.Prelude.{◌≡◌, ◌≤◌, Some, IsSome, length};
+ghost use Rattle.phase_shared.specs.phase_base.declared.limits.TheConstants.{SENDS_MAX};
+ghost use Rattle.phase_shared.specs.phase_accum.Sends.{AreSends};
+ghost use Rattle.phase_shared.specs.phase_accum.Values.{value_by};
+ghost use Rattle.shared_handle.specs.AnyMembers.{op_in, member_in, held_in, Keeps};
+ghost use Rattle.shared_handle.specs.Calls.{SignalCall, NextCall, WaitCall};
+ghost use Rattle.shared_handle.specs.declared.any_member.AnyMember.{AnyMember};
+
+use crate::handle::Handle;
+use phase_shared::Tried;
+use phase_shared::phase_accum::Single;
+use phase_shared::phase_core::{Got, SignalRefusal, WaitRefusal};
+use std::alloc::Global;
+
+impl Handle {
+    /// Signals the registration's phase with these sends and a single or none, and answers that
+    /// phase.
+    pub fn signal(
+        &mut self,
+        alloc: Global,
+        values: &[i64],
+        single: Option<Single>,
+    ) -> Result<u64, Tried<SignalRefusal>>
+        requires there { IsSome (held_in self.old.place.kept) }
+        requires sends { AreSends values.now }
+        requires few { length values.now ≤ SENDS_MAX }
+        ensures { (m : AnyMember) → held_in self.old.place.kept ≡ Some m
+            → Keeps (held_in self.new.place.kept) (λ n. (op_in n ≡ op_in m)
+            × SignalCall (value_by (op_in m)) values.now single (member_in m) (member_in n) result) }
+    {
+        let mut kept = self.take(alloc);
+        let Some(member) = &mut kept.member else {
+            unreachable!()
+        };
+        let answer = member.signal(values, single);
+        self.put(kept);
+        answer
+    }
+
+    /// Signals the registration's phase, and then waits where that is answered at once.
+    pub fn next(
+        &mut self,
+        alloc: Global,
+        values: &[i64],
+        single: Option<Single>,
+    ) -> Result<(u64, Option<Got>), Tried<SignalRefusal>>
+        requires there { IsSome (held_in self.old.place.kept) }
+        requires sends { AreSends values.now }
+        requires few { length values.now ≤ SENDS_MAX }
+        ensures { (m : AnyMember) → held_in self.old.place.kept ≡ Some m
+            → Keeps (held_in self.new.place.kept) (λ n. (op_in n ≡ op_in m)
+            × NextCall (value_by (op_in m)) values.now single (member_in m) (member_in n) result) }
+    {
+        let mut kept = self.take(alloc);
+        let Some(member) = &mut kept.member else {
+            unreachable!()
+        };
+        let answer = member.next(values, single);
+        self.put(kept);
+        answer
+    }
+
+    /// Waits for the registration's phase, and answers it with its value, or that no more will
+    /// come.
+    pub fn wait(&mut self, alloc: Global) -> Result<Got, Tried<WaitRefusal>>
+        requires { IsSome (held_in self.old.place.kept) }
+        ensures { (m : AnyMember) → held_in self.old.place.kept ≡ Some m
+            → Keeps (held_in self.new.place.kept) (λ n. (op_in n ≡ op_in m)
+            × WaitCall (value_by (op_in m)) (member_in m) (member_in n) result) }
+    {
+        let mut kept = self.take(alloc);
+        let Some(member) = &mut kept.member else {
+            unreachable!()
+        };
+        let answer = member.wait();
+        self.put(kept);
+        answer
+    }
+}
