@@ -1,5 +1,5 @@
 /* phase.h: graphs of whole-number filters, evaluated exactly, and phasers for one thread at a time,
- * from C and C++.
+ * from C and C++. phase_shared.h has phasers between threads.
  *
  * Link libphase.a or libphase.so, which scripts/bind makes. docs/BINDINGS.md begins with an
  * example.
@@ -182,6 +182,8 @@ int32_t phase_fir_in_place(const int64_t *taps, size_t taps_len, uint32_t shift,
 enum {
     /* A wait: no signaller is registered, and the task has got every phase. */
     PHASE_ENDED = 1,
+    /* Of phase_shared.h alone: the phase is signalled, and its wait is still to be made. */
+    PHASE_SIGNALLED = 2,
     /* There is no phaser. */
     PHASE_E_NO_PHASER = -20,
     /* There is a phaser already. */
@@ -230,7 +232,9 @@ enum {
     /* The task signals too, and has not signalled since its last wait. */
     PHASE_E_SIGNAL_FIRST = -42,
     /* The phase is not complete, and a signaller is registered. */
-    PHASE_E_NOT_YET = -43
+    PHASE_E_NOT_YET = -43,
+    /* Of phase_shared.h alone: another call on the phaser is in the middle. */
+    PHASE_E_BUSY = -44
 };
 
 /* The operations: what the sends of a phase come to. */
@@ -343,6 +347,7 @@ static inline const char *phase_status_text(int32_t status)
     switch (status) {
     case PHASE_OK: return "done";
     case PHASE_ENDED: return "no more phases will come";
+    case PHASE_SIGNALLED: return "signalled, and the wait is still to be made";
     case PHASE_E_GRAPH: return "a fault in the graph's text";
     case PHASE_E_COUNTS: return "not one count for each source or sink, or not those of the values";
     case PHASE_E_SAMPLE: return "a sample is INT64_MIN";
@@ -375,6 +380,7 @@ static inline const char *phase_status_text(int32_t status)
     case PHASE_E_NO_WAIT: return "the task's mode does not wait";
     case PHASE_E_SIGNAL_FIRST: return "the task has not signalled since its last wait";
     case PHASE_E_NOT_YET: return "the phase is not complete yet";
+    case PHASE_E_BUSY: return "another call on the phaser is in the middle";
     default: return "no status";
     }
 }

@@ -12,9 +12,9 @@
 array([1, 3, 5])
 
 The file behind a source's name is not read: its samples are the array that is given. `Fir` is a
-filter over blocks of samples, and `Phaser` a phaser whose calls never block. The library is
-libphase.so in the folder lib beside this one, which scripts/bind makes, or the one that PHASE_LIB
-names.
+filter over blocks of samples, `Phaser` a phaser whose calls never block, and `SharedPhaser` one
+between threads. The library is libphase.so in the folder lib beside this one, which scripts/bind
+makes, or the one that PHASE_LIB names.
 
 What is refused raises an `Error`; want of memory is a MemoryError, and what is no whole number, or
 no text, a TypeError.
@@ -29,15 +29,19 @@ import os
 import threading
 import weakref
 from collections.abc import Mapping, Sequence
-from typing import Any, NamedTuple, Optional, Union
+from typing import TYPE_CHECKING, Any, NamedTuple, Optional, Union
 
 import numpy
 from numpy.typing import ArrayLike, NDArray
+
+if TYPE_CHECKING:
+    from phase_shared import Registration, SharedPhaser, Signalled
 
 __all__ = [
     "check", "names", "eval", "Counts", "Names", "Values",
     "Fir",
     "Phaser", "Operation", "Mode", "Single", "Clamp", "Got", "GotBlock", "Standing",
+    "SharedPhaser", "Registration", "Signalled",
     "SUM", "PRODUCT", "LEAST", "GREATEST", "ANY",
     "SIG", "WAIT", "SIG_WAIT", "SINGLE",
     "NO_SINGLE", "NEG", "ABS", "HALVE",
@@ -76,6 +80,7 @@ AT_TASK = 2
 NO_START = -1
 
 ENDED = 1
+SIGNALLED = 2
 E_NO_PHASER = -20
 E_HAS_PHASER = -21
 E_BAD_OPERATION = -22
@@ -100,6 +105,7 @@ E_PHASE_FULL = -40
 E_NO_WAIT = -41
 E_SIGNAL_FIRST = -42
 E_NOT_YET = -43
+E_BUSY = -44
 
 PHASERS_MAX = 64
 TASKS_MAX = 64
@@ -158,6 +164,15 @@ class Single(enum.IntEnum):
 SUM, PRODUCT, LEAST, GREATEST, ANY = Operation
 SIG, WAIT, SIG_WAIT, SINGLE = Mode
 NO_SINGLE, NEG, ABS, HALVE, CLAMP = Single
+
+
+def __getattr__(name: str) -> Any:
+    """What phase_shared.py has, which stands on this file."""
+    if name not in ("SharedPhaser", "Registration", "Signalled"):
+        raise AttributeError(f"module {__name__!r} has no attribute {name!r}")
+    import phase_shared
+
+    return getattr(phase_shared, name)
 
 
 class Counts(NamedTuple):
@@ -234,7 +249,7 @@ class PhaserError(Error):
 
 
 class NoPhaser(PhaserError):
-    """The phaser was closed."""
+    """The phaser was closed, or the registration has left."""
 
     status = E_NO_PHASER
 

@@ -1,7 +1,11 @@
-//! The calls of `phase.h`, as they are. The crate `phase` has the safe ones.
+//! The calls of `phase.h` and `phase_shared.h`, as they are. The crate `phase` has the safe ones.
 #![no_std]
 
 use core::ffi::c_void;
+
+mod shared;
+
+pub use shared::*;
 
 pub const PHASE_VERSION: u32 = 100;
 
@@ -30,6 +34,7 @@ pub const PHASE_AT_TASK: i32 = 2;
 pub const PHASE_NO_START: i64 = -1;
 
 pub const PHASE_ENDED: i32 = 1;
+pub const PHASE_SIGNALLED: i32 = 2;
 pub const PHASE_E_NO_PHASER: i32 = -20;
 pub const PHASE_E_HAS_PHASER: i32 = -21;
 pub const PHASE_E_BAD_OPERATION: i32 = -22;
@@ -54,6 +59,7 @@ pub const PHASE_E_PHASE_FULL: i32 = -40;
 pub const PHASE_E_NO_WAIT: i32 = -41;
 pub const PHASE_E_SIGNAL_FIRST: i32 = -42;
 pub const PHASE_E_NOT_YET: i32 = -43;
+pub const PHASE_E_BUSY: i32 = -44;
 
 pub const PHASE_SUM: u32 = 1;
 pub const PHASE_PRODUCT: u32 = 2;

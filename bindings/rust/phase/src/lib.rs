@@ -1,5 +1,6 @@
 //! Graphs of whole-number filters: the values of each sink, exactly, or the first that is out of
-//! range; [filters](Fir) over blocks of samples; and [phasers](Phaser) whose calls never block.
+//! range; [filters](Fir) over blocks of samples; [phasers](Phaser) whose calls never block; and
+//! phasers [between threads](shared).
 //!
 //! ```
 //! let graph = "phaser x sum 4\n\
@@ -19,6 +20,7 @@ mod error;
 mod fir;
 mod phaser;
 mod phaser_error;
+pub mod shared;
 
 pub use error::{Error, FaultKind, Place};
 pub use fir::{Fir, FirError};

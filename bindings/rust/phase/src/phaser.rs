@@ -18,6 +18,19 @@ pub enum Operation {
     Any,
 }
 
+impl Operation {
+    /// The number of C.
+    pub(crate) fn number(self) -> u32 {
+        match self {
+            Operation::Sum => PHASE_SUM,
+            Operation::Product => PHASE_PRODUCT,
+            Operation::Least => PHASE_LEAST,
+            Operation::Greatest => PHASE_GREATEST,
+            Operation::Any => PHASE_ANY,
+        }
+    }
+}
+
 /// What a task does at a phaser. A mode holds itself and those above it, but `Wait` does not hold
 /// `Sig`.
 #[derive(Clone, Copy, Debug, PartialEq, Eq, Hash)]
@@ -30,6 +43,18 @@ pub enum Mode {
     SigWait,
     /// It signals and waits, in turn, and may name a single at a signal.
     Single,
+}
+
+impl Mode {
+    /// The number of C.
+    pub(crate) fn number(self) -> u32 {
+        match self {
+            Mode::Sig => PHASE_SIG,
+            Mode::Wait => PHASE_WAIT,
+            Mode::SigWait => PHASE_SIG_WAIT,
+            Mode::Single => PHASE_SINGLE,
+        }
+    }
 }
 
 /// What is done once with the value of a phase.
@@ -150,16 +175,8 @@ impl Phaser {
     /// ```
     pub fn new(operation: Operation, bound: u64, phases: u64) -> Result<Phaser, PhaserError> {
         let mut place = PhasePhaser { at: ptr::null_mut(), live: false };
-        let operation = match operation {
-            Operation::Sum => PHASE_SUM,
-            Operation::Product => PHASE_PRODUCT,
-            Operation::Least => PHASE_LEAST,
-            Operation::Greatest => PHASE_GREATEST,
-            Operation::Any => PHASE_ANY,
-        };
         // SAFETY: the place is zero, and a value of this function.
-        let status = unsafe { phase_phaser_new(operation, bound, phases, &mut place) };
-        done(status)?;
+        done(unsafe { phase_phaser_new(operation.number(), bound, phases, &mut place) })?;
         Ok(Phaser { place: UnsafeCell::new(place) })
     }
 
@@ -178,12 +195,7 @@ impl Phaser {
     /// ```
     pub fn register(&mut self, parent: u64, mode: Mode) -> Result<u64, PhaserError> {
         let mut task = 0;
-        let mode = match mode {
-            Mode::Sig => PHASE_SIG,
-            Mode::Wait => PHASE_WAIT,
-            Mode::SigWait => PHASE_SIG_WAIT,
-            Mode::Single => PHASE_SINGLE,
-        };
+        let mode = mode.number();
         // SAFETY: the place has a phaser of this thread, and the rest are values of this function.
         done(unsafe { phase_phaser_register(self.place.get(), parent, mode, &mut task) })?;
         Ok(task)
@@ -409,7 +421,7 @@ impl Drop for Phaser {
     }
 }
 
-fn done(status: i32) -> Result<(), PhaserError> {
+pub(crate) fn done(status: i32) -> Result<(), PhaserError> {
     match status {
         PHASE_OK => Ok(()),
         status => Err(phaser_error::of(status)),
@@ -417,7 +429,7 @@ fn done(status: i32) -> Result<(), PhaserError> {
 }
 
 /// The number of a single or of none, with the ends of a range.
-fn numbers_of(single: Option<Single>) -> (u32, i64, i64) {
+pub(crate) fn numbers_of(single: Option<Single>) -> (u32, i64, i64) {
     match single {
         None => (PHASE_NO_SINGLE, 0, 0),
         Some(Single::Neg) => (PHASE_NEG, 0, 0),

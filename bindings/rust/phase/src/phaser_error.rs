@@ -45,6 +45,9 @@ pub enum PhaserError {
     SignalFirst,
     /// The phase is not complete, and a signaller is registered.
     NotYet,
+    /// Another call on the phaser is in the middle. It comes to calls of [`shared`](crate::shared)
+    /// alone, and of these to those that try once.
+    Busy,
     /// Memory ran out.
     OutOfMemory,
 }
@@ -72,6 +75,7 @@ impl fmt::Display for PhaserError {
             PhaserError::NoWait => "the task's mode does not wait",
             PhaserError::SignalFirst => "the task has not signalled since its last wait",
             PhaserError::NotYet => "the phase is not complete",
+            PhaserError::Busy => "another call on the phaser is in the middle",
             PhaserError::OutOfMemory => "out of memory",
         })
     }
@@ -103,6 +107,7 @@ pub(crate) fn of(status: i32) -> PhaserError {
         PHASE_E_NO_WAIT => PhaserError::NoWait,
         PHASE_E_SIGNAL_FIRST => PhaserError::SignalFirst,
         PHASE_E_NOT_YET => PhaserError::NotYet,
+        PHASE_E_BUSY => PhaserError::Busy,
         PHASE_E_MEMORY => PhaserError::OutOfMemory,
         other => unreachable!("libphase answered a status that is none: {other}"),
     }

@@ -1,0 +1,208 @@
+/* phase_shared.h: phasers between threads, whose calls wait, from C and C++.
+ *
+ * Link libphase.a or libphase.so, as for phase.h, and with -pthread where the C library has threads
+ * apart. docs/THREADS.md has examples, and phase.hpp the same for C++17.
+ *
+ * Threads meet at a phaser, phase by phase. Each has a registration of its own, whose mode says
+ * whether it signals or waits, or both. A phase is complete when each registration that signals has
+ * signalled it, and its value is what the sends of these signals come to. No call names a phase: it
+ * is the registration's next one.
+ *
+ * A registration stands in a struct of the caller's, which has none while it is
+ * PHASE_REGISTRATION_INIT, or all zero. The first is made with the phaser, and each other one is
+ * the child of one that is there. The phaser lives as long as any of its registrations, and is
+ * freed with the last.
+ *
+ * Calls have three forms. The plain one waits as long as it takes, and is answered neither
+ * PHASE_E_AHEAD nor PHASE_E_NOT_YET. The one with _for tries for so many nanoseconds, or a little
+ * longer, and then the answer is that of its last try, which may be one of these. The one with try_
+ * tries once: it may be answered so, too, and it alone PHASE_E_BUSY, while another call on the
+ * phaser is in the middle. A thread that has waited for more than some microseconds sleeps.
+ *
+ * What a thread did before its signal is seen by every thread that got the phase: each call is a
+ * sequentially consistent exchange on one word of the phaser.
+ *
+ * The statuses are those of phase.h, where `the task` is the registration. Where one is negative,
+ * the registration and what the call writes are as they were.
+ *
+ * A caller owes, beside what phase.h says:
+ * - One thread at a time uses a registration. Who hands it to another orders that by a lock, the
+ *   start or end of a thread, or a sequentially consistent atomic.
+ * - Nobody reads or writes its fields, but for the zeros at first, and it is not copied. It may be
+ *   moved, if the struct where it was is made zero.
+ * - Parent and child are two structs.
+ * - No thread is cancelled, or leaves by longjmp, in the middle of a call.
+ * - Each registration is left. As long as it is not, others may wait for it, and memory is kept.
+ *
+ * Proved are the answers of the phase_member calls, at the end of this file, which never wait. How
+ * a call waits is written in C (phase_wait.c), and is tested; no answer rests on it, since it only
+ * tries again. */
+#ifndef PHASE_SHARED_H
+#define PHASE_SHARED_H
+#include "phase.h"
+#ifdef __cplusplus
+extern "C" {
+#endif
+
+/* What the library has of a registration. */
+typedef struct phase_member {
+    void *at;
+    bool live; /* whether there is a registration */
+} phase_member;
+
+/* What a registration stands at: its number, which no other registration of its phaser has, the
+ * phases that it signals and waits for next, counted from 0, its mode, and the operation. */
+typedef struct phase_member_standing {
+    uint64_t number;
+    uint64_t signal_phase;
+    uint64_t wait_phase;
+    uint32_t mode;
+    uint32_t operation;
+} phase_member_standing;
+
+/* The place of a registration. */
+typedef struct phase_registration {
+    phase_member member;
+    struct phase_gate *gate; /* where those that wait on the phaser sleep */
+    uint64_t bound;
+    uint64_t signal_phase;
+    uint64_t wait_phase;
+    uint32_t mode;
+    uint64_t apart[9]; /* nothing: threads do not write beside each other's in an array */
+} phase_registration;
+
+/* A place with no registration. */
+#define PHASE_REGISTRATION_INIT {{NULL, false}, NULL, 0, 0, 0, 0, {0}}
+
+/* Makes a phaser of at most this many phases, whose signallers may be `bound` phases ahead of its
+ * slowest waiter, and its founder, in the mode PHASE_SINGLE at phase 0. Where threads meet at a
+ * barrier, each of which signals a phase and waits for it, the bound should be 2. It takes memory,
+ * and so do the calls that register; signals and waits of one phase take none. */
+int32_t phase_shared_new(uint32_t operation, uint64_t bound, uint64_t phases,
+                         phase_registration *founder);
+
+/* Registers a child in a mode that the mode of parent holds, at both phases of parent. The child
+ * may be handed to another thread. It waits for its turn alone. */
+int32_t phase_shared_register(phase_registration *parent, uint32_t mode,
+                              phase_registration *child);
+int32_t phase_shared_try_register(phase_registration *parent, uint32_t mode,
+                                  phase_registration *child);
+
+/* Registers a child in the mode PHASE_WAIT at the first phase that is not complete, and writes that
+ * phase. The mode of parent waits. */
+int32_t phase_shared_register_now(phase_registration *parent, phase_registration *child,
+                                  uint64_t *phase);
+int32_t phase_shared_try_register_now(phase_registration *parent, phase_registration *child,
+                                      uint64_t *phase);
+
+/* Signals the phase with these sends and a single or PHASE_NO_SINGLE, and writes that phase. low
+ * and high are the ends of a PHASE_CLAMP, and else not read. It waits while the phase is the bound
+ * or more ahead of the slowest waiter. */
+int32_t phase_shared_signal(phase_registration *registration,
+                            const int64_t *values, size_t values_len,
+                            uint32_t single, int64_t low, int64_t high, uint64_t *phase);
+int32_t phase_shared_try_signal(phase_registration *registration,
+                                const int64_t *values, size_t values_len,
+                                uint32_t single, int64_t low, int64_t high, uint64_t *phase);
+int32_t phase_shared_signal_for(phase_registration *registration,
+                                const int64_t *values, size_t values_len,
+                                uint32_t single, int64_t low, int64_t high, uint64_t *phase,
+                                uint64_t nanoseconds);
+
+/* Signals the phase, as phase_shared_signal does, and then waits for it, where the mode waits, as
+ * phase_shared_wait does: a barrier, from which all get what they sent. It writes the phase, and
+ * with PHASE_OK its value.
+ *
+ * The answer is PHASE_SIGNALLED where the mode signals alone; or, of the forms that do not wait
+ * until the end, where the phase is signalled and not complete yet. phase_shared_wait, or one of
+ * its forms, then gets it. */
+int32_t phase_shared_next(phase_registration *registration,
+                          const int64_t *values, size_t values_len,
+                          uint32_t single, int64_t low, int64_t high,
+                          uint64_t *phase, int64_t *value);
+int32_t phase_shared_try_next(phase_registration *registration,
+                              const int64_t *values, size_t values_len,
+                              uint32_t single, int64_t low, int64_t high,
+                              uint64_t *phase, int64_t *value);
+int32_t phase_shared_next_for(phase_registration *registration,
+                              const int64_t *values, size_t values_len,
+                              uint32_t single, int64_t low, int64_t high,
+                              uint64_t *phase, int64_t *value, uint64_t nanoseconds);
+
+/* Gets the phase and its value; or answers PHASE_ENDED, and writes neither. It waits until the
+ * phase is complete, or no signaller is registered. The value is INT64_MIN where the phase has
+ * none: a sum or a product that is out of range, and under the other operations a phase without a
+ * send. */
+int32_t phase_shared_wait(phase_registration *registration, uint64_t *phase, int64_t *value);
+int32_t phase_shared_try_wait(phase_registration *registration, uint64_t *phase, int64_t *value);
+int32_t phase_shared_wait_for(phase_registration *registration, uint64_t *phase, int64_t *value,
+                              uint64_t nanoseconds);
+
+/* Signals as many phases in a row as there are values, with one send each and the single, or
+ * PHASE_NO_SINGLE, for all of them; and writes the first phase. It waits until no phase of the
+ * block is ahead, and signals all or none. It takes memory for the sends, and gives it back. */
+int32_t phase_shared_signal_block(phase_registration *registration,
+                                  const int64_t *values, size_t values_len,
+                                  uint32_t single, int64_t low, int64_t high, uint64_t *phase);
+int32_t phase_shared_try_signal_block(phase_registration *registration,
+                                      const int64_t *values, size_t values_len,
+                                      uint32_t single, int64_t low, int64_t high,
+                                      uint64_t *phase);
+int32_t phase_shared_signal_block_for(phase_registration *registration,
+                                      const int64_t *values, size_t values_len,
+                                      uint32_t single, int64_t low, int64_t high,
+                                      uint64_t *phase, uint64_t nanoseconds);
+
+/* Gets the phase and those behind it that are complete, at most values_len of them, which may be no
+ * more than the bound; writes the first phase, how many there are, and the value of each, as
+ * phase_shared_wait has it, into the first places of values; or answers PHASE_ENDED, and writes
+ * nothing. What stands behind the values stays. It waits until one phase is complete, and no
+ * longer. It takes memory for as many values as there are places, and gives it back. */
+int32_t phase_shared_wait_block(phase_registration *registration, int64_t *values,
+                                size_t values_len, uint64_t *phase, size_t *count);
+int32_t phase_shared_try_wait_block(phase_registration *registration, int64_t *values,
+                                    size_t values_len, uint64_t *phase, size_t *count);
+int32_t phase_shared_wait_block_for(phase_registration *registration, int64_t *values,
+                                    size_t values_len, uint64_t *phase, size_t *count,
+                                    uint64_t nanoseconds);
+
+/* Ends the registration; there is none then. From then on no phase waits for it, and phases that
+ * the others have signalled are complete. It waits for its turn alone. With the last registration
+ * the phaser ends, and its memory is given back. */
+int32_t phase_shared_leave(phase_registration *registration);
+int32_t phase_shared_try_leave(phase_registration *registration);
+
+/* Writes what the registration stands at. */
+int32_t phase_shared_view(phase_registration *registration, phase_member_standing *standing);
+
+/* Writes how far the phaser is, as far as the calls that have ended tell: the phases below done are
+ * complete, and every waiter got those below base. Each is UINT64_MAX where nobody is left to wait
+ * for. Neither ever falls. It is a hint for when to try, and takes no turn. */
+int32_t phase_shared_told(phase_registration *registration, uint64_t *done, uint64_t *base);
+
+/* ---- What stands under these calls, without any waiting: the forms with try_, over what the
+ * library has of a registration, and proved. Those above wake who sleeps, and these do not; so the
+ * two are not mixed on one phaser, unless nobody minds some 10 milliseconds. */
+
+int32_t phase_member_new(uint32_t operation, uint64_t bound, uint64_t phases,
+                         phase_member *founder);
+int32_t phase_member_register(phase_member *parent, uint32_t mode, phase_member *child);
+int32_t phase_member_register_now(phase_member *parent, phase_member *child, uint64_t *phase);
+int32_t phase_member_signal(phase_member *member, const int64_t *values, size_t values_len,
+                            uint32_t single, int64_t low, int64_t high, uint64_t *phase);
+int32_t phase_member_next(phase_member *member, const int64_t *values, size_t values_len,
+                          uint32_t single, int64_t low, int64_t high,
+                          uint64_t *phase, int64_t *value);
+int32_t phase_member_signal_block(phase_member *member, const int64_t *values, size_t values_len,
+                                  uint32_t single, int64_t low, int64_t high, uint64_t *phase);
+int32_t phase_member_wait(phase_member *member, uint64_t *phase, int64_t *value);
+int32_t phase_member_wait_block(phase_member *member, int64_t *values, size_t values_len,
+                                uint64_t *phase, size_t *count);
+int32_t phase_member_leave(phase_member *member);
+int32_t phase_member_view(phase_member *member, phase_member_standing *standing);
+int32_t phase_member_told(phase_member *member, uint64_t *done, uint64_t *base);
+
+#ifdef __cplusplus
+}
+#endif
+#endif

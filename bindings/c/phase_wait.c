@@ -1,0 +1,624 @@
+/* phase_wait.c: how the calls of phase_shared.h wait.
+ *
+ * Nothing here is proved, and no answer rests on it: a call that was tried too early is answered
+ * so by the library, and tried again. A fault here costs time alone.
+ *
+ * A pause looks at how far the phaser is, then yields, then sleeps for at most SLEEP nanoseconds at
+ * a gate, which the registrations of a phaser share. Whoever finds sleepers there after a call of
+ * its own wakes them, if the phaser went on. Sleeping is by futex, or, without Linux or with
+ * PHASE_PORTABLE, by a mutex and a condition variable. */
+#define _GNU_SOURCE
+#include "phase_shared.h"
+#include <sched.h>
+#include <stdatomic.h>
+#include <stdlib.h>
+#include <time.h>
+#if !defined(__linux__) && !defined(PHASE_PORTABLE)
+#define PHASE_PORTABLE
+#endif
+#ifdef PHASE_PORTABLE
+#include <pthread.h>
+#else
+#include <linux/futex.h>
+#include <sys/syscall.h>
+#include <unistd.h>
+#endif
+
+/* How often a pause looks while it spins, and how often it then yields. */
+enum { LOOKS = 15, YIELDS = 60 };
+
+/* How long a pause sleeps at most, in nanoseconds: what a wake that is lost costs. */
+#ifndef PHASE_SLEEP
+#define PHASE_SLEEP 10000000
+#endif
+
+static const uint64_t SECOND = 1000000000;
+
+/* The nanoseconds of a call that tries until it is done. */
+static const uint64_t FOR_EVER = UINT64_MAX;
+
+/* Where threads sleep until a number of the phaser is higher. */
+struct bell {
+    _Atomic uint64_t reached; /* the number, as far as somebody woke for it */
+    _Atomic uint32_t rings;
+    _Atomic uint32_t sleepers;
+#ifdef PHASE_PORTABLE
+    pthread_mutex_t lock;
+    pthread_cond_t rung;
+#endif
+};
+
+/* What the registrations of a phaser share: how many they are, and the bells of its two numbers.
+ * The bells, at which every call looks, stand apart from what is often written. */
+struct phase_gate {
+    _Atomic uint64_t owners;
+    char apart[120];
+    struct bell done;
+    struct bell base;
+    char behind[128];
+};
+
+/* ---- Sleeping and waking. */
+
+#ifdef PHASE_PORTABLE
+
+static bool bell_init(struct bell *bell)
+{
+    pthread_condattr_t attributes;
+    if (pthread_mutex_init(&bell->lock, NULL) != 0)
+        return false;
+    bool is_made = pthread_condattr_init(&attributes) == 0;
+    if (is_made) {
+        is_made = pthread_condattr_setclock(&attributes, CLOCK_MONOTONIC) == 0
+                  && pthread_cond_init(&bell->rung, &attributes) == 0;
+        pthread_condattr_destroy(&attributes);
+    }
+    if (!is_made)
+        pthread_mutex_destroy(&bell->lock);
+    return is_made;
+}
+
+static void bell_free(struct bell *bell)
+{
+    pthread_cond_destroy(&bell->rung);
+    pthread_mutex_destroy(&bell->lock);
+}
+
+static void wake_all(struct bell *bell)
+{
+    pthread_mutex_lock(&bell->lock);
+    pthread_cond_broadcast(&bell->rung);
+    pthread_mutex_unlock(&bell->lock);
+}
+
+/* Sleeps for at most so long, unless the bell has rung since. */
+static void sleep_at(struct bell *bell, uint32_t rings, uint64_t nanoseconds)
+{
+    struct timespec until;
+    clock_gettime(CLOCK_MONOTONIC, &until);
+    nanoseconds += (uint64_t)until.tv_nsec;
+    until.tv_sec += (time_t)(nanoseconds / SECOND);
+    until.tv_nsec = (long)(nanoseconds % SECOND);
+    pthread_mutex_lock(&bell->lock);
+    if (atomic_load(&bell->rings) == rings)
+        pthread_cond_timedwait(&bell->rung, &bell->lock, &until);
+    pthread_mutex_unlock(&bell->lock);
+}
+
+#else
+
+static bool bell_init(struct bell *bell)
+{
+    (void)bell;
+    return true;
+}
+
+static void bell_free(struct bell *bell)
+{
+    (void)bell;
+}
+
+static void wake_all(struct bell *bell)
+{
+    syscall(SYS_futex, &bell->rings, FUTEX_WAKE_PRIVATE, INT32_MAX, NULL, NULL, 0);
+}
+
+/* Sleeps for at most so long, unless the bell has rung since. */
+static void sleep_at(struct bell *bell, uint32_t rings, uint64_t nanoseconds)
+{
+    struct timespec most = {(time_t)(nanoseconds / SECOND), (long)(nanoseconds % SECOND)};
+    syscall(SYS_futex, &bell->rings, FUTEX_WAIT_PRIVATE, rings, &most, NULL, 0);
+}
+
+#endif
+
+static void ring(struct bell *bell)
+{
+    atomic_fetch_add(&bell->rings, 1);
+    if (atomic_load(&bell->sleepers) != 0)
+        wake_all(bell);
+}
+
+/* Rings where the number is higher than anybody has rung for. */
+static void ring_at(struct bell *bell, uint64_t number)
+{
+    uint64_t reached = atomic_load(&bell->reached);
+    while (reached < number)
+        if (atomic_compare_exchange_weak(&bell->reached, &reached, number)) {
+            ring(bell);
+            return;
+        }
+}
+
+/* ---- The gate of a phaser. */
+
+static struct phase_gate *gate_new(void)
+{
+    struct phase_gate *gate = malloc(sizeof *gate);
+    if (gate == NULL)
+        return NULL;
+    *gate = (struct phase_gate){.owners = 1};
+    if (!bell_init(&gate->done)) {
+        free(gate);
+        return NULL;
+    }
+    if (!bell_init(&gate->base)) {
+        bell_free(&gate->done);
+        free(gate);
+        return NULL;
+    }
+    return gate;
+}
+
+/* Gives back what an owner has of a gate. */
+static void gate_leave(struct phase_gate *gate)
+{
+    if (atomic_fetch_sub(&gate->owners, 1) != 1)
+        return;
+    bell_free(&gate->done);
+    bell_free(&gate->base);
+    free(gate);
+}
+
+/* Wakes those that sleep for what the phaser has reached. A sleeper tells of itself before it looks
+ * a last time, so it is seen here, or sees what was reached. */
+static void tell(phase_registration *registration)
+{
+    struct phase_gate *gate = registration->gate;
+    if (atomic_load(&gate->done.sleepers) == 0 && atomic_load(&gate->base.sleepers) == 0)
+        return;
+    uint64_t done = 0, base = 0;
+    phase_member_told(&registration->member, &done, &base);
+    ring_at(&gate->done, done);
+    ring_at(&gate->base, base);
+}
+
+/* ---- How long a call goes on. */
+
+/* What is left of a call's time. The clock is first read when the call has to yield. */
+struct patience {
+    uint64_t nanoseconds;
+    uint64_t deadline; /* on the clock, once it was read */
+    bool is_timed;     /* whether it was */
+    uint32_t turns;    /* how often the turn was another's */
+};
+
+static uint64_t now(void)
+{
+    struct timespec time;
+    clock_gettime(CLOCK_MONOTONIC, &time);
+    return (uint64_t)time.tv_sec * SECOND + (uint64_t)time.tv_nsec;
+}
+
+/* How many nanoseconds are left. */
+static uint64_t left(struct patience *patience)
+{
+    if (patience->nanoseconds == FOR_EVER || patience->nanoseconds == 0)
+        return patience->nanoseconds;
+    uint64_t time = now();
+    if (!patience->is_timed) {
+        patience->is_timed = true;
+        patience->deadline = time + patience->nanoseconds;
+        if (patience->deadline < time)
+            patience->deadline = UINT64_MAX;
+    }
+    return patience->deadline > time ? patience->deadline - time : 0;
+}
+
+static void relax(void)
+{
+#if defined(__x86_64__) || defined(__i386__)
+    __builtin_ia32_pause();
+#endif
+}
+
+/* Pauses after a try whose turn was another's, longer each time. */
+static void snooze(struct patience *patience)
+{
+    if (patience->turns > 6) {
+        sched_yield();
+        return;
+    }
+    for (uint32_t spins = 1u << patience->turns; spins > 0; spins--)
+        relax();
+    patience->turns++;
+}
+
+/* ---- Pauses. */
+
+/* What a registration pauses for: a bell, and the least number that it wants there. */
+struct aim {
+    phase_registration *registration;
+    struct bell *bell;
+    uint64_t least;
+};
+
+static bool is_reached(const struct aim *aim)
+{
+    uint64_t done = 0, base = 0;
+    phase_member_told(&aim->registration->member, &done, &base);
+    return (aim->bell == &aim->registration->gate->done ? done : base) >= aim->least;
+}
+
+/* Whether the number is reached, or no time is left, after some looks and then some yields. */
+static bool is_over_soon(const struct aim *aim, struct patience *patience)
+{
+    for (int look = 0; look < LOOKS; look++) {
+        if (is_reached(aim))
+            return true;
+        relax();
+    }
+    for (int look = 0; look < YIELDS; look++) {
+        if (is_reached(aim) || left(patience) == 0)
+            return true;
+        sched_yield();
+    }
+    return false;
+}
+
+/* Returns when the number is reached, or no time is left, or some time later. */
+static void pause_for(const struct aim *aim, struct patience *patience)
+{
+    if (is_over_soon(aim, patience))
+        return;
+    uint64_t most = left(patience);
+    atomic_fetch_add(&aim->bell->sleepers, 1);
+    uint32_t rings = atomic_load(&aim->bell->rings);
+    if (!is_reached(aim))
+        sleep_at(aim->bell, rings, most < PHASE_SLEEP ? most : PHASE_SLEEP);
+    atomic_fetch_sub(&aim->bell->sleepers, 1);
+}
+
+/* Whether a signal of so many phases that was answered so is tried again; it pauses first. */
+static bool signals_again(phase_registration *registration, uint64_t count, int32_t status,
+                          struct patience *patience)
+{
+    if (status == PHASE_E_BUSY) {
+        snooze(patience);
+        return true;
+    }
+    if (status != PHASE_E_AHEAD || left(patience) == 0)
+        return false;
+    uint64_t next = registration->signal_phase + count, bound = registration->bound;
+    struct aim room = {registration, &registration->gate->base, next > bound ? next - bound : 0};
+    pause_for(&room, patience);
+    return true;
+}
+
+/* Pauses before a wait for so many phases that would be too early. One that would be refused for
+ * another reason does not pause. */
+static void pause_for_phase(phase_registration *registration, uint64_t count,
+                            struct patience *patience)
+{
+    bool waits = registration->mode == PHASE_WAIT
+                 || (registration->mode != PHASE_SIG
+                     && registration->signal_phase > registration->wait_phase);
+    if (registration->gate == NULL || !waits || count == 0 || count > registration->bound)
+        return;
+    struct aim phase = {registration, &registration->gate->done, registration->wait_phase + 1};
+    pause_for(&phase, patience);
+}
+
+/* Whether a wait that was answered so is tried again. */
+static bool waits_again(int32_t status, struct patience *patience)
+{
+    if (status == PHASE_E_BUSY) {
+        snooze(patience);
+        return true;
+    }
+    return status == PHASE_E_NOT_YET && left(patience) != 0;
+}
+
+/* ---- Registering and leaving. */
+
+int32_t phase_shared_new(uint32_t operation, uint64_t bound, uint64_t phases,
+                         phase_registration *founder)
+{
+    struct phase_gate *gate = gate_new();
+    int32_t status = phase_member_new(operation, bound, phases, &founder->member);
+    if (status == PHASE_OK && gate == NULL) {
+        /* It is the only one, so that nobody is in the middle of a call. */
+        phase_member_leave(&founder->member);
+        status = PHASE_E_MEMORY;
+    }
+    if (status != PHASE_OK) {
+        if (gate != NULL)
+            gate_leave(gate);
+        return status;
+    }
+    founder->gate = gate;
+    founder->bound = bound;
+    founder->signal_phase = 0;
+    founder->wait_phase = 0;
+    founder->mode = PHASE_SINGLE;
+    return PHASE_OK;
+}
+
+/* Fills a child that the library has registered. */
+static void fill(phase_registration *parent, uint32_t mode, phase_registration *child)
+{
+    atomic_fetch_add(&parent->gate->owners, 1);
+    child->gate = parent->gate;
+    child->bound = parent->bound;
+    child->signal_phase = parent->signal_phase;
+    child->wait_phase = parent->wait_phase;
+    child->mode = mode;
+}
+
+int32_t phase_shared_try_register(phase_registration *parent, uint32_t mode,
+                                  phase_registration *child)
+{
+    int32_t status = phase_member_register(&parent->member, mode, &child->member);
+    if (status == PHASE_OK)
+        fill(parent, mode, child);
+    return status;
+}
+
+int32_t phase_shared_register(phase_registration *parent, uint32_t mode,
+                              phase_registration *child)
+{
+    struct patience patience = {.nanoseconds = FOR_EVER};
+    int32_t status;
+    while ((status = phase_shared_try_register(parent, mode, child)) == PHASE_E_BUSY)
+        snooze(&patience);
+    return status;
+}
+
+int32_t phase_shared_try_register_now(phase_registration *parent, phase_registration *child,
+                                      uint64_t *phase)
+{
+    int32_t status = phase_member_register_now(&parent->member, &child->member, phase);
+    if (status == PHASE_OK) {
+        fill(parent, PHASE_WAIT, child);
+        child->signal_phase = *phase;
+        child->wait_phase = *phase;
+    }
+    return status;
+}
+
+int32_t phase_shared_register_now(phase_registration *parent, phase_registration *child,
+                                  uint64_t *phase)
+{
+    struct patience patience = {.nanoseconds = FOR_EVER};
+    int32_t status;
+    while ((status = phase_shared_try_register_now(parent, child, phase)) == PHASE_E_BUSY)
+        snooze(&patience);
+    return status;
+}
+
+int32_t phase_shared_try_leave(phase_registration *registration)
+{
+    int32_t status = phase_member_leave(&registration->member);
+    if (status != PHASE_OK)
+        return status;
+    struct phase_gate *gate = registration->gate;
+    registration->gate = NULL;
+    ring(&gate->done);
+    ring(&gate->base);
+    gate_leave(gate);
+    return PHASE_OK;
+}
+
+int32_t phase_shared_leave(phase_registration *registration)
+{
+    struct patience patience = {.nanoseconds = FOR_EVER};
+    int32_t status;
+    while ((status = phase_shared_try_leave(registration)) == PHASE_E_BUSY)
+        snooze(&patience);
+    return status;
+}
+
+/* ---- Signals. */
+
+int32_t phase_shared_try_signal(phase_registration *registration,
+                                const int64_t *values, size_t values_len,
+                                uint32_t single, int64_t low, int64_t high, uint64_t *phase)
+{
+    int32_t status = phase_member_signal(&registration->member, values, values_len, single, low,
+                                         high, phase);
+    if (status == PHASE_OK) {
+        registration->signal_phase = *phase + 1;
+        tell(registration);
+    }
+    return status;
+}
+
+int32_t phase_shared_signal_for(phase_registration *registration,
+                                const int64_t *values, size_t values_len,
+                                uint32_t single, int64_t low, int64_t high, uint64_t *phase,
+                                uint64_t nanoseconds)
+{
+    struct patience patience = {.nanoseconds = nanoseconds};
+    int32_t status;
+    do
+        status = phase_shared_try_signal(registration, values, values_len, single, low, high,
+                                         phase);
+    while (signals_again(registration, 1, status, &patience));
+    return status;
+}
+
+int32_t phase_shared_signal(phase_registration *registration,
+                            const int64_t *values, size_t values_len,
+                            uint32_t single, int64_t low, int64_t high, uint64_t *phase)
+{
+    return phase_shared_signal_for(registration, values, values_len, single, low, high, phase,
+                                   FOR_EVER);
+}
+
+int32_t phase_shared_try_signal_block(phase_registration *registration,
+                                      const int64_t *values, size_t values_len,
+                                      uint32_t single, int64_t low, int64_t high,
+                                      uint64_t *phase)
+{
+    int32_t status = phase_member_signal_block(&registration->member, values, values_len, single,
+                                               low, high, phase);
+    if (status == PHASE_OK) {
+        registration->signal_phase = *phase + values_len;
+        tell(registration);
+    }
+    return status;
+}
+
+int32_t phase_shared_signal_block_for(phase_registration *registration,
+                                      const int64_t *values, size_t values_len,
+                                      uint32_t single, int64_t low, int64_t high,
+                                      uint64_t *phase, uint64_t nanoseconds)
+{
+    struct patience patience = {.nanoseconds = nanoseconds};
+    int32_t status;
+    do
+        status = phase_shared_try_signal_block(registration, values, values_len, single, low,
+                                               high, phase);
+    while (signals_again(registration, values_len, status, &patience));
+    return status;
+}
+
+int32_t phase_shared_signal_block(phase_registration *registration,
+                                  const int64_t *values, size_t values_len,
+                                  uint32_t single, int64_t low, int64_t high, uint64_t *phase)
+{
+    return phase_shared_signal_block_for(registration, values, values_len, single, low, high,
+                                         phase, FOR_EVER);
+}
+
+/* ---- Waits. */
+
+int32_t phase_shared_try_wait(phase_registration *registration, uint64_t *phase, int64_t *value)
+{
+    int32_t status = phase_member_wait(&registration->member, phase, value);
+    if (status == PHASE_OK) {
+        registration->wait_phase = *phase + 1;
+        tell(registration);
+    }
+    return status;
+}
+
+static int32_t wait_with(phase_registration *registration, uint64_t *phase, int64_t *value,
+                         struct patience *patience)
+{
+    int32_t status;
+    do {
+        pause_for_phase(registration, 1, patience);
+        status = phase_shared_try_wait(registration, phase, value);
+    } while (waits_again(status, patience));
+    return status;
+}
+
+int32_t phase_shared_wait_for(phase_registration *registration, uint64_t *phase, int64_t *value,
+                              uint64_t nanoseconds)
+{
+    struct patience patience = {.nanoseconds = nanoseconds};
+    return wait_with(registration, phase, value, &patience);
+}
+
+int32_t phase_shared_wait(phase_registration *registration, uint64_t *phase, int64_t *value)
+{
+    return phase_shared_wait_for(registration, phase, value, FOR_EVER);
+}
+
+int32_t phase_shared_try_wait_block(phase_registration *registration, int64_t *values,
+                                    size_t values_len, uint64_t *phase, size_t *count)
+{
+    int32_t status = phase_member_wait_block(&registration->member, values, values_len, phase,
+                                             count);
+    if (status == PHASE_OK) {
+        registration->wait_phase = *phase + *count;
+        tell(registration);
+    }
+    return status;
+}
+
+int32_t phase_shared_wait_block_for(phase_registration *registration, int64_t *values,
+                                    size_t values_len, uint64_t *phase, size_t *count,
+                                    uint64_t nanoseconds)
+{
+    struct patience patience = {.nanoseconds = nanoseconds};
+    int32_t status;
+    do {
+        pause_for_phase(registration, values_len, &patience);
+        status = phase_shared_try_wait_block(registration, values, values_len, phase, count);
+    } while (waits_again(status, &patience));
+    return status;
+}
+
+int32_t phase_shared_wait_block(phase_registration *registration, int64_t *values,
+                                size_t values_len, uint64_t *phase, size_t *count)
+{
+    return phase_shared_wait_block_for(registration, values, values_len, phase, count, FOR_EVER);
+}
+
+/* ---- Signal and wait. */
+
+int32_t phase_shared_try_next(phase_registration *registration,
+                              const int64_t *values, size_t values_len,
+                              uint32_t single, int64_t low, int64_t high,
+                              uint64_t *phase, int64_t *value)
+{
+    int32_t status = phase_member_next(&registration->member, values, values_len, single, low,
+                                       high, phase, value);
+    if (status < 0)
+        return status;
+    registration->signal_phase = *phase + 1;
+    if (status == PHASE_OK)
+        registration->wait_phase = *phase + 1;
+    tell(registration);
+    return status;
+}
+
+int32_t phase_shared_next_for(phase_registration *registration,
+                              const int64_t *values, size_t values_len,
+                              uint32_t single, int64_t low, int64_t high,
+                              uint64_t *phase, int64_t *value, uint64_t nanoseconds)
+{
+    struct patience patience = {.nanoseconds = nanoseconds};
+    int32_t status;
+    do
+        status = phase_shared_try_next(registration, values, values_len, single, low, high, phase,
+                                       value);
+    while (signals_again(registration, 1, status, &patience));
+    if (status != PHASE_SIGNALLED || registration->mode == PHASE_SIG)
+        return status;
+    int32_t waited = wait_with(registration, phase, value, &patience);
+    return waited == PHASE_OK ? PHASE_OK : PHASE_SIGNALLED;
+}
+
+int32_t phase_shared_next(phase_registration *registration,
+                          const int64_t *values, size_t values_len,
+                          uint32_t single, int64_t low, int64_t high,
+                          uint64_t *phase, int64_t *value)
+{
+    return phase_shared_next_for(registration, values, values_len, single, low, high, phase, value,
+                                 FOR_EVER);
+}
+
+/* ---- What a registration stands at. */
+
+int32_t phase_shared_view(phase_registration *registration, phase_member_standing *standing)
+{
+    return phase_member_view(&registration->member, standing);
+}
+
+int32_t phase_shared_told(phase_registration *registration, uint64_t *done, uint64_t *base)
+{
+    return phase_member_told(&registration->member, done, base);
+}

@@ -1,0 +1,298 @@
+//! The calls of `phase_shared.h`.
+use core::{ffi::c_void, ptr};
+
+/// What the library has of a registration.
+#[repr(C)]
+#[derive(Debug)]
+pub struct PhaseMember {
+    /// Where it is.
+    pub at: *mut c_void,
+    /// Whether there is one.
+    pub live: bool,
+}
+
+/// What a registration stands at.
+#[repr(C)]
+#[derive(Clone, Copy, Debug, Default, PartialEq, Eq)]
+pub struct PhaseMemberStanding {
+    /// Its number, which no other registration of its phaser has.
+    pub number: u64,
+    /// The phase that it signals next, counted from 0.
+    pub signal_phase: u64,
+    /// The phase that it waits for next.
+    pub wait_phase: u64,
+    /// The number of its mode.
+    pub mode: u32,
+    /// The number of the phaser's operation.
+    pub operation: u32,
+}
+
+/// The place of a registration, which has none while it is `NONE`.
+#[repr(C)]
+#[derive(Debug)]
+pub struct PhaseRegistration {
+    /// What the library has of it.
+    pub member: PhaseMember,
+    /// Where those that wait on the phaser sleep.
+    pub gate: *mut c_void,
+    /// The bound of the phaser.
+    pub bound: u64,
+    /// The phase that it signals next.
+    pub signal_phase: u64,
+    /// The phase that it waits for next.
+    pub wait_phase: u64,
+    /// The number of its mode.
+    pub mode: u32,
+    /// Nothing: threads do not write beside each other's in an array.
+    pub apart: [u64; 9],
+}
+
+impl PhaseRegistration {
+    /// A place with no registration.
+    pub const NONE: PhaseRegistration = PhaseRegistration {
+        member: PhaseMember { at: ptr::null_mut(), live: false },
+        gate: ptr::null_mut(),
+        bound: 0,
+        signal_phase: 0,
+        wait_phase: 0,
+        mode: 0,
+        apart: [0; 9],
+    };
+}
+
+unsafe extern "C" {
+    /// # Safety
+    /// As of `phase_check`. A place is `NONE` or as the last call left it, and no other call on it
+    /// is running; those of a parent and its child are two. The same goes for the calls below.
+    pub fn phase_shared_new(
+        operation: u32,
+        bound: u64,
+        phases: u64,
+        founder: *mut PhaseRegistration,
+    ) -> i32;
+
+    /// # Safety
+    /// As of `phase_shared_new`.
+    pub fn phase_shared_register(
+        parent: *mut PhaseRegistration,
+        mode: u32,
+        child: *mut PhaseRegistration,
+    ) -> i32;
+
+    /// # Safety
+    /// As of `phase_shared_new`.
+    pub fn phase_shared_try_register(
+        parent: *mut PhaseRegistration,
+        mode: u32,
+        child: *mut PhaseRegistration,
+    ) -> i32;
+
+    /// # Safety
+    /// As of `phase_shared_new`.
+    pub fn phase_shared_register_now(
+        parent: *mut PhaseRegistration,
+        child: *mut PhaseRegistration,
+        phase: *mut u64,
+    ) -> i32;
+
+    /// # Safety
+    /// As of `phase_shared_new`.
+    pub fn phase_shared_try_register_now(
+        parent: *mut PhaseRegistration,
+        child: *mut PhaseRegistration,
+        phase: *mut u64,
+    ) -> i32;
+
+    /// # Safety
+    /// As of `phase_shared_new`.
+    pub fn phase_shared_signal(
+        registration: *mut PhaseRegistration,
+        values: *const i64,
+        values_len: usize,
+        single: u32,
+        low: i64,
+        high: i64,
+        phase: *mut u64,
+    ) -> i32;
+
+    /// # Safety
+    /// As of `phase_shared_new`.
+    pub fn phase_shared_try_signal(
+        registration: *mut PhaseRegistration,
+        values: *const i64,
+        values_len: usize,
+        single: u32,
+        low: i64,
+        high: i64,
+        phase: *mut u64,
+    ) -> i32;
+
+    /// # Safety
+    /// As of `phase_shared_new`.
+    pub fn phase_shared_signal_for(
+        registration: *mut PhaseRegistration,
+        values: *const i64,
+        values_len: usize,
+        single: u32,
+        low: i64,
+        high: i64,
+        phase: *mut u64,
+        nanoseconds: u64,
+    ) -> i32;
+
+    /// # Safety
+    /// As of `phase_shared_new`.
+    pub fn phase_shared_next(
+        registration: *mut PhaseRegistration,
+        values: *const i64,
+        values_len: usize,
+        single: u32,
+        low: i64,
+        high: i64,
+        phase: *mut u64,
+        value: *mut i64,
+    ) -> i32;
+
+    /// # Safety
+    /// As of `phase_shared_new`.
+    pub fn phase_shared_try_next(
+        registration: *mut PhaseRegistration,
+        values: *const i64,
+        values_len: usize,
+        single: u32,
+        low: i64,
+        high: i64,
+        phase: *mut u64,
+        value: *mut i64,
+    ) -> i32;
+
+    /// # Safety
+    /// As of `phase_shared_new`.
+    pub fn phase_shared_next_for(
+        registration: *mut PhaseRegistration,
+        values: *const i64,
+        values_len: usize,
+        single: u32,
+        low: i64,
+        high: i64,
+        phase: *mut u64,
+        value: *mut i64,
+        nanoseconds: u64,
+    ) -> i32;
+
+    /// # Safety
+    /// As of `phase_shared_new`.
+    pub fn phase_shared_wait(
+        registration: *mut PhaseRegistration,
+        phase: *mut u64,
+        value: *mut i64,
+    ) -> i32;
+
+    /// # Safety
+    /// As of `phase_shared_new`.
+    pub fn phase_shared_try_wait(
+        registration: *mut PhaseRegistration,
+        phase: *mut u64,
+        value: *mut i64,
+    ) -> i32;
+
+    /// # Safety
+    /// As of `phase_shared_new`.
+    pub fn phase_shared_wait_for(
+        registration: *mut PhaseRegistration,
+        phase: *mut u64,
+        value: *mut i64,
+        nanoseconds: u64,
+    ) -> i32;
+
+    /// # Safety
+    /// As of `phase_shared_new`.
+    pub fn phase_shared_signal_block(
+        registration: *mut PhaseRegistration,
+        values: *const i64,
+        values_len: usize,
+        single: u32,
+        low: i64,
+        high: i64,
+        phase: *mut u64,
+    ) -> i32;
+
+    /// # Safety
+    /// As of `phase_shared_new`.
+    pub fn phase_shared_try_signal_block(
+        registration: *mut PhaseRegistration,
+        values: *const i64,
+        values_len: usize,
+        single: u32,
+        low: i64,
+        high: i64,
+        phase: *mut u64,
+    ) -> i32;
+
+    /// # Safety
+    /// As of `phase_shared_new`.
+    pub fn phase_shared_signal_block_for(
+        registration: *mut PhaseRegistration,
+        values: *const i64,
+        values_len: usize,
+        single: u32,
+        low: i64,
+        high: i64,
+        phase: *mut u64,
+        nanoseconds: u64,
+    ) -> i32;
+
+    /// # Safety
+    /// As of `phase_shared_new`.
+    pub fn phase_shared_wait_block(
+        registration: *mut PhaseRegistration,
+        values: *mut i64,
+        values_len: usize,
+        phase: *mut u64,
+        count: *mut usize,
+    ) -> i32;
+
+    /// # Safety
+    /// As of `phase_shared_new`.
+    pub fn phase_shared_try_wait_block(
+        registration: *mut PhaseRegistration,
+        values: *mut i64,
+        values_len: usize,
+        phase: *mut u64,
+        count: *mut usize,
+    ) -> i32;
+
+    /// # Safety
+    /// As of `phase_shared_new`.
+    pub fn phase_shared_wait_block_for(
+        registration: *mut PhaseRegistration,
+        values: *mut i64,
+        values_len: usize,
+        phase: *mut u64,
+        count: *mut usize,
+        nanoseconds: u64,
+    ) -> i32;
+
+    /// # Safety
+    /// As of `phase_shared_new`.
+    pub fn phase_shared_leave(registration: *mut PhaseRegistration) -> i32;
+
+    /// # Safety
+    /// As of `phase_shared_new`.
+    pub fn phase_shared_try_leave(registration: *mut PhaseRegistration) -> i32;
+
+    /// # Safety
+    /// As of `phase_shared_new`.
+    pub fn phase_shared_view(
+        registration: *mut PhaseRegistration,
+        standing: *mut PhaseMemberStanding,
+    ) -> i32;
+
+    /// # Safety
+    /// As of `phase_shared_new`.
+    pub fn phase_shared_told(
+        registration: *mut PhaseRegistration,
+        done: *mut u64,
+        base: *mut u64,
+    ) -> i32;
+}
