@@ -25,7 +25,11 @@
 #endif
 
 /* How often a pause looks while it spins, and how often it then yields. */
-enum { LOOKS = 15, YIELDS = 60 };
+enum { LOOKS = 15, YIELDS = 15 };
+
+/* After a try whose turn was another's: how often a pause spins, each time twice as long, before it
+ * yields, and how many nanoseconds it then sleeps. */
+enum { SPINS = 6, SNOOZE = 50000 };
 
 /* How long a pause sleeps at most, in nanoseconds: what a wake that is lost costs. */
 #ifndef PHASE_SLEEP
@@ -232,15 +236,20 @@ static void relax(void)
 #endif
 }
 
-/* Pauses after a try whose turn was another's, longer each time. */
+/* Pauses after a try whose turn was another's, longer each time. It sleeps in the end, so that one
+ * that has the turn goes on where it gets no processor beside those that yield. */
 static void snooze(struct patience *patience)
 {
-    if (patience->turns > 6) {
+    const struct timespec sleep = {0, SNOOZE};
+    if (patience->turns <= SPINS) {
+        for (uint32_t spins = 1u << patience->turns; spins > 0; spins--)
+            relax();
+    } else if (patience->turns <= SPINS + YIELDS) {
         sched_yield();
+    } else {
+        nanosleep(&sleep, NULL);
         return;
     }
-    for (uint32_t spins = 1u << patience->turns; spins > 0; spins--)
-        relax();
     patience->turns++;
 }
 

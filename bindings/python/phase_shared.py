@@ -13,14 +13,16 @@
 [0, 6, 12]
 
 A registration is used by one thread at a time: a second one that calls it meanwhile gets a
-RuntimeError. A call that has to wait lets the interpreter's lock go, so that other threads run; in
-a build without such a lock the calls are as safe. A wait ends by a KeyboardInterrupt within some
-10 milliseconds. What a thread did before its signal is seen by every thread that got the phase.
+RuntimeError. A call that has to wait lets the interpreter's lock go, so that other threads run; a
+build without such a lock needs nothing else, and was not tried. A wait ends by a KeyboardInterrupt
+within some 10 milliseconds. What a thread did before its signal is seen by every thread that got
+the phase. A process that was forked makes no call on its parent's registrations.
 """
 from __future__ import annotations
 
 import ctypes
 import operator
+import os
 import threading
 import time
 import weakref
@@ -167,7 +169,7 @@ class Registration:
         self._at, self._one_at = ctypes.byref(place), ctypes.addressof(self._one)
         self._phase_at, self._value_at = ctypes.byref(self._phase), ctypes.byref(self._value)
         # At the end of the interpreter other threads may still be in the middle of a call.
-        weakref.finalize(self, _lib.phase_shared_leave, place).atexit = False
+        weakref.finalize(self, _leave, place, os.getpid()).atexit = False
 
     def register(self, mode: int) -> Registration:
         """Registers a child in a mode that the mode of this one holds, at both of its phases. It
@@ -398,6 +400,12 @@ class SharedPhaser(Registration):
         phases, place = phase._numbered(phases, 64, phase.BadPhases), _Place()
         phase._done(_lib.phase_shared_new(operation, bound, phases, place))
         self._take(place)
+
+
+def _leave(place, process):
+    # In a process that was forked another thread's turn would never end.
+    if os.getpid() == process:
+        _lib.phase_shared_leave(place)
 
 
 def _of(place):

@@ -4,7 +4,6 @@
 #define _POSIX_C_SOURCE 200809L
 #include "phase_shared.h"
 #include <pthread.h>
-#include <sched.h>
 #include <stdatomic.h>
 #include <stdio.h>
 #include <stdlib.h>
@@ -44,6 +43,12 @@ static void linger(struct task *task)
 {
     struct timespec time = {0, (long)(1 + below(task, 3)) * 1000000};
     nanosleep(&time, NULL);
+}
+
+/* So short that the others go on. */
+static void rest(void)
+{
+    nanosleep(&(struct timespec){0, 1000}, NULL);
 }
 
 static void note_sent(uint64_t phase)
@@ -89,13 +94,13 @@ static int32_t tries(struct task *task)
     while ((status = phase_shared_try_signal(&task->registration, &one, 1, PHASE_NO_SINGLE, 0, 0,
                                              &phase)) == PHASE_E_BUSY
            || status == PHASE_E_AHEAD)
-        sched_yield();
+        rest();
     if (status != PHASE_OK)
         return status;
     note_sent(phase);
     while ((status = phase_shared_try_wait(&task->registration, &phase, &value)) == PHASE_E_BUSY
            || status == PHASE_E_NOT_YET)
-        sched_yield();
+        rest();
     if (status == PHASE_OK)
         note_got(phase, value);
     return status;
@@ -107,10 +112,9 @@ static int32_t goes_next(struct task *task, uint64_t nanoseconds)
     uint64_t phase = 0;
     int64_t value = 0;
     int32_t status;
-    do
-        status = phase_shared_next_for(&task->registration, &one, 1, PHASE_NO_SINGLE, 0, 0, &phase,
-                                       &value, nanoseconds);
-    while (status == PHASE_E_AHEAD);
+    while ((status = phase_shared_next_for(&task->registration, &one, 1, PHASE_NO_SINGLE, 0, 0,
+                                           &phase, &value, nanoseconds)) == PHASE_E_AHEAD)
+        rest();
     if (status < 0)
         return status;
     note_sent(phase);

@@ -608,9 +608,9 @@ int main(void)
     joins_late();
     tries();
     for (uint64_t bound = 1; bound <= 2; bound++) {
-        barrier(2, bound, 4000);
-        barrier(4, bound, 2000);
-        barrier(16, bound, 300);
+        barrier(2, bound, 1000);
+        barrier(4, bound, 500);
+        barrier(16, bound, 100);
     }
     stream();
     blocks();

@@ -99,8 +99,8 @@ pub record LeavesSeat {K : Type 0} (allows : K → Allows) (terms : Terms K) (me
   pub rests : v ≡ resting (Dropped me ∷ before) (me ∷ [])
   pub good : IsGoodAt allows terms (Dropped me ∷ before)
 
--- a wait right after, where one is asked for. Where it got nothing, nothing came, and none was asked
--- for or it has no answer there but a refusal
+-- a wait right after, where one is asked for. Where it got nothing, nothing came, and none was
+-- asked for or it has no answer there but a refusal
 abbrev pub MayWait : Bool → (List ℤ → Outcome) → Limits → ℕ → History → History → Option Got
     → Type 0
 MayWait true value limits me old new (Some got) = Waits value limits me old new (Ok got)

@@ -5,7 +5,7 @@ use Rattle.csv.specs.Reading.{strip_bom, default_config, AreRecords}
 use Rattle.csv.specs.declared.parser.State.TheVariants as st
 use Rattle.std.specs.Fmt.{signed_decimal}
 use Rattle.graph_lang.specs.Samples.{row_of, AreRecordsOfValues}
-use Rattle.sample_pieces.specs.Pieces.{HasRead, FindsField, FindsLast, IsField, state_of}
+use Rattle.sample_pieces.specs.Pieces.{HasRead, FindsField, FindsLast, IsField, csv_state}
 use Rattle.sample_pieces.specs.Scans.{Scan, nothing_read, scan_on, rows_at_end, last_rows}
 use Rattle.sample_pieces.specs.declared.step.Where.{Where}
 use Rattle.sample_pieces.specs.declared.step.Where.TheVariants as place
@@ -22,7 +22,7 @@ rows_of : (text : List ℕ) (values : List ℤ) (r : SampleReader) (last : Rows)
     → HasRead text values r
     → last_rows (record {
       rows = map row_of values;
-      state = state_of r.at;
+      state = csv_state r.at;
       fields = [];
       field = r.field.items;
     }) ≡ last
@@ -39,12 +39,12 @@ all_of text rows is =
 
 none_at : (at : Where) (field : List ℕ) (rows : Rows)
     → (at ≡ place.Between) ⊎ (at ≡ place.AfterReturn)
-    → last_rows (record { rows = rows; state = state_of at; fields = []; field = field }) ≡ []
+    → last_rows (record { rows = rows; state = csv_state at; fields = []; field = field }) ≡ []
 none_at at field rows (inl is) = rw is refl
 none_at at field rows (inr is) = rw is refl
 
 one_at : (at : Where) (field : List ℕ) (rows : Rows) → IsField at
-    → last_rows (record { rows = rows; state = state_of at; fields = []; field = field })
+    → last_rows (record { rows = rows; state = csv_state at; fields = []; field = field })
     ≡ (field ∷ []) ∷ []
 one_at place.Field field rows is = refl
 one_at place.Quotes field rows is = refl

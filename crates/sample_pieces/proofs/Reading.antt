@@ -8,7 +8,7 @@ use Rattle.csv.specs.declared.parser.State.{State}
 use Rattle.std.specs.Fmt.{signed_decimal}
 use Rattle.graph_lang.specs.phase_accum.Sends.{IsSend, AreSends}
 use Rattle.graph_lang.specs.Samples.{row_of}
-use Rattle.sample_pieces.specs.Pieces.{HasRead, IsMarked, IsBadFrom, EndsMark, FindsField, IsField, Copies, state_of, done_by, Finds}
+use Rattle.sample_pieces.specs.Pieces.{HasRead, IsMarked, IsBadFrom, EndsMark, FindsField, IsField, Copies, csv_state, done_by, Finds}
 use Rattle.sample_pieces.specs.Scans.{Scan, nothing_read, scanned, scan_on}
 use Rattle.sample_pieces.specs.declared.step.Where.{Where}
 use Rattle.sample_pieces.specs.declared.step.Where.TheVariants as place
@@ -43,7 +43,7 @@ after it scan c =
 abbrev standing : List ℤ → Where → List ℕ → Scan
 standing values at field = record {
   rows = map row_of values;
-  state = state_of at;
+  state = csv_state at;
   fields = [];
   field = field;
 }
@@ -53,7 +53,7 @@ pub record Byte (text : List ℕ) (values : List ℤ) (r : SampleReader) (c : �
     : Type 0 where
   pub has : HasRead text values r
   pub other : EndsMark r.is_first r.field.items c false
-  pub done : done_by move ≡ step default_config (state_of r.at) c
+  pub done : done_by move ≡ step default_config (csv_state r.at) c
 
 -- the byte is behind what was read
 plain_on : (text : List ℕ) (values : List ℤ) (r : SampleReader) (c : ℕ) (move : Move)
@@ -187,7 +187,7 @@ separated text values r c b sign =
     (λ more. long_at_hand values (scan_on nothing_read (strip_bom (text ++ c ∷ [])))
     (ap (λ (s : Scan). s.rows) scan) (rw scan tt) (rw scan (inl (omega arith))) more)
 
-field_within : (to : Where) → IsField to → IsWithin (state_of to)
+field_within : (to : Where) → IsField to → IsWithin (csv_state to)
 field_within place.Field is = tt
 field_within place.Quotes is = tt
 field_within place.AfterQuote is = tt

@@ -18,18 +18,18 @@ use Rattle.sample_pieces.specs.declared.reader.Found.TheVariants as found
 use Rattle.sample_pieces.specs.declared.reader.SampleReader.{SampleReader}
 
 -- where csv stands
-abbrev pub state_of : Where → State
-state_of place.Between = st.StartRecord
-state_of place.AfterReturn = st.AfterCr
-state_of place.Field = st.InField
-state_of place.Quotes = st.InQuoted
-state_of place.AfterQuote = st.AfterQuote
+abbrev pub csv_state : Where → State
+csv_state place.Between = st.StartRecord
+csv_state place.AfterReturn = st.AfterCr
+csv_state place.Field = st.InField
+csv_state place.Quotes = st.InQuoted
+csv_state place.AfterQuote = st.AfterQuote
 
 -- what a byte does, as csv tells it
 abbrev pub done_by : Move → State × Action
-done_by (byte.Skips to) = (state_of to, act.Skip)
-done_by (byte.Copies to) = (state_of to, act.Copy)
-done_by (byte.Ends to) = (state_of to, act.EndRecord)
+done_by (byte.Skips to) = (csv_state to, act.Skip)
+done_by (byte.Copies to) = (csv_state to, act.Copy)
+done_by (byte.Ends to) = (csv_state to, act.EndRecord)
 done_by byte.Separates = (st.StartField, act.EndField)
 
 -- within a record
@@ -56,7 +56,7 @@ pub record HasRead (text : List ℕ) (values : List ℤ) (reader : SampleReader)
   pub sends : AreSends values
   pub scan : scan_on nothing_read (strip_bom text) ≡ record {
     rows = map row_of values;
-    state = state_of reader.at;
+    state = csv_state reader.at;
     fields = [];
     field = reader.field.items;
   }
@@ -75,9 +75,9 @@ Finds text values reader (found.Value v) = HasRead text (values ++ v ∷ []) rea
 Finds text values reader found.Bad = IsBadFrom text (length values + 1)
 
 -- what a piece came to: all values of the text as far as it was read, or a bad record behind them
-abbrev pub Takes : Bool → List ℕ → List ℤ → SampleReader → Type 0
-Takes false text values reader = HasRead text values reader
-Takes true text values reader = AreSends values × IsBadFrom text (length values + 1)
+abbrev pub TakesPiece : Bool → List ℕ → List ℤ → SampleReader → Type 0
+TakesPiece false text values reader = HasRead text values reader
+TakesPiece true text values reader = AreSends values × IsBadFrom text (length values + 1)
 
 -- what was found at the end of a text
 abbrev pub FindsLast : List ℕ → List ℤ → Found → Type 0

@@ -1,6 +1,6 @@
 //! A reader of samples whose text comes in pieces.
 ghost use Rattle.std.specs.Prelude.{◌≡◌, ◌+◌, ◌≤◌, ◌<◌, [], ◌∷◌, ◌++◌, ℕ, ℤ, List, length, take, drop, true, false};
-ghost use Rattle.sample_pieces.specs.Pieces.{HasRead, Finds, FindsLast, Takes, FindsField, EndsMark, Copies};
+ghost use Rattle.sample_pieces.specs.Pieces.{HasRead, Finds, FindsLast, TakesPiece, FindsField, EndsMark, Copies};
 
 use crate::number::value_of;
 use crate::step::{Move, Where, step};
@@ -62,7 +62,7 @@ impl SampleReader {
     /// behind them stays. It takes no memory.
     pub fn read(&mut self, piece: &[u8], out: &mut [i64]) -> Taken
         ensures takes { (text : List ℕ) (values : List ℤ) → HasRead text values self.old
-            → Takes result.is_bad (text ++ take result.bytes piece.now)
+            → TakesPiece result.is_bad (text ++ take result.bytes piece.now)
             (values ++ take result.values out.new) self.new }
         ensures bytes { result.bytes ≤ length piece.now }
         ensures values { result.values ≤ length out.old }

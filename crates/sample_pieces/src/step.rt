@@ -2,7 +2,7 @@
 ghost use Rattle.std.specs.Prelude.{◌≡◌};
 ghost use Rattle.csv.specs.Machine.{step, in_field, start_record};
 ghost use Rattle.csv.specs.Reading.{default_config};
-ghost use Rattle.sample_pieces.specs.Pieces.{state_of, done_by, IsSignUnlessCopied};
+ghost use Rattle.sample_pieces.specs.Pieces.{csv_state, done_by, IsSignUnlessCopied};
 
 /// Where a reader stands in a record of one field.
 #[derive(Clone, Copy, Debug, PartialEq, Eq)]
@@ -35,7 +35,7 @@ pub enum Move {
 /// What the byte does to a reader that stands there. It takes no memory.
 pub fn step(at: Where, byte: u8) -> Move
     ensures sign { IsSignUnlessCopied byte result }
-    ensures done { done_by result ≡ step default_config (state_of at) byte }
+    ensures done { done_by result ≡ step default_config (csv_state at) byte }
 {
     match at {
         Where::Between | Where::AfterReturn => before_record(byte),

@@ -17,7 +17,7 @@ use Rattle.handle_numbers.specs.Blocks.{numbers_after}
 use Rattle.handle_numbers.specs.Numbers.{value_number}
 use Rattle.handle_numbers.proofs.BlockWaits.{legal-limits, got_of, numbers-got}
 use Rattle.shared_handle.specs.Calls.{BlockWaitCall}
-use Rattle.shared_handle.specs.Members.{MemberState, limits_on}
+use Rattle.shared_handle.specs.Members.{Registration, limits_by}
 use Rattle.shared_handle.specs.NumberBlocks.{WaitsNumbers, NumbersCall}
 
 -- the numbers of what was got are written, and else nothing is
@@ -74,13 +74,13 @@ module _ (value : List ℤ → Outcome) (limits : Limits) (me : ℕ) (old_out ne
 
 -- a wait for a block is one for its numbers
 pub numbers_call : (value : List ℤ → Outcome) (old_out new_out : List Outcome)
-    (old_values new_values : List ℤ) (m n : MemberState)
+    (old_values new_values : List ℤ) (m n : Registration)
     (answer : Result GotBlock (Tried WaitRefusal)) → AskedAs (length old_out) (length old_values)
     → Writes answer new_out old_values new_values → BlockWaitCall value old_out new_out m n answer
     → NumbersCall value old_values new_values m n answer
 numbers_call value old_out new_out old_values new_values m n answer asked writes call = record {
-  call_is = tries_numbers value (limits_on m.at) m.number old_out new_out old_values new_values
-      asked (legal-limits (limits_on m.at) n.seen call.stays.legal) (n ≡ m) m.seen n.seen answer
+  call_is = tries_numbers value (limits_by m.at) m.number old_out new_out old_values new_values
+      asked (legal-limits (limits_by m.at) n.seen call.stays.legal) (n ≡ m) m.seen n.seen answer
       call.call_is writes;
   stays = call.stays;
   known = call.known;

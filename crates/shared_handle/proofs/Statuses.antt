@@ -14,9 +14,10 @@ use Rattle.phase_shared.specs.phase_history.declared.refusal.WaitRefusal.{WaitRe
 use Rattle.phase_shared.specs.phase_history.declared.refusal.WaitRefusal.TheVariants as wait
 use Rattle.phase_shared.specs.declared.tried.Tried.{Tried}
 use Rattle.phase_shared.specs.declared.tried.Tried.TheVariants.{Busy, Refused}
-use Rattle.handle_numbers.specs.Numbers.{register_number, signal_number, wait_number, signal_status, wait_status, wait_block_status, phase_or}
+use Rattle.handle_numbers.specs.Numbers.{signal_number, wait_number, signal_status, wait_status, wait_block_status, phase_or}
 use Rattle.handle_numbers.specs.declared.numbers.TheConstants.{GOOD, ENDED, SIGNALLED}
-use Rattle.shared_handle.specs.Told.{tried_status, next_status, phase_signalled, value_after, phase_got, value_got, first_got, count_got}
+use Rattle.shared_handle.specs.declared.any_member.AnyMember.{AnyMember}
+use Rattle.shared_handle.specs.Told.{tried_status, next_status, register_status, start_got, phase_signalled, value_after, phase_got, value_got, first_got, count_got}
 
 -- the number fits
 abbrev pub IsStatus : ℤ → Type 0
@@ -40,12 +41,25 @@ wait_number_fits wait.BadBlock = refl
 wait_number_fits wait.SignalFirst = refl
 wait_number_fits wait.NotYet = refl
 
-register_number_fits : (refusal : RegisterRefusal) → IsStatus (register_number refusal)
-register_number_fits register.NoTask = refl
-register_number_fits register.NotAllowed = refl
-register_number_fits register.NotNew = refl
-register_number_fits register.TooManyTasks = refl
-register_number_fits register.OutOfMemory = refl
+register_fits : {X : Type 0} (answer : Result X (Tried RegisterRefusal))
+    → IsStatus (tried_status register_status answer)
+register_fits (Ok child) = refl
+register_fits (Err Busy) = refl
+register_fits (Err (Refused register.NoTask)) = refl
+register_fits (Err (Refused register.NotAllowed)) = refl
+register_fits (Err (Refused register.NotNew)) = refl
+register_fits (Err (Refused register.TooManyTasks)) = refl
+register_fits (Err (Refused register.OutOfMemory)) = refl
+
+-- a refused registration is not told as good
+pub register_refused : (X : Type 0) (tried : Tried RegisterRefusal)
+    → tried_status {X = X} register_status (Err tried) ≡ GOOD → ⊥
+register_refused X Busy good = cc
+register_refused X (Refused register.NoTask) good = cc
+register_refused X (Refused register.NotAllowed) good = cc
+register_refused X (Refused register.NotNew) good = cc
+register_refused X (Refused register.TooManyTasks) good = cc
+register_refused X (Refused register.OutOfMemory) good = cc
 
 pub signal_fits : (answer : Result ℕ (Tried SignalRefusal))
     → IsStatus (tried_status signal_status answer)
@@ -97,10 +111,10 @@ pub wait_block_told : (answer : Result GotBlock (Tried WaitRefusal)) (code : ℤ
     → to_z w32 (of_z w32 code) ≡ tried_status wait_block_status answer
 wait_block_told answer code is = ap (λ r. to_z w32 (of_z w32 r)) is ∙ wait_block_fits answer
 
-pub register_told : (refusal : RegisterRefusal) (code : ℤ) → code ≡ register_number refusal
-    → to_z w32 (of_z w32 code) ≡ register_number refusal
-register_told refusal code is =
-    ap (λ r. to_z w32 (of_z w32 r)) is ∙ register_number_fits refusal
+pub register_told : {X : Type 0} (answer : Result X (Tried RegisterRefusal)) (code : ℤ)
+    → code ≡ tried_status register_status answer
+    → to_z w32 (of_z w32 code) ≡ tried_status register_status answer
+register_told answer code is = ap (λ r. to_z w32 (of_z w32 r)) is ∙ register_fits answer
 
 -- ---- where nothing was got
 
@@ -144,3 +158,13 @@ pub numbers_unwritten : (answer : Result GotBlock (Tried WaitRefusal)) (old new 
 numbers_unwritten (Ok (block.Values first many)) old new none ended err = absurd (none refl)
 numbers_unwritten (Ok block.Ended) old new none ended err = ended refl
 numbers_unwritten (Err tried) old new none ended err = err
+
+pub register_unwritten : {X Y : Type 0} (answer : Result X (Tried RegisterRefusal)) (old new : Y)
+    → tried_status register_status answer ≢ GOOD → OnErr answer (new ≡ old) → new ≡ old
+register_unwritten (Ok child) old new none same = absurd (none refl)
+register_unwritten (Err tried) old new none same = same
+
+pub start_unwritten : (answer : Result AnyMember (Tried RegisterRefusal)) (old : ℕ)
+    → tried_status register_status answer ≢ GOOD → start_got answer old ≡ old
+start_unwritten (Ok child) old none = absurd (none refl)
+start_unwritten (Err tried) old none = refl

@@ -20,13 +20,13 @@ use Rattle.phase_shared.specs.Calls.{IsTry, Tries, Signals, SignalsAndMayWait, M
 use Rattle.phase_shared.specs.Rule.{Allows}
 use Rattle.phase_shared.specs.Regs.{RegState, IsGoodOn, phaser_lock, phaser_terms, phaser_limits}
 use Rattle.phase_shared.proofs.Answering.{Tries-map}
-use Rattle.shared_handle.specs.Members.{limits_on, member_state, IsMember}
+use Rattle.shared_handle.specs.Members.{limits_by, as_registration, IsInItsHistory}
 use Rattle.shared_handle.specs.Calls.{AreAlike, SignalsSends, SignalsAndWaits, IsMemberTry}
 
 module _ {A : Type 0} where
   -- registrations that differ in what they hold alone are one member
   pub state_same : (a b : RegState A Unwoken) → a.at ≡ b.at → a.number ≡ b.number
-      → a.entry ≡ b.entry → a.seen ≡ b.seen → member_state a ≡ member_state b
+      → a.entry ≡ b.entry → a.seen ≡ b.seen → as_registration a ≡ as_registration b
   state_same a b at number entry seen = λ i. record {
     at = at i;
     number = number i;
@@ -37,9 +37,10 @@ module _ {A : Type 0} where
   -- a registration on this phaser is a member
   pub is_member : (allows : Unwoken → Allows) (phaser : Phaser A Unwoken)
       (reg : RegState A Unwoken) → reg.at ≡ phaser_lock phaser → IsGoodOn allows reg.at reg.seen
-      → entry_of (members_of reg.seen) reg.number ≡ Some reg.entry → IsMember (member_state reg)
+      → entry_of (members_of reg.seen) reg.number ≡ Some reg.entry
+      → IsInItsHistory (as_registration reg)
   is_member allows phaser reg at good entry = record {
-    legal = subst (λ place. IsLegal (limits_on place) reg.seen) (sym at)
+    legal = subst (λ place. IsLegal (limits_by place) reg.seen) (sym at)
         ((good (phaser_terms phaser) (ap (λ place. place.1) at)).legal);
     member = entry;
   }
@@ -51,7 +52,7 @@ module _ {A : Type 0} where
       (answer : Result X (Tried R)) → old.at ≡ phaser_lock phaser → (same → same')
       → ((told : Result X R) → call told → call' told)
       → IsTry allows (phaser_terms phaser) no_task after (Tries same call answer) old new answer
-      → IsMemberTry no_task after same' call' (member_state old) (member_state new) answer
+      → IsMemberTry no_task after same' call' (as_registration old) (as_registration new) answer
   member_try allows phaser no_task after same same' call call' old new answer at still told t =
       record {
         call_is = Tries-map same same' call call' still told answer t.call;
@@ -59,7 +60,7 @@ module _ {A : Type 0} where
           at = t.at.0;
           number = t.at.1;
           entry_is = t.entry;
-          legal = subst (λ place. IsLegal (limits_on place) new.seen) (sym at) (t.good.legal);
+          legal = subst (λ place. IsLegal (limits_by place) new.seen) (sym at) (t.good.legal);
         };
         known = t.known;
         alone = λ alone. t.alone alone.only;
@@ -67,8 +68,8 @@ module _ {A : Type 0} where
 
   -- the limits of the phaser that a registration is on
   pub limits_same : (phaser : Phaser A Unwoken) (reg : RegState A Unwoken)
-      → reg.at ≡ phaser_lock phaser → phaser_limits phaser ≡ limits_on reg.at
-  limits_same phaser reg at = sym (ap limits_on at)
+      → reg.at ≡ phaser_lock phaser → phaser_limits phaser ≡ limits_by reg.at
+  limits_same phaser reg at = sym (ap limits_by at)
 
 -- ---- signals
 
@@ -116,11 +117,13 @@ module _ {A : Type 0} (op : Operation A) (laws : AccumulateLaws op) where
       → limits ≡ limits' → StandsForSends op held values
       → SignalsAndMayWait true op limits me held single old new answer
       → SignalsAndWaits op.value limits' me values single old new answer
-  signals_and_waits limits limits' me held values single old new (Ok answer) same stands s = record {
-    middle = s.middle;
-    signals = signals_sends limits limits' me held values single old s.middle (Ok answer.0) same
-        stands s.signals;
-    waits = subst (λ (l : Limits). MayWait true op.value l me s.middle new answer.1) same s.waits;
-  }
+  signals_and_waits limits limits' me held values single old new (Ok answer) same stands s =
+      record {
+        middle = s.middle;
+        signals = signals_sends limits limits' me held values single old s.middle (Ok answer.0)
+            same stands s.signals;
+        waits = subst (λ (l : Limits). MayWait true op.value l me s.middle new answer.1) same
+            s.waits;
+      }
   signals_and_waits limits limits' me held values single old new (Err refusal) same stands s =
       signals_sends limits limits' me held values single old new (Err refusal) same stands s

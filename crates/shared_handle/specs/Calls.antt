@@ -27,18 +27,18 @@ use Rattle.phase_shared.specs.Blocks.{SignalsValues, WaitsBlock, entry_after_blo
 use Rattle.phase_shared.specs.Calls.{Tries, Waits, MayWait, HasRegistered, RefusesRegister}
 use Rattle.phase_shared.specs.Entries.{entry_stays, entry_after_signal, entry_after_wait, entry_after_both}
 use Rattle.phase_shared.specs.Joins.{HasRegisteredNow}
-use Rattle.shared_handle.specs.Members.{MemberState, limits_on, IsAlone, Stays}
+use Rattle.shared_handle.specs.Members.{Registration, limits_by, IsOnlyOne, StaysAt}
 
 -- a try of a registration: the turn was another's and all stayed as it was, or the call has its
 -- answer. It stands where `after` says; it is never answered that it is no member, nor, where it is
 -- the only one that it has seen, that the turn was another's
 pub record IsMemberTry {X R : Type 0} (no_task : R) (after : Option X → Entry → Entry)
-    (same : Type 0) (call : Result X R → Type 0) (old new : MemberState)
+    (same : Type 0) (call : Result X R → Type 0) (old new : Registration)
     (answer : Result X (Tried R)) : Type 0 where
   pub call_is : Tries same call answer
-  pub stays : Stays (after (result_ok answer) old.entry) old new
+  pub stays : StaysAt (after (result_ok answer) old.entry) old new
   pub known : answer ≢ Err (Refused no_task)
-  pub alone : IsAlone old → answer ≢ Err Busy
+  pub alone : IsOnlyOne old → answer ≢ Err Busy
 
 -- ---- signals
 
@@ -78,72 +78,74 @@ SignalsAndWaits value limits me values single old new (Ok answer) =
 SignalsAndWaits value limits me values single old new (Err refusal) =
     SignalsSends value limits me values single old new (Err refusal)
 
-abbrev pub SignalCall : (List ℤ → Outcome) → List ℤ → Option Single → MemberState → MemberState
+abbrev pub SignalCall : (List ℤ → Outcome) → List ℤ → Option Single → Registration → Registration
     → Result ℕ (Tried SignalRefusal) → Type 0
 SignalCall value values single old new answer =
     IsMemberTry signal.NoTask entry_after_signal (new ≡ old)
-    (SignalsSends value (limits_on old.at) old.number values single old.seen new.seen) old new
+    (SignalsSends value (limits_by old.at) old.number values single old.seen new.seen) old new
     answer
 
-abbrev pub NextCall : (List ℤ → Outcome) → List ℤ → Option Single → MemberState → MemberState
+abbrev pub NextCall : (List ℤ → Outcome) → List ℤ → Option Single → Registration → Registration
     → Result (ℕ × Option Got) (Tried SignalRefusal) → Type 0
 NextCall value values single old new answer =
     IsMemberTry signal.NoTask entry_after_both (new ≡ old)
-    (SignalsAndWaits value (limits_on old.at) old.number values single old.seen new.seen) old new
+    (SignalsAndWaits value (limits_by old.at) old.number values single old.seen new.seen) old new
     answer
 
-abbrev pub BlockSignalCall : List ℤ → Option Single → MemberState → MemberState
+abbrev pub BlockSignalCall : List ℤ → Option Single → Registration → Registration
     → Result ℕ (Tried SignalRefusal) → Type 0
 BlockSignalCall values single old new answer =
     IsMemberTry signal.NoTask (entry_after_block (length values)) (new ≡ old)
-    (SignalsValues (limits_on old.at) old.number values single old.seen new.seen) old new answer
+    (SignalsValues (limits_by old.at) old.number values single old.seen new.seen) old new answer
 
 -- ---- waits
 
-abbrev pub WaitCall : (List ℤ → Outcome) → MemberState → MemberState
+abbrev pub WaitCall : (List ℤ → Outcome) → Registration → Registration
     → Result Got (Tried WaitRefusal) → Type 0
 WaitCall value old new answer =
     IsMemberTry wait.NoTask entry_after_wait (new ≡ old)
-    (Waits value (limits_on old.at) old.number old.seen new.seen) old new answer
+    (Waits value (limits_by old.at) old.number old.seen new.seen) old new answer
 
-abbrev pub BlockWaitCall : (List ℤ → Outcome) → List Outcome → List Outcome → MemberState
-    → MemberState → Result GotBlock (Tried WaitRefusal) → Type 0
+abbrev pub BlockWaitCall : (List ℤ → Outcome) → List Outcome → List Outcome → Registration
+    → Registration → Result GotBlock (Tried WaitRefusal) → Type 0
 BlockWaitCall value old_out new_out old new answer =
     IsMemberTry wait.NoTask entry_after_values ((new ≡ old) × (new_out ≡ old_out))
-    (WaitsBlock value (limits_on old.at) old.number old.seen new.seen old_out new_out) old new
+    (WaitsBlock value (limits_by old.at) old.number old.seen new.seen old_out new_out) old new
     answer
 
 -- ---- children
 
--- a child: it is on its parent's phaser and at its parent's phases, and has seen what its parent has
-pub record HasAdded (mode : Mode) (old new child : MemberState) : Type 0 where
+-- a child: it is on its parent's phaser, at its parent's phases, and has seen what its parent has
+pub record HasMadeChild (mode : Mode) (old new child : Registration) : Type 0 where
   pub registered : HasRegistered old.number child.number mode old.seen new.seen
   pub at : child.at ≡ old.at
   pub entry : child.entry ≡ entry_at mode old.entry.signal_phase old.entry.wait_phase
   pub seen : child.seen ≡ new.seen
 
 -- a child, or the refusal
-abbrev pub Adds : Mode → MemberState → MemberState → Result MemberState RegisterRefusal → Type 0
-Adds mode old new (Ok child) = HasAdded mode old new child
-Adds mode old new (Err refusal) = RefusesRegister old.number mode old.seen new.seen refusal
+abbrev pub MakesChild : Mode → Registration → Registration
+    → Result Registration RegisterRefusal → Type 0
+MakesChild mode old new (Ok child) = HasMadeChild mode old new child
+MakesChild mode old new (Err refusal) = RefusesRegister old.number mode old.seen new.seen refusal
 
 -- a child that waits from the first phase on that is not complete
-pub record HasAddedNow (old new child : MemberState) : Type 0 where
+pub record HasMadeChildNow (old new child : Registration) : Type 0 where
   pub registered : HasRegisteredNow old.number child.number old.entry child.entry old.seen new.seen
   pub at : child.at ≡ old.at
   pub seen : child.seen ≡ new.seen
 
 -- such a child, or the refusal
-abbrev pub AddsNow : MemberState → MemberState → Result MemberState RegisterRefusal → Type 0
-AddsNow old new (Ok child) = HasAddedNow old new child
-AddsNow old new (Err refusal) = RefusesRegister old.number mode.Wait old.seen new.seen refusal
+abbrev pub MakesChildNow : Registration → Registration → Result Registration RegisterRefusal
+    → Type 0
+MakesChildNow old new (Ok child) = HasMadeChildNow old new child
+MakesChildNow old new (Err refusal) = RefusesRegister old.number mode.Wait old.seen new.seen refusal
 
-abbrev pub AddCall : Mode → MemberState → MemberState
-    → Result MemberState (Tried RegisterRefusal) → Type 0
+abbrev pub AddCall : Mode → Registration → Registration
+    → Result Registration (Tried RegisterRefusal) → Type 0
 AddCall mode old new answer =
-    IsMemberTry register.NoTask entry_stays (new ≡ old) (Adds mode old new) old new answer
+    IsMemberTry register.NoTask entry_stays (new ≡ old) (MakesChild mode old new) old new answer
 
-abbrev pub AddNowCall : MemberState → MemberState → Result MemberState (Tried RegisterRefusal)
+abbrev pub AddNowCall : Registration → Registration → Result Registration (Tried RegisterRefusal)
     → Type 0
 AddNowCall old new answer =
-    IsMemberTry register.NoTask entry_stays (new ≡ old) (AddsNow old new) old new answer
+    IsMemberTry register.NoTask entry_stays (new ≡ old) (MakesChildNow old new) old new answer

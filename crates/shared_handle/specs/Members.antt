@@ -14,29 +14,29 @@ use Rattle.phase_shared.specs.Calls.{Leaves}
 use Rattle.phase_shared.specs.Regs.{RegState}
 
 -- which phaser it is
-abbrev pub Spot : Type 0
-Spot = Place (Terms Unwoken)
+abbrev pub PhaserSpot : Type 0
+PhaserSpot = Place (Terms Unwoken)
 
 -- the limits of the phaser at a spot
-abbrev pub spot_limits : Option (Terms Unwoken) → Limits
-spot_limits None = limits 1 1
-spot_limits (Some terms) = terms.limits
+abbrev pub terms_limits : Option (Terms Unwoken) → Limits
+terms_limits None = limits 1 1
+terms_limits (Some terms) = terms.limits
 
 -- the limits of the phaser that a spot is on
-abbrev pub limits_on : Spot → Limits
-limits_on at = spot_limits at.1
+abbrev pub limits_by : PhaserSpot → Limits
+limits_by at = terms_limits at.1
 
 -- a registration: its phaser, its number, its mode and phases, and the history that it has seen.
 -- What two registrations of one phaser have seen begins one history
-pub record MemberState : Type 0 where
-  pub at : Spot
+pub record Registration : Type 0 where
+  pub at : PhaserSpot
   pub number : ℕ
   pub entry : Entry
   pub seen : History
 
 -- for the code: a registration that may hold sends, as one
-abbrev pub member_state : {A : Type 0} → RegState A Unwoken → MemberState
-member_state reg = record {
+abbrev pub as_registration : {A : Type 0} → RegState A Unwoken → Registration
+as_registration reg = record {
   at = reg.at;
   number = reg.number;
   entry = reg.entry;
@@ -44,31 +44,31 @@ member_state reg = record {
 }
 
 -- it is registered, in its mode and at its phases, and what it has seen is legal
-pub record IsMember (m : MemberState) : Type 0 where
-  pub legal : IsLegal (limits_on m.at) m.seen
+pub record IsInItsHistory (m : Registration) : Type 0 where
+  pub legal : IsLegal (limits_by m.at) m.seen
   pub member : entry_of (members_of m.seen) m.number ≡ Some m.entry
 
 -- the founder of a phaser of these limits, which nobody else has been on
-pub record IsFounder (given : Limits) (m : MemberState) : Type 0 where
-  pub limits_are : limits_on m.at ≡ given
+pub record IsFounding (given : Limits) (m : Registration) : Type 0 where
+  pub limits_are : limits_by m.at ≡ given
   pub number : m.number ≡ 0
   pub entry : m.entry ≡ founder
   pub seen : m.seen ≡ Made 0 ∷ []
 
 -- it is the only one on its phaser that it has seen
-pub record IsAlone (m : MemberState) : Type 0 where
+pub record IsOnlyOne (m : Registration) : Type 0 where
   pub only : OnlyUsed (m.number ∷ []) m.seen
 
 -- after a call it is the same registration of the same phaser, it stands where this says, and what
 -- it has seen is legal
-pub record Stays (entry : Entry) (old new : MemberState) : Type 0 where
+pub record StaysAt (entry : Entry) (old new : Registration) : Type 0 where
   pub at : new.at ≡ old.at
   pub number : new.number ≡ old.number
   pub entry_is : new.entry ≡ entry
-  pub legal : IsLegal (limits_on old.at) new.seen
+  pub legal : IsLegal (limits_by old.at) new.seen
 
 -- it has left, by a legal history that ends with its drop
-pub record HasLeft (old : MemberState) : Type 0 where
+pub record HasLeft (old : Registration) : Type 0 where
   pub new : History
   pub leaves : Leaves old.number old.seen new
-  pub legal : IsLegal (limits_on old.at) new
+  pub legal : IsLegal (limits_by old.at) new

@@ -12,7 +12,7 @@ use Rattle.phase_shared.specs.phase_history.Others.{OthersCame}
 use Rattle.phase_shared.specs.declared.tried.Tried.{Tried}
 use Rattle.phase_shared.specs.Blocks.{entry_after_values}
 use Rattle.handle_numbers.specs.Blocks.{numbers_after}
-use Rattle.shared_handle.specs.Members.{MemberState, limits_on}
+use Rattle.shared_handle.specs.Members.{Registration, limits_by}
 use Rattle.shared_handle.specs.Calls.{IsMemberTry}
 
 -- a wait for as many phases as there are places, at most: events of others, and there the
@@ -26,9 +26,9 @@ pub record WaitsNumbers (value : List ℤ → Outcome) (limits : Limits) (me : �
   pub reply : wait_block_reply limits before me (length old_values) ≡ answer
   pub values_are : new_values ≡ numbers_after answer (stream_of value before) old_values
 
-abbrev pub NumbersCall : (List ℤ → Outcome) → List ℤ → List ℤ → MemberState → MemberState
+abbrev pub NumbersCall : (List ℤ → Outcome) → List ℤ → List ℤ → Registration → Registration
     → Result GotBlock (Tried WaitRefusal) → Type 0
 NumbersCall value old_values new_values old new answer =
     IsMemberTry wait.NoTask entry_after_values ((new ≡ old) × (new_values ≡ old_values))
-    (WaitsNumbers value (limits_on old.at) old.number old.seen new.seen old_values new_values) old
+    (WaitsNumbers value (limits_by old.at) old.number old.seen new.seen old_values new_values) old
     new answer

@@ -8,5 +8,5 @@ use Rattle.heap_slot.specs.Ownership.{slot_owns}
 use Rattle.shared_handle.specs.contracts.kept.Kept.{the_row}
 
 -- nothing, or what is behind the pointer and the right to give its block back
-abbrev pub place_owns : Global → Ptr → Option the_row.Denot → Fml
-place_owns alloc = slot_owns (ghosts.dealloc_token alloc) the_row
+abbrev pub kept_owns : Global → Ptr → Option the_row.Denot → Fml
+kept_owns alloc = slot_owns (ghosts.dealloc_token alloc) the_row

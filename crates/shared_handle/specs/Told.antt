@@ -1,7 +1,9 @@
 -- What C is told of the registration behind a handle: the status and what is written are functions
 -- of the answer of its call.
-use Rattle.std.specs.Prelude.{◌≡◌, ℕ, ℤ, List, Option, Some, None, Result, Ok, Err}
+use Rattle.std.specs.Prelude.{◌≡◌, ◌⊎◌, ◌<◌, ◌≤◌, ℕ, ℤ, List, length, Option, Some, None, Result, Ok, Err}
 use Rattle.phase_shared.specs.phase_base.declared.operation.Op.{Op}
+use Rattle.phase_shared.specs.phase_base.declared.limits.TheConstants.{SENDS_MAX}
+use Rattle.phase_shared.specs.phase_accum.Sends.{AreSends}
 use Rattle.phase_shared.specs.phase_accum.Values.{value_by}
 use Rattle.phase_shared.specs.phase_accum.declared.single.Single.{Single}
 use Rattle.phase_shared.specs.phase_history.declared.got.Got.{Got}
@@ -13,12 +15,12 @@ use Rattle.phase_shared.specs.phase_history.declared.refusal.SignalRefusal.{Sign
 use Rattle.phase_shared.specs.phase_history.declared.refusal.WaitRefusal.{WaitRefusal}
 use Rattle.phase_shared.specs.declared.tried.Tried.{Tried}
 use Rattle.phase_shared.specs.declared.tried.Tried.TheVariants.{Busy, Refused}
-use Rattle.handle_numbers.specs.Numbers.{signal_status, wait_status, wait_block_status, signal_number, register_number, value_number, mode_number, op_number, phase_or}
-use Rattle.handle_numbers.specs.declared.numbers.TheConstants.{GOOD, ENDED, SIGNALLED, BUSY}
-use Rattle.shared_handle.specs.Members.{MemberState}
+use Rattle.handle_numbers.specs.Numbers.{Names, signal_status, wait_status, wait_block_status, signal_number, register_number, value_number, mode_number, op_number, phase_or}
+use Rattle.handle_numbers.specs.declared.numbers.TheConstants.{GOOD, ENDED, SIGNALLED, BUSY, BAD_SINGLE, BAD_VALUE, TOO_MANY_SENDS}
+use Rattle.shared_handle.specs.Members.{Registration}
 use Rattle.shared_handle.specs.Calls.{SignalCall, NextCall, WaitCall, BlockSignalCall}
 use Rattle.shared_handle.specs.NumberBlocks.{NumbersCall}
-use Rattle.shared_handle.specs.AnyMembers.{op_in, member_in, state_of, held_in}
+use Rattle.shared_handle.specs.AnyMembers.{op_in, state_in, state_of, held_in}
 use Rattle.shared_handle.specs.declared.any_member.AnyMember.{AnyMember}
 use Rattle.shared_handle.specs.declared.kept.Kept.{Kept}
 use Rattle.shared_handle.specs.declared.member_exports.Standing.{Standing}
@@ -46,6 +48,28 @@ register_status (Err refusal) = register_number refusal
 -- the handle is refused with this status, and what is behind it stays as it was
 abbrev pub RefusedAs : ℤ → ℤ → Option Kept → Option Kept → Type 0
 RefusedAs refusal status old new = (status ≡ refusal) × (new ≡ old)
+
+-- the numbers name no single and not none
+abbrev pub NamesNone : ℕ → ℤ → ℤ → Type 0
+NamesNone kind low high = (named : Option Single) → Names kind low high named → ⊥
+
+-- the numbers name a single or none
+abbrev pub NamesOne : ℕ → ℤ → ℤ → Type 0
+NamesOne kind low high = (named : Option Single) × Names kind low high named
+
+-- why a block of values is refused before the phaser is asked: the first that holds
+abbrev pub IsBadBlock : List ℤ → ℕ → ℤ → ℤ → ℤ → Type 0
+IsBadBlock values kind low high status =
+    ((status ≡ BAD_SINGLE) × NamesNone kind low high)
+    ⊎ ((status ≡ BAD_VALUE) × NamesOne kind low high × (AreSends values → ⊥))
+
+-- why the values of one phase are
+abbrev pub IsBadSignal : List ℤ → ℕ → ℤ → ℤ → ℤ → Type 0
+IsBadSignal values kind low high status =
+    ((status ≡ BAD_SINGLE) × NamesNone kind low high)
+    ⊎ ((status ≡ TOO_MANY_SENDS) × NamesOne kind low high × (SENDS_MAX < length values))
+    ⊎ ((status ≡ BAD_VALUE) × NamesOne kind low high × (length values ≤ SENDS_MAX)
+    × (AreSends values → ⊥))
 
 -- ---- what is written
 
@@ -89,6 +113,11 @@ count_got (Ok (block.Values first many)) old = many
 count_got (Ok block.Ended) old = old
 count_got (Err refusal) old = old
 
+-- the phase that a child waits for first, or what stood there
+abbrev pub start_got : {R : Type 0} → Result AnyMember R → ℕ → ℕ
+start_got (Ok child) old = (state_in child).entry.wait_phase
+start_got (Err refusal) old = old
+
 -- the child is behind the handle that was given for it, under its parent's operation; or what was
 -- there still is
 abbrev pub GivesChild : {R : Type 0} → Op → Result AnyMember R → Option Kept → Option Kept → Type 0
@@ -101,7 +130,7 @@ GivesChild op (Err refusal) old new = new ≡ old
 pub record TellsSignal (values : List ℤ) (single : Option Single) (old new : AnyMember)
     (status : ℤ) (old_phase new_phase : ℕ) : Type 0 where
   pub answer : Result ℕ (Tried SignalRefusal)
-  pub call : SignalCall (value_by (op_in old)) values single (member_in old) (member_in new) answer
+  pub call : SignalCall (value_by (op_in old)) values single (state_in old) (state_in new) answer
   pub op : op_in new ≡ op_in old
   pub status_is : status ≡ tried_status signal_status answer
   pub phase_is : new_phase ≡ phase_or answer old_phase
@@ -110,7 +139,7 @@ pub record TellsSignal (values : List ℤ) (single : Option Single) (old new : A
 pub record TellsNext (values : List ℤ) (single : Option Single) (old new : AnyMember)
     (status : ℤ) (old_phase new_phase : ℕ) (old_value new_value : ℤ) : Type 0 where
   pub answer : Result (ℕ × Option Got) (Tried SignalRefusal)
-  pub call : NextCall (value_by (op_in old)) values single (member_in old) (member_in new) answer
+  pub call : NextCall (value_by (op_in old)) values single (state_in old) (state_in new) answer
   pub op : op_in new ≡ op_in old
   pub status_is : status ≡ tried_status next_status answer
   pub phase_is : new_phase ≡ phase_signalled answer old_phase
@@ -120,7 +149,7 @@ pub record TellsNext (values : List ℤ) (single : Option Single) (old new : Any
 pub record TellsWait (old new : AnyMember) (status : ℤ) (old_phase new_phase : ℕ)
     (old_value new_value : ℤ) : Type 0 where
   pub answer : Result Got (Tried WaitRefusal)
-  pub call : WaitCall (value_by (op_in old)) (member_in old) (member_in new) answer
+  pub call : WaitCall (value_by (op_in old)) (state_in old) (state_in new) answer
   pub op : op_in new ≡ op_in old
   pub status_is : status ≡ tried_status wait_status answer
   pub phase_is : new_phase ≡ phase_got answer old_phase
@@ -130,7 +159,7 @@ pub record TellsWait (old new : AnyMember) (status : ℤ) (old_phase new_phase :
 pub record TellsBlockSignal (values : List ℤ) (single : Option Single) (old new : AnyMember)
     (status : ℤ) (old_phase new_phase : ℕ) : Type 0 where
   pub answer : Result ℕ (Tried SignalRefusal)
-  pub call : BlockSignalCall values single (member_in old) (member_in new) answer
+  pub call : BlockSignalCall values single (state_in old) (state_in new) answer
   pub op : op_in new ≡ op_in old
   pub status_is : status ≡ tried_status signal_status answer
   pub phase_is : new_phase ≡ phase_or answer old_phase
@@ -139,8 +168,8 @@ pub record TellsBlockSignal (values : List ℤ) (single : Option Single) (old ne
 pub record TellsBlockWait (old_values new_values : List ℤ) (old new : AnyMember) (status : ℤ)
     (old_phase new_phase old_count new_count : ℕ) : Type 0 where
   pub answer : Result GotBlock (Tried WaitRefusal)
-  pub call : NumbersCall (value_by (op_in old)) old_values new_values (member_in old)
-      (member_in new) answer
+  pub call : NumbersCall (value_by (op_in old)) old_values new_values (state_in old)
+      (state_in new) answer
   pub op : op_in new ≡ op_in old
   pub status_is : status ≡ tried_status wait_block_status answer
   pub phase_is : new_phase ≡ first_got answer old_phase
@@ -148,18 +177,18 @@ pub record TellsBlockWait (old_values new_values : List ℤ) (old new : AnyMembe
 
 -- a registration, by one of the two calls: what it says of the parent before and after it
 pub record TellsRegister
-    (call : MemberState → MemberState → Result MemberState (Tried RegisterRefusal) → Type 0)
+    (call : Registration → Registration → Result Registration (Tried RegisterRefusal) → Type 0)
     (old new : AnyMember) (status : ℤ) (old_child new_child : Option Kept) : Type 0 where
   pub answer : Result AnyMember (Tried RegisterRefusal)
-  pub call_is : call (member_in old) (member_in new) (state_of answer)
+  pub call_is : call (state_in old) (state_in new) (state_of answer)
   pub op : op_in new ≡ op_in old
   pub status_is : status ≡ tried_status register_status answer
   pub child : GivesChild (op_in old) answer old_child new_child
 
 -- where a registration stands, in the numbers of C
 pub record IsStanding (m : AnyMember) (standing : Standing) : Type 0 where
-  pub number : standing.number ≡ (member_in m).number
-  pub signal_phase : standing.signal_phase ≡ (member_in m).entry.signal_phase
-  pub wait_phase : standing.wait_phase ≡ (member_in m).entry.wait_phase
-  pub mode : standing.mode ≡ mode_number (member_in m).entry.mode
+  pub number : standing.number ≡ (state_in m).number
+  pub signal_phase : standing.signal_phase ≡ (state_in m).entry.signal_phase
+  pub wait_phase : standing.wait_phase ≡ (state_in m).entry.wait_phase
+  pub mode : standing.mode ≡ mode_number (state_in m).entry.mode
   pub operation : standing.operation ≡ op_number (op_in m)

@@ -3,9 +3,9 @@ ghost use Rattle.std.specs.Prelude.{◌≡◌, ◌≤◌, ℕ, Ok, IfOk, IfErr, 
 ghost use Rattle.phase_shared.specs.phase_base.declared.limits.TheConstants.{SENDS_MAX};
 ghost use Rattle.phase_shared.specs.phase_accum.Sends.{AreSends};
 ghost use Rattle.phase_shared.specs.phase_accum.Values.{value_by};
-ghost use Rattle.shared_handle.specs.Members.{IsMember, IsFounder, IsAlone, HasLeft};
+ghost use Rattle.shared_handle.specs.Members.{IsInItsHistory, IsFounding, IsOnlyOne, HasLeft};
 ghost use Rattle.shared_handle.specs.Calls.{SignalCall, NextCall, WaitCall, BlockSignalCall, BlockWaitCall, AddCall, AddNowCall};
-ghost use Rattle.shared_handle.specs.AnyMembers.{op_in, member_in, state_of};
+ghost use Rattle.shared_handle.specs.AnyMembers.{op_in, state_in, state_of};
 
 use crate::member::Member;
 use phase_shared::Tried;
@@ -69,7 +69,7 @@ macro_rules! each_child {
 impl AnyMember {
     /// Makes a phaser of an operation, and gives its founder.
     pub fn make(alloc: Global, op: Op, limits: Spec) -> Result<AnyMember, AllocError>
-        ensures founder { IfOk result (λ made. IsFounder limits (member_in made)) }
+        ensures founder { IfOk result (λ made. IsFounding limits (state_in made)) }
         ensures op { IfOk result (λ made. op_in made ≡ op) }
     {
         match op {
@@ -83,7 +83,7 @@ impl AnyMember {
 
     /// Says what holds of it wherever it was kept meanwhile. It does nothing.
     pub fn look(&self)
-        ensures { IsMember (member_in self.now) }
+        ensures { IsInItsHistory (state_in self.now) }
     {
         each!(self, one => one.look())
     }
@@ -103,14 +103,14 @@ impl AnyMember {
 
     /// Returns its number, which nobody else has on its phaser.
     pub fn number(&self) -> u64
-        ensures { result ≡ (member_in self.now).number }
+        ensures { result ≡ (state_in self.now).number }
     {
         each!(self, one => one.number())
     }
 
     /// Returns its mode and its phases. It takes no turn.
     pub fn entry(&self) -> Entry
-        ensures { result ≡ (member_in self.now).entry }
+        ensures { result ≡ (state_in self.now).entry }
     {
         each!(self, one => one.entry())
     }
@@ -130,7 +130,7 @@ impl AnyMember {
         requires sends { AreSends values.now }
         requires few { length values.now ≤ SENDS_MAX }
         ensures call { SignalCall (value_by (op_in self.old)) values.now single
-            (member_in self.old) (member_in self.new) result }
+            (state_in self.old) (state_in self.new) result }
         ensures op { op_in self.new ≡ op_in self.old }
     {
         each!(self, one => one.signal(values, single))
@@ -145,7 +145,7 @@ impl AnyMember {
         requires sends { AreSends values.now }
         requires few { length values.now ≤ SENDS_MAX }
         ensures call { NextCall (value_by (op_in self.old)) values.now single
-            (member_in self.old) (member_in self.new) result }
+            (state_in self.old) (state_in self.new) result }
         ensures op { op_in self.new ≡ op_in self.old }
     {
         each!(self, one => one.next(values, single))
@@ -160,8 +160,8 @@ impl AnyMember {
         single: Option<Single>,
     ) -> Result<Result<u64, Tried<SignalRefusal>>, AllocError>
         requires { AreSends values.now }
-        ensures call { IfOk result (BlockSignalCall values.now single (member_in self.old)
-            (member_in self.new)) }
+        ensures call { IfOk result (BlockSignalCall values.now single (state_in self.old)
+            (state_in self.new)) }
         ensures op { op_in self.new ≡ op_in self.old }
         ensures err { OnErr result (self.new ≡ self.old) }
     {
@@ -171,8 +171,8 @@ impl AnyMember {
     /// Waits for its phase, and answers it with its value, or that no more will come. It takes no
     /// memory.
     pub fn wait(&mut self) -> Result<Got, Tried<WaitRefusal>>
-        ensures call { WaitCall (value_by (op_in self.old)) (member_in self.old)
-            (member_in self.new) result }
+        ensures call { WaitCall (value_by (op_in self.old)) (state_in self.old)
+            (state_in self.new) result }
         ensures op { op_in self.new ≡ op_in self.old }
     {
         each!(self, one => one.wait())
@@ -182,7 +182,7 @@ impl AnyMember {
     /// takes no memory.
     pub fn wait_block(&mut self, out: &mut [Outcome]) -> Result<GotBlock, Tried<WaitRefusal>>
         ensures call { BlockWaitCall (value_by (op_in self.old)) out.old out.new
-            (member_in self.old) (member_in self.new) result }
+            (state_in self.old) (state_in self.new) result }
         ensures op { op_in self.new ≡ op_in self.old }
         ensures few { (first many : ℕ) → result ≡ Ok (GotBlock.Values first many)
             → many ≤ length out.old }
@@ -197,7 +197,7 @@ impl AnyMember {
         mode: Mode,
     ) -> Result<Result<AnyMember, Tried<RegisterRefusal>>, AllocError>
         ensures call { IfOk result (λ answer.
-            AddCall mode (member_in self.old) (member_in self.new) (state_of answer)) }
+            AddCall mode (state_in self.old) (state_in self.new) (state_of answer)) }
         ensures op { op_in self.new ≡ op_in self.old }
         ensures child { IfOk result (λ answer.
             IfOk answer (λ child. op_in child ≡ op_in self.old)) }
@@ -209,7 +209,7 @@ impl AnyMember {
     /// Registers a child in `Wait`, at the first phase that is not complete. It may take memory.
     pub fn add_now(&mut self) -> Result<Result<AnyMember, Tried<RegisterRefusal>>, AllocError>
         ensures call { IfOk result (λ answer.
-            AddNowCall (member_in self.old) (member_in self.new) (state_of answer)) }
+            AddNowCall (state_in self.old) (state_in self.new) (state_of answer)) }
         ensures op { op_in self.new ≡ op_in self.old }
         ensures child { IfOk result (λ answer.
             IfOk answer (λ child. op_in child ≡ op_in self.old)) }
@@ -221,9 +221,9 @@ impl AnyMember {
     /// Ends the registration. Where another is in the middle of a call it comes back as it was. It
     /// takes no memory.
     pub fn leave(self) -> Result<(), AnyMember>
-        ensures ok { IfOk result (λ left. HasLeft (member_in self)) }
+        ensures ok { IfOk result (λ left. HasLeft (state_in self)) }
         ensures err { IfErr result (λ back. back ≡ self) }
-        ensures alone { IsAlone (member_in self) → IsOk result }
+        ensures alone { IsOnlyOne (state_in self) → IsOk result }
     {
         match self {
             AnyMember::Sum(one) => one.leave().map_err(AnyMember::Sum),

@@ -5,7 +5,7 @@ ghost use Rattle.phase_shared.specs.phase_accum.Sends.{AreSends};
 ghost use Rattle.phase_shared.specs.phase_accum.Values.{value_by};
 ghost use Rattle.phase_shared.specs.phase_history.Histories.{History};
 ghost use Rattle.phase_shared.specs.phase_history.Replies.{wait_block_reply};
-ghost use Rattle.shared_handle.specs.AnyMembers.{op_in, member_in, held_in, Keeps};
+ghost use Rattle.shared_handle.specs.AnyMembers.{op_in, state_in, held_in, StillHas};
 ghost use Rattle.shared_handle.specs.Calls.{BlockSignalCall, BlockWaitCall};
 ghost use Rattle.shared_handle.specs.NumberBlocks.{NumbersCall};
 ghost use Rattle.shared_handle.specs.declared.any_member.AnyMember.{AnyMember};
@@ -31,8 +31,8 @@ impl Handle {
         requires sends { AreSends values.now }
         ensures call { IfOk result (λ answer. (m : AnyMember)
             → held_in self.old.place.kept ≡ Some m
-            → Keeps (held_in self.new.place.kept) (λ n. (op_in n ≡ op_in m)
-            × BlockSignalCall values.now single (member_in m) (member_in n) answer)) }
+            → StillHas (held_in self.new.place.kept) (λ n. (op_in n ≡ op_in m)
+            × BlockSignalCall values.now single (state_in m) (state_in n) answer)) }
         ensures err { OnErr result (self.new.place.kept ≡ self.old.place.kept) }
     {
         let mut kept = self.take(alloc);
@@ -53,8 +53,8 @@ impl Handle {
     ) -> Result<GotBlock, Tried<WaitRefusal>>
         requires { IsSome (held_in self.old.place.kept) }
         ensures call { (m : AnyMember) → held_in self.old.place.kept ≡ Some m
-            → Keeps (held_in self.new.place.kept) (λ n. (op_in n ≡ op_in m)
-            × BlockWaitCall (value_by (op_in m)) out.old out.new (member_in m) (member_in n)
+            → StillHas (held_in self.new.place.kept) (λ n. (op_in n ≡ op_in m)
+            × BlockWaitCall (value_by (op_in m)) out.old out.new (state_in m) (state_in n)
             result) }
         ensures few { (first many : ℕ) → result ≡ Ok (GotBlock.Values first many)
             → many ≤ length out.old }
@@ -82,8 +82,8 @@ impl Handle {
             → wait_block_reply limits h task (length out.old)
             ≡ wait_block_reply limits h task (length values.old) }
         ensures call { (m : AnyMember) → held_in self.old.place.kept ≡ Some m
-            → Keeps (held_in self.new.place.kept) (λ n. (op_in n ≡ op_in m)
-            × NumbersCall (value_by (op_in m)) values.old values.new (member_in m) (member_in n)
+            → StillHas (held_in self.new.place.kept) (λ n. (op_in n ≡ op_in m)
+            × NumbersCall (value_by (op_in m)) values.old values.new (state_in m) (state_in n)
             result) }
         ensures ended { result ≡ Ok GotBlock.Ended → values.new ≡ values.old }
         ensures err { OnErr result (values.new ≡ values.old) }
@@ -109,8 +109,8 @@ impl Handle {
         requires { IsSome (held_in self.old.place.kept) }
         ensures call { IfOk result (λ answer. (m : AnyMember)
             → held_in self.old.place.kept ≡ Some m
-            → Keeps (held_in self.new.place.kept) (λ n. (op_in n ≡ op_in m)
-            × NumbersCall (value_by (op_in m)) values.old values.new (member_in m) (member_in n)
+            → StillHas (held_in self.new.place.kept) (λ n. (op_in n ≡ op_in m)
+            × NumbersCall (value_by (op_in m)) values.old values.new (state_in m) (state_in n)
             answer)) }
         ensures ended { IfOk result (λ answer. answer ≡ Ok GotBlock.Ended
             → values.new ≡ values.old) }

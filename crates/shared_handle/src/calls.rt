@@ -3,7 +3,7 @@ ghost use Rattle.std.specs.Prelude.{◌≡◌, ◌≤◌, Some, IsSome, length};
 ghost use Rattle.phase_shared.specs.phase_base.declared.limits.TheConstants.{SENDS_MAX};
 ghost use Rattle.phase_shared.specs.phase_accum.Sends.{AreSends};
 ghost use Rattle.phase_shared.specs.phase_accum.Values.{value_by};
-ghost use Rattle.shared_handle.specs.AnyMembers.{op_in, member_in, held_in, Keeps};
+ghost use Rattle.shared_handle.specs.AnyMembers.{op_in, state_in, held_in, StillHas};
 ghost use Rattle.shared_handle.specs.Calls.{SignalCall, NextCall, WaitCall};
 ghost use Rattle.shared_handle.specs.declared.any_member.AnyMember.{AnyMember};
 
@@ -26,8 +26,8 @@ impl Handle {
         requires sends { AreSends values.now }
         requires few { length values.now ≤ SENDS_MAX }
         ensures { (m : AnyMember) → held_in self.old.place.kept ≡ Some m
-            → Keeps (held_in self.new.place.kept) (λ n. (op_in n ≡ op_in m)
-            × SignalCall (value_by (op_in m)) values.now single (member_in m) (member_in n) result) }
+            → StillHas (held_in self.new.place.kept) (λ n. (op_in n ≡ op_in m)
+            × SignalCall (value_by (op_in m)) values.now single (state_in m) (state_in n) result) }
     {
         let mut kept = self.take(alloc);
         let Some(member) = &mut kept.member else {
@@ -49,8 +49,8 @@ impl Handle {
         requires sends { AreSends values.now }
         requires few { length values.now ≤ SENDS_MAX }
         ensures { (m : AnyMember) → held_in self.old.place.kept ≡ Some m
-            → Keeps (held_in self.new.place.kept) (λ n. (op_in n ≡ op_in m)
-            × NextCall (value_by (op_in m)) values.now single (member_in m) (member_in n) result) }
+            → StillHas (held_in self.new.place.kept) (λ n. (op_in n ≡ op_in m)
+            × NextCall (value_by (op_in m)) values.now single (state_in m) (state_in n) result) }
     {
         let mut kept = self.take(alloc);
         let Some(member) = &mut kept.member else {
@@ -66,8 +66,8 @@ impl Handle {
     pub fn wait(&mut self, alloc: Global) -> Result<Got, Tried<WaitRefusal>>
         requires { IsSome (held_in self.old.place.kept) }
         ensures { (m : AnyMember) → held_in self.old.place.kept ≡ Some m
-            → Keeps (held_in self.new.place.kept) (λ n. (op_in n ≡ op_in m)
-            × WaitCall (value_by (op_in m)) (member_in m) (member_in n) result) }
+            → StillHas (held_in self.new.place.kept) (λ n. (op_in n ≡ op_in m)
+            × WaitCall (value_by (op_in m)) (state_in m) (state_in n) result) }
     {
         let mut kept = self.take(alloc);
         let Some(member) = &mut kept.member else {

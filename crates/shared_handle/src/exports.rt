@@ -1,30 +1,44 @@
 //! What C calls to have a phaser, and for single phases.
-ghost use Rattle.std.specs.Prelude.{◌≡◌, ◌≢◌, ◌≤◌, ◌<◌, ◌⊎◌, Option, Some, None, IsSome, length};
+ghost use Rattle.std.specs.Prelude.{◌≡◌, ◌≢◌, ◌≤◌, ◌<◌, ◌⊎◌, ℤ, Option, Some, None, IsSome, IfOk, length};
 ghost use Rattle.phase_shared.specs.phase_base.Limits.{limits, IsBound};
 ghost use Rattle.phase_shared.specs.phase_base.declared.limits.TheConstants.{BOUND_MAX, PHASES_MAX, SENDS_MAX};
 ghost use Rattle.phase_shared.specs.phase_base.declared.operation.Op.{Op};
 ghost use Rattle.phase_shared.specs.phase_accum.Sends.{AreSends};
 ghost use Rattle.phase_shared.specs.phase_accum.declared.single.Single.{Single};
 ghost use Rattle.handle_numbers.specs.Numbers.{op_numbered, Names};
-ghost use Rattle.handle_numbers.specs.declared.numbers.TheConstants.{GOOD, ENDED, SIGNALLED, NO_PHASER, HAS_PHASER, BAD_OPERATION, BAD_BOUND, BAD_PHASES, OUT_OF_MEMORY, BAD_SINGLE, BAD_VALUE, TOO_MANY_SENDS};
-ghost use Rattle.shared_handle.specs.AnyMembers.{op_in, member_in, held_in, Keeps};
-ghost use Rattle.shared_handle.specs.Members.{IsFounder};
-ghost use Rattle.shared_handle.specs.Told.{RefusedAs, TellsSignal, TellsNext, TellsWait};
+ghost use Rattle.handle_numbers.specs.declared.numbers.TheConstants.{GOOD, ENDED, SIGNALLED, NO_PHASER, HAS_PHASER, BAD_OPERATION, BAD_BOUND, BAD_PHASES, OUT_OF_MEMORY};
+ghost use Rattle.shared_handle.specs.AnyMembers.{op_in, state_in, held_in, StillHas};
+ghost use Rattle.shared_handle.specs.Members.{IsFounding};
+ghost use Rattle.shared_handle.specs.Told.{RefusedAs, IsBadSignal, TellsSignal, TellsNext, TellsWait};
 ghost use Rattle.shared_handle.specs.declared.any_member.AnyMember.{AnyMember};
 
 use crate::any_member::AnyMember;
 use crate::handle::Handle;
 use crate::kept::Kept;
 use crate::told::{told_next, told_signal, told_wait, write_got, write_next, write_signalled};
+use crate::words::signal_words;
 use handle_numbers::numbers::*;
-use handle_numbers::{op_of, single_of};
-use phase_shared::phase_base::{SENDS_MAX, Spec, SpecFault};
-use phase_shared::phase_core::are_sends;
-use std::alloc::Global;
+use handle_numbers::op_of;
+use phase_shared::phase_accum::Op;
+use phase_shared::phase_base::{Spec, SpecFault};
+use std::alloc::{AllocError, Global};
+
+/// Makes a phaser and its founder, in a block.
+fn founder_of(alloc: Global, op: Op, limits: Spec) -> Result<Box<Kept, Global>, AllocError>
+    ensures { IfOk result (λ made. StillHas made.value.member (λ m. (op_in m ≡ op)
+        × IsFounding limits (state_in m))) }
+{
+    let mut kept = Box::new(alloc, Kept { member: None })?;
+    kept.member = Some(AnyMember::make(alloc, op, limits)?);
+    Ok(kept)
+}
 
 /// Makes a phaser under an operation, whose signallers may be `bound` phases ahead of its slowest
 /// waiter, and which has at most `phases` phases, and gives its founder, number 0, in `Single` at
 /// phase 0. It takes memory: all that signals and waits will ever need.
+///
+/// Proved: a founder of a phaser with these limits and this operation, and which refusal comes. C
+/// owes a handle that was zeroed, or whose registration was left.
 #[unsafe(no_mangle)]
 pub extern "C" fn phase_member_new(
     alloc: Global,
@@ -34,8 +48,8 @@ pub extern "C" fn phase_member_new(
     founder: &mut Handle,
 ) -> i32
     ensures good { result ≡ GOOD → (op : Op) → op_numbered operation ≡ Some op
-        → Keeps (held_in founder.new.place.kept) (λ m. (op_in m ≡ op)
-        × IsFounder (limits bound phases) (member_in m)) }
+        → StillHas (held_in founder.new.place.kept) (λ m. (op_in m ≡ op)
+        × IsFounding (limits bound phases) (state_in m)) }
     ensures known { result ≡ GOOD → IsSome (op_numbered operation) }
     ensures has_phaser { IsSome founder.old.place.kept → result ≡ HAS_PHASER }
     ensures bad_operation { founder.old.place.kept ≡ None → op_numbered operation ≡ None
@@ -60,18 +74,18 @@ pub extern "C" fn phase_member_new(
         Err(SpecFault::BadBound) => return BAD_BOUND,
         Err(SpecFault::BadPhases) => return BAD_PHASES,
     };
-    let Ok(room) = Box::new(alloc, Kept { member: None }) else {
+    let Ok(kept) = founder_of(alloc, op, spec) else {
         return OUT_OF_MEMORY;
     };
-    let Ok(made) = AnyMember::make(alloc, op, spec) else {
-        return OUT_OF_MEMORY;
-    };
-    founder.put_member(room, made);
+    founder.put(kept);
     GOOD
 }
 
 /// Signals the registration's phase with these sends and a single or none, and writes that phase.
 /// The ends are those of a clamp. It takes no memory.
+///
+/// Proved: the definition's answer to a signal of these values, and which refusal comes first. What
+/// a refused signal named is in no phase. C owes as many numbers behind `values` as it says.
 #[unsafe(no_mangle)]
 pub extern "C" fn phase_member_signal(
     alloc: Global,
@@ -86,35 +100,23 @@ pub extern "C" fn phase_member_signal(
         → held_in member.old.place.kept ≡ Some m
         → Names single low high named
         → AreSends values.now → length values.now ≤ SENDS_MAX
-        → Keeps (held_in member.new.place.kept) (λ n.
+        → StillHas (held_in member.new.place.kept) (λ n.
         TellsSignal values.now named m n result phase.old phase.new) }
 
     ensures no_phaser { member.old.place.kept ≡ None
         → RefusedAs NO_PHASER result member.old.place.kept member.new.place.kept }
-    ensures bad_single { IsSome member.old.place.kept
-        → ((named : Option Single) → Names single low high named → ⊥)
-        → RefusedAs BAD_SINGLE result member.old.place.kept member.new.place.kept }
-    ensures too_many_sends { (named : Option Single) → IsSome member.old.place.kept
-        → Names single low high named → SENDS_MAX < length values.now
-        → RefusedAs TOO_MANY_SENDS result member.old.place.kept member.new.place.kept }
-    ensures bad_value { (named : Option Single) → IsSome member.old.place.kept
-        → Names single low high named → length values.now ≤ SENDS_MAX
-        → (AreSends values.now → ⊥)
-        → RefusedAs BAD_VALUE result member.old.place.kept member.new.place.kept }
+    ensures refused { (status : ℤ) → IsSome member.old.place.kept
+        → IsBadSignal values.now single low high status
+        → RefusedAs status result member.old.place.kept member.new.place.kept }
     ensures unwritten { result ≢ GOOD → phase.new ≡ phase.old }
 {
     if !member.live {
         return NO_PHASER;
     }
-    let Some(named) = single_of(single, low, high) else {
-        return BAD_SINGLE;
+    let named = match signal_words(values, single, low, high) {
+        Ok(named) => named,
+        Err(status) => return status,
     };
-    if values.len() as u64 > SENDS_MAX {
-        return TOO_MANY_SENDS;
-    }
-    if !are_sends(values) {
-        return BAD_VALUE;
-    }
     let answer = member.signal(alloc, values, named);
     write_signalled(&answer, phase);
     told_signal(&answer)
@@ -124,6 +126,9 @@ pub extern "C" fn phase_member_signal(
 /// where that is answered at once: both under one turn. It answers `GOOD` with the phase and the
 /// number of its value, or `SIGNALLED` with the phase alone, whose wait is still to be made where
 /// the mode waits. It takes no memory.
+///
+/// Proved: the definition's answers to both; and where it is `SIGNALLED`, that a wait would be
+/// refused there. C owes what it owes `phase_member_signal`.
 #[unsafe(no_mangle)]
 pub extern "C" fn phase_member_next(
     alloc: Global,
@@ -139,21 +144,14 @@ pub extern "C" fn phase_member_next(
         → held_in member.old.place.kept ≡ Some m
         → Names single low high named
         → AreSends values.now → length values.now ≤ SENDS_MAX
-        → Keeps (held_in member.new.place.kept) (λ n.
+        → StillHas (held_in member.new.place.kept) (λ n.
         TellsNext values.now named m n result phase.old phase.new value.old value.new) }
 
     ensures no_phaser { member.old.place.kept ≡ None
         → RefusedAs NO_PHASER result member.old.place.kept member.new.place.kept }
-    ensures bad_single { IsSome member.old.place.kept
-        → ((named : Option Single) → Names single low high named → ⊥)
-        → RefusedAs BAD_SINGLE result member.old.place.kept member.new.place.kept }
-    ensures too_many_sends { (named : Option Single) → IsSome member.old.place.kept
-        → Names single low high named → SENDS_MAX < length values.now
-        → RefusedAs TOO_MANY_SENDS result member.old.place.kept member.new.place.kept }
-    ensures bad_value { (named : Option Single) → IsSome member.old.place.kept
-        → Names single low high named → length values.now ≤ SENDS_MAX
-        → (AreSends values.now → ⊥)
-        → RefusedAs BAD_VALUE result member.old.place.kept member.new.place.kept }
+    ensures refused { (status : ℤ) → IsSome member.old.place.kept
+        → IsBadSignal values.now single low high status
+        → RefusedAs status result member.old.place.kept member.new.place.kept }
     ensures unwritten { result ≢ GOOD → value.new ≡ value.old }
     ensures no_phase { result ≢ GOOD → result ≢ SIGNALLED → result ≢ ENDED
         → phase.new ≡ phase.old }
@@ -161,15 +159,10 @@ pub extern "C" fn phase_member_next(
     if !member.live {
         return NO_PHASER;
     }
-    let Some(named) = single_of(single, low, high) else {
-        return BAD_SINGLE;
+    let named = match signal_words(values, single, low, high) {
+        Ok(named) => named,
+        Err(status) => return status,
     };
-    if values.len() as u64 > SENDS_MAX {
-        return TOO_MANY_SENDS;
-    }
-    if !are_sends(values) {
-        return BAD_VALUE;
-    }
     let answer = member.next(alloc, values, named);
     write_next(&answer, phase, value);
     told_next(&answer)
@@ -177,6 +170,8 @@ pub extern "C" fn phase_member_next(
 
 /// Waits for the registration's phase, and writes it with the number of its value; or answers
 /// `ENDED`, where no more will come. It takes no memory.
+///
+/// Proved: the definition's answer to a wait, with the phase and its value. C owes two places.
 #[unsafe(no_mangle)]
 pub extern "C" fn phase_member_wait(
     alloc: Global,
@@ -185,7 +180,7 @@ pub extern "C" fn phase_member_wait(
     value: &mut i64,
 ) -> i32
     ensures call { (m : AnyMember) → held_in member.old.place.kept ≡ Some m
-        → Keeps (held_in member.new.place.kept) (λ n.
+        → StillHas (held_in member.new.place.kept) (λ n.
         TellsWait m n result phase.old phase.new value.old value.new) }
 
     ensures no_phaser { member.old.place.kept ≡ None

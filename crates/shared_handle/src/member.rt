@@ -2,7 +2,7 @@
 ghost use Rattle.std.specs.Prelude.{◌≡◌, ◌≤◌, ℕ, Ok, IfOk, IfErr, IsOk, OnErr, length};
 ghost use Rattle.phase_shared.specs.phase_base.declared.limits.TheConstants.{SENDS_MAX};
 ghost use Rattle.phase_shared.specs.phase_accum.Sends.{AreSends};
-ghost use Rattle.shared_handle.specs.Members.{IsMember, IsFounder, IsAlone, HasLeft};
+ghost use Rattle.shared_handle.specs.Members.{IsInItsHistory, IsFounding, IsOnlyOne, HasLeft};
 ghost use Rattle.shared_handle.specs.Calls.{SignalCall, NextCall, WaitCall, BlockSignalCall, BlockWaitCall, AddCall, AddNowCall};
 
 use phase_any::held;
@@ -30,11 +30,11 @@ impl<A: Accumulate> Model for Member<A> {
     ghost use Rattle.std.specs.Prelude.{◌≡◌};
     ghost use Rattle.std.specs.Arc.{arc_value};
     ghost use Rattle.phase_shared.specs.Regs.{phaser_lock};
-    ghost use Rattle.shared_handle.specs.Members.{MemberState, member_state};
+    ghost use Rattle.shared_handle.specs.Members.{Registration, as_registration};
 
-    ghost Value = { MemberState };
+    ghost Value = { Registration };
 
-    ghost view = { λ m. member_state m.loose.reg };
+    ghost view = { λ m. as_registration m.loose.reg };
 
     ghost invariant = { λ m. m.loose.reg.at ≡ phaser_lock (arc_value m.phaser) };
 }
@@ -42,7 +42,7 @@ impl<A: Accumulate> Model for Member<A> {
 impl<A: Accumulate> Member<A> {
     /// Makes a phaser, and gives its founder.
     pub fn make(alloc: Global, limits: Spec) -> Result<Member<A>, AllocError>
-        ensures { IfOk result (IsFounder limits) }
+        ensures { IfOk result (IsFounding limits) }
     {
         let (phaser, reg) = Phaser::make(alloc, limits, Unwoken)?;
         match Arc::new(alloc, phaser) {
@@ -60,7 +60,7 @@ impl<A: Accumulate> Member<A> {
 
     /// Says what holds of it wherever it was kept meanwhile. It does nothing.
     pub fn look(&self)
-        ensures { IsMember self.now }
+        ensures { IsInItsHistory self.now }
     {
         self.loose.reg.look();
     }
@@ -203,7 +203,7 @@ impl<A: Accumulate> Member<A> {
         ensures ok { IfOk result (λ left. HasLeft self) }
         ensures err { IfErr result (λ back. back ≡ self) }
         // Where it is the only one that it has seen, nobody is in its way.
-        ensures alone { IsAlone self → IsOk result }
+        ensures alone { IsOnlyOne self → IsOk result }
     {
         let Member { phaser, loose } = self;
         match loose.into_reg().try_leave(&phaser) {

@@ -1,8 +1,8 @@
 //! Calls by which registrations of handles come and go, and what is read of them.
 ghost use Rattle.std.specs.Prelude.{◌≡◌, Some, None, IsSome, true, false, IfOk, OnErr};
-ghost use Rattle.shared_handle.specs.AnyMembers.{op_in, member_in, state_of, held_in, Keeps};
+ghost use Rattle.shared_handle.specs.AnyMembers.{op_in, state_in, state_of, held_in, StillHas};
 ghost use Rattle.shared_handle.specs.Calls.{AddCall, AddNowCall};
-ghost use Rattle.shared_handle.specs.Members.{IsMember, IsAlone, HasLeft};
+ghost use Rattle.shared_handle.specs.Members.{IsInItsHistory, IsOnlyOne, HasLeft};
 ghost use Rattle.shared_handle.specs.Told.{IsStanding};
 ghost use Rattle.shared_handle.specs.declared.any_member.AnyMember.{AnyMember};
 
@@ -25,8 +25,8 @@ impl Handle {
         requires { IsSome (held_in self.old.place.kept) }
         ensures call { IfOk result (λ answer. (m : AnyMember)
             → held_in self.old.place.kept ≡ Some m
-            → Keeps (held_in self.new.place.kept) (λ n. (op_in n ≡ op_in m)
-            × AddCall mode (member_in m) (member_in n) (state_of answer)
+            → StillHas (held_in self.new.place.kept) (λ n. (op_in n ≡ op_in m)
+            × AddCall mode (state_in m) (state_in n) (state_of answer)
             × IfOk answer (λ child. op_in child ≡ op_in m))) }
         ensures err { OnErr result (self.new.place.kept ≡ self.old.place.kept) }
     {
@@ -47,8 +47,8 @@ impl Handle {
         requires { IsSome (held_in self.old.place.kept) }
         ensures call { IfOk result (λ answer. (m : AnyMember)
             → held_in self.old.place.kept ≡ Some m
-            → Keeps (held_in self.new.place.kept) (λ n. (op_in n ≡ op_in m)
-            × AddNowCall (member_in m) (member_in n) (state_of answer)
+            → StillHas (held_in self.new.place.kept) (λ n. (op_in n ≡ op_in m)
+            × AddNowCall (state_in m) (state_in n) (state_of answer)
             × IfOk answer (λ child. op_in child ≡ op_in m))) }
         ensures err { OnErr result (self.new.place.kept ≡ self.old.place.kept) }
     {
@@ -65,10 +65,10 @@ impl Handle {
     pub fn leave(&mut self, alloc: Global) -> bool
         requires { IsSome (held_in self.old.place.kept) }
         ensures left { (m : AnyMember) → held_in self.old.place.kept ≡ Some m → result ≡ true
-            → HasLeft (member_in m) }
+            → HasLeft (state_in m) }
         ensures none { result ≡ true → self.new.place.kept ≡ None }
         ensures alone { (m : AnyMember) → held_in self.old.place.kept ≡ Some m
-            → IsAlone (member_in m) → result ≡ true }
+            → IsOnlyOne (state_in m) → result ≡ true }
         ensures same { result ≡ false → self.new.place.kept ≡ self.old.place.kept }
     {
         let mut kept = self.take(alloc);
@@ -91,7 +91,7 @@ impl Handle {
         ensures stands { (m : AnyMember) → held_in self.old.place.kept ≡ Some m
             → IsStanding m result }
         ensures member { (m : AnyMember) → held_in self.old.place.kept ≡ Some m
-            → IsMember (member_in m) }
+            → IsInItsHistory (state_in m) }
         ensures same { self.new.place.kept ≡ self.old.place.kept }
     {
         let kept = self.take(alloc);

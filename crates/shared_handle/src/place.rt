@@ -1,6 +1,6 @@
 //! A registration behind a pointer, or none.
 ghost use Rattle.std.specs.Prelude.{◌≡◌, Option, None};
-ghost use Rattle.shared_handle.specs.Places.{place_owns};
+ghost use Rattle.shared_handle.specs.Places.{kept_owns};
 ghost use Rattle.shared_handle.specs.declared.kept.Kept.{Kept};
 
 use crate::kept::Kept;
@@ -19,7 +19,7 @@ pub struct Place {
 }
 
 impl Model for Place {
-    ghost also_owns = { λ p. place_owns p.alloc p.at p.kept };
+    ghost also_owns = { λ p. kept_owns p.alloc p.at p.kept };
 }
 
 // Any thread may have a registration, one at a time.

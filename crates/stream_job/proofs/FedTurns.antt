@@ -2,7 +2,9 @@
 use Rattle.std.proofs.Common.{◌≡◌, ℕ, ℤ, List, ◌+◌, ◌≤◌, ◌&&◌, ◌++◌, ◌∷◌, [], Bool, true, false, cond, eqb, not, Option, Some, None, length, slice_get, refl, sym, ap, subst, ◌∙◌, arith}
 use Rattle.std.specs.Prelude.{is_some, slice_range, vec_capacity, vec_len}
 use Rattle.std.proofs.Math.Bool.{and-true}
+use Rattle.std.specs.List.{All}
 use Rattle.std.proofs.lemmas.Bool.{eqb-true}
+use Rattle.std.proofs.lemmas.List.Elements.{All-append, All-nil}
 use Rattle.std.proofs.lemmas.Option.{same_Some}
 use Rattle.phase_any.specs.phase_history.Histories.{greatest_used}
 use Rattle.phase_any.specs.phase_history.Phases.{stream_of}
@@ -30,7 +32,7 @@ use Rattle.graph_runs.proofs.Signalling.{signalled}
 use Rattle.graph_runs.proofs.Turning.{turn_makes_next}
 use Rattle.stream_job.specs.Stepping.{HasRoomNext, MayStep}
 use Rattle.stream_job.specs.Machines.{IsMachineAt, most_in}
-use Rattle.stream_job.specs.Streams.{AreKept, StreamGoesOn, IsStreamAt, InputKeeps, SizedTurn, StreamState, after_sized, ended_at, is_hungry}
+use Rattle.stream_job.specs.Streams.{AreKept, StreamGoesOn, IsStreamAt, InputKeeps, MayTurn, SizedTurn, StreamState, after_sized, ended_at, is_hungry}
 use Rattle.stream_job.specs.Turning.{HadTurn, met_by, told_of, turn_in}
 use Rattle.stream_job.specs.Tellings.{told_by}
 use Rattle.stream_job.specs.Worlds.{HasMet}
@@ -288,7 +290,7 @@ turns_twice job m (t ∷ ts) us =
 
 pub goes_on_none : (stream : StreamState) → StreamGoesOn stream stream
 goes_on_none stream = record {
-  later = λ s m given at. ([], at);
+  later = λ s m given at. ([], All-nil (MayTurn stream.job), at);
   job = refl;
   inputs = refl;
 }
@@ -297,14 +299,16 @@ pub goes_on_twice : (a b c : StreamState) → StreamGoesOn a b → StreamGoesOn 
 goes_on_twice a b c first then = record {
   later = λ s m given at.
       (let one = first.later s m given at in
-      let two = then.later s (after_sized (with_samples s a.job) m one.0) given one.1 in
+      let two = then.later s (after_sized (with_samples s a.job) m one.0) given one.2 in
       let P : Job → Type 0 = λ j.
       IsStreamAt c s (after_sized (with_samples s j) (after_sized (with_samples s a.job) m one.0)
       two.0) given in (
         one.0 ++ two.0,
+        All-append (MayTurn a.job) one.0 two.0 one.1
+            (subst (λ j. All (MayTurn j) two.0) first.job two.1),
         subst (λ now. IsStreamAt c s now given)
             (sym (turns_twice (with_samples s a.job) m one.0 two.0))
-            (subst P first.job two.1),
+            (subst P first.job two.2),
       ));
   job = then.job ∙ first.job;
   inputs = then.inputs ∙ first.inputs;

@@ -1,7 +1,7 @@
 -- What a run that is fed stands for: all samples that came so far, which nobody keeps, a moment of
 -- their run, and what each sink has handed over; and when it stops.
 use Rattle.std.specs.Prelude.{◌≡◌, ℕ, ℤ, ◌+◌, ◌-◌, ◌<◌, ◌≤◌, ◌||◌, ◌&&◌, ◌==◌, ◌++◌, Bool, true, false, nat_lt, List, [], ◌∷◌, Option, Some, None, length, drop, get_or, set, slice_get, min, max, map, replicate, is_some, vec_capacity, if◌then◌else◌}
-use Rattle.std.specs.List.{find, list_all, list_any, range_with_len}
+use Rattle.std.specs.List.{All, find, list_all, list_any, range_with_len}
 use Rattle.phase_any.specs.phase_accum.Sends.{AreSends}
 use Rattle.graph_lang.specs.graph_base.Graphs.{Graph, source_number, sources_of, task_at}
 use Rattle.graph_lang.specs.graph_base.declared.line.Kind.TheVariants.{Source}
@@ -12,7 +12,7 @@ use Rattle.stream_eval.specs.stream_lists.Ranges.{Where}
 use Rattle.graph_runs.specs.Answers.{after_answer, turn_up_to}
 use Rattle.graph_runs.specs.Feeds.{Call, Continues, IsOpenAt, call_of, hungers}
 use Rattle.graph_runs.specs.Moments.{Moment, started}
-use Rattle.graph_runs.specs.NextBlocks.{block_up_to}
+use Rattle.graph_runs.specs.NextBlocks.{MaySize, block_up_to}
 use Rattle.graph_runs.specs.Nexts as nexts
 use Rattle.graph_runs.specs.Settled.{IsFaultAt, IsReady}
 use Rattle.graph_runs.specs.Nexts.{Next, is_live, next_of}
@@ -206,6 +206,10 @@ pub record SizedTurn : Type 0 where
   pub steps : ℕ
   pub most : ℕ
 
+-- its sizes are blocks that the line of its task may name
+abbrev pub MayTurn : Job → SizedTurn → Type 0
+MayTurn job turn = MaySize job.graph turn.task turn.steps turn.most
+
 -- the moment after such turns, one after the other
 abbrev pub after_sized : Job → Moment → List SizedTurn → Moment
 after_sized job m [] = m
@@ -219,7 +223,7 @@ after_sized job m (turn ∷ turns) =
 -- handed over more
 pub record StreamGoesOn (old new : StreamState) : Type 0 where
   pub later : (s : List (List ℤ)) (m : Moment) (given : ℕ → List ℤ) → IsStreamAt old s m given
-      → (turns : List SizedTurn)
+      → (turns : List SizedTurn) × All (MayTurn old.job) turns
       × IsStreamAt new s (after_sized (with_samples s old.job) m turns) given
   pub job : new.job ≡ old.job
   pub inputs : new.inputs ≡ old.inputs

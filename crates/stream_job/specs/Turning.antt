@@ -72,7 +72,8 @@ turn_in steps job machine m t = turn_up_to steps (most_in machine t) job m t
 -- the moment after, where no wait was answered a value too big before. The lines have kept what the
 -- sinks received, and have the room that they had, and each task signals as much in one event
 pub record HadTurn (steps : ℕ) (job : Job) (old new : Machine) (t : ℕ) (it : Made) : Type 0 where
-  pub shows : (m : Moment) → IsMachineAt job m old → MadeShows job m t (turn_in steps job old m t) it
+  pub shows : (m : Moment) → IsMachineAt job m old
+      → MadeShows job m t (turn_in steps job old m t) it
   pub after : (m : Moment) → IsMachineAt job m old → HasAnsweredNone job m
       → IsMachineAt job (after_answer job (turn_in steps job old m t) m) new
   pub lines : (given : ℕ → List ℤ) (m : Moment) → IsMachineAt job m old → HasAnsweredNone job m

@@ -42,9 +42,9 @@ fn root_numbers(alloc: Global, job: &Job, t: usize) -> SmallVec<u64, 9>
     numbers
 }
 
-/// How many of the values that task number `t` owes one event of it signals, at most: a block of its
-/// line; or, of a filter whose line names none, so many, and no more than the bound of each of its
-/// phasers.
+/// How many of the values that task number `t` owes one event of it signals, at most: a block of
+/// its line; or, of a filter whose line names none, so many, and no more than the bound of each of
+/// its phasers.
 fn owed_most(job: &Job, t: usize, own: u64) -> u64
     requires graph { IsGraph job.now.graph }
     requires task { t < length job.now.graph.tasks }

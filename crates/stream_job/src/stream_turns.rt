@@ -124,8 +124,8 @@ impl Stream {
         Ok(matches!(told, Turned::Moved | Turned::Ended))
     }
 
-    /// How many steps the next turn of a task makes at most: a block of its line; or, of a source
-    /// or a sink whose line names none, as many as there is room for.
+    /// How many steps the next turn of a task makes at most: a block of its line; or, of a source,
+    /// a filter or a sink whose line names none, as many as there is room for.
     fn own_steps(&self, t: usize) -> u64
         requires { t < length self.now.job.graph.tasks }
         ensures may { MayStep self.now.job self.now.machine t result }
@@ -170,8 +170,8 @@ impl Stream {
         own_steps(state.most, self.phases_left(t, k, p, bound))
     }
 
-    /// How many phases a task may signal now on its first output, phaser `p` of this bound, which it
-    /// signals by its registration `k`. With bound 1 it does not look.
+    /// How many phases a task may signal now on its first output, phaser `p` of this bound, where
+    /// it is by its registration `k`. With bound 1 it does not look.
     fn phases_left(&self, t: usize, k: usize, p: usize, bound: u64) -> u64
         requires task { t < length self.now.job.graph.tasks }
         requires output { 0 < length (signalled_by (task_at self.now.job.graph t)) }

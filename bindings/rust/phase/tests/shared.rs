@@ -37,7 +37,7 @@ fn meets<M: Signals + Waits>(
 
 #[test]
 fn threads_meet() {
-    for (threads, phases) in [(1, 1000), (2, 4000), (4, 2000), (16, 300)] {
+    for (threads, phases) in [(1, 1000), (2, 1000), (4, 500), (16, 100)] {
         for bound in [1, 2] {
             let mut founder = sums(bound, phases as u64);
             let row = || (0..threads).map(|_| AtomicI64::new(-1)).collect();
@@ -286,7 +286,7 @@ fn lives<'s>(
 
 #[test]
 fn threads_come_and_go() {
-    const PHASES: u64 = 2000;
+    const PHASES: u64 = 500;
     let numbers = || (0..PHASES).map(|_| AtomicU64::new(0)).collect();
     for (bound, seed) in [(1, 3), (2, 4)] {
         let (live, made) = (AtomicU64::new(1), AtomicU64::new(1));

@@ -1,21 +1,21 @@
 -- C is told what the member answered.
 use Rattle.std.proofs.Common.{◌≡◌, inr, ◌∙◌, w32, to_z, of_z}
 use Rattle.phase_shared.specs.phase_accum.Values.{value_by}
-use Rattle.shared_handle.specs.AnyMembers.{op_in, member_in, held_in}
+use Rattle.shared_handle.specs.AnyMembers.{op_in, state_in, held_in}
 use Rattle.shared_handle.specs.NumberBlocks.{NumbersCall}
 use Rattle.shared_handle.specs.Told.{TellsBlockWait}
-use Rattle.shared_handle.proofs.Keeping.{Keeps-map}
+use Rattle.shared_handle.proofs.Keeping.{StillHas-map}
 use Rattle.shared_handle.proofs.Statuses.{wait_block_told, wait_block_unwritten, numbers_unwritten}
 use Rattle.shared_handle.proofs.block_exports.phase_member_wait_block.Goals as goal
 
-pub returns-in-Ok-clause-call : goal.returns-in-Ok-clause-call
-returns-in-Ok-clause-call c = λ m is.
+pub returns-clause-call : goal.returns-clause-call
+returns-clause-call c = λ m is.
     let answer = c.in-Ok.answer in
     let before = c.args.values.now in
     let after = c.wait_numbers.new.values in
-    inr (Keeps-map (held_in c.wait_numbers.new.self.place.kept)
+    inr (StillHas-map (held_in c.wait_numbers.new.self.place.kept)
     (λ n. (op_in n ≡ op_in m)
-    × NumbersCall (value_by (op_in m)) before after (member_in m) (member_in n) answer)
+    × NumbersCall (value_by (op_in m)) before after (state_in m) (state_in n) answer)
     (λ n. TellsBlockWait before after m n (to_z w32 (of_z w32 c.told_wait_block.result))
     c.args.phase.now c.write_block.new.phase c.args.count.now c.write_block.new.count)
     (λ n told. record {
@@ -28,8 +28,8 @@ returns-in-Ok-clause-call c = λ m is.
     })
     (c.in-Ok.ensures.call m is))
 
-pub returns-in-Ok-clause-unwritten : goal.returns-in-Ok-clause-unwritten
-returns-in-Ok-clause-unwritten c = λ none.
+pub returns-clause-unwritten : goal.returns-clause-unwritten
+returns-clause-unwritten c = λ none.
     let answer = c.in-Ok.answer in
     let told = wait_block_told answer c.told_wait_block.result c.told_wait_block.ensures in
     let same = wait_block_unwritten answer c.args.phase.now c.args.count.now

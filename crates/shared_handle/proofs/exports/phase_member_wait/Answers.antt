@@ -1,19 +1,19 @@
 -- C is told what the member answered.
 use Rattle.std.proofs.Common.{◌≡◌, ◌∙◌, w32, to_z, of_z}
 use Rattle.phase_shared.specs.phase_accum.Values.{value_by}
-use Rattle.shared_handle.specs.AnyMembers.{op_in, member_in, held_in}
+use Rattle.shared_handle.specs.AnyMembers.{op_in, state_in, held_in}
 use Rattle.shared_handle.specs.Calls.{WaitCall}
 use Rattle.shared_handle.specs.Told.{TellsWait}
-use Rattle.shared_handle.proofs.Keeping.{Keeps-map}
+use Rattle.shared_handle.proofs.Keeping.{StillHas-map}
 use Rattle.shared_handle.proofs.Statuses.{wait_told, wait_unwritten}
 use Rattle.shared_handle.proofs.exports.phase_member_wait.Goals as goal
 
 pub returns-clause-call : goal.returns-clause-call
 returns-clause-call c = λ m is.
     let answer = c.wait-answer.result in
-    Keeps-map (held_in c.wait-answer.new.self.place.kept)
+    StillHas-map (held_in c.wait-answer.new.self.place.kept)
     (λ n. (op_in n ≡ op_in m)
-    × WaitCall (value_by (op_in m)) (member_in m) (member_in n) answer)
+    × WaitCall (value_by (op_in m)) (state_in m) (state_in n) answer)
     (λ n. TellsWait m n (to_z w32 (of_z w32 c.told_wait.result)) c.args.phase.now
     c.write_got.new.phase c.args.value.now c.write_got.new.value)
     (λ n told. record {

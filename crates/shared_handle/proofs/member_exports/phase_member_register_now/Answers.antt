@@ -1,32 +1,33 @@
 -- C is told what the member answered.
-use Rattle.std.proofs.Common.{Err, inr, ap, refl, ◌∙◌, w32, to_z, of_z}
-use Rattle.phase_shared.specs.declared.tried.Tried.TheVariants.{Busy, Refused}
-use Rattle.handle_numbers.specs.declared.numbers.TheConstants.{BUSY}
+use Rattle.std.proofs.Common.{inr, sym, ◌∙◌, w32, to_z, of_z}
 use Rattle.shared_handle.specs.AnyMembers.{held_in}
 use Rattle.shared_handle.specs.Calls.{AddNowCall}
-use Rattle.shared_handle.proofs.Children.{child_told, refusal_told}
-use Rattle.shared_handle.proofs.Statuses.{register_told}
+use Rattle.shared_handle.proofs.Children.{child_told, start_told}
+use Rattle.shared_handle.proofs.Statuses.{register_told, register_unwritten, start_unwritten}
 use Rattle.shared_handle.proofs.member_exports.phase_member_register_now.Goals as goal
 
-pub returns-in-Ok-Ok-clause-call : goal.returns-in-Ok-Ok-clause-call
-returns-in-Ok-Ok-clause-call c = λ m is none.
+pub returns-clause-call : goal.returns-clause-call
+returns-clause-call c = λ m is none.
+    let answer = c.in-Ok-register_now.answer in
     inr (child_told AddNowCall m (held_in c.register_now.new.self.place.kept)
-    c.args.child.now.place.kept c.put_member.new.self.place.kept c.in-Ok-Ok.field-0
-    c.in-Ok-Ok.member c.in-Ok-Ok.field-0-is c.put_member.ensures (c.in-Ok-Ok.ensures.call m is))
+    c.args.child.now.place.kept c.give.new.child.place.kept answer
+    (to_z w32 (of_z w32 c.give.result))
+    (register_told answer c.give.result c.give.ensures.status) c.give.ensures.child
+    c.give.ensures.none (c.in-Ok-register_now.ensures.call m is))
 
-pub returns-in-Ok-Err-Busy-clause-call : goal.returns-in-Ok-Err-Busy-clause-call
-returns-in-Ok-Err-Busy-clause-call c = λ m is none.
-    let before = c.args.child.now.place.kept in
-    inr (refusal_told AddNowCall m (held_in c.register_now.new.self.place.kept) before before
-    c.in-Ok-Err-Busy.field-0 Busy BUSY (c.in-Ok-Err-Busy.field-0-is ∙ ap Err c.in-Ok-Err-Busy.field-0-0-is) refl refl
-    (c.in-Ok-Err-Busy.ensures.call m is))
+pub returns-clause-good : goal.returns-clause-good
+returns-clause-good c = λ good.
+    let answer = c.in-Ok-register_now.answer in
+    let told = register_told answer c.give.result c.give.ensures.status in
+    start_told answer c.give.new.child.place.kept c.args.phase.now c.write_start.new.phase
+    (sym told ∙ good) c.give.ensures.child c.write_start.ensures
 
-pub returns-in-Ok-Err-Refused-clause-call : goal.returns-in-Ok-Err-Refused-clause-call
-returns-in-Ok-Err-Refused-clause-call c = λ m is none.
-    let before = c.args.child.now.place.kept in
-    let refusal = c.in-Ok-Err-Refused.refusal in
-    let status = to_z w32 (of_z w32 c.register_code.result) in
-    inr (refusal_told AddNowCall m (held_in c.register_now.new.self.place.kept) before before
-    c.in-Ok-Err-Refused.field-0 (Refused refusal) status (c.in-Ok-Err-Refused.field-0-is ∙ ap Err c.in-Ok-Err-Refused.field-0-0-is)
-    (register_told refusal c.register_code.result c.register_code.ensures) refl
-    (c.in-Ok-Err-Refused.ensures.call m is))
+pub returns-clause-none : goal.returns-clause-none
+returns-clause-none c = λ none.
+    let answer = c.in-Ok-register_now.answer in
+    let told = register_told answer c.give.result c.give.ensures.status in (
+      register_unwritten answer c.args.child.now.place.kept c.give.new.child.place.kept
+          (λ good. none (told ∙ good)) c.give.ensures.none,
+      c.write_start.ensures
+          ∙ start_unwritten answer c.args.phase.now (λ good. none (told ∙ good)),
+    )

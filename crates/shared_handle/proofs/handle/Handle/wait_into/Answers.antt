@@ -3,10 +3,10 @@ use Rattle.std.proofs.Common.{◌≡◌, Ok, Err, refl, subst}
 use Rattle.phase_shared.specs.phase_accum.Values.{value_by}
 use Rattle.phase_shared.specs.phase_history.declared.got.GotBlock.{GotBlock}
 use Rattle.phase_shared.specs.phase_history.declared.got.GotBlock.TheVariants as block
-use Rattle.shared_handle.specs.AnyMembers.{op_in, member_in, held_in}
+use Rattle.shared_handle.specs.AnyMembers.{op_in, state_in, held_in}
 use Rattle.shared_handle.specs.Calls.{BlockWaitCall}
 use Rattle.shared_handle.specs.NumberBlocks.{NumbersCall}
-use Rattle.shared_handle.proofs.Keeping.{Keeps-map}
+use Rattle.shared_handle.proofs.Keeping.{StillHas-map}
 use Rattle.shared_handle.proofs.NumberWaits.{numbers_call}
 use Rattle.shared_handle.proofs.handle.Handle.wait_into.Goals as goal
 
@@ -16,20 +16,20 @@ returns-in-Ok-Values-clause-call c = λ m is.
     let before = c.args.values.now in
     let after = c.write_numbers.new.values in
     let out = c.wait_block.new.out in
-    Keeps-map (held_in c.wait_block.new.self.place.kept)
+    StillHas-map (held_in c.wait_block.new.self.place.kept)
     (λ n. (op_in n ≡ op_in m)
-    × BlockWaitCall (value_by (op_in m)) c.args.out.now out (member_in m) (member_in n)
+    × BlockWaitCall (value_by (op_in m)) c.args.out.now out (state_in m) (state_in n)
     (Ok there.field-0))
     (λ n. (op_in n ≡ op_in m)
-    × NumbersCall (value_by (op_in m)) before after (member_in m) (member_in n)
+    × NumbersCall (value_by (op_in m)) before after (state_in m) (state_in n)
     (Ok (block.Values there.phase there.count)))
     (λ n told. (
       told.0,
       numbers_call (value_by (op_in m)) c.args.out.now out before after
-          (member_in m) (member_in n) (Ok (block.Values there.phase there.count)) c.requires.asked
+          (state_in m) (state_in n) (Ok (block.Values there.phase there.count)) c.requires.asked
           c.write_numbers.ensures
           (subst (λ (got : GotBlock).
-          BlockWaitCall (value_by (op_in m)) c.args.out.now out (member_in m) (member_in n) (Ok got))
+          BlockWaitCall (value_by (op_in m)) c.args.out.now out (state_in m) (state_in n) (Ok got))
           there.field-0-is told.1),
     ))
     (there.ensures.call m is)
@@ -39,18 +39,18 @@ returns-in-Ok-Ended-clause-call c = λ m is.
     let there = c.in-Ok-Ended in
     let before = c.args.values.now in
     let out = c.wait_block.new.out in
-    Keeps-map (held_in c.wait_block.new.self.place.kept)
+    StillHas-map (held_in c.wait_block.new.self.place.kept)
     (λ n. (op_in n ≡ op_in m)
-    × BlockWaitCall (value_by (op_in m)) c.args.out.now out (member_in m) (member_in n)
+    × BlockWaitCall (value_by (op_in m)) c.args.out.now out (state_in m) (state_in n)
     (Ok there.field-0))
     (λ n. (op_in n ≡ op_in m)
-    × NumbersCall (value_by (op_in m)) before before (member_in m) (member_in n) (Ok block.Ended))
+    × NumbersCall (value_by (op_in m)) before before (state_in m) (state_in n) (Ok block.Ended))
     (λ n told. (
       told.0,
       numbers_call (value_by (op_in m)) c.args.out.now out before before
-          (member_in m) (member_in n) (Ok block.Ended) c.requires.asked refl
+          (state_in m) (state_in n) (Ok block.Ended) c.requires.asked refl
           (subst (λ (got : GotBlock).
-          BlockWaitCall (value_by (op_in m)) c.args.out.now out (member_in m) (member_in n) (Ok got))
+          BlockWaitCall (value_by (op_in m)) c.args.out.now out (state_in m) (state_in n) (Ok got))
           there.field-0-is told.1),
     ))
     (there.ensures.call m is)
@@ -60,16 +60,16 @@ returns-in-Err-clause-call c = λ m is.
     let there = c.in-Err in
     let before = c.args.values.now in
     let out = c.wait_block.new.out in
-    Keeps-map (held_in c.wait_block.new.self.place.kept)
+    StillHas-map (held_in c.wait_block.new.self.place.kept)
     (λ n. (op_in n ≡ op_in m)
-    × BlockWaitCall (value_by (op_in m)) c.args.out.now out (member_in m) (member_in n)
+    × BlockWaitCall (value_by (op_in m)) c.args.out.now out (state_in m) (state_in n)
     (Err there.tried))
     (λ n. (op_in n ≡ op_in m)
-    × NumbersCall (value_by (op_in m)) before before (member_in m) (member_in n)
+    × NumbersCall (value_by (op_in m)) before before (state_in m) (state_in n)
     (Err there.tried))
     (λ n told. (
       told.0,
       numbers_call (value_by (op_in m)) c.args.out.now out before before
-          (member_in m) (member_in n) (Err there.tried) c.requires.asked refl told.1,
+          (state_in m) (state_in n) (Err there.tried) c.requires.asked refl told.1,
     ))
     (there.ensures.call m is)

@@ -2,7 +2,7 @@
 use Rattle.std.proofs.Common.{sym, ap, subst, ◌∙◌}
 use Rattle.phase_shared.specs.phase_history.Legal.{IsLegal}
 use Rattle.phase_shared.specs.Regs.{phaser_lock}
-use Rattle.shared_handle.specs.Members.{HasLeft, IsAlone, member_state, limits_on}
+use Rattle.shared_handle.specs.Members.{HasLeft, IsOnlyOne, as_registration, limits_by}
 use Rattle.shared_handle.proofs.member.Member.leave.Goals as goal
 
 pub returns-in-Ok-clause-ok : goal.returns-in-Ok-clause-ok
@@ -11,17 +11,17 @@ returns-in-Ok-clause-ok g c =
     let at = ap (λ r. r.at) c.into_reg.ensures
     ∙ (c.self.invariant ∙ ap phaser_lock (sym c.deref.ensures)) in
     subst HasLeft c.self.view_is
-    (subst (λ r. HasLeft (member_state r)) c.into_reg.ensures (record {
+    (subst (λ r. HasLeft (as_registration r)) c.into_reg.ensures (record {
       new = past.seen;
       leaves = c.in-Ok.ensures.ok;
-      legal = subst (λ place. IsLegal (limits_on place) past.seen) (sym at)
+      legal = subst (λ place. IsLegal (limits_by place) past.seen) (sym at)
           (c.in-Ok.ensures.good.legal);
     }))
 
 -- it is alone, as the member is
 pub returns-in-Err-clause-alone : goal.returns-in-Err-clause-alone
 returns-in-Err-clause-alone g c = λ alone.
-    let own : IsAlone (member_state c.into_reg.result) =
-    subst (λ r. IsAlone (member_state r)) (sym c.into_reg.ensures)
-    (subst IsAlone (sym c.self.view_is) alone) in
+    let own : IsOnlyOne (as_registration c.into_reg.result) =
+    subst (λ r. IsOnlyOne (as_registration r)) (sym c.into_reg.ensures)
+    (subst IsOnlyOne (sym c.self.view_is) alone) in
     c.in-Err.ensures.alone own.only

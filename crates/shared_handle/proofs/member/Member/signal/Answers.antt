@@ -5,7 +5,7 @@ use Rattle.phase_shared.specs.phase_history.declared.refusal.SignalRefusal.{Sign
 use Rattle.phase_shared.specs.Calls.{Signals}
 use Rattle.phase_shared.specs.Entries.{entry_after_signal}
 use Rattle.phase_shared.specs.Regs.{phaser_lock, phaser_limits}
-use Rattle.shared_handle.specs.Members.{MemberState, member_state, limits_on}
+use Rattle.shared_handle.specs.Members.{Registration, as_registration, limits_by}
 use Rattle.shared_handle.specs.Calls.{SignalCall, SignalsSends}
 use Rattle.shared_handle.proofs.Trying.{state_same, limits_same, member_try, signals_sends}
 use Rattle.shared_handle.proofs.member.Member.signal.Goals as goal
@@ -25,14 +25,14 @@ returns g c =
     let stands =
     subst (λ h. StandsForSends op h values) (sym c.hold_these.ensures.held) c.held.ensures in
     let limits = limits_same phaser old at in
-    let P : MemberState → Type 0 =
-    λ m. SignalCall op.value values single m (member_state new) answer in
+    let P : Registration → Type 0 =
+    λ m. SignalCall op.value values single m (as_registration new) answer in
     subst P (state_same old reg same.0 same.1 same.2 same.3 ∙ c.self.view_is)
     (member_try _ phaser SignalRefusal.NoTask entry_after_signal (new ≡ old)
-    (member_state new ≡ member_state old)
+    (as_registration new ≡ as_registration old)
     (Signals op (phaser_limits phaser) old.number old.held single old.seen new.seen)
-    (SignalsSends op.value (limits_on old.at) old.number values single old.seen new.seen)
-    old new answer at (λ still. ap member_state still)
-    (λ told s. signals_sends op g.met.A.Accumulate.laws (phaser_limits phaser) (limits_on old.at)
+    (SignalsSends op.value (limits_by old.at) old.number values single old.seen new.seen)
+    old new answer at (λ still. ap as_registration still)
+    (λ told s. signals_sends op g.met.A.Accumulate.laws (phaser_limits phaser) (limits_by old.at)
     old.number old.held values single old.seen new.seen told limits stands s)
     c.try_signal.ensures.call)

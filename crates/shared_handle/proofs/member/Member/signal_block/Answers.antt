@@ -8,7 +8,7 @@ use Rattle.phase_shared.specs.phase_history.declared.refusal.SignalRefusal.{Sign
 use Rattle.phase_shared.specs.Blocks.{SignalsBlock, SignalsValues, entry_after_block}
 use Rattle.phase_shared.specs.Regs.{phaser_lock, phaser_limits}
 use Rattle.phase_shared.proofs.OneLists.{signals_values}
-use Rattle.shared_handle.specs.Members.{MemberState, member_state, limits_on}
+use Rattle.shared_handle.specs.Members.{Registration, as_registration, limits_by}
 use Rattle.shared_handle.specs.Calls.{IsMemberTry}
 use Rattle.shared_handle.proofs.Trying.{state_same, limits_same, member_try}
 use Rattle.shared_handle.proofs.member.Member.signal_block.Goals as goal
@@ -37,18 +37,18 @@ returns-clause-call g c =
     let all : take (length values) places ≡ parcels =
     take_all (length values) places (omega (arith, many)) ∙ sym lent in
     let stand = subst (λ p. StandForLists op p (one_each values)) all c.hold_each.ensures.stand in
-    let P : ℕ → MemberState → Type 0 =
-    λ n m. IsMemberTry SignalRefusal.NoTask (entry_after_block n) (member_state new ≡ m)
-    (SignalsValues (limits_on m.at) m.number values single m.seen new.seen) m (member_state new)
+    let P : ℕ → Registration → Type 0 =
+    λ n m. IsMemberTry SignalRefusal.NoTask (entry_after_block n) (as_registration new ≡ m)
+    (SignalsValues (limits_by m.at) m.number values single m.seen new.seen) m (as_registration new)
     answer in
     subst (P (length values)) (state_same old reg same.0 same.1 same.2 same.3 ∙ c.self.view_is)
-    (subst (λ n. P n (member_state old)) (ap length lent ∙ many)
+    (subst (λ n. P n (as_registration old)) (ap length lent ∙ many)
     (member_try _ phaser SignalRefusal.NoTask (entry_after_block (length parcels)) (new ≡ old)
-    (member_state new ≡ member_state old)
+    (as_registration new ≡ as_registration old)
     (SignalsBlock op (phaser_limits phaser) old.number parcels single old.seen new.seen)
-    (SignalsValues (limits_on old.at) old.number values single old.seen new.seen)
-    old new answer at (λ still. ap member_state still)
-    (λ told s. signals_values op (limits_on old.at) old.number parcels values single old.seen
+    (SignalsValues (limits_by old.at) old.number values single old.seen new.seen)
+    old new answer at (λ still. ap as_registration still)
+    (λ told s. signals_values op (limits_by old.at) old.number parcels values single old.seen
     new.seen told g.met.A.Accumulate.laws stand
     (subst (λ (l : Limits). SignalsBlock op l old.number parcels single old.seen new.seen told)
     limits s))

@@ -4,7 +4,7 @@ use Rattle.phase_shared.specs.phase_base.Limits.{Limits}
 use Rattle.phase_shared.specs.phase_history.declared.refusal.WaitRefusal.{WaitRefusal}
 use Rattle.phase_shared.specs.Blocks.{WaitsBlock, entry_after_values}
 use Rattle.phase_shared.specs.Regs.{phaser_lock, phaser_limits}
-use Rattle.shared_handle.specs.Members.{MemberState, member_state, limits_on}
+use Rattle.shared_handle.specs.Members.{Registration, as_registration, limits_by}
 use Rattle.shared_handle.specs.Calls.{BlockWaitCall}
 use Rattle.shared_handle.proofs.Trying.{limits_same, member_try}
 use Rattle.shared_handle.proofs.Waiting.{few_got}
@@ -20,14 +20,14 @@ returns-clause-call g c =
     let out = c.try_wait_block.new.out in
     let answer = c.try_wait_block.result in
     let at = c.self.invariant ∙ ap phaser_lock (sym c.deref-phaser.ensures) in
-    let P : MemberState → Type 0 =
-    λ m. BlockWaitCall value before out m (member_state new) answer in
+    let P : Registration → Type 0 =
+    λ m. BlockWaitCall value before out m (as_registration new) answer in
     subst P c.self.view_is
     (member_try _ phaser WaitRefusal.NoTask entry_after_values ((new ≡ old) × (out ≡ before))
-    ((member_state new ≡ member_state old) × (out ≡ before))
+    ((as_registration new ≡ as_registration old) × (out ≡ before))
     (WaitsBlock value (phaser_limits phaser) old.number old.seen new.seen before out)
-    (WaitsBlock value (limits_on old.at) old.number old.seen new.seen before out)
-    old new answer at (λ still. (ap member_state still.0, still.1))
+    (WaitsBlock value (limits_by old.at) old.number old.seen new.seen before out)
+    old new answer at (λ still. (ap as_registration still.0, still.1))
     (λ told. subst (λ (l : Limits). WaitsBlock value l old.number old.seen new.seen before out told)
     (limits_same phaser old at))
     c.try_wait_block.ensures.call)

@@ -1,4 +1,4 @@
--- A place may go to another thread: a registration may, and any thread may give back memory of the heap.
+-- A place may go to another thread: a registration may, and any thread may give back memory.
 use denote.RawPtr.{RawPtr}
 use denote.Param.Send.{IsSend, AllSend, owning_send, struct_send, sendable}
 use denote.Struct.Struct.{exits_of}

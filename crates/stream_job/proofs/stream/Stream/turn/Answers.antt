@@ -1,12 +1,13 @@
 -- A turn leads to a moment that the stream then stands for, of the same samples.
 use Rattle.std.proofs.Common.{◌≡◌, ◌≤◌, ℕ, ℤ, List, [], ◌∷◌, false, refl, sym, subst, ◌∙◌}
+use Rattle.std.proofs.lemmas.List.Elements.{All-cons, All-nil}
 use Rattle.stream_eval.specs.stream_lists.Jobs.{with_samples}
 use Rattle.graph_runs.specs.Answers.{after_answer}
 use Rattle.graph_runs.specs.Moments.{Moment}
 use Rattle.stream_job.specs.Buffers.{HasPlaces, most_steps}
 use Rattle.stream_job.specs.Stepping.{HasRoomNext, MayStep}
 use Rattle.stream_job.specs.Machines.{MayHaveCome, most_in}
-use Rattle.stream_job.specs.Streams.{AreKept, StreamGoesOn, IsStreamAt, StreamState, ended_at, is_hungry, line_room}
+use Rattle.stream_job.specs.Streams.{AreKept, MayTurn, SizedTurn, StreamGoesOn, IsStreamAt, StreamState, ended_at, is_hungry, line_room}
 use Rattle.stream_job.specs.Turning.{turn_in}
 use Rattle.stream_job.specs.contracts.stream.Stream.{the_view}
 use Rattle.stream_job.proofs.FedTurns.{none_met, turn_stands}
@@ -103,6 +104,14 @@ invariant_of-self-2 c =
       had.own (line_room c.self.inside.job) c.self.invariant.5,
     )
 
+-- its sizes
+abbrev sized : Joined-matches → SizedTurn
+sized c = record {
+  task = c.args.t;
+  steps = c.own_steps-most.result;
+  most = most_in c.self.inside.machine c.args.t;
+}
+
 pub returns : goal.returns
 returns c =
     let j = (goal.at.returns c).Joined-matches in
@@ -114,11 +123,9 @@ returns c =
     } in
     subst P c.self.view_is record {
       later = λ s m given at. (
-        record {
-          task = c.args.t;
-          steps = c.own_steps-most.result;
-          most = most_in c.self.inside.machine c.args.t;
-        } ∷ [],
+        sized j ∷ [],
+        All-cons (MayTurn c.self.inside.job) (sized j) [] (may j)
+            (All-nil (MayTurn c.self.inside.job)),
         stands j s m given at,
       );
       job = refl;
