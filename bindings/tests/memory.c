@@ -1,6 +1,6 @@
-/* Each request for memory of an evaluation, of names, of a filter, of a phaser and of a stream refused
- * in turn: the answer is PHASE_E_MEMORY with the output as it was, or right all the same, and all
- * memory is given back. Linked with --wrap of malloc, realloc and free. */
+/* Each request for memory of an evaluation, of names, of a filter, of a phaser and of a stream
+ * refused in turn: the answer is PHASE_E_MEMORY with the output as it was, or right all the same,
+ * and all memory is given back. Linked with --wrap of malloc, realloc and free. */
 #include "phase.h"
 #include <stdio.h>
 #include <string.h>

@@ -1,6 +1,6 @@
 /* What a graph that is fed gives: each graph of examples/graphs that is named, fed by blocks of
- * several lengths, beside its stored output; each refusal, which leaves all as it was; each reason
- * why a run stops; four threads with a stream each, and a stream that goes from thread to thread. */
+ * several lengths, beside its stored output; each refusal, which leaves all as it was; why a run
+ * stops; four threads with a stream each, and a stream that goes from thread to thread. */
 #define _POSIX_C_SOURCE 200809L
 #include "phase.h"
 #include <pthread.h>
@@ -65,9 +65,12 @@ static void reads_numbers(const char *name, struct list *list)
     static char text[MOST];
     reads(name, text);
     list->count = 0;
-    for (char *at = text, *end; *at && (list->values[list->count] = strtoll(at, &end, 10), end != at);
-         at = end)
+    for (char *at = text, *end;; at = end) {
+        list->values[list->count] = strtoll(at, &end, 10);
+        if (end == at)
+            break;
         list->count++;
+    }
 }
 
 /* What is stored of the sinks: a line with a name, perhaps a start, and a count, and the values. */
@@ -295,9 +298,8 @@ static void rooms_are_told(void)
     phase_stream_free(&stream);
 }
 
-/* Two joiners that each wait for the other's second sample stall: a sink that has no more room is
- * told first. */
-static void what_cannot_move_is_told(void)
+/* A value out of range is told, again at each later run, and then no sample is taken. */
+static void too_big_is_told(void)
 {
     const int64_t most[] = {INT64_MAX, 1};
     int64_t out[4];
@@ -441,7 +443,7 @@ int main(int argc, char **argv)
     }
     values_are_taken_once();
     rooms_are_told();
-    what_cannot_move_is_told();
+    too_big_is_told();
     a_text_is_refused();
     misuse_is_refused();
     if (argc > 1)

@@ -12,7 +12,7 @@ use crate::names::{write_all_names, write_names};
 use crate::refusal::Refusal;
 use crate::sinks::sinks_of;
 use crate::told::{VERSION, fault_of, status_of};
-use graph_lang::read_graph;
+use graph_numbers::graph_lang::read_graph;
 use graph_numbers::{PhaseCounts, PhaseFault};
 use std::alloc::Global;
 

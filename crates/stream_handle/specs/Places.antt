@@ -8,5 +8,5 @@ use Rattle.heap_slot.specs.Ownership.{slot_owns}
 use Rattle.stream_job.specs.contracts.stream.Stream.{the_row}
 
 -- nothing, or the stream behind the pointer and the right to give its block back
-abbrev pub place_owns : Global → Ptr → Option the_row.Denot → Fml
-place_owns alloc = slot_owns (ghosts.dealloc_token alloc) the_row
+abbrev pub stream_owns : Global → Ptr → Option the_row.Denot → Fml
+stream_owns alloc = slot_owns (ghosts.dealloc_token alloc) the_row

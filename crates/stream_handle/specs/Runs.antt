@@ -29,7 +29,7 @@ use Rattle.graph_numbers.specs.declared.fault.PhaseCounts.{PhaseCounts}
 -- ---- a text
 
 -- the run is that of the graph of a text, at its opening: no samples came, and no source has ended
-pub record IsOpened (text : List ℕ) (run : StreamState) : Type 0 where
+pub record OpensText (text : List ℕ) (run : StreamState) : Type 0 where
   pub reads : ReadsText (text_lines text) (Ok run.job.graph)
   pub opening_is : IsStreamAt run (none_came run.job) (opening run.job) none_given
   pub met : run.met ≡ None
@@ -79,7 +79,7 @@ pub record Finishes (source : ℕ) (old new : StreamState) : Type 0 where
 
 -- the run stopped so: where it is done its sinks got what the definitions give, and a value out of
 -- range is so in every run whose samples go on so
-pub record Stops (run : StreamState) (stop : Stopped) : Type 0 where
+pub record StopsFor (run : StreamState) (stop : Stopped) : Type 0 where
   pub stops : (s : List (List ℤ)) (m : Moment) (given : ℕ → List ℤ) → IsStreamAt run s m given
       → StreamStopsAt run s m given stop
   pub done : stop ≡ Done → (s : List (List ℤ)) (m : Moment) (given : ℕ → List ℤ)

@@ -7,7 +7,7 @@ use Rattle.stream_job.specs.declared.stopped.Stopped.{Stopped}
 use Rattle.stream_job.specs.declared.stopped.Stopped.TheVariants as stopped
 use Rattle.graph_numbers.specs.Numbers.{graph_fault, no_fault, too_big_fault}
 use Rattle.graph_numbers.specs.declared.fault.PhaseFault.{PhaseFault}
-use Rattle.stream_handle.specs.Runs.{BeginsAt, RefusesRun, Stops}
+use Rattle.stream_handle.specs.Runs.{BeginsAt, RefusesRun, StopsFor}
 use Rattle.stream_handle.specs.declared.numbers.TheConstants.{GRAPH, OUT_OF_MEMORY, HUNGRY, FULL, STALLED, DONE, TOO_BIG, PAUSED}
 use Rattle.stream_handle.specs.declared.told.PhaseStop.{PhaseStop}
 
@@ -50,19 +50,19 @@ stop_of stopped.Paused = plain_stop PAUSED 0
 -- the run stopped as it is told
 pub record StopsAsTold (run : StreamState) (told : PhaseStop) : Type 0 where
   pub stop : Stopped
-  pub stops : Stops run stop
+  pub stops : StopsFor run stop
   pub told_is : told ≡ stop_of stop
 
 -- ---- a start
 
 -- the number that tells where a sink begins: the phase, which is none above 2^63 - 1, or -1 where
 -- it has none
-abbrev pub start_number : Option ℕ → ℤ
-start_number None = negsuc 0
-start_number (Some start) = pos (min start 9223372036854775807)
+abbrev pub start_told : Option ℕ → ℤ
+start_told None = negsuc 0
+start_told (Some start) = pos (min start 9223372036854775807)
 
 -- where a sink that joins now begins, as it is told
 pub record BeginsAsTold (sink : ℕ) (run : StreamState) (told : ℤ) : Type 0 where
   pub start : Option ℕ
   pub begins : BeginsAt sink run start
-  pub told_is : told ≡ start_number start
+  pub told_is : told ≡ start_told start

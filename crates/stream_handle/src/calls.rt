@@ -4,7 +4,7 @@ ghost use Rattle.stream_job.specs.graph_base.Graphs.{sources_of};
 ghost use Rattle.stream_job.specs.phase_accum.Sends.{AreSends};
 ghost use Rattle.stream_job.specs.stream_lists.Lists.{sinks_of};
 ghost use Rattle.stream_job.specs.Streams.{StreamGoesOn, StreamState};
-ghost use Rattle.stream_handle.specs.Runs.{BeginsAt, Feeds, Finishes, HandsOver, HasCounts, LacksRoom, Stops};
+ghost use Rattle.stream_handle.specs.Runs.{BeginsAt, Feeds, Finishes, HandsOver, HasCounts, LacksRoom, StopsFor};
 
 use crate::handle::Handle;
 use crate::reading::hand_over;
@@ -65,7 +65,7 @@ impl Handle {
         ensures goes_on { (old : StreamState) → self.old.place.stream ≡ Some old
             → IsSomeAnd self.new.place.stream (StreamGoesOn old) }
         ensures stops { IfOk result (λ stop. IsSomeAnd self.new.place.stream (λ new.
-            Stops new stop)) }
+            StopsFor new stop)) }
     {
         let mut run = self.take(alloc);
         let stop = run.run();

@@ -2,7 +2,7 @@
 ghost use Rattle.std.specs.Prelude.{◌≡◌, ◌≢◌, Some, None, IsSome, IsSomeAnd};
 ghost use Rattle.graph_numbers.specs.Numbers.{no_fault};
 ghost use Rattle.stream_job.specs.Streams.{StreamState};
-ghost use Rattle.stream_handle.specs.Runs.{HasCounts, IsOpened};
+ghost use Rattle.stream_handle.specs.Runs.{HasCounts, OpensText};
 ghost use Rattle.stream_handle.specs.Told.{RunIsRefused};
 ghost use Rattle.stream_handle.specs.declared.numbers.TheConstants.{GOOD, HAS_STREAM, NO_STREAM};
 
@@ -26,7 +26,7 @@ pub extern "C" fn phase_stream_new(
     stream: &mut Handle,
     fault: &mut PhaseFault,
 ) -> i32
-    ensures good { result ≡ GOOD → IsSomeAnd stream.new.place.stream (IsOpened text.now) }
+    ensures good { result ≡ GOOD → IsSomeAnd stream.new.place.stream (OpensText text.now) }
     ensures quiet { result ≡ GOOD → fault.new ≡ fault.old }
 
     ensures has_stream { IsSome stream.old.place.stream

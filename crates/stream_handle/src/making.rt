@@ -1,6 +1,6 @@
 //! A run of a graph's text.
 ghost use Rattle.std.specs.Prelude.{◌≡◌, IfOk, IfErr};
-ghost use Rattle.stream_handle.specs.Runs.{IsOpened, RefusesRun};
+ghost use Rattle.stream_handle.specs.Runs.{OpensText, RefusesRun};
 
 use std::alloc::Global;
 use stream_job::graph_lang::{FaultKind, GraphFault, GraphRefusal, read_graph};
@@ -8,7 +8,7 @@ use stream_job::{JobRefusal, Stream};
 
 /// The run of a graph's text, to which no samples came.
 fn run_of(alloc: Global, text: &[u8]) -> Result<Stream, GraphRefusal>
-    ensures opened { IfOk result (IsOpened text.now) }
+    ensures opened { IfOk result (OpensText text.now) }
     ensures refused { IfErr result (RefusesRun text.now) }
 {
     let graph = match read_graph(alloc, text) {
@@ -27,7 +27,7 @@ fn run_of(alloc: Global, text: &[u8]) -> Result<Stream, GraphRefusal>
 
 /// The same, on the heap.
 pub(crate) fn boxed_run_of(alloc: Global, text: &[u8]) -> Result<Box<Stream, Global>, GraphRefusal>
-    ensures opened { IfOk result (λ made. IsOpened text.now made.value) }
+    ensures opened { IfOk result (λ made. OpensText text.now made.value) }
     ensures refused { IfErr result (RefusesRun text.now) }
 {
     let run = match run_of(alloc, text) {

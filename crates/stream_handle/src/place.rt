@@ -1,6 +1,6 @@
 //! A stream behind a pointer, or none.
 ghost use Rattle.std.specs.Prelude.{◌≡◌, Option, None};
-ghost use Rattle.stream_handle.specs.Places.{place_owns};
+ghost use Rattle.stream_handle.specs.Places.{stream_owns};
 ghost use Rattle.stream_job.specs.Streams.{StreamState};
 
 use heap_slot::Slot;
@@ -19,7 +19,7 @@ pub struct Place {
 }
 
 impl Model for Place {
-    ghost also_owns = { λ p. place_owns p.alloc p.at p.stream };
+    ghost also_owns = { λ p. stream_owns p.alloc p.at p.stream };
 }
 
 // Any thread may have a stream, one at a time.

@@ -8,7 +8,7 @@ ghost use Rattle.stream_handle.specs.declared.numbers.TheConstants.{GOOD, ROOM, 
 
 use crate::handle::Handle;
 use crate::numbers::*;
-use crate::told::start_number;
+use crate::told::start_told;
 use std::alloc::Global;
 
 /// Writes all values that a sink has in the first places, forgets them, and writes how many they
@@ -80,6 +80,6 @@ pub extern "C" fn phase_stream_start(
     if sink >= stream.counts(alloc).sinks {
         return NO_SINK;
     }
-    *start = start_number(stream.start(alloc, sink));
+    *start = start_told(stream.start(alloc, sink));
     GOOD
 }

@@ -1,6 +1,6 @@
 //! What C is told of a run, in numbers.
 ghost use Rattle.std.specs.Prelude.{◌≡◌};
-ghost use Rattle.stream_handle.specs.Told.{graph_status, graph_told, plain_stop, start_number, stop_of};
+ghost use Rattle.stream_handle.specs.Told.{graph_status, graph_told, plain_stop, start_told, stop_of};
 
 use crate::numbers::*;
 use graph_numbers::{NO_FAULT, PhaseFault, graph_fault, too_big_fault};
@@ -77,8 +77,8 @@ pub(crate) fn graph_told(why: GraphRefusal) -> PhaseFault
 }
 
 /// The number that tells where a sink begins.
-pub(crate) fn start_number(start: Option<u64>) -> i64
-    ensures { result ≡ start_number start }
+pub(crate) fn start_told(start: Option<u64>) -> i64
+    ensures { result ≡ start_told start }
 {
     match start {
         None => -1,
