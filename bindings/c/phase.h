@@ -386,7 +386,7 @@ enum {
     /* A value is out of range, in every stream whose samples go on so: value stop->at of the phaser
      * or task stop->number, by stop->place. Later feeds take nothing. */
     PHASE_TOO_BIG = 5,
-    /* As many turns were made as one call makes at most, and there may be more to do: call again. */
+    /* As many turns were made as a call makes at most, and there may be more to do: call again. */
     PHASE_PAUSED = 6
 };
 
