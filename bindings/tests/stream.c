@@ -311,7 +311,8 @@ static void too_big_is_told(void)
              &fault),
        PHASE_OK);
     IS(phase_stream_feed(&stream, 0, most, 2, &took), PHASE_OK);
-    STOPS(&stream, PHASE_HUNGRY, 1);
+    /* Both wait for a sample, and the first is told. */
+    STOPS(&stream, PHASE_HUNGRY, 0);
     IS(phase_stream_feed(&stream, 1, most + 1, 1, &took), PHASE_OK);
     for (int again = 0; again < 2; again++) {
         IS(phase_stream_run(&stream, &stop), PHASE_OK);
