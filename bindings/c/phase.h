@@ -1,5 +1,5 @@
-/* phase.h: graphs of whole-number filters, evaluated exactly, and phasers for one thread at a time,
- * from C and C++. phase_shared.h has phasers between threads.
+/* phase.h: graphs of whole-number filters, evaluated exactly, whole or fed block by block, and
+ * phasers for one thread at a time, from C and C++. phase_shared.h has phasers between threads.
  *
  * Link libphase.a or libphase.so, which scripts/bind makes. docs/BINDINGS.md begins with an
  * example.
@@ -12,9 +12,10 @@
  * A caller owes: pointers to as many values as their lengths say; what a call writes overlaps
  * nothing else that it is given; and a pointer with no length behind it, as counts, fault or a
  * phaser, is not NULL. A call keeps no pointer. It takes memory by malloc and realloc, whose blocks
- * begin at a multiple of 16, and gives back all but what a phaser keeps. Calls may run side by
- * side, also on the same values where these are only read; none is made from a signal handler, or,
- * before it calls exec, from the child that fork made of a process with several threads.
+ * begin at a multiple of 16, and gives back all but what a phaser or a stream keeps. Calls may run
+ * side by side, also on the same values where these are only read; none is made from a signal
+ * handler, or, before it calls exec, from the child that fork made of a process with several
+ * threads.
  *
  * The library is for Linux on x86-64 with SSE4.2, which is x86-64-v2. */
 #ifndef PHASE_H
@@ -29,7 +30,7 @@ extern "C" {
 /* The version, 0.1.0: 10,000 times the first number, 100 times the second, and the third. */
 #define PHASE_VERSION 100
 
-/* The statuses. Those of phasers stand further below. */
+/* The statuses. Those of phasers and of streams stand further below. */
 enum {
     PHASE_OK = 0,
     /* The text has a fault, at fault->line, of fault->kind. */
@@ -339,6 +340,110 @@ int32_t phase_phaser_wait_block(phase_phaser *phaser, uint64_t task, int64_t *va
 /* Writes what a task stands at. */
 int32_t phase_phaser_view(phase_phaser *phaser, uint64_t task, phase_standing *standing);
 
+/* ---- A graph that is fed.
+ *
+ * A stream is a run of a graph whose samples come in pieces: it is fed, goes on until no task can
+ * move, and is read. What was taken of a sink, and what it has, are at every moment the first of
+ * the values that phase_eval would write for it, whatever samples come later; and all of them, once
+ * the stream is PHASE_DONE.
+ *
+ * A stream stands in a struct of the caller's, which has none while it is PHASE_STREAM_INIT, or all
+ * zero. It is used and freed as a phaser is: by any thread, one call at a time, and never copied.
+ * Any number may be given for a source or a sink. A source is named by its number among the
+ * sources, and a sink by its number among the sinks, each from 0 on in the order of their lines.
+ *
+ * Of each source at most 4,096 samples wait to be signalled, and each sink keeps at most 4,096
+ * values until they are taken, or a block of its line, where that is more. Memory is taken by
+ * phase_stream_new, and by a run that registers a child.
+ *
+ * Where a call answers a negative status, the stream and what the call writes are as they were, but
+ * for what phase_stream_new, phase_stream_run and phase_stream_take say. */
+
+/* The statuses of a stream, beside PHASE_OK, and PHASE_E_GRAPH, PHASE_E_SAMPLE, PHASE_E_ROOM and
+ * PHASE_E_MEMORY. Of two refusals that one is told which stands further up here, and these four
+ * last. */
+enum {
+    /* There is no stream. */
+    PHASE_E_NO_STREAM = -8,
+    /* There is a stream already. */
+    PHASE_E_HAS_STREAM = -9,
+    /* The graph has not so many sources. */
+    PHASE_E_NO_SOURCE = -10,
+    /* The graph has not so many sinks. */
+    PHASE_E_NO_SINK = -11
+};
+
+/* Why a run goes on no further, for now or at all. */
+enum {
+    /* The source stop->number has signalled all its samples: feed it, or finish it. */
+    PHASE_HUNGRY = 1,
+    /* The sink stop->number has no room for its next values: take those that it has. */
+    PHASE_FULL = 2,
+    /* No task can move, and neither samples nor a taking can help. */
+    PHASE_STALLED = 3,
+    /* No task is left. */
+    PHASE_DONE = 4,
+    /* A value is out of range, in every stream whose samples go on so: value stop->at of the phaser
+     * or task stop->number, by stop->place. Later feeds take nothing. */
+    PHASE_TOO_BIG = 5,
+    /* As many turns were made as a call makes at most, and there may be more to do: call again. */
+    PHASE_PAUSED = 6
+};
+
+/* The place of a stream. Nobody reads or writes its fields, but for the zeros at first. */
+typedef struct phase_stream {
+    void *at;
+    bool live; /* whether there is a stream */
+} phase_stream;
+
+/* A place with no stream. */
+#define PHASE_STREAM_INIT {NULL, false}
+
+/* Why a run goes on no further; 0 where a number says nothing. */
+typedef struct phase_stop {
+    uint64_t number; /* the source, the sink, the phaser or the task */
+    uint64_t at;     /* the phase on the phaser, or the step of the task */
+    int32_t kind;    /* why: PHASE_HUNGRY and so on */
+    int32_t place;   /* PHASE_AT_PHASER or PHASE_AT_TASK */
+} phase_stop;
+
+/* Makes a stream of a graph, to which no samples came; or answers why not, and has then written the
+ * fault. A fault of the kind PHASE_ANY_MEETS tells the first line whose task could signal with one
+ * of an earlier line in one phase of a phaser with `any`, were there samples enough. */
+int32_t phase_stream_new(const uint8_t *text, size_t text_len, phase_stream *stream,
+                         phase_fault *fault);
+
+/* Ends the stream and gives its memory back. There is none then. Where there is none it does
+ * nothing. */
+void phase_stream_free(phase_stream *stream);
+
+/* How many phasers, tasks, sources and sinks the graph has. */
+int32_t phase_stream_counts(phase_stream *stream, phase_counts *counts);
+
+/* Feeds samples to a source, and writes how many it took: as many as it has room for, and none
+ * where it is finished. PHASE_E_SAMPLE says that one of them is INT64_MIN; then none is fed. */
+int32_t phase_stream_feed(phase_stream *stream, size_t source, const int64_t *samples,
+                          size_t samples_len, size_t *took);
+
+/* Says that no more samples come for a source. */
+int32_t phase_stream_finish(phase_stream *stream, size_t source);
+
+/* Goes on until no task can move, and writes why. A sink without room is told before a hungry
+ * source. At PHASE_E_MEMORY there was none for a child's registration; the stream has gone on as
+ * far as it could, no value is lost, and the call can be made again. */
+int32_t phase_stream_run(phase_stream *stream, phase_stop *stop);
+
+/* Takes all values that a sink has: writes them into the first places, and how many they are, and
+ * the sink has none then. What stands behind them stays. With too few places the answer is
+ * PHASE_E_ROOM, count is how many values there are, and the sink keeps them: so a call with NULL, 0
+ * asks. */
+int32_t phase_stream_take(phase_stream *stream, size_t sink, int64_t *values, size_t values_len,
+                          size_t *count);
+
+/* Writes the phase at which a sink that joins now begins, once it is registered, and else
+ * PHASE_NO_START. */
+int32_t phase_stream_start(phase_stream *stream, size_t sink, int64_t *start);
+
 /* ---- Words. They stand in this header, and not in the library. */
 
 /* What a status says, for a person; of a number that is no status, that. */
@@ -355,6 +460,10 @@ static inline const char *phase_status_text(int32_t status)
     case PHASE_E_ROOM: return "too little room for what is to be written";
     case PHASE_E_MEMORY: return "out of memory";
     case PHASE_E_TAPS: return "no filter has these taps and this shift";
+    case PHASE_E_NO_STREAM: return "there is no stream";
+    case PHASE_E_HAS_STREAM: return "there is a stream already";
+    case PHASE_E_NO_SOURCE: return "the graph has not so many sources";
+    case PHASE_E_NO_SINK: return "the graph has not so many sinks";
     case PHASE_E_NO_PHASER: return "there is no phaser";
     case PHASE_E_HAS_PHASER: return "there is a phaser already";
     case PHASE_E_BAD_OPERATION: return "the number is none of an operation";

@@ -1,6 +1,6 @@
-/* Each request for memory of an evaluation, of names, of a filter and of a phaser refused in turn:
- * the answer is PHASE_E_MEMORY with the output as it was, or right all the same, and all memory is
- * given back. Linked with --wrap of malloc, realloc and free. */
+/* Each request for memory of an evaluation, of names, of a filter, of a phaser and of a stream
+ * refused in turn: the answer is PHASE_E_MEMORY with the output as it was, or right all the same,
+ * and all memory is given back. Linked with --wrap of malloc, realloc and free. */
 #include "phase.h"
 #include <stdio.h>
 #include <string.h>
@@ -277,6 +277,67 @@ static int blocks(long request)
     return is_done;
 }
 
+/* Makes a stream of the graph, or tells that there was no memory, and makes it then. */
+static int32_t makes_stream(phase_stream *stream, int *told)
+{
+    phase_fault fault;
+    int32_t status = phase_stream_new((const uint8_t *)graph, strlen(graph), stream, &fault);
+    if (status == PHASE_E_MEMORY && !stream->live) {
+        ++*told;
+        status = phase_stream_new((const uint8_t *)graph, strlen(graph), stream, &fault);
+    }
+    return status;
+}
+
+/* Runs a stream, again where there was no memory. */
+static int32_t runs_stream(phase_stream *stream, int *told, phase_stop *stop)
+{
+    int32_t status = phase_stream_run(stream, stop);
+    if (status == PHASE_E_MEMORY) {
+        ++*told;
+        status = phase_stream_run(stream, stop);
+    }
+    return status;
+}
+
+/* Each request of a stream of the graph, fed whole: its sinks got what an evaluation has, but late,
+ * which may join later. What was refused is done when it is asked for again, and only a child's
+ * registration asks for memory once the stream is made. */
+static int streams(long request)
+{
+    phase_stream stream = PHASE_STREAM_INIT;
+    phase_stop stop = {0};
+    const int64_t samples[6] = {1, 2, 3, 4, 5, 6};
+    int64_t out[12], start = 77;
+    size_t took[2] = {0}, counts[3] = {0};
+    int told = 0;
+    granted = request;
+    int is_good = makes_stream(&stream, &told) == PHASE_OK;
+    for (size_t source = 0; source < 2; source++)
+        is_good = is_good
+                  && phase_stream_feed(&stream, source, samples + 3 * source, 3, &took[source])
+                         == PHASE_OK
+                  && took[source] == 3 && phase_stream_finish(&stream, source) == PHASE_OK;
+    is_good = is_good && runs_stream(&stream, &told, &stop) == PHASE_OK && stop.kind == PHASE_DONE;
+    int is_done = granted >= 0;
+    granted = -1;
+    is_good = is_good && phase_stream_take(&stream, 0, out, 4, &counts[0]) == PHASE_OK
+              && phase_stream_take(&stream, 1, out + 4, 4, &counts[1]) == PHASE_OK
+              && phase_stream_take(&stream, 2, out + 8, 4, &counts[2]) == PHASE_OK
+              && phase_stream_start(&stream, 2, &start) == PHASE_OK && start >= 1
+              && counts[0] == 4 && counts[1] == 4 && (int64_t)counts[2] == 4 - start
+              && !memcmp(out, (const int64_t[8]){1, 7, 14, 14, 1, 6, 8, 6}, 8 * sizeof *out)
+              && !memcmp(out + 8, out + 4 + start, counts[2] * sizeof *out);
+    phase_stream_free(&stream);
+    if (is_good && told == 1 && !is_done && !stream.live)
+        refused++;
+    else if (is_good && told == 0 && !stream.live)
+        right++;
+    else
+        wrong++, printf("memory: a stream is wrong after request %ld was refused\n", request);
+    return is_done;
+}
+
 static void all_refused(int (*call)(long))
 {
     int is_done = 0;
@@ -299,10 +360,11 @@ int main(void)
     all_refused(filters_in_place);
     all_refused(phasers);
     all_refused(blocks);
+    all_refused(streams);
     without_memory();
     /* With no request refused each has answered once. */
     printf("memory: %ld requests, each refused in turn: %ld told, %ld answered all the same, %ld "
            "wrong\n",
-           requests, refused, right - 7, wrong);
-    return wrong != 0 || refused == 0 || right < 7;
+           requests, refused, right - 8, wrong);
+    return wrong != 0 || refused == 0 || right < 8;
 }

@@ -2,10 +2,10 @@
 use Rattle.std.proofs.Common.{◌≡◌, ◌<◌, ◌≤◌, ◌+◌, ℕ, ℤ, zero, suc, Bool, true, false, List, [], ◌∷◌, ◌++◌, length, map, refl, sym, ap, ◌∙◌, arith}
 use Rattle.std.specs.List.{filter, range_with_len}
 use Rattle.std.proofs.lemmas.List.{map_push}
-use Rattle.graph_lang.specs.graph_base.Graphs.{is_sink, task_at}
-use Rattle.graph_lang.specs.graph_base.TaskLines.{IsGraph, HasEnds}
-use Rattle.graph_lang.specs.graph_base.declared.line.Kind.{Kind}
-use Rattle.graph_lang.specs.graph_base.declared.line.Kind.TheVariants.{Source, Fir, Split, Join, Peer, Sink}
+use Rattle.graph_numbers.specs.graph_lang.graph_base.Graphs.{is_sink, task_at}
+use Rattle.graph_numbers.specs.graph_lang.graph_base.TaskLines.{IsGraph, HasEnds}
+use Rattle.graph_numbers.specs.graph_lang.graph_base.declared.line.Kind.{Kind}
+use Rattle.graph_numbers.specs.graph_lang.graph_base.declared.line.Kind.TheVariants.{Source, Fir, Split, Join, Peer, Sink}
 use Rattle.stream_eval.specs.stream_lists.Jobs.{Job}
 use Rattle.stream_eval.specs.stream_lists.Lists.{is_sink_at, numbers_of, sink_over, sinks_of}
 use Rattle.stream_eval.specs.stream_lists.Spans.{schedule_of, span_in}

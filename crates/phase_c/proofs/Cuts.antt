@@ -6,7 +6,7 @@ use Rattle.std.proofs.lemmas.List.Sums.{sum_by-drop_more}
 use Rattle.std.specs.Global.{Global}
 use Rattle.std.specs.List.{sum}
 use Rattle.stream_eval.specs.stream_filters.Range.{lowest}
-use Rattle.graph_lang.specs.phase_accum.Sends.{AreSends, IsSend}
+use Rattle.graph_numbers.specs.graph_lang.phase_accum.Sends.{AreSends, IsSend}
 use Rattle.stream_eval.specs.stream_lists.JobFields.{items_of}
 use Rattle.phase_c.specs.Lent.{cut}
 

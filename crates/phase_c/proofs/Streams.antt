@@ -6,7 +6,7 @@ use Rattle.std.proofs.lemmas.Bool.{le-leb, ltb-false, ltb-true}
 use Rattle.std.proofs.lemmas.Grind.{drop_more_same}
 use Rattle.std.proofs.lemmas.List.{drop-set-lt, take_more, take_more_set, reverse-append, length-reverse, get_or_append_left, get_or-append_right, get_or-drop, get_or-reverse, length-drop, length-take-le}
 use Rattle.std.proofs.lemmas.List.FromFn.{map-range_with_len_more}
-use Rattle.graph_lang.specs.phase_accum.Sends.{AreSends, IsSend, value_max}
+use Rattle.graph_numbers.specs.graph_lang.phase_accum.Sends.{AreSends, IsSend, value_max}
 use Rattle.stream_eval.specs.stream_filters.Filter.{FirState, StandsFor, back, output_after, shifted_down}
 use Rattle.stream_eval.specs.stream_filters.Range.{ranged}
 use Rattle.stream_eval.specs.stream_filters.declared.fault.TooBigValue.{TooBigValue}

@@ -1,34 +1,20 @@
 -- What a caller is told of a call, in numbers.
-use Rattle.std.specs.Prelude.{◌≡◌, ◌+◌, ◌*◌, ℕ, ℤ, pos, negsuc, List, length, Ok}
-use Rattle.graph_lang.specs.Reads.{ReadsText}
-use Rattle.graph_lang.specs.graph_base.Graphs.{Graph, sources_of}
-use Rattle.graph_lang.specs.graph_base.declared.place.Place.TheVariants as place
-use Rattle.graph_lang.specs.graph_text.Texts.{lines_of as text_lines}
-use Rattle.graph_lang.specs.declared.fault.FaultKind.{FaultKind}
-use Rattle.graph_lang.specs.declared.fault.FaultKind.TheVariants.{Syntax, Limit, Twice, Unknown, OutBeforeIn, BadParent, NotHeld, OverBound, AnyMeets}
+use Rattle.std.specs.Prelude.{◌≡◌, ◌+◌, ◌*◌, ℕ, ℤ, negsuc, List, length, Ok}
+use Rattle.graph_numbers.specs.graph_lang.Reads.{ReadsText}
+use Rattle.graph_numbers.specs.graph_lang.graph_base.Graphs.{Graph, sources_of}
+use Rattle.graph_numbers.specs.graph_lang.graph_text.Texts.{lines_of as text_lines}
+use Rattle.graph_numbers.specs.Numbers.{graph_fault, no_fault, too_big_fault}
+use Rattle.graph_numbers.specs.declared.fault.PhaseFault.{PhaseFault}
+use Rattle.graph_numbers.specs.declared.fault.PhaseCounts.{PhaseCounts}
 use Rattle.phase_c.specs.Lent.{sinks_in}
 use Rattle.phase_c.specs.Names.{RefusesNames}
 use Rattle.phase_c.specs.Refusals.{RefusesEval, RefusesText}
 use Rattle.phase_c.specs.declared.refusal.Refusal.{Refusal}
 use Rattle.phase_c.specs.declared.refusal.Refusal.TheVariants as refusal
-use Rattle.phase_c.specs.declared.fault.PhaseFault.{PhaseFault}
-use Rattle.phase_c.specs.declared.fault.PhaseCounts.{PhaseCounts}
 
 -- the version of the library, 0.1.0, as a number
 abbrev pub version : ℕ
 version = 0 * 10000 + 1 * 100 + 0
-
--- the number of a kind of fault
-abbrev pub kind_number : FaultKind → ℕ
-kind_number Syntax = 1
-kind_number Limit = 2
-kind_number Twice = 3
-kind_number Unknown = 4
-kind_number OutBeforeIn = 5
-kind_number BadParent = 6
-kind_number NotHeld = 7
-kind_number OverBound = 8
-kind_number AnyMeets = 9
 
 -- the status of a refusal, from -1 on downwards
 abbrev pub status_of : Refusal → ℤ
@@ -39,19 +25,11 @@ status_of (refusal.TooBig at n) = negsuc 3
 status_of refusal.Room = negsuc 4
 status_of refusal.OutOfMemory = negsuc 5
 
--- nothing is told beside the status
-abbrev pub no_fault : PhaseFault
-no_fault = record { line = 0; number = 0; at = 0; kind = pos 0; place = pos 0 }
-
 -- what a refusal tells beside its status
 abbrev pub fault_of : Refusal → PhaseFault
-fault_of (refusal.Graph found) =
-    record no_fault { line = found.line; kind = pos (kind_number found.kind) }
+fault_of (refusal.Graph found) = graph_fault found
 fault_of (refusal.Sample at) = record no_fault { at = at }
-fault_of (refusal.TooBig (place.Phaser p) n) =
-    record no_fault { number = p; at = n; place = pos 1 }
-fault_of (refusal.TooBig (place.Task t) n) =
-    record no_fault { number = t; at = n; place = pos 2 }
+fault_of (refusal.TooBig place n) = too_big_fault place n
 fault_of refusal.Counts = no_fault
 fault_of refusal.Room = no_fault
 fault_of refusal.OutOfMemory = no_fault

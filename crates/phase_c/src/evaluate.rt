@@ -11,7 +11,7 @@ use crate::refusal::Refusal;
 use crate::samples::{first_no_sample, lists_of};
 use crate::sinks::{sinks_of, tell_sinks};
 use crate::written::write_values;
-use graph_lang::{FaultKind, Graph, GraphFault, read_graph};
+use graph_numbers::graph_lang::{FaultKind, Graph, GraphFault, read_graph};
 use std::alloc::Global;
 use stream_eval::stream_lists::{Job, JobRefusal};
 use stream_eval::{EvalFault, eval};

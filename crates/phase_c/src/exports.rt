@@ -6,14 +6,14 @@ ghost use Rattle.phase_c.specs.Refusals.{IsDone, RefusesText};
 ghost use Rattle.phase_c.specs.Told.{CheckIsRefused, Counted, EvalIsRefused, NamesStop, version};
 
 use crate::evaluate::evaluate;
-use crate::fault::{PhaseCounts, PhaseFault};
 use crate::filter::{filter_block, filter_status_of};
 use crate::in_place::filter_in_place;
 use crate::names::{write_all_names, write_names};
 use crate::refusal::Refusal;
 use crate::sinks::sinks_of;
 use crate::told::{VERSION, fault_of, status_of};
-use graph_lang::read_graph;
+use graph_numbers::graph_lang::read_graph;
+use graph_numbers::{PhaseCounts, PhaseFault};
 use std::alloc::Global;
 
 /// Answers the version of the library.

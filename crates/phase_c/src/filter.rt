@@ -1,6 +1,6 @@
 //! A filter over a block of samples, which goes on where the block before it ended.
 ghost use Rattle.std.specs.Prelude.{◌≡◌, ◌≤◌, ◌<◌, ◌+◌, ◌++◌, ℤ, List, length, take, drop, OnOk, OnErr, IfOk, IfErr};
-ghost use Rattle.graph_lang.specs.phase_accum.Sends.{AreSends, IsSend};
+ghost use Rattle.graph_numbers.specs.graph_lang.phase_accum.Sends.{AreSends, IsSend};
 ghost use Rattle.stream_eval.specs.stream_filters.Filter.{StandsFor};
 ghost use Rattle.phase_c.specs.Filtered.{AreOfFilter, FiltersAll, RefusesBlock, filter_status_of, first_outputs, output_behind};
 

@@ -1,6 +1,6 @@
 //! A filter over a block of samples, whose values take the places of the samples.
 ghost use Rattle.std.specs.Prelude.{◌≡◌, ◌≤◌, ◌<◌, ℤ, List, length, take, drop, OnOk, OnErr, IfErr};
-ghost use Rattle.graph_lang.specs.phase_accum.Sends.{AreSends, IsSend};
+ghost use Rattle.graph_numbers.specs.graph_lang.phase_accum.Sends.{AreSends, IsSend};
 ghost use Rattle.stream_eval.specs.stream_filters.Filter.{StandsFor};
 ghost use Rattle.phase_c.specs.Filtered.{FiltersAll, RefusesBlock, first_outputs, output_behind};
 

@@ -2,13 +2,12 @@
 //! stands on no phaser of a caller's.
 //!
 //! No export requires anything of its caller, so each looks at all that it is lent. The numbers of
-//! statuses, of kinds of fault and of places stand in `specs/Told.antt`.
+//! statuses stand in `specs/Told.antt`, those of kinds of fault and of places in `graph_numbers`.
 #![tactic(auto)]
 
 mod counts;
 mod evaluate;
 mod exports;
-mod fault;
 mod filter;
 mod in_place;
 mod names;

@@ -5,7 +5,7 @@ ghost use Rattle.stream_eval.specs.stream_lists.phase_accum.Sends.{AreSends};
 ghost use Rattle.stream_eval.specs.stream_lists.JobFields.{items_of};
 ghost use Rattle.phase_c.specs.Lent.{IsFirstNoSample, cut};
 
-use graph_lang::phase_accum::NO_VALUE;
+use graph_numbers::graph_lang::phase_accum::NO_VALUE;
 use std::alloc::{AllocError, Global};
 use stream_eval::stream_lists::SAMPLES_MAX;
 

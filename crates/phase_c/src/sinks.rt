@@ -1,13 +1,13 @@
 //! The sinks of a graph, and what is told of them.
 ghost use Rattle.std.specs.Prelude.{◌≡◌, ◌<◌, [], length, map, true, IfOk, IfSome};
 ghost use Rattle.std.specs.List.{All};
-ghost use Rattle.graph_lang.specs.graph_base.TaskLines.{IsGraph};
+ghost use Rattle.graph_numbers.specs.graph_lang.graph_base.TaskLines.{IsGraph};
 ghost use Rattle.stream_eval.specs.stream_lists.Spans.{span_in};
 ghost use Rattle.stream_eval.specs.stream_lists.Lists.{sinks_of, start_in};
 ghost use Rattle.phase_c.specs.Lent.{sinks_in};
 ghost use Rattle.phase_c.specs.Evaluations.{TellsSinks, start_number};
 
-use graph_lang::Graph;
+use graph_numbers::graph_lang::Graph;
 use std::alloc::{AllocError, Global};
 use stream_eval::stream_lists::Job;
 

@@ -1,5 +1,5 @@
 use Rattle.std.proofs.Common.{◌≡◌, ◌++◌, ℤ, List, length, take, drop}
-use Rattle.graph_lang.specs.phase_accum.Sends.{AreSends}
+use Rattle.graph_numbers.specs.graph_lang.phase_accum.Sends.{AreSends}
 use Rattle.stream_eval.specs.stream_filters.Filter.{StandsFor}
 use Rattle.phase_c.specs.Filtered.{first_outputs}
 use Rattle.phase_c.proofs.filter.steps.Given as goal

@@ -1,6 +1,6 @@
 use Rattle.std.proofs.Common.{◌≡◌, ◌≤◌, ◌++◌, length, drop}
 use Rattle.std.specs.List.{All, sum}
-use Rattle.graph_lang.specs.phase_accum.Sends.{AreSends}
+use Rattle.graph_numbers.specs.graph_lang.phase_accum.Sends.{AreSends}
 use Rattle.stream_eval.specs.stream_lists.JobFields.{items_of}
 use Rattle.stream_eval.specs.stream_lists.declared.job.TheConstants.{SAMPLES_MAX}
 use Rattle.phase_c.specs.Lent.{cut}

@@ -1,5 +1,5 @@
 use Rattle.std.proofs.Common.{◌≡◌, ℕ, ℤ, true, map, ap, subst, ◌∙◌, rules}
-use Rattle.graph_lang.specs.graph_base.TaskLines.{IsGraph}
+use Rattle.graph_numbers.specs.graph_lang.graph_base.TaskLines.{IsGraph}
 use Rattle.stream_eval.specs.stream_lists.Lists.{sinks_of, start_in}
 use Rattle.stream_eval.specs.stream_lists.Spans.{span_in}
 use Rattle.phase_c.specs.Evaluations.{start_number}

@@ -1,0 +1,2 @@
+pub mod Numbers
+pub use Rattle.graph_lang.specs as graph_lang
