@@ -1,0 +1,13 @@
+mod Asking
+mod Begun
+mod Ending
+mod Feeding
+mod Forgetting
+mod Handing
+mod Opening
+mod Reading
+mod Refilling
+mod Sinking
+mod Standing
+mod Stopping
+mod Writing

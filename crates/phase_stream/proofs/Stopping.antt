@@ -1,0 +1,136 @@
+-- How a session ends, by the one that it began as.
+use Rattle.std.proofs.Common.{◌≡◌, ℕ, ℤ, List, Option, sym, subst, ◌∙◌}
+use Rattle.std.specs.Prelude.{⊤}
+use Rattle.std.specs.List.{flat_map}
+use mathlib.Core.List.{IsPrefix}
+use Rattle.graph_commands.specs.FileJobs.{Known}
+use Rattle.graph_commands.specs.OutputTexts.{value_text}
+use Rattle.graph_commands.specs.declared.failure.Failure.{Failure}
+use Rattle.graph_commands.specs.declared.failure.Failure.TheVariants as failure
+use Rattle.graph_commands.specs.watched_io.States.{WriterState}
+use Rattle.stream_job.specs.SinkLines.{kept_by}
+use Rattle.stream_job.specs.Streams.{IsStreamAt}
+use Rattle.stream_job.specs.declared.stopped.Stopped.TheVariants as stopped
+use Rattle.stream_job.specs.graph_base.declared.place.Place.{Place}
+use Rattle.stream_job.specs.graph_runs.Moments.{Moment, started}
+use Rattle.stream_job.specs.graph_runs.Settled.{IsFaultAt}
+use Rattle.stream_job.specs.stream_lists.Jobs.{Job, with_samples}
+use Rattle.phase_stream.specs.Sessions.{IsKnownAs, IsKeptRight, IsSameSession, IsSinkNumber, IsTooBigOrNone, StandsPart, StandsStopped}
+use Rattle.phase_stream.specs.Streams.{IsStandstill, StopsBehind, StopsOf, WritesPart, WritesWhole}
+use Rattle.phase_stream.specs.declared.session.Session.{Session}
+use Rattle.phase_stream.proofs.Handing.{whole_part}
+use Rattle.phase_stream.proofs.Writing.{part_of, whole_of}
+
+pub sink_same : {R : Type 0} (old new : Session R) → IsSameSession old new
+    → IsSinkNumber old.stream.job old.task old.sink → IsSinkNumber new.stream.job new.task new.sink
+sink_same old new same is =
+    subst (λ j. IsSinkNumber j new.task new.sink) (sym same.job)
+    (subst (λ t. IsSinkNumber old.stream.job t new.sink) (sym same.task)
+    (subst (λ s. IsSinkNumber old.stream.job old.task s) (sym same.sink) is))
+
+-- by the job and the task that it began with
+moved : {R : Type 0} (P : Job → ℕ → Type 0) (old new : Session R) → IsSameSession old new
+    → P new.stream.job new.task → P old.stream.job old.task
+moved P old new same is =
+    subst (λ j. P j old.task) same.job (subst (P new.stream.job) same.task is)
+
+pub io_stops : {R : Type 0} (held : Known) (old new : WriterState) (first session : Session R)
+    → IsSameSession first session → IsKeptRight session.stream session.task
+    → StandsPart held old.written new.written session
+    → StopsBehind held first.stream.job first.task old new (λ samples ended starts. ⊤)
+io_stops held old new first session same right st =
+    moved (λ j t. StopsBehind held j t old new (λ samples ended starts. ⊤)) first session same (record {
+      part = part_of held session.stream session.task old.written new.written st.samples st.moment
+          st.given st.values st.reaches st.begins right st.written;
+      cause = tt;
+    })
+
+pub done_writes : {R : Type 0} (remaining : R → Option (List ℕ)) (held : Known)
+    (old now : Option (List ℕ)) (first session : Session R) → IsSameSession first session
+    → IsSinkNumber session.stream.job session.task session.sink
+    → StandsStopped remaining held old now session stopped.Done
+    → WritesWhole held first.stream.job first.task old now
+done_writes remaining held old now first session same sink st =
+    moved (λ j t. WritesWhole held j t old now) first session same
+    (whole_of remaining held old now session sink st)
+
+pub stall_stops : {R : Type 0} (remaining : R → Option (List ℕ)) (held : Known)
+    (old new : WriterState) (first session : Session R) → IsSameSession first session
+    → ((s : List (List ℤ)) (m : Moment) (given : ℕ → List ℤ) → IsStreamAt session.stream s m given
+    → IsPrefix (given session.task) (kept_by session.stream.job m session.task))
+    → IsKeptRight session.stream session.task
+    → StandsStopped remaining held old.written new.written session stopped.Stalled
+    → StopsBehind held first.stream.job first.task old new
+    (λ samples ended starts. IsStandstill first.stream.job samples)
+stall_stops remaining held old new first session same begins right st =
+    let stands = st.stands in
+    moved (λ j t. StopsBehind held j t old new (λ samples ended starts. IsStandstill j samples)) first
+    session same (record {
+      part = part_of held session.stream session.task old.written new.written stands.samples
+          stands.moment stands.given (stands.given session.task) stands.reaches
+          (begins stands.samples stands.moment stands.given stands.reaches.at) right
+          (whole_part old.written new.written (flat_map value_text (stands.given session.task))
+          stands.written);
+      cause = record {
+        moment = stands.moment;
+        reached = stands.reaches.at.machine.reached;
+        live = st.stopped_is.0;
+        rest = st.stopped_is.1;
+      };
+    })
+
+pub too_big_stops : {R : Type 0} (remaining : R → Option (List ℕ)) (held : Known)
+    (old new : WriterState) (first session : Session R) (at : Place) (n : ℕ) (found : Failure)
+    → IsSameSession first session
+    → ((s : List (List ℤ)) (m : Moment) (given : ℕ → List ℤ) → IsStreamAt session.stream s m given
+    → IsPrefix (given session.task) (kept_by session.stream.job m session.task))
+    → IsKeptRight session.stream session.task
+    → StandsStopped remaining held old.written new.written session (stopped.TooBig at n)
+    → IsTooBigOrNone session.stream.job at n found
+    → StopsOf held first.stream.job first.task old new found
+too_big_stops {R} remaining held old new first session at n found same begins right st is =
+    moved (λ j t. StopsOf held j t old new found) first session same (by found is)
+  where
+    part : WritesPart held session.stream.job session.task old.written new.written
+    part = part_of held session.stream session.task old.written new.written st.stands.samples
+        st.stands.moment st.stands.given (st.stands.given session.task) st.stands.reaches
+        (begins st.stands.samples st.stands.moment st.stands.given st.stands.reaches.at) right
+        (whole_part old.written new.written (flat_map value_text (st.stands.given session.task))
+        st.stands.written)
+
+    by : (found : Failure) → IsTooBigOrNone session.stream.job at n found
+        → StopsOf held session.stream.job session.task old new found
+    by (failure.TooBig other place phase) told = (
+      told.0,
+      record {
+        part = part_of held session.stream session.task old.written new.written st.stands.samples
+            st.stands.moment st.stands.given (st.stands.given session.task) st.stands.reaches
+            (begins st.stands.samples st.stands.moment st.stands.given st.stands.reaches.at) right
+            (whole_part old.written new.written (flat_map value_text (st.stands.given session.task))
+            st.stands.written);
+        cause = λ more goes.
+            subst (λ p. IsFaultAt (started (with_samples more session.stream.job) st.stands.moment)
+            (p, phase)) (sym told.1)
+            (subst (λ i. IsFaultAt (started (with_samples more session.stream.job) st.stands.moment)
+            (at, i)) (sym told.2) (st.stopped_is more goes.feeds goes.ready));
+      },
+    )
+    by (failure.Io fault) told = (
+      (λ write. absurd (cc (told, write))),
+      record { part = part; cause = tt },
+    )
+    by (failure.Graph fault text) told = absurd told
+    by (failure.NoSink job name) told = absurd told
+    by (failure.Stalled further) told = absurd told
+
+pub lack_stops : {R : Type 0} (held : Known) (old new : WriterState) (first session : Session R)
+    (found : Failure) → IsSameSession first session
+    → StopsOf held session.stream.job session.task old new found
+    → StopsOf held first.stream.job first.task old new found
+lack_stops held old new first session found same is =
+    moved (λ j t. StopsOf held j t old new found) first session same is
+
+-- the files are known as before
+pub held_later : (held first now : Known) → ((other : List ℕ) → now other ≡ first other)
+    → IsKnownAs held first → IsKnownAs held now
+held_later held first now same is name = same name ∙ is name

@@ -1,0 +1,209 @@
+-- What was written, by what the sink has kept.
+use Rattle.std.proofs.Common.{◌≡◌, ◌<◌, ◌++◌, ℕ, ℤ, Bool, true, false, eqb, List, [], ◌∷◌, Option, Some, None, Ok, Err, length, get_or, map, zero, suc, refl, sym, ap, subst, ◌∙◌, append_assoc, rules, arith}
+use Rattle.std.proofs.lemmas.Bool.{eq-eqb, eqb-true}
+use Rattle.std.specs.List.{flat_map}
+use Rattle.std.specs.Io.KnownBytes.{Appends}
+use mathlib.Core.List.{IsPrefix}
+use Rattle.graph_commands.specs.FileJobs.{Known}
+use Rattle.graph_commands.specs.OutputTexts.{value_text, values_of_sink}
+use Rattle.graph_commands.specs.declared.failure.Failure.{Failure}
+use Rattle.graph_commands.specs.declared.failure.Failure.TheVariants as failure
+use Rattle.graph_commands.specs.declared.fault.JobFault.{JobFault}
+use Rattle.graph_commands.specs.declared.fault.JobFault.TheVariants as faults
+use Rattle.graph_commands.specs.watched_io.Prefix.{AppendsPrefix}
+use Rattle.graph_commands.specs.watched_io.States.{WriterState}
+use Rattle.stream_job.specs.SinkLines.{kept_by}
+use Rattle.std.specs.Prelude.{◌⊎◌, string_bytes}
+use Rattle.std.specs.Global.{Global}
+use Rattle.std.proofs.Common.{inl, inr, String}
+use Rattle.phase_stream.proofs.Handing.{whole_part}
+use Rattle.phase_stream.specs.declared.source.Lack.{Lack}
+use Rattle.phase_stream.specs.declared.source.Lack.TheVariants as lack
+use Rattle.stream_job.specs.graph_base.declared.place.Place.TheVariants as place
+use Rattle.stream_job.specs.Streams.{IsSourceAt, IsStreamAt, StreamState, has_ended}
+use Rattle.stream_job.specs.declared.stopped.Stopped.TheVariants as stopped
+use Rattle.stream_job.specs.graph_base.Graphs.{name_at, task_at}
+use Rattle.stream_job.specs.graph_runs.Moments.{Moment, started}
+use Rattle.stream_job.specs.stream_lists.Jobs.{Job, with_samples}
+use Rattle.stream_job.specs.stream_lists.Lists.{lines_of, numbers_of, sinks_of, start_in, taken_from, with_start}
+use Rattle.stream_job.specs.stream_lists.Ranges.{Fits, Where, answer_of, first_too_big}
+use Rattle.stream_job.specs.stream_lists.Spans.{span_in}
+use Rattle.phase_stream.specs.Sessions.{IsKeptRight, IsSinkNumber, IsFaultWithoutText, Reaches, StandsLacking, StandsStopped, sink_list}
+use Rattle.phase_stream.specs.Streams.{StopsOf, WritesPart, WritesWhole}
+use Rattle.phase_stream.specs.declared.session.Session.{Session}
+
+-- ---- a part
+
+pub right_by : (stream : StreamState) (t sink : ℕ) (values : List ℤ) (s : List (List ℤ))
+    (m : Moment) (given : ℕ → List ℤ) (more : List (List ℤ)) → get_or (sinks_of stream.job) sink 0 ≡ t
+    → let u = get_or (sinks_of stream.job) sink 0 in
+    let job = started (with_samples more stream.job) m in
+    given u ++ values ≡ kept_by stream.job m u
+    → IsPrefix (given u ++ values) (taken_from (numbers_of job) (task_at job.graph u) (span_in job u) 0)
+    → IsPrefix (kept_by stream.job m t) (sink_list job t)
+right_by stream t sink values s m given more is kept right =
+    let job = started (with_samples more stream.job) m in
+    subst (λ u. IsPrefix (kept_by stream.job m u) (sink_list job u)) is
+    (subst (λ l. IsPrefix l (sink_list job (get_or (sinks_of stream.job) sink 0))) kept right)
+
+pub begins_further : (xs ys zs : List ℤ) → IsPrefix xs ys → IsPrefix ys zs → IsPrefix xs zs
+begins_further xs ys zs first then = (
+  first.0 ++ then.0,
+  sym (append_assoc xs first.0 then.0) ∙ ap (λ l. l ++ then.0) first.1 ∙ then.1,
+)
+
+abbrev pub part_of : (held : Known) (stream : StreamState) (t : ℕ) (old now : Option (List ℕ))
+    (s : List (List ℤ)) (m : Moment) (given : ℕ → List ℤ) (values : List ℤ)
+    → Reaches held stream s m given → IsPrefix values (kept_by stream.job m t)
+    → IsKeptRight stream t → AppendsPrefix old now (flat_map value_text values)
+    → WritesPart held stream.job t old now
+part_of held stream t old now s m given values reaches begins right written = record {
+  samples = s;
+  ended = has_ended stream.inputs;
+  came = reaches.came;
+  starts = (started stream.job m).starts;
+  values = values;
+  right = λ more goes. begins_further values (kept_by stream.job m t)
+      (sink_list (started (with_samples more stream.job) m) t) begins
+      (right s m given more reaches.at goes.feeds goes.ready);
+  written = written;
+}
+
+-- ---- all
+
+-- a job with an answer has values that all fit
+answer_fits : (job : Job) (lines : List (ℕ × List ℤ)) → answer_of job ≡ Ok lines → Fits job
+answer_fits job lines is = by (first_too_big job) refl
+  where
+    by : (found : Option Where) → first_too_big job ≡ found → first_too_big job ≡ None
+    by None e = e
+    by (Some place) e =
+        let both : Err place ≡ Ok lines = rw e at is in
+        search rules
+
+-- and it is the lines of its sinks
+answer_lines : (job : Job) (lines : List (ℕ × List ℤ)) → answer_of job ≡ Ok lines
+    → lines_of job ≡ lines
+answer_lines job lines is =
+    let fits = answer_fits job lines is in
+    let both : Ok (lines_of job) ≡ Ok lines = rw fits at is in
+    search rules
+
+-- the values of a sink among those of all
+found_values : (f : ℕ → List ℤ) (start : ℕ → Option ℕ) (ts : List ℕ) (i t : ℕ) → i < length ts
+    → get_or ts i 0 ≡ t → values_of_sink t (map {B = ℕ × Option ℕ × List ℤ} (λ u. (u, start u, f u)) ts) ≡ f t
+found_values f start [] i t lt is = absurd (omega (arith, lt))
+found_values f start (u ∷ ts) i t lt is = by (eqb u t) refl i lt is (found_values f start ts)
+  where
+    by : (b : Bool) → eqb u t ≡ b → (i : ℕ) → i < length (u ∷ ts) → get_or (u ∷ ts) i 0 ≡ t
+        → ((i t : ℕ) → i < length ts → get_or ts i 0 ≡ t
+        → values_of_sink t (map {B = ℕ × Option ℕ × List ℤ} (λ u. (u, start u, f u)) ts) ≡ f t)
+        → values_of_sink t (map {B = ℕ × Option ℕ × List ℤ} (λ u. (u, start u, f u)) (u ∷ ts)) ≡ f t
+    by true e i lt is rest = rw e (ap f (eqb-true u t e))
+    by false e zero lt is rest =
+        let bad : true ≡ false = sym (eq-eqb u t is) ∙ e in
+        search rules
+    by false e (suc i) lt is rest = rw e (rest i t (omega arith) is)
+
+pub whole_of : {R : Type 0} (remaining : R → Option (List ℕ)) (held : Known)
+    (old now : Option (List ℕ)) (session : Session R)
+    → IsSinkNumber session.stream.job session.task session.sink
+    → StandsStopped remaining held old now session stopped.Done
+    → WritesWhole held session.stream.job session.task old now
+whole_of remaining held old now session sink st =
+    let stands = st.stands in
+    let stream = session.stream in
+    let m = stands.moment in
+    let t = session.task in
+    let job = started (with_samples stands.samples stream.job) m in
+    let lines = map {B = ℕ × List ℤ} (λ u. (u, kept_by stream.job m u)) (sinks_of stream.job) in
+    let all : lines_of job ≡ lines = answer_lines job lines st.stopped_is in
+    let values : values_of_sink t (map (with_start job) (lines_of job)) ≡ stands.given t =
+    ap (λ l. values_of_sink t (map (with_start job) l)) all
+    ∙ ap (values_of_sink t) (map_map (start_in job) (kept_by stream.job m) (sinks_of stream.job))
+    ∙ found_values (kept_by stream.job m) (start_in job) (sinks_of stream.job) session.sink t
+    sink.there sink.task ∙ sym st.whole in
+    record {
+      samples = stands.samples;
+      ended = has_ended stream.inputs;
+      came = stands.reaches.came;
+      starts = (started stream.job m).starts;
+      fits = answer_fits job lines st.stopped_is;
+      written = subst (λ l. Appends old now (flat_map value_text l)) (sym values) stands.written;
+    }
+  where
+    map_map : (start : ℕ → Option ℕ) (f : ℕ → List ℤ) (ts : List ℕ)
+        → map {B = ℕ × Option ℕ × List ℤ} (λ (line : ℕ × List ℤ). (line.0, start line.0, line.1))
+        (map {B = ℕ × List ℤ} (λ u. (u, f u)) ts)
+        ≡ map {B = ℕ × Option ℕ × List ℤ} (λ u. (u, start u, f u)) ts
+    map_map start f [] = refl
+    map_map start f (u ∷ ts) = cc (map_map start f ts)
+
+-- ---- failures
+
+-- a fault of the files with no text
+pub unread_stops : (fault : JobFault) (found : Failure) (P : Failure → Type 0)
+    → IsFaultWithoutText fault found → ((text : _) → P (failure.Graph fault text)) → P found
+unread_stops fault (failure.Graph other text) P is at =
+    subst (λ f. P (failure.Graph f text)) (sym is) (at text)
+unread_stops fault (failure.NoSink job name) P is at = absurd is
+unread_stops fault (failure.TooBig job place phase) P is at = absurd is
+unread_stops fault (failure.Stalled further) P is at = absurd is
+unread_stops fault (failure.Io other) P is at = absurd is
+
+-- no more samples came, and nothing is said of why
+pub lacking_stops : {R : Type 0} (held : Known) (old new : WriterState) (session : Session R)
+    (k : ℕ) (lack : Lack) (fault : JobFault) (found : Failure)
+    → ((s : List (List ℤ)) (m : Moment) (given : ℕ → List ℤ) → IsStreamAt session.stream s m given
+    → IsPrefix (given session.task) (kept_by session.stream.job m session.task))
+    → IsKeptRight session.stream session.task
+    → (st : StandsLacking held old.written new.written session k lack) → IsFaultWithoutText fault found
+    → ((fault ≡ faults.ReadFault) ⊎ (fault ≡ faults.OutOfMemory))
+    → StopsOf held session.stream.job session.task old new found
+lacking_stops held old new session k lack fault found begins right st is which =
+    unread_stops fault found (StopsOf held session.stream.job session.task old new) is
+    (λ text. by fault which text)
+  where
+    part : WritesPart held session.stream.job session.task old.written new.written
+    part = part_of held session.stream session.task old.written new.written st.samples st.moment
+        st.given (st.given session.task) st.reaches
+        (begins st.samples st.moment st.given st.reaches.at) right
+        (whole_part old.written new.written (flat_map value_text (st.given session.task)) st.written)
+
+    by : (fault : JobFault) → ((fault ≡ faults.ReadFault) ⊎ (fault ≡ faults.OutOfMemory))
+        → (text : _) → StopsOf held session.stream.job session.task old new (failure.Graph fault text)
+    by fault (inl e) text =
+        subst (λ f. StopsOf held session.stream.job session.task old new (failure.Graph f text)) (sym e)
+        (record { part = part; cause = tt })
+    by fault (inr e) text =
+        subst (λ f. StopsOf held session.stream.job session.task old new (failure.Graph f text)) (sym e)
+        (record { part = part; cause = tt })
+
+-- a record is none
+pub bad_stops : {R : Type 0} (held : Known) (old new : WriterState) (session : Session R)
+    (k number task : ℕ) (name : String Global) (found : Failure)
+    → ((s : List (List ℤ)) (m : Moment) (given : ℕ → List ℤ) → IsStreamAt session.stream s m given
+    → IsPrefix (given session.task) (kept_by session.stream.job m session.task))
+    → IsKeptRight session.stream session.task
+    → (st : StandsLacking held old.written new.written session k (lack.BadRecord number))
+    → IsFaultWithoutText (faults.BadSample name number) found
+    → IsSourceAt session.stream.job task k
+    → string_bytes name ≡ name_at session.stream.job.graph (place.Task task)
+    → StopsOf held session.stream.job session.task old new found
+bad_stops held old new session k number task name found begins right st is there named =
+    unread_stops (faults.BadSample name number) found
+    (StopsOf held session.stream.job session.task old new) is
+    (λ text. record {
+      part = part_of held session.stream session.task old.written new.written st.samples st.moment
+          st.given (st.given session.task) st.reaches
+          (begins st.samples st.moment st.given st.reaches.at) right
+          (whole_part old.written new.written (flat_map value_text (st.given session.task)) st.written);
+      cause = record {
+        task = task;
+        source = k;
+        there = there;
+        named_is = named;
+        number_is = st.lacks.0;
+        bad = st.lacks.1;
+      };
+    })

@@ -1,0 +1,18 @@
+use Rattle.phase_words.specs.StreamLine.{stream_asked}
+use Rattle.phase_stream.proofs.Ending.{known_same, status_ends, stream_ends}
+use Rattle.phase_stream.proofs.cli.run_call.Goals as goal
+
+pub returns-clause-status : goal.returns-clause-status
+returns-clause-status g c =
+    status_ends _ c.stream-done.result c.end.result c.end.ensures.done c.end.ensures.status
+
+-- the files are known as before when a failure is told
+pub returns-clause-ends : goal.returns-clause-ends
+returns-clause-ends g c =
+    let what = stream_asked c.args.call in
+    let known = g.F.Files.file c.args.streams.now.files in
+    let same = known_same (g.F.Files.file c.stream-done.new.files) known c.stream-done.ensures.same in
+    stream_ends _ what.explain known what.graph what.sink
+    g.W.Write.contents _ _ c.stream-done.result c.end.result _ _ c.stream-done.ensures.done
+    c.stream-done.ensures.failed c.end.ensures.done c.end.ensures.status
+    (rw same at c.end.ensures.told)

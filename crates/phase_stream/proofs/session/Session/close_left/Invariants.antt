@@ -1,0 +1,10 @@
+use Rattle.std.proofs.Common.{Option, List, ℕ}
+use Rattle.graph_commands.specs.FileJobs.{Known}
+use Rattle.phase_stream.specs.Sessions.{IsSameSession, StandsBy}
+use Rattle.phase_stream.proofs.session.Session.close_left.Given as goal
+
+-- the session stands as before
+abbrev pub invariant-loop-k : goal.invariant-loop-k
+invariant-loop-k g l = ((held : Known) (old now : Option (List ℕ))
+    → StandsBy g.R.Read.remaining held old now l.fn.self → StandsBy g.R.Read.remaining held old now l.self)
+    × IsSameSession l.fn.self l.self

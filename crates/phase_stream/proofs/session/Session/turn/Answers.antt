@@ -1,0 +1,20 @@
+-- What the run has kept was handed over.
+use Rattle.phase_stream.proofs.Handing.{handed, handed_part, held_part}
+use Rattle.phase_stream.proofs.session.Session.turn.Goals as goal
+
+pub returns-in-Ok-hand_over-clause-ok : goal.returns-in-Ok-hand_over-clause-ok
+returns-in-Ok-hand_over-clause-ok g c = λ held old st.
+    handed g.R.Read.remaining held old _ _ c.run.new.self c.hand_over.new.self c.in-Ok.stop
+    (c.run.ensures.stands held old _ st) c.in-Ok.ensures.stops c.in-Ok-hand_over.ensures.ok
+    c.hand_over.ensures.same
+
+pub returns-in-Err-hand_over-clause-err : goal.returns-in-Err-hand_over-clause-err
+returns-in-Err-hand_over-clause-err g c = λ held old st.
+    handed_part g.R.Read.remaining held old _ _ c.run.new.self c.hand_over.new.self
+    (c.run.ensures.stands held old _ st) c.in-Err-hand_over.ensures.err c.hand_over.ensures.same
+
+pub returns-in-Err-clause-err : goal.returns-in-Err-clause-err
+returns-in-Err-clause-err g c = λ held old st.
+    let later = c.run.ensures.stands held old _ st in
+    held_part g.R.Read.remaining held old _ c.run.new.self later
+    (c.kept_is_right.ensures.given later.samples later.moment later.given later.reaches.at)

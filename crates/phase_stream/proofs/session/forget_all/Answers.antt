@@ -1,0 +1,23 @@
+-- One sink more.
+use Rattle.std.proofs.Common.{length, ap, arith}
+use Rattle.stream_job.specs.stream_lists.Lists.{sinks_of}
+use Rattle.phase_stream.proofs.Forgetting.{forgets_more, forgets_none}
+use Rattle.phase_stream.proofs.session.forget_all.Goals as goal
+
+pub loop-sink-init : goal.loop-sink-init
+loop-sink-init c = forgets_none c.args.stream.now
+
+pub forget-requires : goal.forget-requires
+forget-requires c =
+    let same = ap (λ j. length (sinks_of j)) c.loop-sink.invariant.job in
+    let lt = c.loop-sink-test.true in
+    let end = c.sinks-sink-end.ensures in
+    omega arith
+
+pub loop-sink-preserved : goal.loop-sink-preserved
+loop-sink-preserved c =
+    forgets_more c.args.stream.now c.loop-sink.stream c.forget.new.self c.loop-sink.sink
+    c.loop-sink.invariant c.forget.ensures.stands c.forget.ensures.others.0 c.forget.ensures.inputs
+
+pub returns : goal.returns
+returns c = c.loop-sink.invariant

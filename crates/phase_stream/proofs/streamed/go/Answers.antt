@@ -1,0 +1,135 @@
+-- A turn more, and what stops it.
+use Rattle.std.proofs.Common.{[], Err, refl, ap, subst, ◌∙◌}
+use Rattle.phase_stream.specs.Sessions.{IsTooBigOrNone, StandsStopped}
+use Rattle.phase_stream.proofs.Standing.{same_session}
+use Rattle.phase_stream.proofs.Stopping.{done_writes, held_later, io_stops, lack_stops, sink_same, stall_stops, too_big_stops}
+use Rattle.phase_stream.proofs.streamed.go.Goals as goal
+
+pub loop-init : goal.loop-init
+loop-init g c = (
+  record { job = refl; task = refl; sink = refl },
+  λ other. refl,
+  λ held old is st. st,
+)
+
+pub turn-requires : goal.turn-requires
+turn-requires g c = sink_same c.args.session c.loop.session c.loop.invariant.0 c.requires.sink
+
+pub kept_is_right-requires : goal.kept_is_right-requires
+kept_is_right-requires g c =
+    sink_same c.args.session c.turn.new.self
+    (same_session c.args.session c.loop.session c.turn.new.self c.loop.invariant.0 c.turn.ensures.same)
+    c.requires.sink
+
+pub returns-in-Err-clause-failed : goal.returns-in-Err-clause-failed
+returns-in-Err-clause-failed g c = λ held old is st. (
+  (λ e. c.turn.ensures.failed (c.in-Err.is ∙ ap Err e)),
+  io_stops held old _ c.args.session c.turn.new.self
+      (same_session c.args.session c.loop.session c.turn.new.self c.loop.invariant.0
+      c.turn.ensures.same)
+      c.kept_is_right.ensures.right
+      (c.in-Err.ensures.err held old.written (c.loop.invariant.2 held old.written is st)),
+)
+
+pub returns-in-Done-clause-done : goal.returns-in-Done-clause-done
+returns-in-Done-clause-done g c = λ held old is st.
+    (let same = same_session c.args.session c.loop.session c.turn.new.self c.loop.invariant.0
+    c.turn.ensures.same in
+    let stopped = c.in-Ok.ensures.ok held old (c.loop.invariant.2 held old is st) in
+    done_writes g.F.Reader.Read.remaining held old _ c.args.session c.turn.new.self same
+    (sink_same c.args.session c.turn.new.self same c.requires.sink)
+    (subst (StandsStopped g.F.Reader.Read.remaining held old _ c.turn.new.self) c.in-Done.is stopped))
+
+pub refill-requires : goal.refill-requires
+refill-requires g c =
+    let (held, old, is, st) = c.requires.stands in
+    let stopped = c.in-Ok.ensures.ok held old (c.loop.invariant.2 held old is st) in (
+      held,
+      old,
+      _,
+      held_later held (g.F.Files.file c.args.files.now) (g.F.Files.file c.loop.files)
+          c.loop.invariant.1 is,
+      c.close_left.ensures.stands held old _ stopped.stands,
+    )
+
+pub lacking-requires : goal.lacking-requires
+lacking-requires g c =
+    sink_same c.args.session c.refill.new.self
+    (same_session c.args.session c.close_left.new.self c.refill.new.self
+    (same_session c.args.session c.turn.new.self c.close_left.new.self
+    (same_session c.args.session c.loop.session c.turn.new.self c.loop.invariant.0 c.turn.ensures.same)
+    c.close_left.ensures.same) c.refill.ensures.same)
+    c.requires.sink
+
+pub returns-in-Err-refill-clause-failed : goal.returns-in-Err-refill-clause-failed
+returns-in-Err-refill-clause-failed g c = λ held old is st.
+    (let stopped = c.in-Ok.ensures.ok held old.written (c.loop.invariant.2 held old.written is st) in
+    lack_stops held old _ c.args.session c.refill.new.self c.lacking.result
+    (same_session c.args.session c.close_left.new.self c.refill.new.self
+    (same_session c.args.session c.turn.new.self c.close_left.new.self
+    (same_session c.args.session c.loop.session c.turn.new.self c.loop.invariant.0 c.turn.ensures.same)
+    c.close_left.ensures.same) c.refill.ensures.same)
+    (c.lacking.ensures.stops held old _
+    (c.in-Err-refill.ensures.err held old.written _
+    (held_later held (g.F.Files.file c.args.files.now) (g.F.Files.file c.loop.files)
+    c.loop.invariant.1 is) (c.close_left.ensures.stands held old.written _ stopped.stands))))
+
+pub loop-preserved-in-Ok-refill : goal.loop-preserved-in-Ok-refill
+loop-preserved-in-Ok-refill g c = (
+  same_session c.args.session c.close_left.new.self c.refill.new.self
+      (same_session c.args.session c.turn.new.self c.close_left.new.self
+      (same_session c.args.session c.loop.session c.turn.new.self c.loop.invariant.0
+      c.turn.ensures.same) c.close_left.ensures.same) c.refill.ensures.same,
+  λ other. c.refill.ensures.files other ∙ c.loop.invariant.1 other,
+  λ held old is st.
+      (let stopped = c.in-Ok.ensures.ok held old (c.loop.invariant.2 held old is st) in
+      c.in-Ok-refill.ensures.ok held old _
+      (held_later held (g.F.Files.file c.args.files.now) (g.F.Files.file c.loop.files)
+      c.loop.invariant.1 is) (c.close_left.ensures.stands held old _ stopped.stands)),
+)
+
+pub loop-preserved : goal.loop-preserved
+loop-preserved g c = (
+  same_session c.args.session c.loop.session c.turn.new.self c.loop.invariant.0 c.turn.ensures.same,
+  c.loop.invariant.1,
+  λ held old is st. (c.in-Ok.ensures.ok held old (c.loop.invariant.2 held old is st)).stands,
+)
+
+pub kept_is_right-requires-in-Stalled : goal.kept_is_right-requires-in-Stalled
+kept_is_right-requires-in-Stalled g c =
+    sink_same c.args.session c.turn.new.self
+    (same_session c.args.session c.loop.session c.turn.new.self c.loop.invariant.0 c.turn.ensures.same)
+    c.requires.sink
+
+pub returns-in-Stalled-clause-failed : goal.returns-in-Stalled-clause-failed
+returns-in-Stalled-clause-failed g c = λ held old is st. (
+  record { texts = []; are = c.new.ensures.items },
+  stall_stops g.F.Reader.Read.remaining held old _ c.args.session c.turn.new.self
+      (same_session c.args.session c.loop.session c.turn.new.self c.loop.invariant.0
+      c.turn.ensures.same)
+      c.kept_is_right-in-Stalled.ensures.given c.kept_is_right-in-Stalled.ensures.right
+      (subst (StandsStopped g.F.Reader.Read.remaining held old.written _ c.turn.new.self)
+      c.in-Stalled.is
+      (c.in-Ok.ensures.ok held old.written (c.loop.invariant.2 held old.written is st))),
+)
+
+pub kept_is_right-requires-in-TooBig : goal.kept_is_right-requires-in-TooBig
+kept_is_right-requires-in-TooBig g c =
+    sink_same c.args.session c.turn.new.self
+    (same_session c.args.session c.loop.session c.turn.new.self c.loop.invariant.0 c.turn.ensures.same)
+    c.requires.sink
+
+pub returns-in-TooBig-clause-failed : goal.returns-in-TooBig-clause-failed
+returns-in-TooBig-clause-failed g c = λ held old is st.
+    too_big_stops g.F.Reader.Read.remaining held old _ c.args.session c.turn.new.self
+    c.in-TooBig.place c.in-TooBig.phase c.too_big.result
+    (same_session c.args.session c.loop.session c.turn.new.self c.loop.invariant.0 c.turn.ensures.same)
+    c.kept_is_right-in-TooBig.ensures.given c.kept_is_right-in-TooBig.ensures.right
+    (subst (StandsStopped g.F.Reader.Read.remaining held old.written _ c.turn.new.self) c.in-TooBig.is
+    (c.in-Ok.ensures.ok held old.written (c.loop.invariant.2 held old.written is st)))
+    (subst (λ j. IsTooBigOrNone j c.in-TooBig.place c.in-TooBig.phase c.too_big.result)
+    c.into_job.ensures c.too_big.ensures.told)
+
+pub returns-in-Err-refill-clause-same : goal.returns-in-Err-refill-clause-same
+returns-in-Err-refill-clause-same g c = λ other.
+    c.refill.ensures.files other ∙ c.loop.invariant.1 other

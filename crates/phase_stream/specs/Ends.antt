@@ -1,0 +1,21 @@
+-- How a run of the program may end, by what its words ask for.
+use Rattle.std.specs.Prelude.{◌≡◌, ◌⊎◌, ℕ, List, Option}
+use Rattle.graph_commands.specs.FileJobs.{Known}
+use Rattle.graph_commands.specs.watched_io.States.{WriterState}
+use Rattle.graph_commands.specs.watched_io.declared.status.Status.{Status}
+use Rattle.graph_commands.specs.watched_io.declared.status.Status.TheVariants.{Done, Failed, GraphRefused, Stalled, TooBig}
+use Rattle.graph_commands.specs.watched_io.declared.watched.Watched.{Watched}
+use Rattle.phase_stream.specs.Streams.{StreamEnds}
+use Rattle.phase_words.specs.StreamLine.{Stream}
+
+-- the statuses of a stream
+abbrev pub MayEndAsStream : Status → Type 0
+MayEndAsStream status =
+    (status ≡ Done) ⊎ ((status ≡ GraphRefused) ⊎ ((status ≡ TooBig) ⊎ ((status ≡ Stalled)
+    ⊎ (status ≡ Failed))))
+
+-- how the stream that words ask for ends
+abbrev pub EndsAsStream : {W : Type 0} → Stream → Known → (W → Option (List ℕ)) → Status
+    → Watched W → Watched W → WriterState → WriterState → Type 0
+EndsAsStream what known contents status old new before after =
+    StreamEnds what.explain known what.graph what.sink status contents old new before after

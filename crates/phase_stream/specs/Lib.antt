@@ -1,0 +1,4 @@
+pub mod Ends
+pub mod Sources
+pub mod Sessions
+pub mod Streams

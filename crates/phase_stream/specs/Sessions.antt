@@ -1,0 +1,194 @@
+-- A run of a graph over the files of its sources, and what of one sink was written.
+use Rattle.std.specs.Prelude.{◌≡◌, ◌<◌, ◌++◌, ℕ, ℤ, List, [], Option, Some, Ok, length, get_or, map, slice_get, false, true}
+use Rattle.std.specs.List.{flat_map, list_all}
+use Rattle.std.specs.Io.KnownBytes.{Appends}
+use mathlib.Core.List.{IsPrefix}
+use Rattle.graph_commands.specs.FileJobs.{Known}
+use Rattle.graph_commands.specs.OutputTexts.{value_text}
+use Rattle.graph_commands.specs.watched_io.Prefix.{AppendsPrefix}
+use Rattle.graph_commands.specs.watched_io.declared.fault.IoFault.TheVariants.{OutOfMemory}
+use Rattle.stream_job.specs.graph_base.declared.place.Place.{Place}
+use Rattle.graph_commands.specs.declared.failure.Failure.{Failure}
+use Rattle.graph_commands.specs.declared.failure.Failure.TheVariants as failure
+use Rattle.graph_commands.specs.declared.fault.JobFault.{JobFault}
+use Rattle.stream_job.specs.Machines.{none_given}
+use Rattle.stream_job.specs.graph_runs.Beginnings.{opening}
+use Rattle.stream_job.specs.Streams.{IsSourceAt, IsStreamAt, StreamState, all_tasks, ended_at, has_ended, is_some_live, none_came}
+use Rattle.stream_job.specs.SinkLines.{kept_by}
+use Rattle.stream_job.specs.Stepping.{is_at_rest}
+use Rattle.stream_job.specs.declared.stopped.Stopped.{Stopped}
+use Rattle.stream_job.specs.declared.stopped.Stopped.TheVariants as stopped
+use Rattle.stream_job.specs.graph_base.Graphs.{file_at, sources_of, task_at}
+use Rattle.stream_job.specs.graph_runs.Feeds.{IsFed}
+use Rattle.stream_job.specs.graph_runs.Moments.{Moment, started}
+use Rattle.stream_job.specs.graph_runs.Settled.{IsFaultAt, IsReady}
+use Rattle.stream_job.specs.stream_lists.Jobs.{Job, with_samples}
+use Rattle.stream_job.specs.stream_lists.Lists.{numbers_of, sinks_of, taken_from}
+use Rattle.stream_job.specs.stream_lists.Ranges.{answer_of}
+use Rattle.stream_job.specs.stream_lists.Spans.{span_in}
+use Rattle.phase_stream.specs.Sources.{HasComeOf, IsSource, Lacks}
+use Rattle.phase_stream.specs.declared.session.Session.{Session}
+use Rattle.phase_stream.specs.declared.source.Source.{Source}
+use Rattle.phase_stream.specs.declared.source.Lack.{Lack}
+
+-- a stream at its opening: no samples came, and no source has ended
+pub record IsStreamAtOpening (stream : StreamState) : Type 0 where
+  pub opening_is : IsStreamAt stream (none_came stream.job) (opening stream.job) none_given
+  pub open_is : (k : ℕ) → k < sources_of stream.job.graph → has_ended stream.inputs k ≡ false
+
+-- the values of task t, which is a sink
+abbrev pub sink_list : Job → ℕ → List ℤ
+sink_list job t = taken_from (numbers_of job) (task_at job.graph t) (span_in job t) 0
+
+-- what task t has kept, a sink, begins its values in every run whose samples go on so
+abbrev pub IsKeptRight : StreamState → ℕ → Type 0
+IsKeptRight stream t = (s : List (List ℤ)) (m : Moment) (given : ℕ → List ℤ)
+    (more : List (List ℤ)) → IsStreamAt stream s m given
+    → IsFed (with_samples s stream.job) (ended_at stream) more
+    → IsReady (with_samples more stream.job)
+    → IsPrefix (kept_by stream.job m t)
+    (sink_list (started (with_samples more stream.job) m) t)
+
+-- a fault of the files with no text
+abbrev pub IsFaultWithoutText : JobFault → Failure → Type 0
+IsFaultWithoutText fault (failure.Graph found text) = found ≡ fault
+IsFaultWithoutText fault found = ⊥
+
+-- it tells of this value; or no memory is told where there is no such place
+abbrev pub IsTooBigOrNone : Job → Place → ℕ → Failure → Type 0
+IsTooBigOrNone job at n (failure.TooBig other place phase) =
+    (other ≡ job) × (place ≡ at) × (phase ≡ n)
+IsTooBigOrNone job at n (failure.Io found) = found ≡ OutOfMemory
+IsTooBigOrNone job at n found = ⊥
+
+-- task t is the sink of this number
+pub record IsSinkNumber (job : Job) (t sink : ℕ) : Type 0 where
+  pub there : sink < length (sinks_of job)
+  pub task : get_or (sinks_of job) sink 0 ≡ t
+
+-- of each source these samples came of its file
+abbrev pub AreCome : Known → StreamState → List (List ℤ) → Type 0
+AreCome held stream s = (k : ℕ) → k < sources_of stream.job.graph
+    → HasComeOf (has_ended stream.inputs k) (held (file_at stream.job.graph k)) (get_or s k [])
+
+-- the stream stands for samples that came of the files, at a moment, and this was handed over
+pub record Reaches (held : Known) (stream : StreamState) (s : List (List ℤ)) (m : Moment)
+    (given : ℕ → List ℤ) : Type 0 where
+  pub at : IsStreamAt stream s m given
+  pub came : AreCome held stream s
+
+-- each source has its task, and stands in its file behind these samples
+abbrev pub AreSources : {R : Type 0} → (R → Option (List ℕ)) → Known → Session R
+    → List (List ℤ) → Type 0
+AreSources {R} remaining held session s = (k : ℕ) (source : Source R)
+    → slice_get session.sources.items k ≡ Some source
+    → IsSourceAt session.stream.job source.task k
+    × IsSource remaining (held (file_at session.stream.job.graph k)) (get_or s k []) source
+
+-- the writer got what was handed over of the session's sink, and no more
+pub record StandsBy {R : Type 0} (remaining : R → Option (List ℕ)) (held : Known)
+    (old now : Option (List ℕ)) (session : Session R) : Type 0 where
+  pub samples : List (List ℤ)
+  pub moment : Moment
+  pub given : ℕ → List ℤ
+  pub reaches : Reaches held session.stream samples moment given
+  pub sources : AreSources remaining held session samples
+  pub written : Appends old now (flat_map value_text (given session.task))
+
+-- ---- a stop
+
+-- what a stop tells of samples and a moment, whatever was handed over: where it is done, what each
+-- sink has kept is its whole list; a value too big is one of every run whose samples go on so; and
+-- a stalled run has a live task, and no task can move, whatever samples come
+abbrev pub HasStopped : StreamState → List (List ℤ) → Moment → Stopped → Type 0
+HasStopped stream s m stopped.Done =
+    answer_of (started (with_samples s stream.job) m)
+    ≡ Ok (map (λ t. (t, kept_by stream.job m t)) (sinks_of stream.job))
+HasStopped stream s m (stopped.TooBig place n) = (more : List (List ℤ))
+    → IsFed (with_samples s stream.job) (ended_at stream) more
+    → IsReady (with_samples more stream.job)
+    → IsFaultAt (started (with_samples more stream.job) m) (place, n)
+HasStopped stream s m stopped.Stalled =
+    (is_some_live stream.job m ≡ true)
+    × (list_all (is_at_rest (with_samples s stream.job) m) (all_tasks stream.job) ≡ true)
+HasStopped stream s m stop = Unit {0}
+
+-- the session stands so, it stopped so, and all that its sink has kept was written
+pub record StandsStopped {R : Type 0} (remaining : R → Option (List ℕ)) (held : Known)
+    (old now : Option (List ℕ)) (session : Session R) (stop : Stopped) : Type 0 where
+  pub stands : StandsBy remaining held old now session
+  pub whole : stands.given session.task ≡ kept_by session.stream.job stands.moment session.task
+  pub stopped_is : HasStopped session.stream stands.samples stands.moment stop
+
+-- a prefix of what the session's sink has kept was written
+pub record StandsPart {R : Type 0} (held : Known) (old now : Option (List ℕ))
+    (session : Session R) : Type 0 where
+  pub samples : List (List ℤ)
+  pub moment : Moment
+  pub given : ℕ → List ℤ
+  pub reaches : Reaches held session.stream samples moment given
+  pub values : List ℤ
+  pub begins : IsPrefix values (kept_by session.stream.job moment session.task)
+  pub written : AppendsPrefix old now (flat_map value_text values)
+
+-- the writer got what was handed over, and the source of this number got no more samples, of this
+-- cause
+pub record StandsLacking {R : Type 0} (held : Known) (old now : Option (List ℕ))
+    (session : Session R) (k : ℕ) (lack : Lack) : Type 0 where
+  pub samples : List (List ℤ)
+  pub moment : Moment
+  pub given : ℕ → List ℤ
+  pub reaches : Reaches held session.stream samples moment given
+  pub written : Appends old now (flat_map value_text (given session.task))
+  pub there : (source : Source R) → slice_get session.sources.items k ≡ Some source
+      → IsSourceAt session.stream.job source.task k
+  pub lacks : Lacks (held (file_at session.stream.job.graph k)) (length (get_or samples k [])) lack
+
+-- the files hold what is known of them
+abbrev pub IsKnownAs : Known → Known → Type 0
+IsKnownAs held files = (name : List ℕ) → files name ≡ held name
+
+-- it stands so for some of that
+abbrev pub MayStand : {R : Type 0} → (R → Option (List ℕ)) → Known → Session R → Type 0
+MayStand remaining files session = (held : Known) × (old now : Option (List ℕ))
+    × IsKnownAs held files × StandsBy remaining held old now session
+
+-- ---- a handing over
+
+-- the values of the sink that were not handed over yet were written
+pub record HandsOverAll {R : Type 0} (old now : Option (List ℕ)) (before after : Session R)
+    : Type 0 where
+  pub values : List ℤ
+  pub written : Appends old now (flat_map value_text values)
+  pub stands : (s : List (List ℤ)) (m : Moment) (given : ℕ → List ℤ)
+      → IsStreamAt before.stream s m given
+      → (given before.task ++ values ≡ kept_by before.stream.job m before.task)
+      × (later : ℕ → List ℤ) × IsStreamAt after.stream s m later
+      × (later before.task ≡ kept_by before.stream.job m before.task)
+  pub inputs : after.stream.inputs ≡ before.stream.inputs
+  pub sources : after.sources ≡ before.sources
+
+-- a prefix of them was
+pub record HandsPart {R : Type 0} (old now : Option (List ℕ)) (before after : Session R)
+    : Type 0 where
+  pub values : List ℤ
+  pub written : AppendsPrefix old now (flat_map value_text values)
+  pub stands : (s : List (List ℤ)) (m : Moment) (given : ℕ → List ℤ)
+      → IsStreamAt before.stream s m given
+      → (given before.task ++ values ≡ kept_by before.stream.job m before.task)
+      × IsStreamAt after.stream s m given
+  pub inputs : after.stream.inputs ≡ before.stream.inputs
+
+-- a stream stands for the same samples at the same moment, and what was all handed over is so still
+pub record IsForgetful (old new : StreamState) : Type 0 where
+  pub stands : (s : List (List ℤ)) (m : Moment) (given : ℕ → List ℤ) → IsStreamAt old s m given
+      → (later : ℕ → List ℤ) × IsStreamAt new s m later
+      × ((t : ℕ) → given t ≡ kept_by old.job m t → later t ≡ kept_by old.job m t)
+  pub job : new.job ≡ old.job
+  pub inputs : new.inputs ≡ old.inputs
+
+-- it is of the same graph and the same sink
+pub record IsSameSession {R : Type 0} (old new : Session R) : Type 0 where
+  pub job : new.stream.job ≡ old.stream.job
+  pub task : new.task ≡ old.task
+  pub sink : new.sink ≡ old.sink

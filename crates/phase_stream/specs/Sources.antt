@@ -1,0 +1,113 @@
+-- What came of the samples of a source, by what was read of its file.
+use Rattle.std.specs.Prelude.{◌≡◌, ◌≤◌, ◌+◌, ◌++◌, ℕ, ℤ, Bool, true, false, List, [], Option, Some, IfSome, length, slice_get, take, ⊤}
+use Rattle.std.specs.Io.KnownBytes.{Consumes}
+use mathlib.Core.List.{IsPrefix}
+use Rattle.graph_commands.specs.watched_io.Files.{HasBytes}
+use Rattle.graph_commands.specs.watched_io.Watched.{inner_of}
+use Rattle.graph_commands.specs.FileJobs.{Known}
+use Rattle.stream_job.specs.graph_base.Graphs.{file_at}
+use Rattle.stream_job.specs.stream_lists.Jobs.{Job}
+use Rattle.stream_job.specs.Streams.{IsSourceAt}
+use Rattle.graph_lang.specs.Samples.{AreRecordsOfValues, IsBadSample}
+use Rattle.sample_pieces.specs.Pieces.{HasRead}
+use Rattle.stream_job.specs.phase_accum.Sends.{AreSends}
+use Rattle.phase_stream.specs.declared.source.Lack.{Lack}
+use Rattle.phase_stream.specs.declared.source.Lack.TheVariants as lack
+use Rattle.phase_stream.specs.declared.source.Piece.{Piece}
+use Rattle.phase_stream.specs.declared.source.OpenFile.{OpenFile}
+use Rattle.phase_stream.specs.declared.source.Source.{Source}
+use Rattle.phase_stream.specs.declared.source.TheConstants.{PIECE}
+
+-- ---- what a file tells
+
+-- the text stands at the front of what the file holds, where that is known
+abbrev pub IsFront : Option (List ℕ) → List ℕ → Type 0
+IsFront known text = (rest : Option (List ℕ)) × Consumes known rest text
+
+-- each text of samples that goes on so begins with these
+abbrev pub BeginsSo : List ℕ → List ℤ → Type 0
+BeginsSo text values = (more : List ℕ) (all : List ℤ) → AreRecordsOfValues (text ++ more) all
+    → IsPrefix values all
+
+-- the file begins with a text that gives these samples, and others may follow
+pub record HasFront (known : Option (List ℕ)) (values : List ℤ) : Type 0 where
+  pub text : List ℕ
+  pub front : IsFront known text
+  pub begins : BeginsSo text values
+
+-- they are the samples of the whole file
+pub record HasAllSamples (known : Option (List ℕ)) (values : List ℤ) : Type 0 where
+  pub text : List ℕ
+  pub bytes : HasBytes known text
+  pub samples : AreRecordsOfValues text values
+
+-- record number n of the file is none of a sample, and the first such: however its text goes on, or
+-- the file ends with it
+pub record HasBadFrom (known : Option (List ℕ)) (n : ℕ) : Type 0 where
+  pub text : List ℕ
+  pub front : IsFront known text
+  pub bad : IsBadSample text n
+
+-- these samples came of the file: all of them, where it has ended
+abbrev pub HasComeOf : Bool → Option (List ℕ) → List ℤ → Type 0
+HasComeOf true known values = HasAllSamples known values
+HasComeOf false known values = HasFront known values
+
+-- ---- an open file
+
+-- of an open file, in which these bytes are still to be looked at, these samples were read
+pub record IsBehind {R : Type 0} (remaining : R → Option (List ℕ)) (known : Option (List ℕ))
+    (values : List ℤ) (bytes : List ℕ) (file : OpenFile R) : Type 0 where
+  pub text : List ℕ
+  pub consumed : Consumes known (remaining (inner_of file.input)) (text ++ bytes)
+  pub read : HasRead text values file.reader
+  pub counted : file.count ≡ length values
+
+-- of an open file these samples were read, and it may be that the record behind them is none
+pub record IsOpenFile {R : Type 0} (remaining : R → Option (List ℕ)) (known : Option (List ℕ))
+    (values : List ℤ) (file : OpenFile R) : Type 0 where
+  pub come : HasFront known values
+  pub good : file.is_bad ≡ false → IsBehind remaining known values [] file
+  pub bad : file.is_bad ≡ true → HasBadFrom known (length values + 1)
+  pub counted : file.count ≡ length values
+
+-- why no more samples come behind so many
+abbrev pub Lacks : Option (List ℕ) → ℕ → Lack → Type 0
+Lacks known count lack.ReadFault = ⊤
+Lacks known count (lack.BadRecord number) = (number ≡ count + 1) × HasBadFrom known number
+
+-- a read gave these samples behind others, and where it was not the last, more may come
+pub record PieceGives {R : Type 0} (remaining : R → Option (List ℕ)) (known : Option (List ℕ))
+    (values room : List ℤ) (piece : Piece) (file : OpenFile R) : Type 0 where
+  pub few : piece.count ≤ length room
+  pub small : piece.count ≤ PIECE
+  pub last : piece.is_last ≡ true → piece.count ≤ 1
+  pub come : HasComeOf piece.is_last known (values ++ take piece.count room)
+  pub sends : AreSends (take piece.count room)
+  pub goes_on : piece.is_last ≡ false
+      → IsOpenFile remaining known (values ++ take piece.count room) file
+
+-- ---- a source
+
+-- a source of whose file these samples came: it is open, was closed, or is still to be opened
+pub record IsSource {R : Type 0} (remaining : R → Option (List ℕ)) (known : Option (List ℕ))
+    (values : List ℤ) (source : Source R) : Type 0 where
+  pub file : IfSome source.file (IsOpenFile remaining known values)
+  pub unopened : source.was_opened ≡ false → values ≡ []
+
+-- it gave these samples behind others
+pub record GivesSource {R : Type 0} (remaining : R → Option (List ℕ)) (known : Option (List ℕ))
+    (values room : List ℤ) (piece : Piece) (source : Source R) : Type 0 where
+  pub few : piece.count ≤ length room
+  pub small : piece.count ≤ PIECE
+  pub last : piece.is_last ≡ true → piece.count ≤ 1
+  pub come : HasComeOf piece.is_last known (values ++ take piece.count room)
+  pub sends : AreSends (take piece.count room)
+  pub source_is : IsSource remaining known (values ++ take piece.count room) source
+
+-- each source has its task, and no sample came of its file
+abbrev pub AreUnopened : {R : Type 0} → (R → Option (List ℕ)) → Known → Job → List (Source R)
+    → Type 0
+AreUnopened {R} remaining held job sources = (k : ℕ) (source : Source R)
+    → slice_get sources k ≡ Some source
+    → IsSourceAt job source.task k × IsSource remaining (held (file_at job.graph k)) [] source

@@ -1,0 +1,218 @@
+-- What `phase stream` writes, and why it stops.
+use Rattle.std.specs.Prelude.{◌≡◌, ◌≢◌, ◌⊎◌, ◌<◌, ◌+◌, ℕ, ℤ, Bool, true, List, [], ◌∷◌, Option, Some, None, length, get_or, ⊤, string_bytes}
+use Rattle.std.specs.List.{flat_map, list_all}
+use Rattle.std.specs.Io.KnownBytes.{Appends}
+use mathlib.Core.List.{IsPrefix}
+use Rattle.graph_commands.specs.Ends.{IsTold}
+use Rattle.graph_commands.specs.Failures.{failure_status}
+use Rattle.graph_commands.specs.Explained.{AreFurtherLines, IsOfText, IsTextOf}
+use Rattle.graph_commands.specs.FileJobs.{IsFaultOf, IsGraphOf, Known}
+use Rattle.graph_commands.specs.GraphRuns.{sink_named, sinks_text}
+use Rattle.graph_commands.specs.OutputTexts.{value_text}
+use Rattle.graph_commands.specs.declared.failure.Failure.{Failure}
+use Rattle.graph_commands.specs.declared.failure.Failure.TheVariants as failure
+use Rattle.graph_commands.specs.declared.fault.JobFault.{JobFault}
+use Rattle.graph_commands.specs.declared.fault.JobFault.TheVariants as fault
+use Rattle.graph_commands.specs.declared.graph_file.TheConstants.{GRAPH_MAX}
+use Rattle.graph_commands.specs.watched_io.Files.{MayBeRefused, MayNeedMemory}
+use Rattle.graph_commands.specs.watched_io.Prefix.{AppendsPrefix}
+use Rattle.graph_commands.specs.watched_io.States.{WriterState, writer_state}
+use Rattle.graph_commands.specs.watched_io.declared.explain.Explain.{Explain}
+use Rattle.graph_commands.specs.watched_io.declared.explain.Explain.TheVariants.{No}
+use Rattle.graph_commands.specs.watched_io.declared.fault.IoFault.TheVariants as io_fault
+use Rattle.graph_commands.specs.watched_io.declared.status.Status.{Status}
+use Rattle.graph_commands.specs.watched_io.declared.status.Status.TheVariants.{Done}
+use Rattle.graph_commands.specs.watched_io.declared.watched.Watched.{Watched}
+use Rattle.stream_job.specs.Stepping.{is_at_rest}
+use Rattle.stream_job.specs.Streams.{IsSourceAt, all_tasks, is_some_live, most_of}
+use Rattle.stream_job.specs.graph_base.Graphs.{file_at, name_at, source_number, sources_of}
+use Rattle.stream_job.specs.graph_base.declared.place.Place.TheVariants as place
+use Rattle.graph_lang.specs.declared.fault.FaultKind.{FaultKind}
+use Rattle.graph_lang.specs.declared.fault.FaultKind.TheVariants.{AnyMeets}
+use Rattle.stream_job.specs.graph_runs.Feeds.{IsFed}
+use Rattle.stream_job.specs.graph_runs.Moments.{Moment}
+use Rattle.stream_job.specs.graph_runs.Reached.{IsReachable}
+use Rattle.stream_job.specs.graph_runs.Settled.{IsFaultAt, IsReady}
+use Rattle.stream_job.specs.stream_lists.Jobs.{Job, counted, with_samples, with_starts}
+use Rattle.stream_job.specs.stream_lists.Lists.{sinks_of}
+use Rattle.stream_job.specs.stream_lists.Meetings.{meeting_line}
+use Rattle.stream_job.specs.stream_lists.Ranges.{Fits}
+use Rattle.phase_stream.specs.Sessions.{sink_list}
+use Rattle.phase_stream.specs.Sources.{HasBadFrom, HasComeOf}
+
+-- ---- what came
+
+-- of the file of each source came these samples, and all of them where it has ended
+abbrev pub CameOf : Known → Job → (ℕ → Bool) → List (List ℤ) → Type 0
+CameOf held job ended samples = (k : ℕ) → k < sources_of job.graph
+    → HasComeOf (ended k) (held (file_at job.graph k)) (get_or samples k [])
+
+-- these samples are those that came, with more behind them where a file has not ended
+pub record GoesOnBehind (job : Job) (ended : ℕ → Bool) (samples more : List (List ℤ)) : Type 0 where
+  pub feeds : IsFed (with_samples samples job)
+      (λ t. ended (source_number job.graph.tasks t)) more
+  pub ready : IsReady (with_samples more job)
+
+-- ---- what is written
+
+-- what was written begins the values of the sink in every run whose samples go on behind those that
+-- came, with these starts of its sinks that join now
+pub record WritesPart (held : Known) (job : Job) (t : ℕ) (old now : Option (List ℕ)) : Type 0 where
+  pub samples : List (List ℤ)
+  pub ended : ℕ → Bool
+  pub came : CameOf held job ended samples
+  pub starts : List ℕ
+  pub values : List ℤ
+  pub right : (more : List (List ℤ)) → GoesOnBehind job ended samples more
+      → IsPrefix values (sink_list (with_starts starts (with_samples more job)) t)
+  pub written : AppendsPrefix old now (flat_map value_text values)
+
+-- the values of the sink over the samples that came were written, all of which are in range
+pub record WritesWhole (held : Known) (job : Job) (t : ℕ) (old now : Option (List ℕ)) : Type 0 where
+  pub samples : List (List ℤ)
+  pub ended : ℕ → Bool
+  pub came : CameOf held job ended samples
+  pub starts : List ℕ
+  pub fits : Fits (with_starts starts (with_samples samples job))
+  pub written : Appends old now
+      (sinks_text (with_starts starts (with_samples samples job)) (Some t))
+
+-- ---- which sink
+
+-- the sink that is asked for, the one of a name or the only one, is this
+abbrev pub AsksOne : Job → Option (List ℕ) → ℕ → Type 0
+AsksOne job None t = sinks_of job ≡ t ∷ []
+AsksOne job (Some name) t = sink_named job name ≡ Some t
+
+-- there is no such sink
+abbrev pub AsksNone : Job → Option (List ℕ) → Type 0
+AsksNone job None = (t : ℕ) → sinks_of job ≡ t ∷ [] → ⊥
+AsksNone job (Some name) = sink_named job name ≡ None
+
+-- ---- what a stream did
+
+-- the file tells a graph, and the values of its sink that is asked for were written, all of them
+pub record Streams (known : Known) (name : List ℕ) (asked : Option (List ℕ))
+    (old new : WriterState) : Type 0 where
+  pub job : Job
+  pub graph_of : IsGraphOf known name job.graph
+  pub sink : ℕ
+  pub asks : AsksOne job asked sink
+  pub whole : WritesWhole known job sink old.written new.written
+
+-- it stopped behind a part of them, of a cause
+pub record StopsBehind (held : Known) (job : Job) (sink : ℕ) (old new : WriterState)
+    (Cause : (List (List ℤ)) → (ℕ → Bool) → List ℕ → Type 0) : Type 0 where
+  pub part : WritesPart held job sink old.written new.written
+  pub cause : Cause part.samples part.ended part.starts
+
+-- ---- causes
+
+-- the record behind the samples that came of the source of this name is none
+pub record EndsInRecord (held : Known) (job : Job) (named : List ℕ) (number : ℕ)
+    (samples : List (List ℤ)) : Type 0 where
+  pub task : ℕ
+  pub source : ℕ
+  pub there : IsSourceAt job task source
+  pub named_is : named ≡ name_at job.graph (place.Task task)
+  pub number_is : number ≡ length (get_or samples source []) + 1
+  pub bad : HasBadFrom (held (file_at job.graph source)) number
+
+-- some task is live, and no task can move
+pub record IsStandstill (job : Job) (samples : List (List ℤ)) : Type 0 where
+  pub moment : Moment
+  pub reached : IsReachable (with_samples samples job) moment
+  pub live : is_some_live job moment ≡ true
+  pub rest : list_all (is_at_rest (with_samples samples job) moment) (all_tasks job) ≡ true
+
+-- why it stopped once it had begun
+abbrev pub StopsOf : Known → Job → ℕ → WriterState → WriterState → Failure → Type 0
+StopsOf held job sink old new (failure.Graph (fault.Graph found) text) = ⊥
+StopsOf held job sink old new (failure.Graph (fault.BadSample named number) text) =
+    StopsBehind held job sink old new
+    (λ samples ended starts. EndsInRecord held job (string_bytes named) number samples)
+StopsOf held job sink old new (failure.Graph fault.ReadFault text) =
+    StopsBehind held job sink old new (λ samples ended starts. ⊤)
+StopsOf held job sink old new (failure.Graph fault.OutOfMemory text) =
+    StopsBehind held job sink old new (λ samples ended starts. ⊤)
+StopsOf held job sink old new (failure.NoSink other wanted) = ⊥
+StopsOf held job sink old new (failure.TooBig other at phase) =
+    (other ≡ job) × StopsBehind held job sink old new
+    (λ samples ended starts. (more : List (List ℤ)) → GoesOnBehind job ended samples more
+    → IsFaultAt (with_starts starts (with_samples more job)) (at, phase))
+StopsOf held job sink old new (failure.Stalled further) =
+    AreFurtherLines further.items × StopsBehind held job sink old new
+    (λ samples ended starts. IsStandstill job samples)
+StopsOf held job sink old new (failure.Io found) =
+    (found ≡ io_fault.WriteFault → new.failed ≡ true)
+    × StopsBehind held job sink old new (λ samples ended starts. ⊤)
+
+-- the graph of the file has tasks that would meet, were there samples enough: the first is on this
+-- line
+pub record MayMeetOf (known : Known) (name : List ℕ) (line : ℕ) : Type 0 where
+  pub job : Job
+  pub graph_of : IsGraphOf known name job.graph
+  pub meets : meeting_line (counted job.graph (most_of job.graph)) ≡ Some line
+
+-- why the file gives no run
+abbrev pub GivesNoRun : Known → List ℕ → JobFault → Type 0
+GivesNoRun known name (fault.Graph found) =
+    IsFaultOf known name found ⊎ ((found.kind ≡ AnyMeets) × MayMeetOf known name found.line)
+GivesNoRun known name (fault.BadSample named number) = ⊥
+GivesNoRun known name fault.ReadFault = MayBeRefused GRAPH_MAX (known name)
+GivesNoRun known name fault.OutOfMemory = MayNeedMemory GRAPH_MAX (known name)
+
+-- why it did not begin
+abbrev pub IsNoStream : Known → List ℕ → Option (List ℕ) → Failure → Type 0
+IsNoStream known name asked (failure.Graph found text) =
+    GivesNoRun known name found × (IsOfText found → IsTextOf known name text.items)
+IsNoStream known name asked (failure.NoSink job wanted) =
+    IsGraphOf known name job.graph × AsksNone job asked
+IsNoStream known name asked (failure.TooBig other at phase) = ⊥
+IsNoStream known name asked (failure.Stalled further) = ⊥
+IsNoStream known name asked (failure.Io found) =
+    (found ≡ io_fault.OutOfMemory) × MayNeedMemory GRAPH_MAX (known name)
+
+-- it had begun: the file tells a graph with that sink
+pub record StopsBegun (known : Known) (name : List ℕ) (asked : Option (List ℕ))
+    (old new : WriterState) (found : Failure) : Type 0 where
+  pub job : Job
+  pub graph_of : IsGraphOf known name job.graph
+  pub sink : ℕ
+  pub asks : AsksOne job asked sink
+  pub stops : StopsOf known job sink old new found
+
+-- why a stream failed: it did not begin, and nothing was written, or it stopped behind what was
+abbrev pub StreamFails : {W : Type 0} → Known → List ℕ → Option (List ℕ)
+    → (W → Option (List ℕ)) → Watched W → Watched W → Failure → Type 0
+StreamFails known name asked contents old new found =
+    (IsNoStream known name asked found × (new ≡ old))
+    ⊎ StopsBegun known name asked (writer_state contents old) (writer_state contents new) found
+
+-- whether a failure is explained: not where that would read the files of sources again
+abbrev pub explained : Failure → Explain → Explain
+explained (failure.Graph (fault.Graph found) text) explain = of found.kind
+  where
+    of : FaultKind → Explain
+    of AnyMeets = No
+    of kind = explain
+explained (failure.Graph (fault.BadSample named number) text) explain = No
+explained found explain = explain
+
+-- it failed of a cause, which was told
+pub record StopsTold (explain : Explain) (known : Known) (Fails : Failure → Type 0)
+    (status : Status) (before after : WriterState) : Type 0 where
+  pub found : Failure
+  pub fails : Fails found
+  pub status_is : status ≡ failure_status found
+  pub told : IsTold (explained found explain) known found before after
+
+-- how a stream ends
+pub record StreamEnds {W : Type 0} (explain : Explain) (known : Known) (name : List ℕ)
+    (asked : Option (List ℕ)) (status : Status) (contents : W → Option (List ℕ))
+    (old new : Watched W) (before after : WriterState) : Type 0 where
+  pub done : status ≡ Done
+      → Streams known name asked (writer_state contents old) (writer_state contents new)
+  pub stops : status ≢ Done
+      → StopsTold explain known (StreamFails known name asked contents old new) status
+      before after

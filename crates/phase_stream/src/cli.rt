@@ -1,0 +1,135 @@
+//! A run of the program over any outputs and files.
+ghost use Rattle.std.specs.Prelude.{◌≡◌, ◌≢◌, ◌⊎◌, OnOk, IfErr};
+ghost use Rattle.graph_commands.specs.Ends.{IsTold};
+ghost use Rattle.graph_commands.specs.Failures.{HasPlace, failure_status};
+ghost use Rattle.graph_commands.specs.watched_io.States.{writer_state};
+ghost use Rattle.phase_stream.specs.Ends.{EndsAsStream, MayEndAsStream};
+ghost use Rattle.phase_stream.specs.Streams.{explained};
+ghost use Rattle.phase_words.specs.Answers.{AnswerEnds, IsUnbegun, MayEnd};
+ghost use Rattle.phase_words.specs.CommandLine.{texts};
+ghost use Rattle.phase_words.specs.StreamLine.{AreStreamTaken, AsksStream, Stream as AskedStream, stream_asked, stream_kinds_of};
+
+use crate::opens::Opens;
+use crate::streamed::stream;
+use graph_commands::watched_io::{Explain, Files, Status, Streams, Watched};
+use graph_commands::{Failure, JobFault, Refuses, report};
+use graph_lang::{FaultKind, GraphFault};
+use phase_words::{StreamCall, answer, read_stream_words};
+use std::alloc::Global;
+use std::io::Write;
+use std::sync::Wait;
+
+/// Runs the program on its words, those behind `phase stream`, and answers its status: `Done` where
+/// the run is over, or help or the version was shown, `GraphRefused` where the graph or a sample is
+/// refused, or there is no such sink, `Refused` where the words are refused, `TooBig` where a value
+/// of the graph is out of range, `Stalled` where every task that is left waits for another, and
+/// `Failed` after a fault.
+///
+/// A refusal's text goes to the fault stream, and so does a fault's line. Where that stream fails
+/// too, the status stands alone. It waits where a reader waits, and it is not promised that it
+/// comes back.
+pub fn run_cli<H: Wait, W: Write, E: Write, F: Opens + Refuses>(
+    rt: &H,
+    alloc: Global,
+    words: &[String],
+    streams: &mut Streams<W, E, F>,
+) -> Status
+    // Which statuses may come, by what the words ask for.
+    ensures status { MayEnd (stream_kinds_of (texts words.now)) MayEndAsStream result }
+
+    // What a stream wrote, whole or as far as it came, why there is no more, and what is said
+    // further where that is asked for.
+    ensures stream { (what : AskedStream) → AsksStream (texts words.now) what
+        → IsUnbegun result streams.old.files streams.new.files
+        streams.old.output streams.new.output
+        (writer_state E.contents streams.old.faults) (writer_state E.contents streams.new.faults)
+        ⊎ EndsAsStream what (F.file streams.old.files) W.contents result
+        streams.old.output streams.new.output
+        (writer_state E.contents streams.old.faults)
+        (writer_state E.contents streams.new.faults) }
+
+    // How other words are answered, and that they open no file.
+    ensures answered { (AreStreamTaken (texts words.now) → ⊥)
+        → AnswerEnds (stream_kinds_of (texts words.now)) result
+        streams.old.output streams.new.output
+        (writer_state E.contents streams.old.faults)
+        (writer_state E.contents streams.new.faults) }
+    ensures unopened { (AreStreamTaken (texts words.now) → ⊥)
+        → streams.new.files ≡ streams.old.files }
+    ensures quiet { result ≡ Status.Done → streams.new.faults ≡ streams.old.faults }
+{
+    match read_stream_words(alloc, words) {
+        Ok(call) => run_call(rt, alloc, call, streams),
+        Err(none) => answer(&none, &mut streams.output, &mut streams.faults),
+    }
+}
+
+/// Streams a graph as a call asks for it, reports why it stopped, and answers the status.
+fn run_call<H: Wait, W: Write, E: Write, F: Opens + Refuses>(
+    rt: &H,
+    alloc: Global,
+    call: StreamCall<'_>,
+    streams: &mut Streams<W, E, F>,
+) -> Status
+    ensures status { MayEndAsStream result }
+    ensures ends { EndsAsStream (stream_asked call.entry) (F.file streams.old.files) W.contents
+        result streams.old.output streams.new.output
+        (writer_state E.contents streams.old.faults)
+        (writer_state E.contents streams.new.faults) }
+    ensures quiet { result ≡ Status.Done → streams.new.faults ≡ streams.old.faults }
+{
+    let (graph, explain) = (call.graph, call.explain);
+    let done = stream(rt, alloc, call, &mut streams.output, &mut streams.files);
+    end(
+        alloc,
+        done,
+        graph,
+        explain,
+        &mut streams.faults,
+        &mut streams.files,
+    )
+}
+
+/// Ends the stream of the graph in the file of this name, and answers the status: `Done`, or where
+/// it failed that of its failure, which is reported.
+fn end<E: Write, F: Files + Refuses>(
+    alloc: Global,
+    done: Result<(), Failure<'_>>,
+    file: &str,
+    explain: Explain,
+    faults: &mut Watched<E>,
+    files: &mut F,
+) -> Status
+    requires { IfErr done (λ found. HasPlace found) }
+    ensures done { OnOk done.entry ((result ≡ Status.Done) × (faults.new ≡ faults.old)) }
+    ensures status { IfErr done.entry (λ found. result ≡ failure_status found) }
+    ensures quiet { result ≡ Status.Done → faults.new ≡ faults.old }
+    ensures told { IfErr done.entry (λ found. IsTold (explained found explain)
+        (F.file files.old) found
+        (writer_state E.contents faults.old) (writer_state E.contents faults.new)) }
+{
+    match done {
+        Ok(()) => Status::Done,
+        Err(failure) => {
+            let explain = explained(&failure, explain);
+            report(alloc, &failure, file, explain, faults, files)
+        }
+    }
+}
+
+/// Whether a failure is explained: not where that would read the files of sources again.
+fn explained(failure: &Failure<'_>, explain: Explain) -> Explain
+    ensures { result ≡ explained failure.now explain }
+{
+    match failure {
+        Failure::Graph {
+            fault: JobFault::BadSample { .. },
+            ..
+        } => Explain::No,
+        Failure::Graph {
+            fault: JobFault::Graph(found),
+            ..
+        } if found.kind == FaultKind::AnyMeets => Explain::No,
+        _ => explain,
+    }
+}
