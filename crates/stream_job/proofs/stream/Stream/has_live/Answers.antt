@@ -38,7 +38,7 @@ returns c =
     → is_live w.job m t ≡ c.is_live.result) in
     subst P c.self.view_is (
       t,
-      record { there = it.there; kind = it.kind; number = it.number; },
+      record { there = it.there; kind = it.kind; number = it.number },
       λ s m given at.
           (let job = with_samples s c.self.inside.job in
           let state = c.index-2.result.now in
