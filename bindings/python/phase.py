@@ -50,8 +50,7 @@ __all__ = [
     "Error", "GraphError", "SamplesError", "TooBig", "TapsError", "PhaserError",
 ]
 
-# The version of this file, as 10,000 * major + 100 * minor + patch. The library has to have it,
-# too.
+# The version, as 10,000 * major + 100 * minor + patch, which the library has to have, too.
 VERSION = 100
 __version__ = f"{VERSION // 10000}.{VERSION // 100 % 100}.{VERSION % 100}"
 

@@ -198,8 +198,8 @@ fn a_value_out_of_range_is_told_again() {
     assert_eq!(stream.take(0).unwrap(), [2]);
 }
 
-/// The filter f takes every second sample, and g each, so that f wants samples ever further ahead of
-/// g, and soon further than the bounds allow.
+/// The filter f takes every second sample, and g each, so that f wants samples further ahead of g
+/// than the bounds allow.
 #[test]
 fn a_graph_that_stands_still_is_told() {
     let graph = "phaser x sum 1\nphaser a sum 1\nphaser b sum 1\nphaser y sum 1\n\
