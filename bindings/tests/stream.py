@@ -14,6 +14,7 @@ import tracemalloc
 import numpy
 
 import phase
+import phase_stream
 
 PASS = "phaser x sum 4\nsource s s.csv -> x\nsink out x\n"
 BOTH = "phaser x sum 4\nsource s s.csv -> x\nsource t t.csv -> x\nsink out x\n"
@@ -269,6 +270,38 @@ def ends():
         look("it stands still", refused(phase.Stalled, call))
 
 
+class Scarce:
+    """The library, of which one run has no memory."""
+
+    def __init__(self, library, granted):
+        self.library, self.granted = library, granted
+
+    def __getattr__(self, name):
+        return getattr(self.library, name)
+
+    def phase_stream_run(self, *words):
+        self.granted -= 1
+        return phase.E_MEMORY if self.granted == -1 else self.library.phase_stream_run(*words)
+
+
+def memory():
+    """Where a run has no memory, nothing is lost."""
+    library, samples = phase_stream._lib, numpy.arange(10_000)
+    for granted in range(3):
+        stream, given = phase.Stream(PASS), samples.copy()
+        phase_stream._lib = Scarce(library, granted)
+        look("no memory", refused(MemoryError, stream.feed, given))
+        phase_stream._lib = library
+        given[:] = 7
+        out = numpy.concatenate((stream.feed({})["out"], stream.feed(s=[5])["out"]))
+        look("it goes on", numpy.array_equal(out, numpy.append(samples, 5)))
+        stream = phase.Stream(PASS)
+        phase_stream._lib = Scarce(library, 0)
+        look("no memory at the end", refused(MemoryError, stream.finish) and not stream.done)
+        phase_stream._lib = library
+        look("it ends", lists(stream.finish()) == {"out": []} and stream.done)
+
+
 def threads(examples):
     rights = []
 
@@ -308,6 +341,7 @@ def main(folder):
     until()
     misuse()
     ends()
+    memory()
     threads(examples)
     return failed != 0
 
