@@ -111,7 +111,7 @@ class Stream:
 
     The stream is closed at the end of `with`, by `close`, or with the object. Calls may come from
     any thread, and go one by one. At a MemoryError nothing is lost: the next call goes on, and
-    returns what had come out, too.
+    returns what had come out, too. A KeyboardInterrupt in the middle of a call may lose some.
     """
 
     def __init__(self, graph: phase.Text):
@@ -316,7 +316,9 @@ class Stream:
 
     def _answer(self):
         """What came out since the last answer."""
-        joined = [numpy.concatenate(it) if it else phase._none() for it in self._got]
+        joined = [
+            it[0] if len(it) == 1 else numpy.concatenate(it or [phase._none()]) for it in self._got
+        ]
         for got in self._got:
             got.clear()
         return dict(zip(self.names.sinks, joined))
