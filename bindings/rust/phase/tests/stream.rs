@@ -62,10 +62,8 @@ fn examples() -> Vec<Example> {
 fn fed(example: &Example, block: usize) -> Vec<Sink> {
     let mut stream = Stream::new(&example.text).unwrap();
     let count = example.sinks.len();
-    assert_eq!(
-        (stream.names().sources.len(), stream.names().sinks.len()),
-        (example.sources.len(), count)
-    );
+    assert_eq!(stream.names().sources.len(), example.sources.len());
+    assert_eq!(stream.names().sinks.len(), count);
     let mut rest: Vec<&[i64]> = example.sources.iter().map(Vec::as_slice).collect();
     let mut values = vec![vec![]; count];
     loop {
