@@ -1,9 +1,6 @@
 -- What clap found in the words, as what they ask for.
-use Rattle.std.proofs.Common.{◌≡◌, ◌∙◌, List, Bor, Option, Some, None, option_map, unwrap_or, ℕ, true, refl, ap, ap₂, rules}
-use Rattle.clap.proofs.OnLiterals.{clap_on_literals}
-use Rattle.clap.specs.Words.{App, Row, Text, is_simple, matches_of, subcommand_of}
-use Rattle.phase_words.specs.CommandLine.{asked_by, asked_in, phase_app}
-use Rattle.phase_words.specs.RunLine.{run_app, run_by, run_in}
+use Rattle.std.proofs.Common.{◌≡◌, List, Bor, Option, Some, None, option_map, unwrap_or, ℕ, refl, ap, ap₂, rules}
+use Rattle.clap.specs.Words.{Row, Text}
 
 abbrev Found : Type 0
 Found = Text × List Row
@@ -38,27 +35,3 @@ pub now-unwrap_or : (o : Option (Bor (List ℕ))) (other : Bor (List ℕ))
     → (unwrap_or o other).now ≡ unwrap_or (option_map (λ s. s.now) o) other.now
 now-unwrap_or None other = refl
 now-unwrap_or (Some s) other = refl
-
-is_simple-phase_app : is_simple phase_app ≡ true
-unfolding phase_app clap_on_literals
-is_simple-phase_app = refl
-
--- what is found by the program's command line is what the words ask for
-pub asked_by-found : (app : App) (words : List Text) (found : Option Found) → app ≡ phase_app
-    → (is_simple app ≡ true → found ≡ subcommand_of app words) → asked_by found ≡ asked_in words
-unfolding asked_in
-asked_by-found app words found is_phase holds =
-    ap asked_by (holds (ap is_simple is_phase ∙ is_simple-phase_app)
-    ∙ ap (λ (a : App). subcommand_of a words) is_phase)
-
-is_simple-run_app : is_simple run_app ≡ true
-unfolding run_app clap_on_literals
-is_simple-run_app = refl
-
--- and by the command line behind `phase run`
-pub run_by-found : (app : App) (words : List Text) (rows : List Row) → app ≡ run_app
-    → (is_simple app ≡ true → rows ≡ matches_of app words) → run_by rows ≡ run_in words
-unfolding run_in
-run_by-found app words rows is_run holds =
-    ap run_by (holds (ap is_simple is_run ∙ is_simple-run_app)
-    ∙ ap (λ (a : App). matches_of a words) is_run)

@@ -4,7 +4,7 @@ use Rattle.std.proofs.Common.{◌≡◌, ◌≢◌, List, [], ◌∷◌, rules}
 use Rattle.std.proofs.Common.{inl, inr, sym, subst, ◌∙◌}
 use Rattle.clap.specs.Words.{IsAmong, Kinds, Text}
 use Rattle.clap.specs.declared.error.kind.ErrorKind.{ErrorKind}
-use Rattle.clap.specs.declared.error.kind.ErrorKind.TheVariants.{InvalidSubcommand, InvalidValue, MissingRequiredArgument, UnknownArgument, ValueValidation}
+use Rattle.clap.specs.declared.error.kind.ErrorKind.TheVariants.{ArgumentConflict, InvalidSubcommand, InvalidValue, MissingRequiredArgument, UnknownArgument, ValueValidation}
 use Rattle.phase_words.specs.CommandLine.{AreRefused, IsShown, Refuse, kinds_of}
 
 not_empty : (kind : ErrorKind) (kinds : Kinds) → kind ∷ kinds ≢ []
@@ -29,6 +29,10 @@ value_not_shown (inr e) = search rules
 pub validation_not_shown : IsShown ValueValidation → ⊥
 validation_not_shown (inl e) = search rules
 validation_not_shown (inr e) = search rules
+
+pub conflict_not_shown : IsShown ArgumentConflict → ⊥
+conflict_not_shown (inl e) = search rules
+conflict_not_shown (inr e) = search rules
 
 -- a kind that is shown is not among one kind that is not, and not among two
 not_among_one : (one kind : ErrorKind) → (IsShown one → ⊥) → IsShown kind

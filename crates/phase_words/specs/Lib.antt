@@ -2,3 +2,5 @@ pub mod Answers
 pub mod CommandLine
 pub mod ClapErrors
 pub mod RunLine
+pub mod SinkLine
+pub mod StreamLine

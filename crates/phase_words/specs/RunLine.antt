@@ -1,11 +1,12 @@
 -- What the words behind `phase run` ask for, by what clap makes of them.
-use Rattle.std.specs.Prelude.{◌≡◌, ℕ, List, [], ◌∷◌, Option, Some, None, codes, if◌then◌else◌, option_map, unwrap_or}
+use Rattle.std.specs.Prelude.{◌≡◌, ℕ, List, [], ◌∷◌, Option, Some, None, codes, if◌then◌else◌, option_map}
 use Rattle.std.specs.Str.Parse.{digits_value, without_leading_plus}
 use Rattle.clap.specs.ValueTests.{is_unsigned_in}
-use Rattle.clap.specs.Words.{App, Kinds, Row, Rule, Text, fault_of, first_of, matches_of, new_app, new_rule, with_rule}
+use Rattle.clap.specs.Words.{App, Kinds, Row, Rule, Text, fault_of, first_of, matches_of, new_rule, with_rule}
 use Rattle.clap.specs.declared.builder.value_parser.ValueParser.TheVariants as vp
 use Rattle.clap.specs.declared.error.kind.ErrorKind.TheVariants.{DisplayHelp, DisplayVersion}
-use Rattle.phase_words.specs.CommandLine.{Refuse, explain_of, explain_rule, graph_rule, sink_rule, with_version, without_own_name}
+use Rattle.phase_words.specs.CommandLine.{Refuse, explain_of, explain_rule}
+use Rattle.phase_words.specs.SinkLine.{graph_by, sink_app}
 use Rattle.watched_io.specs.declared.explain.Explain.{Explain}
 use Rattle.watched_io.specs.declared.explain.Explain.TheVariants.{No, Yes}
 use Rattle.phase_words.specs.declared.call.RunCall.{RunCall}
@@ -23,8 +24,7 @@ workers_rule = record (new_rule (codes "workers")) {
 
 -- the words behind `phase run`: a graph's file, a sink, a number of workers and `--explain`
 unfoldable pub run_app : App
-run_app = with_rule (with_rule (with_rule (with_rule (with_version
-    (without_own_name (new_app (codes "phase")))) graph_rule) sink_rule) workers_rule) explain_rule
+run_app = with_rule (with_rule sink_app workers_rule) explain_rule
 
 -- ---- what the words ask for
 
@@ -71,7 +71,7 @@ pub record Run : Type 0 where
 -- by what clap finds in the words
 abbrev pub run_by : List Row → Run
 run_by rows = record {
-  graph = unwrap_or (first_of (codes "graph") rows) [];
+  graph = graph_by rows;
   sink = first_of (codes "sink") rows;
   workers = workers_of (first_of (codes "workers") rows);
   explain = explain_of (first_of (codes "explain") rows);

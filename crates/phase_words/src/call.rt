@@ -56,6 +56,15 @@ pub struct RunCall<'a> {
     pub explain: Explain,
 }
 
+/// What the words behind `phase stream` ask for: the values, as they come, of the sink of a name,
+/// or of the only one, of the graph in the file of a name.
+#[derive(Clone, Copy, Debug, PartialEq, Eq)]
+pub struct StreamCall<'a> {
+    pub graph: &'a str,
+    pub sink: Option<&'a str>,
+    pub explain: Explain,
+}
+
 /// Why the words give no call.
 #[derive(Debug, Drop)]
 pub enum NoCall {

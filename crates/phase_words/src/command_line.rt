@@ -1,8 +1,8 @@
 //! The words of the program, as clap reads them.
-ghost use Rattle.std.specs.Prelude.{◌≡◌, ◌↔◌, IfOk, IfErr, IsTrue, Some, false, option_map};
-ghost use Rattle.clap.specs.Words.{FailsBy, Shape, app_of, found_of, kind_of, rows_of, rule_of};
-ghost use Rattle.clap.specs.Words.{shape_of};
-ghost use Rattle.clap.specs.Words.{subcommand_rows_of, with_subcommand};
+ghost use Rattle.std.specs.Prelude.{◌≡◌, ◌↔◌, IfOk, IfErr, IsTrue, Some, false, option_map, true};
+ghost use Rattle.clap.specs.Words.{App, FailsBy, Shape, app_of, fault_of, found_of, is_simple};
+ghost use Rattle.clap.specs.Words.{is_simple_and_free, kind_of, matches_of, rows_of, rule_of};
+ghost use Rattle.clap.specs.Words.{shape_of, subcommand_of, subcommand_rows_of, with_subcommand};
 ghost use Rattle.clap.specs.declared.builder.command.Command.{out-Command};
 ghost use Rattle.phase_words.specs.CommandLine.{Asks, IsNoCall, IsShown};
 ghost use Rattle.phase_words.specs.ClapErrors.{IsToldBy, bare_app};
@@ -23,8 +23,7 @@ use clap::error::ErrorKind;
 use clap::{Arg, ArgAction, ArgMatches, Command, Error};
 use std::alloc::{AllocError, Global};
 
-/// The word behind `check`, `eval`, `draw` and `run`, which has to be given: the name of a graph's
-/// file.
+/// The word behind each command on a graph, which has to be given: the name of the graph's file.
 pub(crate) fn graph_word<'a>(alloc: Global) -> Arg<'a>
     ensures rule { rule_of result ≡ graph_rule }
     ensures local { result.global ≡ false }
@@ -264,13 +263,30 @@ fn call_named<'a>(name: &str, graph: &'a str, sink: Option<&'a str>, explain: Ex
     Call::Replay
 }
 
+/// What clap finds in the words by a command line, where there was memory for that.
+pub(crate) fn found_by<'a>(
+    command: Result<Command<'a>, AllocError>,
+    words: &'a [String],
+) -> Result<ArgMatches<'a>, Error>
+    ensures fails { (app : App) → is_simple_and_free app ≡ true
+        → IfOk command.entry (λ c. app_of c ≡ app)
+        → FailsBy (fault_of app (texts words.now)) result }
+    ensures found { (app : App) → is_simple app ≡ true
+        → IfOk command.entry (λ c. app_of c ≡ app)
+        → IfOk result (λ m. rows_of (found_of m) ≡ matches_of app (texts words.now)) }
+    ensures command { (app : App) → is_simple app ≡ true
+        → IfOk command.entry (λ c. app_of c ≡ app)
+        → IfOk result (λ m. subcommand_rows_of m ≡ subcommand_of app (texts words.now)) }
+{
+    command?.try_get_matches_from(words)
+}
+
 /// Reads the words by clap.
 fn parse<'a>(alloc: Global, words: &'a [String]) -> Result<Call<'a>, Error>
     ensures fails { FailsBy (kinds_of (texts words.now)) result }
     ensures call { IfOk result (λ call. asked_of call ≡ asked_in (texts words.now)) }
 {
-    let command = command(alloc)?;
-    let matches = command.try_get_matches_from(words)?;
+    let matches = found_by(command(alloc), words)?;
     Ok(call_of(&matches))
 }
 

@@ -30,7 +30,7 @@ pub(crate) const EVAL: &str = "Writes the values of each sink of a graph";
 /// What `draw` does.
 pub(crate) const DRAW: &str = "Writes a drawing of a graph, as text for Graphviz";
 
-/// What the word behind `check`, `eval`, `draw` and `run` is.
+/// What the word behind each command on a graph is.
 pub(crate) const GRAPH: &str =
     "The file of the graph, of at most 1048576 bytes: - for standard input";
 
@@ -45,6 +45,11 @@ pub(crate) const EXPLAIN: &str =
 pub(crate) const RUN: &str = "\
 Writes the values of each sink of a graph, by a run of its tasks on worker
 threads.";
+
+/// What `phase stream` does.
+pub(crate) const STREAM: &str = "\
+Writes the values of a sink of a graph as its samples come, a line each, for as
+long as they come.";
 
 /// What the word behind `--workers` is.
 pub(crate) const WORKERS_WORD: &str =
@@ -62,13 +67,14 @@ Example, with the reply to each line and what it means:
   wait 0            value 0 7    phase 0 is complete, and its value is 7
 A line that is no call is answered by `bad line`.
 
-`phase run GRAPH`, a program of its own, runs the tasks of a graph on threads:
-`phase run --help` tells of it.
+Programs of their own are `phase run GRAPH`, which runs the tasks of a graph on
+threads, and `phase stream GRAPH`, which writes the values of a sink as samples
+come: `phase run --help` and `phase stream --help` tell of them.
 
 Exit status: 0 done; 1 a graph or its samples are refused, or a line of a strict
 replay; 2 the words were not understood; 3 a value of a graph is out of range; 4
-every task of a run that was left waited for another; 5 a read or a write
-failed, or memory ran out.";
+every task of a run or a stream that was left waited for another; 5 a read or a
+write failed, or memory ran out.";
 
 /// The end of the help of `check`.
 pub(crate) const CHECK_END: &str = "\
@@ -150,3 +156,29 @@ Files are opened from the current folder, by their names as they are written.
 Exit status: 0 done; 1 the graph or its samples are refused, or no sink has the
 name; 2 the words were not understood; 3 a value is out of range; 4 every task
 that was left waited for another; 5 a read or a write failed, or memory ran out.";
+
+/// The end of the help of `stream`.
+pub(crate) const STREAM_END: &str = "\
+Example: where the file `sums` holds the five lines
+  phaser X sum 4
+  phaser Y sum 4
+  source s - -> X
+  fir f X -> Y shift 0 taps 1 1
+  sink out Y
+and the lines 1, 2 and 3 come on standard input, `phase stream sums` writes
+  1
+  3
+  5
+and each of them as soon as its sample is in.
+
+The values are of the sink of the name, or of the only one. The file of a source
+may be a pipe, and - is standard input, for one source. It is opened when the
+graph waits for its first sample. There is no limit on how many samples come,
+and memory does not grow with them.
+
+Files are opened from the current folder, by their names as they are written.
+
+Exit status: 0 done; 1 the graph or its samples are refused, no sink has the
+name, or none is named of several; 2 the words were not understood; 3 a value is
+out of range; 4 every task that was left waited for another; 5 a read or a write
+failed, or memory ran out. The values before a fault are written.";

@@ -6,6 +6,8 @@ ghost use Rattle.phase_words.specs.CommandLine.{AskEvalExplained, AskReplay};
 ghost use Rattle.phase_words.specs.CommandLine.{AskReplayFile, AskReplayStrictly, AskVersion};
 ghost use Rattle.phase_words.specs.RunLine.{AreRunRefused, AskRun, AskRunExplained, AskRunHelp};
 ghost use Rattle.phase_words.specs.RunLine.{AskRunVersion, AsksRun, Run};
+ghost use Rattle.phase_words.specs.StreamLine.{AreStreamRefused, AskStream, AskStreamExplained};
+ghost use Rattle.phase_words.specs.StreamLine.{AskStreamHelp, AskStreamVersion};
 
 /// `phase` and `phase replay` ask for a replay, `phase replay s` for one of the script in the file
 /// s, and `--strict` for one that ends at the first line that is refused. `-` is standard input.
@@ -42,8 +44,8 @@ pub fn words_for_drawings()
     ensures sink { AreRefused (codes "draw" ∷ codes "g" ∷ codes "--sink" ∷ codes "out" ∷ []) }
 {}
 
-/// `--explain` asks of a check, of an evaluation, of a drawing and of a run that a fault is
-/// explained.
+/// `--explain` asks of a check, of an evaluation, of a run, of a stream and of a drawing that a
+/// fault is explained.
 pub fn words_for_explanations()
     ensures check { AskCheckExplained
         (codes "check" ∷ codes "g" ∷ codes "--explain" ∷ []) (codes "g") }
@@ -55,6 +57,7 @@ pub fn words_for_explanations()
         (codes "eval" ∷ codes "--explain" ∷ codes "g" ∷ codes "--sink" ∷ codes "out" ∷ [])
         (codes "g") (Some (codes "out")) }
     ensures run { AskRunExplained (codes "g" ∷ codes "--explain" ∷ []) (codes "g") None 4 }
+    ensures stream { AskStreamExplained (codes "--explain" ∷ codes "g" ∷ []) (codes "g") None }
     ensures draw { AskDrawExplained
         (codes "draw" ∷ codes "g" ∷ codes "--explain" ∷ []) (codes "g") }
 {}
@@ -124,4 +127,31 @@ pub fn words_refused_of_runs()
     ensures no_word { AreRunRefused [] }
     ensures no_file { AreRunRefused (codes "--workers" ∷ codes "2" ∷ []) }
     ensures two_files { AreRunRefused (codes "g" ∷ codes "h" ∷ []) }
+{}
+
+/// `phase stream g` asks for the values of the only sink of the graph in the file g, and `--sink`
+/// names one of several.
+pub fn words_for_streams()
+    ensures only { AskStream (codes "g" ∷ []) (codes "g") None }
+    ensures path { AskStream (codes "../a b.graph" ∷ []) (codes "../a b.graph") None }
+    ensures input { AskStream (codes "-" ∷ []) (codes "-") None }
+    ensures sink { AskStream (codes "g" ∷ codes "--sink" ∷ codes "out" ∷ [])
+        (codes "g") (Some (codes "out")) }
+    ensures sink_first { AskStream (codes "--sink=out" ∷ codes "g" ∷ [])
+        (codes "g") (Some (codes "out")) }
+    ensures help { AskStreamHelp (codes "--help" ∷ []) }
+    ensures version { AskStreamVersion (codes "-V" ∷ []) }
+{}
+
+/// A stream has one graph and one sink, and no workers. `stream` is no command of the program of
+/// the others.
+pub fn words_refused_of_streams()
+    ensures no_word { AreStreamRefused [] }
+    ensures no_file { AreStreamRefused (codes "--sink" ∷ codes "out" ∷ []) }
+    ensures two_files { AreStreamRefused (codes "g" ∷ codes "h" ∷ []) }
+    ensures no_sink { AreStreamRefused (codes "g" ∷ codes "--sink" ∷ []) }
+    ensures two_sinks { AreStreamRefused
+        (codes "g" ∷ codes "--sink=out" ∷ codes "--sink=in" ∷ []) }
+    ensures workers { AreStreamRefused (codes "g" ∷ codes "--workers" ∷ codes "2" ∷ []) }
+    ensures elsewhere { AreRefused (codes "stream" ∷ codes "g" ∷ []) }
 {}

@@ -5,8 +5,9 @@ ghost use Rattle.phase_words.specs.CommandLine.{ExplainsNone, texts};
 ghost use Rattle.phase_words.specs.RunLine.{AsksRun, run_app, run_by, run_in, run_kinds_of, run_of};
 ghost use Rattle.phase_words.specs.RunLine.{workers_of, workers_rule};
 
-use crate::command_line::{bare_command, explain_of, explain_word, graph_word, no_call, sink_word};
+use crate::command_line::{explain_of, explain_word, found_by, no_call};
 use crate::help::{RUN, RUN_END, WORKERS_WORD};
+use crate::sink_line::{graph_of, sink_command};
 use crate::{NoCall, RunCall, WORKERS, WORKERS_MAX};
 use clap::builder::ValueParser;
 use clap::{Arg, ArgMatches, Command, Error};
@@ -28,9 +29,7 @@ fn workers_word<'a>(alloc: Global) -> Arg<'a>
 fn run_command<'a>(alloc: Global) -> Result<Command<'a>, AllocError>
     ensures { IfOk result (λ c. app_of c ≡ run_app) }
 {
-    bare_command(alloc, "phase run", RUN, RUN_END)?
-        .arg(graph_word(alloc))?
-        .arg(sink_word(alloc))?
+    sink_command(alloc, "phase run", RUN, RUN_END)?
         .arg(workers_word(alloc))?
         .arg(explain_word(alloc))
 }
@@ -40,7 +39,7 @@ fn call_of<'a>(matches: &ArgMatches<'a>) -> RunCall<'a>
     ensures { run_of result ≡ run_by (rows_of (found_of matches.now)) }
 {
     RunCall {
-        graph: matches.get_str("graph").unwrap_or(""),
+        graph: graph_of(matches),
         sink: matches.get_str("sink"),
         workers: workers_of(matches.get_str("workers")),
         explain: explain_of(matches.get_str("explain")),
@@ -65,8 +64,7 @@ fn parse<'a>(alloc: Global, words: &'a [String]) -> Result<RunCall<'a>, Error>
     ensures fails { FailsBy (run_kinds_of (texts words.now)) result }
     ensures call { IfOk result (λ call. run_of call ≡ run_in (texts words.now)) }
 {
-    let command = run_command(alloc)?;
-    let matches = command.try_get_matches_from(words)?;
+    let matches = found_by(run_command(alloc), words)?;
     Ok(call_of(&matches))
 }
 

@@ -75,6 +75,12 @@ abbrev pub feed_takes : ℕ → ℕ → ℕ → ℕ
 feed_takes came begun many =
     min many (min (INPUT_ROOM - (came - begun)) (COUNT_MAX - came))
 
+-- task t is the source of this number
+pub record IsSourceAt (job : Job) (t source : ℕ) : Type 0 where
+  pub there : t < length job.graph.tasks
+  pub kind : (task_at job.graph t).kind ≡ Source
+  pub number : source_number job.graph.tasks t ≡ source
+
 -- ---- feeds
 
 -- a feed of so many samples to a source takes this many of them

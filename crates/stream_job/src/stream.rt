@@ -11,6 +11,7 @@ ghost use Rattle.stream_eval.specs.stream_lists.Spans.{span_in};
 ghost use Rattle.graph_runs.specs.Beginnings.{opening};
 ghost use Rattle.graph_runs.specs.Feeds.{IsFed};
 ghost use Rattle.graph_runs.specs.Moments.{Moment, started};
+ghost use Rattle.graph_runs.specs.Nexts.{is_live};
 ghost use Rattle.graph_runs.specs.Settled.{IsReady};
 ghost use Rattle.graph_runs.specs.Turned.{with_at};
 ghost use Rattle.stream_eval.specs.stream_lists.JobFields.{items_of};
@@ -84,7 +85,7 @@ impl Model for Stream {
 
 impl Stream {
     ghost use Rattle.stream_job.specs.SinkLines.{kept_by, sink_begins_at};
-    ghost use Rattle.stream_job.specs.Streams.{FeedTakes, IsSameBut, ended_at, ended_with, fed};
+    ghost use Rattle.stream_job.specs.Streams.{FeedTakes, IsSameBut, IsSourceAt, ended_at, ended_with, fed};
 
     /// Makes a run of a graph at its opening, to which no samples came.
     ///
@@ -114,6 +115,21 @@ impl Stream {
         ensures { result.now ≡ self.now.job.graph }
     {
         self.job.graph()
+    }
+
+    /// Returns the job of the graph, which has no samples. It takes no memory.
+    pub fn job(&self) -> &Job
+        ensures { result.now ≡ self.now.job }
+    {
+        &self.job
+    }
+
+    /// Returns that job, and drops all else. It takes no memory.
+    pub fn into_job(self) -> Job
+        ensures { result ≡ self.job }
+    {
+        let Stream { job, .. } = self;
+        job
     }
 
     /// Returns how many sinks there are. It takes no memory.
@@ -155,6 +171,17 @@ impl Stream {
             ≡ ended_with self.old.inputs source k }
     {
         self.inputs[source].ended = true;
+    }
+
+    /// Returns whether a source is registered and has not left. It takes no memory.
+    pub fn has_live(&self, source: usize) -> bool
+        requires { source < sources_of self.now.job.graph }
+        ensures { (t : ℕ) × IsSourceAt self.now.job t source
+            × ((s : List (List ℤ)) (m : Moment) (given : ℕ → List ℤ)
+            → IsStreamAt self.now s m given → is_live self.now.job m t ≡ result) }
+    {
+        let task = self.inputs[source].task;
+        self.machine.tasks[task].is_live(&self.job, task)
     }
 
     /// Returns the values that a sink has taken and that were not forgotten. A value that is too

@@ -66,40 +66,8 @@ impl Machine {
             → IsRegistration (turns.next_of (with_samples s job.now) m t)) }
         ensures places { buffers.new ≡ buffers.old }
     {
-        let step = self.next(job, plan, t, awaits);
-        if let Step::NotLive = step {
-            return Ok(Made::Nothing);
-        }
         sized::turns_up_to();
-        self.make_step(job, plan, buffers, t, awaits, most, step)
-    }
-
-    /// A task makes this step.
-    fn make_step(
-        &mut self,
-        job: &Job,
-        plan: &Plan,
-        buffers: &mut Buffers,
-        t: usize,
-        awaits: &[i64],
-        most: u64,
-        step: Step,
-    ) -> Result<Made, AllocError>
-        requires next { (s : List (List ℤ)) × MayHaveCome job.now self.old t awaits.now s
-            × IsNextIn most (with_samples s job.now) self.old t (next_by step)
-            × HasRoomNext most (with_samples s job.now) self.old t }
-        requires plan { IsPlan job.now plan.now }
-        requires places { HasPlaces job.now buffers.old }
-        ensures made { IfOk result (λ made. (s : List (List ℤ))
-            → MayHaveCome job.now self.old t awaits.now s
-            → IsNextIn most (with_samples s job.now) self.old t (next_by step)
-            → HadTurn most (with_samples s job.now) self.old self.new t made) }
-        ensures err { OnErr result (self.new ≡ self.old) }
-        // A registration alone asks for memory.
-        ensures memory { OnErr result (IsRegistration (next_by step)) }
-        ensures places { buffers.new ≡ buffers.old }
-    {
-        match step {
+        match self.next(job, plan, t, awaits) {
             Step::NotLive => Ok(Made::Nothing),
             Step::Register { child } => self.register_child(job, t, child),
             Step::Leave => Ok(self.leave(job, t)),

@@ -38,6 +38,14 @@ struct Sunk {
     values: Vec<Outcome>,
 }
 
+/// The registrations of the stages.
+struct Stages {
+    source: Option<Sender>,
+    from: Option<Taker>,
+    to: Option<Sender>,
+    sink: Option<Taker>,
+}
+
 /// Sends a value and signals.
 fn sends<R: Wait>(rt: &R, bus: &Bus, sender: &mut Sender, value: i64) -> bool
     requires { sender.old.at ≡ phaser_lock bus.now }
@@ -220,19 +228,22 @@ fn runs<R: Threads + Wait + Sync>(
     alloc: Global,
     first: &Bus,
     second: &Bus,
-    mut source: Option<Sender>,
-    mut from: Option<Taker>,
-    mut to: Option<Sender>,
-    mut sink: Option<Taker>,
+    stages: Stages,
 ) -> Option<Sunk>
-    requires source { IfSome source (λ sender. sender.at ≡ phaser_lock first.now) }
-    requires from { IfSome from (λ taker. taker.at ≡ phaser_lock first.now) }
-    requires to { IfSome to (λ sender. sender.at ≡ phaser_lock second.now) }
-    requires sink { IfSome sink (λ taker. taker.at ≡ phaser_lock second.now) }
+    requires source { IfSome stages.source (λ sender. sender.at ≡ phaser_lock first.now) }
+    requires from { IfSome stages.from (λ taker. taker.at ≡ phaser_lock first.now) }
+    requires to { IfSome stages.to (λ sender. sender.at ≡ phaser_lock second.now) }
+    requires sink { IfSome stages.sink (λ taker. taker.at ≡ phaser_lock second.now) }
     ensures { IfSome result (λ sunk.
         GotWhole (phaser_lock second.now) (phaser_limits second.now) sunk.past
         sunk.values.items) }
 {
+    let Stages {
+        mut source,
+        mut from,
+        mut to,
+        mut sink,
+    } = stages;
     let (_fed, sunk) = join_mut(
         rt,
         &mut || -> Option<Left>
@@ -280,13 +291,15 @@ fn main(rt: HostRuntime) -> io::Result<()> {
         let _past = source.leave(&rt, &first);
         return Ok(());
     };
-    let feeder = source.register(&rt, &first, Mode::Sig).ok();
-    let from = Taker::child_of(&rt, alloc, &first, &mut source, Mode::Wait).ok();
-    let to = founder.register(&rt, &second, Mode::Sig).ok();
-    let sink = Taker::child_of(&rt, alloc, &second, &mut founder, Mode::Wait).ok();
+    let stages = Stages {
+        source: source.register(&rt, &first, Mode::Sig).ok(),
+        from: Taker::child_of(&rt, alloc, &first, &mut source, Mode::Wait).ok(),
+        to: founder.register(&rt, &second, Mode::Sig).ok(),
+        sink: Taker::child_of(&rt, alloc, &second, &mut founder, Mode::Wait).ok(),
+    };
     let _past = source.leave(&rt, &first);
     let past = founder.leave(&rt, &second);
-    let Some(sunk) = runs(&rt, alloc, &first, &second, feeder, from, to, sink) else {
+    let Some(sunk) = runs(&rt, alloc, &first, &second, stages) else {
         return Ok(());
     };
     let sunk = joins(&second, sunk, past);

@@ -1,29 +1,24 @@
 -- What clap says of its own reading, at the program's command line.
-use Rattle.std.proofs.Common.{◌≡◌, ◌∙◌, []}
+use Rattle.std.proofs.Common.{◌∙◌, ap}
 use Rattle.std.proofs.lemmas.Result.{err_from_is_err_and}
-use Rattle.clap.specs.Words.{HasKind, Kinds, app_of, subcommand_rows_of}
-use Rattle.phase_words.specs.CommandLine.{texts}
-use Rattle.phase_words.proofs.Called.{asked_by-found}
-use Rattle.phase_words.proofs.Simple.{at_kinds_of}
+use Rattle.phase_words.proofs.Simple.{phase_app-is_free, phase_app-is_simple}
+use Rattle.phase_words.specs.CommandLine.{asked_by, asked_in, kinds_of, phase_app}
 use Rattle.phase_words.proofs.command_line.parse.Goals as goal
 
 pub returns-in_err-matches-clause-fails : goal.returns-in_err-matches-clause-fails
+unfolding kinds_of
 returns-in_err-matches-clause-fails c =
-    let failed = c.in_err-matches in
-    let passed_on = c.from_residual-in_err-matches in
+    let passed_on = c.from_residual in
     let error = err_from_is_err_and passed_on.result passed_on.ensures.1 in
-    let kinds = at_kinds_of (λ (k : Kinds). HasKind k failed.field-0.0)
-    (app_of c.in_ok-command.command) (texts c.args.words.now)
-    c.in_ok-command.ensures failed.ensures.kinds in
-    rw (error.1, error.2) kinds
+    rw (error.1, error.2)
+    (c.in_err-matches.ensures.fails phase_app phase_app-is_free c.command.ensures)
 
 pub returns-clause-fails : goal.returns-clause-fails
-returns-clause-fails c = at_kinds_of (λ (k : Kinds). k ≡ [])
-    (app_of c.in_ok-command.command) (texts c.args.words.now)
-    c.in_ok-command.ensures c.in_ok-matches.ensures.kinds
+unfolding kinds_of
+returns-clause-fails c =
+    c.in_ok-matches.ensures.fails phase_app phase_app-is_free c.command.ensures
 
 pub returns-clause-call : goal.returns-clause-call
-returns-clause-call c =
-    c.call_of.ensures ∙ asked_by-found (app_of c.in_ok-command.command) (texts c.args.words.now)
-    (subcommand_rows_of c.in_ok-matches.matches) c.in_ok-command.ensures
-    (λ simple. (c.in_ok-matches.ensures.matches simple).1)
+unfolding asked_in
+returns-clause-call c = c.call_of.ensures ∙ ap asked_by
+    (c.in_ok-matches.ensures.command phase_app phase_app-is_simple c.command.ensures)

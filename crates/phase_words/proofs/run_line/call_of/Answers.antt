@@ -1,25 +1,21 @@
 -- What was found for each word.
-use Rattle.std.proofs.Common.{◌≡◌, ◌∙◌, [], codes, option_map, unwrap_or, refl, ap}
+use Rattle.std.proofs.Common.{◌≡◌, ◌∙◌, codes, option_map, refl, ap}
 use Rattle.clap.proofs.WalkLemmas.{first_value-rows}
 use Rattle.clap.specs.Words.{first_of, found_of, rows_of}
 use Rattle.phase_words.specs.CommandLine.{explain_of}
 use Rattle.phase_words.specs.RunLine.{workers_of}
-use Rattle.phase_words.proofs.Called.{now-unwrap_or}
 use Rattle.phase_words.proofs.run_line.call_of.Goals as goal
 
 pub returns : goal.returns
 returns c =
     let found = found_of c.args.matches.now in
     let rows = rows_of found in
-    let graph : c.unwrap_or.result.now ≡ unwrap_or (first_of (codes "graph") rows) [] =
-    ap (λ s. s.now) c.unwrap_or.ensures ∙ (now-unwrap_or c.get_str.result _
-    ∙ ap (λ o. unwrap_or o []) (c.get_str.ensures ∙ first_value-rows found (codes "graph"))) in
-    let sink : option_map (λ s. s.now) c.get_str-2.result ≡ first_of (codes "sink") rows =
-    c.get_str-2.ensures ∙ first_value-rows found (codes "sink") in
+    let sink : option_map (λ s. s.now) c.get_str.result ≡ first_of (codes "sink") rows =
+    c.get_str.ensures ∙ first_value-rows found (codes "sink") in
     let workers : c.workers_of.result ≡ workers_of (first_of (codes "workers") rows) =
-    c.workers_of.ensures ∙ ap workers_of (c.get_str-3.ensures
+    c.workers_of.ensures ∙ ap workers_of (c.get_str-2.ensures
     ∙ first_value-rows found (codes "workers")) in
     let explain : c.explain_of.result ≡ explain_of (first_of (codes "explain") rows) =
-    c.explain_of.ensures ∙ ap explain_of (c.get_str-4.ensures
+    c.explain_of.ensures ∙ ap explain_of (c.get_str-3.ensures
     ∙ first_value-rows found (codes "explain")) in
-    rw (graph, sink, workers, explain) refl
+    rw (c.graph_of.ensures, sink, workers, explain) refl

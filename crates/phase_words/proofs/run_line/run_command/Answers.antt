@@ -1,4 +1,4 @@
--- Four words, one after the other.
+-- Two words more, one after the other.
 use Rattle.std.proofs.Common.{◌∙◌, ap₂}
 use Rattle.std.proofs.lemmas.Result.{IfOk-weaker}
 use Rattle.clap.specs.Words.{with_rule}
@@ -8,12 +8,8 @@ use Rattle.phase_words.proofs.run_line.run_command.Goals as goal
 pub returns : goal.returns
 unfolding run_app
 returns c =
-    let one = c.in_ok-arg.ensures.shape c.graph_word.ensures.local
-    ∙ ap₂ with_rule c.in_ok-bare_command.ensures c.graph_word.ensures.rule in
-    let two = c.in_ok-arg-2.ensures.shape c.sink_word.ensures.local
-    ∙ ap₂ with_rule one c.sink_word.ensures.rule in
-    let three = c.in_ok-arg-3.ensures.shape c.workers_word.ensures.local
-    ∙ ap₂ with_rule two c.workers_word.ensures.rule in
-    IfOk-weaker c.arg-4.result _ _
+    let one = c.in_ok-arg.ensures.shape c.workers_word.ensures.local
+    ∙ ap₂ with_rule c.in_ok-sink_command.ensures c.workers_word.ensures.rule in
+    IfOk-weaker c.arg-2.result _ _
     (λ r adds. adds.shape c.explain_word.ensures.local
-    ∙ ap₂ with_rule three c.explain_word.ensures.rule) c.arg-4.ensures
+    ∙ ap₂ with_rule one c.explain_word.ensures.rule) c.arg-2.ensures

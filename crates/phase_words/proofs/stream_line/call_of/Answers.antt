@@ -1,0 +1,17 @@
+-- What was found for each word.
+use Rattle.std.proofs.Common.{◌≡◌, ◌∙◌, codes, option_map, refl, ap}
+use Rattle.clap.proofs.WalkLemmas.{first_value-rows}
+use Rattle.clap.specs.Words.{first_of, found_of, rows_of}
+use Rattle.phase_words.specs.CommandLine.{explain_of}
+use Rattle.phase_words.proofs.stream_line.call_of.Goals as goal
+
+pub returns : goal.returns
+returns c =
+    let found = found_of c.args.matches.now in
+    let rows = rows_of found in
+    let sink : option_map (λ s. s.now) c.get_str.result ≡ first_of (codes "sink") rows =
+    c.get_str.ensures ∙ first_value-rows found (codes "sink") in
+    let explain : c.explain_of.result ≡ explain_of (first_of (codes "explain") rows) =
+    c.explain_of.ensures ∙ ap explain_of (c.get_str-2.ensures
+    ∙ first_value-rows found (codes "explain")) in
+    rw (c.graph_of.ensures, sink, explain) refl

@@ -1,0 +1,80 @@
+-- What the words behind `phase stream` ask for, by what clap makes of them.
+use Rattle.std.specs.Prelude.{◌≡◌, List, [], ◌∷◌, Option, codes, option_map}
+use Rattle.clap.specs.Words.{App, Kinds, Row, Text, fault_of, first_of, matches_of, with_rule}
+use Rattle.clap.specs.declared.error.kind.ErrorKind.TheVariants.{DisplayHelp, DisplayVersion}
+use Rattle.phase_words.specs.CommandLine.{Refuse, explain_of, explain_rule}
+use Rattle.phase_words.specs.SinkLine.{graph_by, sink_app}
+use Rattle.watched_io.specs.declared.explain.Explain.{Explain}
+use Rattle.watched_io.specs.declared.explain.Explain.TheVariants.{No, Yes}
+use Rattle.phase_words.specs.declared.call.StreamCall.{StreamCall}
+
+-- ---- the command line
+
+-- the words behind `phase stream`: a graph's file, a sink and `--explain`
+unfoldable pub stream_app : App
+stream_app = with_rule sink_app explain_rule
+
+-- ---- what the words ask for
+
+-- the kinds of answer that clap may give in place of taking the words
+unfoldable pub stream_kinds_of : List Text → Kinds
+stream_kinds_of words = fault_of stream_app words
+
+-- clap takes the words: they ask for no help and no version, and nothing is refused
+abbrev pub AreStreamTaken : List Text → Type 0
+AreStreamTaken words = stream_kinds_of words ≡ []
+
+-- the words ask for help, and for nothing else
+abbrev pub AskStreamHelp : List Text → Type 0
+AskStreamHelp words = stream_kinds_of words ≡ DisplayHelp ∷ []
+
+-- the words ask for the version, and for nothing else
+abbrev pub AskStreamVersion : List Text → Type 0
+AskStreamVersion words = stream_kinds_of words ≡ DisplayVersion ∷ []
+
+-- the words are refused: they are not taken, and ask for no help and no version
+abbrev pub AreStreamRefused : List Text → Type 0
+AreStreamRefused words = Refuse (stream_kinds_of words)
+
+-- the values of a sink, of the name or of the only one, of the graph in the file of a name, as they
+-- come, with an explanation of a fault or without
+pub record Stream : Type 0 where
+  pub graph : Text
+  pub sink : Option Text
+  pub explain : Explain
+
+-- by what clap finds in the words
+abbrev pub stream_by : List Row → Stream
+stream_by rows = record {
+  graph = graph_by rows;
+  sink = first_of (codes "sink") rows;
+  explain = explain_of (first_of (codes "explain") rows);
+}
+
+-- the stream that the words ask for, by what clap finds in them
+unfoldable pub stream_in : List Text → Stream
+stream_in words = stream_by (matches_of stream_app words)
+
+-- clap takes the words, and they ask for this stream
+pub record AsksStream (words : List Text) (what : Stream) : Type 0 where
+  pub taken : AreStreamTaken words
+  pub stream : stream_in words ≡ what
+
+-- the words ask for the values of the only sink, or of the one of this name, of the graph in the
+-- file of this name, without an explanation of a fault
+abbrev pub AskStream : List Text → Text → Option Text → Type 0
+AskStream words name sink =
+    AsksStream words (record { graph = name; sink = sink; explain = No })
+
+-- and for such a stream with an explanation of a fault
+abbrev pub AskStreamExplained : List Text → Text → Option Text → Type 0
+AskStreamExplained words name sink =
+    AsksStream words (record { graph = name; sink = sink; explain = Yes })
+
+-- what a call asks for
+abbrev pub stream_asked : StreamCall → Stream
+stream_asked call = record {
+  graph = call.graph.now;
+  sink = option_map (λ s. s.now) call.sink;
+  explain = call.explain;
+}
