@@ -350,7 +350,8 @@ int32_t phase_phaser_view(phase_phaser *phaser, uint64_t task, phase_standing *s
  * A stream stands in a struct of the caller's, which has none while it is PHASE_STREAM_INIT, or all
  * zero. It is used and freed as a phaser is: by any thread, one call at a time, and never copied.
  * Any number may be given for a source or a sink. A source is named by its number among the
- * sources, and a sink by its number among the sinks, each from 0 on in the order of their lines.
+ * sources, and a sink by its number among the sinks, each from 0 on in the order of their lines, in
+ * which phase_names writes their names.
  *
  * Of each source at most 4,096 samples wait to be signalled, and each sink keeps at most 4,096
  * values until they are taken, or a block of its line, where that is more. Memory is taken by

@@ -11,10 +11,10 @@
 >>> phase.eval(graph, s=[2, 4, 6])["out"]
 array([1, 3, 5])
 
-The file behind a source's name is not read: its samples are the array that is given. `Fir` is a
-filter over blocks of samples, `Phaser` a phaser whose calls never block, and `SharedPhaser` one
-between threads. The library is libphase.so in the folder lib beside this one, which scripts/bind
-makes, or the one that PHASE_LIB names.
+The file behind a source's name is not read: its samples are the array that is given. `Stream` is a
+graph that is fed block by block, `Fir` a filter over blocks, `Phaser` a phaser whose calls never
+block, and `SharedPhaser` one between threads. The library is libphase.so in the folder lib beside
+this one, which scripts/bind makes, or the one that PHASE_LIB names.
 
 What is refused raises an `Error`; want of memory is a MemoryError, and what is no whole number, or
 no text, a TypeError.
@@ -24,6 +24,7 @@ from __future__ import annotations
 import collections
 import ctypes
 import enum
+import importlib
 import operator
 import os
 import threading
@@ -36,22 +37,20 @@ from numpy.typing import ArrayLike, NDArray
 
 if TYPE_CHECKING:
     from phase_shared import Registration, SharedPhaser, Signalled
+    from phase_stream import NoStream, Stalled, Stream
 
 __all__ = [
-    "check", "names", "eval", "Counts", "Names", "Values",
-    "Fir",
+    "check", "names", "eval", "Counts", "Names", "Values", "Fir", "Stream", "Stalled", "NoStream",
     "Phaser", "Operation", "Mode", "Single", "Clamp", "Got", "GotBlock", "Standing",
     "SharedPhaser", "Registration", "Signalled",
     "SUM", "PRODUCT", "LEAST", "GREATEST", "ANY",
-    "SIG", "WAIT", "SIG_WAIT", "SINGLE",
-    "NO_SINGLE", "NEG", "ABS", "HALVE",
+    "SIG", "WAIT", "SIG_WAIT", "SINGLE", "NO_SINGLE", "NEG", "ABS", "HALVE",
     "PHASERS_MAX", "TASKS_MAX", "TAPS_MAX", "SAMPLES_MAX",
     "BOUND_MAX", "PHASES_MAX", "MEMBERS_MAX", "SENDS_MAX",
     "Error", "GraphError", "SamplesError", "TooBig", "TapsError", "PhaserError",
 ]
 
-# The version of this file, as 10,000 * major + 100 * minor + patch. The library has to have it,
-# too.
+# The version, as 10,000 * major + 100 * minor + patch, which the library has to have, too.
 VERSION = 100
 __version__ = f"{VERSION // 10000}.{VERSION // 100 % 100}.{VERSION % 100}"
 
@@ -167,12 +166,14 @@ NO_SINGLE, NEG, ABS, HALVE, CLAMP = Single
 
 
 def __getattr__(name: str) -> Any:
-    """What phase_shared.py has, which stands on this file."""
-    if name not in ("SharedPhaser", "Registration", "Signalled"):
-        raise AttributeError(f"module {__name__!r} has no attribute {name!r}")
-    import phase_shared
-
-    return getattr(phase_shared, name)
+    """What the files have that stand on this one."""
+    for file, names in (
+        ("phase_shared", ("SharedPhaser", "Registration", "Signalled")),
+        ("phase_stream", ("Stream", "Stalled", "NoStream")),
+    ):
+        if name in names:
+            return getattr(importlib.import_module(file), name)
+    raise AttributeError(f"module {__name__!r} has no attribute {name!r}")
 
 
 class Counts(NamedTuple):
@@ -213,10 +214,10 @@ class SamplesError(Error, ValueError):
 
 class TooBig(Error, OverflowError):
     """A value is out of range: that of phase `at` of the phaser `name`, or of step `at` of the
-    task; or of sample `at` of a block of a `Fir`, where `values` has the values before it, which
-    are right."""
+    task; or that of sample `at` of a block of a `Fir`. `values` has what came out of a `Stream`, or
+    of a `Fir` the values before it, which are right."""
 
-    values: Optional[NDArray[numpy.int64]] = None
+    values: Any = None
 
     def __init__(self, name: str, at: int):
         super().__init__(name, at)
@@ -531,6 +532,9 @@ def eval(
     counts = _check(text)
     ends = _ends(text, counts)
     lists = _in_order(ends.sources, samples, named)
+    for name, row in zip(ends.sources, lists):
+        if len(row) > SAMPLES_MAX:
+            raise SamplesError(f"{name} has {len(row)} samples, and a source at most {SAMPLES_MAX}")
     joined = numpy.concatenate(lists) if len(lists) > 1 else (lists + [_none()])[0]
     lent = numpy.array([len(it) for it in lists], numpy.uintp)
     sinks = numpy.zeros(counts.sinks, numpy.uintp)
@@ -909,11 +913,7 @@ def _in_order(names, samples, named):
         samples = [samples]
     if len(samples) != len(names):
         raise SamplesError(f"there are {len(names)} sources, and samples of {len(samples)}")
-    lists = [_whole(it) for it in samples]
-    for name, row in zip(names, lists):
-        if len(row) > SAMPLES_MAX:
-            raise SamplesError(f"{name} has {len(row)} samples, and a source at most {SAMPLES_MAX}")
-    return lists
+    return [_whole(it) for it in samples]
 
 
 def _sample_text(names, lists, at):

@@ -328,6 +328,30 @@ static void too_big_is_told(void)
     phase_stream_free(&stream);
 }
 
+/* A graph that stands still tells so, whatever comes: the filter f takes every second sample, and g
+ * each, so that f wants samples further ahead of g than the bounds allow. */
+static void stalls_are_told(void)
+{
+    const int64_t samples[] = {1, 2, 3, 4, 5, 6, 7}, wanted[] = {2, 5, 8, 11};
+    int64_t out[4];
+    size_t took, count = 77;
+    phase_stream stream = PHASE_STREAM_INIT;
+    phase_fault fault;
+    IS(makes("phaser x sum 1\nphaser a sum 1\nphaser b sum 1\nphaser y sum 1\n"
+             "source s s.csv -> x\nsplit d x -> a b\nfir f a -> y shift 0 taps 1\n"
+             "fir g x -> y shift 0 taps 1\nsink out y\n",
+             &stream, &fault),
+       PHASE_OK);
+    IS(phase_stream_feed(&stream, 0, samples, 7, &took), PHASE_OK);
+    IS(took, 7);
+    STOPS(&stream, PHASE_STALLED, 0);
+    IS(phase_stream_finish(&stream, 0), PHASE_OK);
+    STOPS(&stream, PHASE_STALLED, 0);
+    IS(phase_stream_take(&stream, 0, out, 4, &count), PHASE_OK);
+    IS(count > 0 && !memcmp(out, wanted, count * sizeof *out), true);
+    phase_stream_free(&stream);
+}
+
 static void a_text_is_refused(void)
 {
     phase_stream stream = PHASE_STREAM_INIT;
@@ -410,7 +434,7 @@ static void *feeds_one(void *stream)
 static void threads(void)
 {
     pthread_t thread[4];
-    size_t blocks[] = {1, 3, 64, 0};
+    size_t blocks[] = {1, 7, 64, 0};
     phase_stream stream = PHASE_STREAM_INIT;
     phase_fault fault;
     int64_t out[2] = {77, 77};
@@ -433,11 +457,11 @@ static void threads(void)
 
 int main(int argc, char **argv)
 {
-    static const size_t blocks[] = {1, 3, 64, 0};
+    static const size_t blocks[] = {1, 7, 64, 1000, 0};
     static struct example example;
     for (int i = 1; i < argc; i++) {
         reads_example(argv[i], &example);
-        for (size_t block = 0; block < 4; block++)
+        for (size_t block = 0; block < 5; block++)
             gives_what_is_stored(&example, blocks[block]);
         if (i == 1)
             average = example;
@@ -445,6 +469,7 @@ int main(int argc, char **argv)
     values_are_taken_once();
     rooms_are_told();
     too_big_is_told();
+    stalls_are_told();
     a_text_is_refused();
     misuse_is_refused();
     if (argc > 1)

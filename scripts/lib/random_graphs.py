@@ -155,14 +155,15 @@ class Maker:
                 )
 
 
-def ended(folder, *words):
-    """The status and both streams of the program of these words; the status is None where it took
-    too long."""
-    is_run = words[0] == "run"
-    own = [project.built("phase_run" if is_run else "phase_cli"), *words[is_run:]]
+def ended(folder, *words, **settings):
+    """The status and both streams of the program of these words, in an environment with these
+    settings; the status is None where it took too long."""
+    is_own = words[0] in ("run", "stream")
+    own = [project.built(f"phase_{words[0]}" if is_own else "phase_cli"), *words[is_own:]]
     try:
         done = subprocess.run(
-            own, cwd=folder, capture_output=True, timeout=60, stdin=subprocess.DEVNULL
+            own, cwd=folder, capture_output=True, timeout=60, stdin=subprocess.DEVNULL,
+            env={**os.environ, **settings},
         )
     except subprocess.TimeoutExpired:
         return None, b"", b""

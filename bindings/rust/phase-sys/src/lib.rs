@@ -4,8 +4,10 @@
 use core::ffi::c_void;
 
 mod shared;
+mod stream;
 
 pub use shared::*;
+pub use stream::*;
 
 pub const PHASE_VERSION: u32 = 100;
 

@@ -33,6 +33,23 @@ pub enum Error {
         /// The phase or the step, from 0 on.
         at: u64,
     },
+    /// The graph has not so many sources.
+    NoSource {
+        /// The number that was given.
+        source: usize,
+    },
+    /// The graph has not so many sinks.
+    NoSink {
+        /// The number that was given.
+        sink: usize,
+    },
+    /// The places are too few for the values of a sink, which keeps them.
+    Room {
+        /// How many values there are.
+        count: usize,
+    },
+    /// No task of a stream can move, and neither samples nor a taking can help.
+    Stalled,
     /// Memory ran out.
     OutOfMemory,
 }
@@ -100,6 +117,10 @@ impl fmt::Display for Error {
                 write!(f, "too big at phaser {p} {at}")
             }
             Error::TooBig { place: Place::Task(t), at } => write!(f, "too big at task {t} {at}"),
+            Error::NoSource { source } => write!(f, "the graph has no source {source}"),
+            Error::NoSink { sink } => write!(f, "the graph has no sink {sink}"),
+            Error::Room { count } => write!(f, "too few places for {count} values"),
+            Error::Stalled => f.write_str("stalled"),
             Error::OutOfMemory => f.write_str("out of memory"),
         }
     }
@@ -134,19 +155,22 @@ fn sample_at(counts: &[usize], at: u64) -> Error {
     unreachable!("libphase told a sample that is none")
 }
 
+/// A value out of range, by the numbers of C.
+pub(crate) fn too_big(place: i32, number: u64, at: u64) -> Error {
+    let place = match place {
+        PHASE_AT_PHASER => Place::Phaser(number),
+        _ => Place::Task(number),
+    };
+    Error::TooBig { place, at }
+}
+
 /// What a status other than PHASE_OK says, of a call over so many samples of each source.
 pub(crate) fn of(status: i32, fault: &PhaseFault, counts: &[usize]) -> Error {
     match status {
         PHASE_E_GRAPH => Error::Graph { line: fault.line, kind: kind_of(fault.kind) },
         PHASE_E_COUNTS => Error::Counts,
         PHASE_E_SAMPLE => sample_at(counts, fault.at),
-        PHASE_E_TOO_BIG => Error::TooBig {
-            place: match fault.place {
-                PHASE_AT_PHASER => Place::Phaser(fault.number),
-                _ => Place::Task(fault.number),
-            },
-            at: fault.at,
-        },
+        PHASE_E_TOO_BIG => too_big(fault.place, fault.number, fault.at),
         PHASE_E_MEMORY => Error::OutOfMemory,
         other => unreachable!("libphase answered a status that is none: {other}"),
     }

@@ -1,6 +1,6 @@
 //! Graphs of whole-number filters: the values of each sink, exactly, or the first that is out of
-//! range; [filters](Fir) over blocks of samples; [phasers](Phaser) whose calls never block; and
-//! phasers [between threads](shared).
+//! range, [over whole samples](eval) or [fed block by block](Stream); [filters](Fir) over blocks of
+//! samples; [phasers](Phaser) whose calls never block; and phasers [between threads](shared).
 //!
 //! ```
 //! let graph = "phaser x sum 4\n\
@@ -21,6 +21,7 @@ mod fir;
 mod phaser;
 mod phaser_error;
 pub mod shared;
+mod stream;
 
 pub use error::{Error, FaultKind, Place};
 pub use fir::{Fir, FirError};
@@ -31,6 +32,7 @@ use phase_sys::{
 };
 pub use phaser::{Got, GotBlock, Mode, Operation, Phaser, Single, Standing};
 pub use phaser_error::PhaserError;
+pub use stream::{Stopped, Stream};
 
 /// What a sink got.
 #[derive(Clone, Debug, PartialEq, Eq)]
