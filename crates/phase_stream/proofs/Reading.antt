@@ -8,7 +8,7 @@ use Rattle.graph_commands.specs.watched_io.Files.{HasBytes}
 use Rattle.graph_commands.specs.watched_io.Watched.{inner_of}
 use Rattle.sample_pieces.specs.Pieces.{HasRead, IsBadFrom, TakesPiece}
 use Rattle.sample_pieces.specs.declared.reader.SampleReader.{SampleReader}
-use Rattle.graph_lang.specs.Samples.{AreRecordsOfValues, IsBadSample}
+use Rattle.sample_pieces.specs.graph_lang.Samples.{AreRecordsOfValues, IsBadSample}
 use Rattle.stream_job.specs.phase_accum.Sends.{AreSends}
 use Rattle.phase_stream.specs.Sources.{BeginsSo, PieceGives, HasBadFrom, HasComeOf, HasFront, IsBehind, IsFront, IsOpenFile}
 use Rattle.phase_stream.specs.declared.source.OpenFile.{OpenFile}

@@ -8,7 +8,7 @@ use Rattle.graph_commands.specs.FileJobs.{Known}
 use Rattle.stream_job.specs.graph_base.Graphs.{file_at}
 use Rattle.stream_job.specs.stream_lists.Jobs.{Job}
 use Rattle.stream_job.specs.Streams.{IsSourceAt}
-use Rattle.graph_lang.specs.Samples.{AreRecordsOfValues, IsBadSample}
+use Rattle.sample_pieces.specs.graph_lang.Samples.{AreRecordsOfValues, IsBadSample}
 use Rattle.sample_pieces.specs.Pieces.{HasRead}
 use Rattle.stream_job.specs.phase_accum.Sends.{AreSends}
 use Rattle.phase_stream.specs.declared.source.Lack.{Lack}

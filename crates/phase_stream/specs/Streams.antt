@@ -27,8 +27,8 @@ use Rattle.stream_job.specs.Stepping.{is_at_rest}
 use Rattle.stream_job.specs.Streams.{IsSourceAt, all_tasks, is_some_live, most_of}
 use Rattle.stream_job.specs.graph_base.Graphs.{file_at, name_at, source_number, sources_of}
 use Rattle.stream_job.specs.graph_base.declared.place.Place.TheVariants as place
-use Rattle.graph_lang.specs.declared.fault.FaultKind.{FaultKind}
-use Rattle.graph_lang.specs.declared.fault.FaultKind.TheVariants.{AnyMeets}
+use Rattle.sample_pieces.specs.graph_lang.declared.fault.FaultKind.{FaultKind}
+use Rattle.sample_pieces.specs.graph_lang.declared.fault.FaultKind.TheVariants.{AnyMeets}
 use Rattle.stream_job.specs.graph_runs.Feeds.{IsFed}
 use Rattle.stream_job.specs.graph_runs.Moments.{Moment}
 use Rattle.stream_job.specs.graph_runs.Reached.{IsReachable}

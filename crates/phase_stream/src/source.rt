@@ -6,7 +6,7 @@ ghost use Rattle.phase_stream.specs.Sources.{PieceGives, GivesSource, HasBadFrom
 
 use crate::opens::Opens;
 use graph_commands::watched_io::{ReadFailed, Watched};
-use graph_lang::text_laws;
+use sample_pieces::graph_lang::text_laws;
 use sample_pieces::{Found, SampleReader, laws};
 use std::alloc::Global;
 use std::io::Read;

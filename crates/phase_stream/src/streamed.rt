@@ -16,8 +16,8 @@ use crate::sink::asked_sink;
 use crate::source::Room;
 use graph_commands::watched_io::{Files, IoFault, Watched};
 use graph_commands::{Failure, GRAPH_MAX, JobFault};
-use graph_lang::{FaultKind, GraphFault, read_graph};
 use phase_words::StreamCall;
+use sample_pieces::graph_lang::{FaultKind, GraphFault, read_graph};
 use std::alloc::Global;
 use std::io::Write;
 use std::sync::Wait;
@@ -154,9 +154,8 @@ fn go<'a, H: Wait, W: Write, F: Opens>(
             Stopped::Full { .. } | Stopped::Paused => {}
             Stopped::Stalled => {
                 session.kept_is_right();
-                return Err(Failure::Stalled {
-                    further: Vec::new(alloc),
-                });
+                let further = Vec::new(alloc);
+                return Err(Failure::Stalled { further });
             }
             Stopped::TooBig { place, phase } => {
                 session.kept_is_right();

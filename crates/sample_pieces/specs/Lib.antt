@@ -1,2 +1,3 @@
 pub mod Pieces
 pub mod Scans
+pub use Rattle.graph_lang.specs as graph_lang

@@ -103,7 +103,7 @@ kept_is_right-requires-in-Stalled g c =
 
 pub returns-in-Stalled-clause-failed : goal.returns-in-Stalled-clause-failed
 returns-in-Stalled-clause-failed g c = λ held old is st. (
-  record { texts = []; are = c.new.ensures.items },
+  record { texts = []; are = c.new-further.ensures.items },
   stall_stops g.F.Reader.Read.remaining held old _ c.args.session c.turn.new.self
       (same_session c.args.session c.loop.session c.turn.new.self c.loop.invariant.0
       c.turn.ensures.same)
