@@ -30,7 +30,7 @@ fn main(rt: HostRuntime) -> ExitCode {
     let mut streams = Streams {
         output: Watched::new(rt.stdout()),
         faults,
-        files: StreamFiles::new(&rt),
+        files: StreamFiles::new(&rt, rt.stdin()),
     };
     let status = run_cli(&rt, rt.alloc(), words.as_slice(), &mut streams);
     ExitCode::from(status.code())

@@ -6,8 +6,8 @@ use graph_commands::watched_io::{FileFault, Files, ReadFailed};
 use graph_commands::{FileRefusal, Refuses, TellingFiles};
 use std::alloc::Global;
 use std::fs::File;
+use std::io;
 use std::io::{ErrorKind, Read};
-use std::mem;
 
 /// Files that are also read piece by piece.
 pub trait Opens: Files {
@@ -21,23 +21,41 @@ pub trait Opens: Files {
         ensures same { (other : List ℕ) → Self.file self.new other ≡ Self.file self.old other };
 }
 
-/// The files of the disk: a graph's is read whole, as `TellingFiles` reads it, and those of its
-/// sources piece by piece, standard input as the one of the name `-`, once.
+/// What samples are read from: a file, or the input.
 #[derive(Drop)]
-pub struct StreamFiles<'a, R> {
+pub enum Samples<F, I> {
+    /// A file.
+    File(F),
+    /// The input.
+    Input(I),
+}
+
+impl<F: Read, I: Read> Read for Samples<F, I> {
+    fn read(&mut self, piece: &mut [u8]) -> io::Result<usize> {
+        match self {
+            Samples::File(file) => file.read(piece),
+            Samples::Input(input) => input.read(piece),
+        }
+    }
+}
+
+/// The files of the disk: a graph's is read whole, as `TellingFiles` reads it, and those of its
+/// sources piece by piece, this input as the one of the name `-`, once.
+#[derive(Drop)]
+pub struct StreamFiles<'a, R, I> {
     rt: &'a R,
     files: TellingFiles<'a, R>,
-    has_input: bool,
+    input: Option<I>,
     refused: Option<(String, FileRefusal)>,
 }
 
-impl<'a, R> StreamFiles<'a, R> {
-    /// Reads files by this runtime.
-    pub fn new(rt: &'a R) -> StreamFiles<'a, R> {
+impl<'a, R, I> StreamFiles<'a, R, I> {
+    /// Reads files by this runtime, and this input.
+    pub fn new(rt: &'a R, input: I) -> StreamFiles<'a, R, I> {
         StreamFiles {
             rt,
             files: TellingFiles::new(rt),
-            has_input: false,
+            input: Some(input),
             refused: None,
         }
     }
@@ -61,33 +79,30 @@ fn why_unopened(kind: ErrorKind) -> FileRefusal {
     }
 }
 
-impl<R: std::rt::Files> Opens for StreamFiles<'_, R> {
-    type Reader = R::File;
+impl<R: std::rt::Files, I: Read + Drop> Opens for StreamFiles<'_, R, I> {
+    type Reader = Samples<R::File, I>;
 
-    fn open(&mut self, alloc: Global, name: &str) -> Result<R::File, ReadFailed> {
-        if name != "-" {
-            return match File::open(self.rt, name) {
-                Ok(file) => Ok(file),
-                Err(error) => Err(self.refuse(alloc, name, why_unopened(error.kind()))),
+    fn open(&mut self, alloc: Global, name: &str) -> Result<Samples<R::File, I>, ReadFailed> {
+        if name == "-" {
+            return match self.input.take() {
+                Some(input) => Ok(Samples::Input(input)),
+                None => Err(self.refuse(alloc, name, FileRefusal::Other)),
             };
         }
-        if mem::replace(&mut self.has_input, true) {
-            return Err(self.refuse(alloc, name, FileRefusal::Other));
-        }
-        match File::open(self.rt, "/dev/stdin") {
-            Ok(file) => Ok(file),
+        match File::open(self.rt, name) {
+            Ok(file) => Ok(Samples::File(file)),
             Err(error) => Err(self.refuse(alloc, name, why_unopened(error.kind()))),
         }
     }
 }
 
-impl<R: std::rt::Files> Files for StreamFiles<'_, R> {
+impl<R: std::rt::Files, I> Files for StreamFiles<'_, R, I> {
     fn read(&mut self, alloc: Global, name: &str, limit: usize) -> Result<Vec<u8>, FileFault> {
         self.files.read(alloc, name, limit)
     }
 }
 
-impl<R> Refuses for StreamFiles<'_, R> {
+impl<R, I> Refuses for StreamFiles<'_, R, I> {
     fn refused(&self) -> Option<(&str, FileRefusal)> {
         match &self.refused {
             Some((name, why)) => Some((name.as_str(), *why)),
