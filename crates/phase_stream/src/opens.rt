@@ -79,6 +79,14 @@ fn why_unopened(kind: ErrorKind) -> FileRefusal {
     }
 }
 
+/// Whether there is a folder of this name.
+fn is_folder<R: std::rt::Files>(rt: &R, name: &str) -> bool {
+    match rt.metadata(name) {
+        Ok(found) => found.is_dir(),
+        Err(_) => false,
+    }
+}
+
 impl<R: std::rt::Files, I: Read + Drop> Opens for StreamFiles<'_, R, I> {
     type Reader = Samples<R::File, I>;
 
@@ -90,6 +98,9 @@ impl<R: std::rt::Files, I: Read + Drop> Opens for StreamFiles<'_, R, I> {
             };
         }
         match File::open(self.rt, name) {
+            Ok(_) if is_folder(self.rt, name) => {
+                Err(self.refuse(alloc, name, FileRefusal::Folder))
+            }
             Ok(file) => Ok(Samples::File(file)),
             Err(error) => Err(self.refuse(alloc, name, why_unopened(error.kind()))),
         }
