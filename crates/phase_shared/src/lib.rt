@@ -115,6 +115,7 @@ mod loose;
 mod next;
 pub mod one_send;
 mod past;
+mod patience;
 mod phaser;
 mod putting;
 mod refusal;

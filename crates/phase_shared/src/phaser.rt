@@ -72,6 +72,6 @@ impl<A: Accumulate, K: SignalRule> Phaser<A, K> {
     ///
     /// It is a hint for when to try again, and no contract speaks of it.
     pub fn told(&self) -> (u64, u64) {
-        self.locked.hints.told()
+        self.locked.hints.told(self.locked.lock.told())
     }
 }
