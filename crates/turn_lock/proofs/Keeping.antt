@@ -12,7 +12,7 @@ use Rattle.atomic_table.specs.Table.{State, Me, step, Act, keeps, takes, gives, 
 use Rattle.turn_lock.specs.declared.seat.Doing.{Doing}
 use Rattle.turn_lock.specs.Held.{is_alone, alone_value}
 use Rattle.turn_lock.specs.Steps.{Takes, GivesBack, Looks, Forks, Merges, Busy}
-use Rattle.turn_lock.specs.Word.{doing, client, IsFree, IsTaken, Locked, spare, tried, gave, looked}
+use Rattle.turn_lock.specs.Word.{doing, client, IsFree, IsTaken, Locked, spare, saw, tried, gave, looked}
 
 pub within : {A : Type 0} (l : List A) (i : ℕ) (a : A) → get_elem? l i ≡ some a → i < length l
 within [] i a e = absurd (some-ne-none a (sym e))
@@ -63,6 +63,9 @@ same_tried ws t e = subst (λ (z : List ℕ). set z 0 (swapped (slice_index z 0)
 
 not_even : (ws : List ℕ) (t : ℕ) → ws ≡ (t * 2 + 1) ∷ spare → slice_index ws 0 % 2 ≡ 0 → ⊥
 not_even ws t e h = let p : slice_index ws 0 ≡ t * 2 + 1 = ap (λ (z : List ℕ). slice_index z 0) e in let o = odd_is t in let q : (t * 2 + 1) % 2 ≡ 0 = ap (λ (n : ℕ). n % 2) (sym p) ∙ h in omega arith
+
+even_word : (ws : List ℕ) (t : ℕ) → ws ≡ (t * 2) ∷ spare → slice_index ws 0 % 2 ≡ 0
+even_word ws t e = ap (λ (z : List ℕ). slice_index z 0 % 2) e ∙ even_is t
 
 -- the value in a slot that is held alone
 abbrev item : {T : Type 0} → T → List (ℕ × T) → T
@@ -261,6 +264,22 @@ module _ {N T V : Type 0} (holds : N → Option T → List V → Type 0) (name :
         ),
       )
 
+  -- where the turn is taken, a seat that rests is not the one that has it
+  is_busy : (id : ℕ) (d : Doing N V) (s : Hub N T V) → d.turn ≡ false → d.name ≡ Some name
+      → IsTaken holds name s → get_elem? s.views id ≡ some d
+      → (n : N) → d.name ≡ Some n → Busy holds n d.client
+  is_busy id d s idle is f at n e = subst (λ (k : N). Busy holds k d.client) (named name n d.name is e) record {
+    views = map client s.views;
+    number = id;
+    holder = f.holder;
+    kept = f.kept;
+    here = at_map client s.views id d at;
+    other = λ same. not_both d.turn
+        (ap (λ (z : Doing N V). z.turn) (some-injective d f.view (sym at ∙ ap (get_elem? s.views) (sym same) ∙ f.there)) ∙ f.turns)
+        idle;
+    there = within (map client s.views) f.holder f.view.client (at_map client s.views f.holder f.view f.there);
+  }
+
   take_taken : (slots id : ℕ) (d : Doing N V) (then : N → V → T → V → Type 0) (s : Hub N T V) → d.turn ≡ false → d.name ≡ Some name
       → IsTaken holds name s → get_elem? s.views id ≡ some d → Tries slots id d then s
   take_taken slots id d then s idle is f at = (
@@ -270,24 +289,36 @@ module _ {N T V : Type 0} (holds : N → Option T → List V → Type 0) (name :
     inr (subst (IsTaken holds name) (λ i. hub (sym (same_tried s.words f.told f.word) i) s.homes (sym (set_again s.views id d at) i)) f),
     (
       (λ free. absurd (not_even s.words f.told f.word free)),
-      λ _. (
-        refl,
-        λ n e. subst (λ (k : N). Busy holds k d.client) (named name n d.name is e) record {
-          views = map client s.views;
-          number = id;
-          holder = f.holder;
-          kept = f.kept;
-          here = at_map client s.views id d at;
-          other = λ same. not_both d.turn
-              (ap (λ (z : Doing N V). z.turn) (some-injective d f.view (sym at ∙ ap (get_elem? s.views) (sym same) ∙ f.there)) ∙ f.turns)
-              idle;
-          there = within (map client s.views) f.holder f.view.client (at_map client s.views f.holder f.view f.there);
-        },
-      ),
+      λ _. (refl, is_busy id d s idle is f at),
     ),
   )
 
-  pub tries : (slots id : ℕ) (me : Me T (Doing N V)) (then : N → V → T → V → Type 0) → me.0.turn ≡ false → me.1 ≡ []
+  -- the step that looks at the word before a try
+  pub sees : (slots id : ℕ) (me : Me T (Doing N V)) → me.0.turn ≡ false → me.1 ≡ [] → me.0.name ≡ Some name
+      → Allows (Locked holds name) slots id me 0 (λ n. n) (saw holds (step slots 0 0 0 none) me)
+  sees slots id me idle empty is =
+      let P : Me T (Doing N V) → Type 0 =
+      λ m. Allows (Locked holds name) slots id m 0 (λ n. n) (saw holds (step slots 0 0 0 none) m) in
+      let d : Doing N V = me.0 in
+      let at_none : P (d, []) = λ s locked _ at _. ⊎_elim
+      (λ (f : IsFree holds name s). (
+        d,
+        keeps,
+        tt,
+        inl (subst (IsFree holds name) (λ i. hub (sym (same_word s.words (f.told * 2) f.word) i) s.homes (sym (set_again s.views id d at) i)) f),
+        (refl, λ odd. absurd (odd (even_word s.words f.told f.word))),
+      ))
+      (λ (f : IsTaken holds name s). (
+        d,
+        keeps,
+        tt,
+        inr (subst (IsTaken holds name) (λ i. hub (sym (same_word s.words (f.told * 2 + 1) f.word) i) s.homes (sym (set_again s.views id d at) i)) f),
+        (refl, λ _. is_busy id d s idle is f at),
+      ))
+      locked in
+      subst P (λ i. (d, sym empty i)) at_none
+
+  tries : (slots id : ℕ) (me : Me T (Doing N V)) (then : N → V → T → V → Type 0) → me.0.turn ≡ false → me.1 ≡ []
       → me.0.name ≡ Some name → Takes holds name id me.0.client (then name)
       → Allows (Locked holds name) slots id me 0 swapped (tried holds then (step slots 0 1 0 none) me)
   tries slots id me then idle empty is asked =
@@ -301,6 +332,16 @@ module _ {N T V : Type 0} (holds : N → Option T → List V → Type 0) (name :
       (λ (f : IsTaken holds name s). take_taken slots id d then s idle is f at)
       locked in
       subst P (λ i. (d, sym empty i)) at_none
+
+  pub tries_after : (slots id number : ℕ) (me old : Me T (Doing N V)) (then : N → V → T → V → Type 0)
+      → id ≡ number → me ≡ old → old.0.turn ≡ false → old.1 ≡ [] → old.0.name ≡ Some name
+      → Takes holds name number old.0.client (then name)
+      → Allows (Locked holds name) slots id me 0 swapped (tried holds then (step slots 0 1 0 none) me)
+  tries_after slots id number me old then same same' idle empty is asked =
+      let P : ℕ × Me T (Doing N V) → Type 0 =
+      λ m. Allows (Locked holds name) slots m.0 m.1 0 swapped (tried holds then (step slots 0 1 0 none) m.1) in
+      subst P {x = (number, old)} {y = (id, me)} (λ i. (sym same i, sym same' i))
+      (tries slots number old then idle empty is asked)
 
   -- what the step that gives back owes at the state s, for a seat that holds the slot with y
   abbrev Returns : ℕ → ℕ → ℕ → Doing N V → T → (N → V → T → V → Type 0) → Hub N T V → Type 0

@@ -59,6 +59,13 @@ module _ {N T V : Type 0} where
       (x : T) × (m'.0.turn ≡ true) × (m'.0.name ≡ m.0.name) × (m'.1 ≡ (0, x) ∷ [])
       × ((name : N) → m.0.name ≡ Some name → then name m.0.client x m'.0.client)
 
+  -- a look at the word: nothing changed, and where the word was odd, another seat had the turn
+  abbrev pub saw : (N → Option T → List V → Type 0)
+      → Step T → Stand N T V → ℕ → Stand N T V → Type 0
+  saw holds st m r m' =
+      (m' ≡ m)
+      × (r % 2 ≢ 0 → (name : N) → m.0.name ≡ Some name → Busy holds name m.0.client)
+
   -- a try to take the turn won it where the word was even; else nothing changed
   abbrev pub tried : (N → Option T → List V → Type 0) → (N → V → T → V → Type 0)
       → Step T → Stand N T V → ℕ → Stand N T V → Type 0

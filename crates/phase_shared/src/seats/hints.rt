@@ -97,6 +97,13 @@ pub struct News {
     base: Option<u64>,
 }
 
+// How many phases every waiter has to have got: for a signal, and for so many as half the bound.
+#[derive(Clone, Copy)]
+pub struct Wants {
+    pub own: u64,
+    pub more: u64,
+}
+
 // What is told beside the lock, and to whom. No number of it ever falls.
 #[derive(Drop)]
 pub struct Hints {
@@ -166,30 +173,37 @@ impl Hints {
         }
     }
 
-    // Wants room for the phases below `next`, under the turn, where a signal of them was ahead. Who
-    // wants less is served first.
-    pub fn want(&self, refusal: Option<SignalRefusal>, next: u64, reached: Reached) {
+    // What a signal of so many phases from this one on wants.
+    pub fn wants(&self, phase: u64, phases: u64) -> Wants {
+        let most = phases.max(self.bound / 2);
+        Wants {
+            own: phase.saturating_add(phases).saturating_sub(self.bound),
+            more: phase.saturating_add(most).saturating_sub(self.bound),
+        }
+    }
+
+    // Wants room, under the turn, where a signal was ahead: at first for half the bound, and where
+    // no more than that is wanted already, for itself alone. Of two wants the least is kept.
+    pub fn want(&self, refusal: Option<SignalRefusal>, wants: Wants, reached: Reached) {
         if refusal != Some(SignalRefusal::Ahead) {
             return;
         }
-        let least = self.least(next);
         let wanted = self.wanted.load(SeqCst);
-        if wanted != EACH && (wanted <= reached.base || least < wanted) {
+        let is_open = reached.base < wanted;
+        let least = if is_open && wanted <= wants.more {
+            wants.own
+        } else {
+            wants.more
+        };
+        if wanted != EACH && (!is_open || least < wanted) {
             self.wanted.store(least, SeqCst);
         }
     }
 
-    // Wants more room than that, where nobody wanted less meanwhile.
-    pub fn want_more(&self, next: u64, more: u64) {
-        let least = self.least(next);
-        let _ = self
-            .wanted
-            .compare_exchange(least, self.least(more), SeqCst, SeqCst);
-    }
-
-    // How many phases every waiter has to have got before those below `next` can be signalled.
-    pub fn least(&self, next: u64) -> u64 {
-        next.saturating_sub(self.bound)
+    // Whether somebody who sleeps at the room that was found is woken when there is so much.
+    pub fn is_wanted(&self, found: u64, least: u64) -> bool {
+        let wanted = self.wanted.load(SeqCst);
+        wanted == EACH || (found < wanted && wanted <= least)
     }
 
     // How many phases every waiter got, as far as was told.

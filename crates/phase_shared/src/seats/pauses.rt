@@ -26,6 +26,7 @@ impl<A: Accumulate, K: SignalRule> LockedPhaser<A, K> {
         }
     }
 
+    // Whether it is seen while the thread spins.
     fn is_seen(&self, aim: Aim) -> bool {
         for _ in 0..LOOKS {
             if self.is_reached(aim) {
@@ -36,7 +37,11 @@ impl<A: Accumulate, K: SignalRule> LockedPhaser<A, K> {
         false
     }
 
+    // Whether it is seen soon, while the thread spins and then yields.
     fn comes_soon(&self, aim: Aim) -> bool {
+        if self.is_seen(aim) {
+            return true;
+        }
         for _ in 0..YIELDS {
             if self.is_reached(aim) {
                 return true;
@@ -46,45 +51,40 @@ impl<A: Accumulate, K: SignalRule> LockedPhaser<A, K> {
         false
     }
 
+    // Sleeps for some time, or until others went on, if these wake who sleeps for that.
     fn sleep<W: Wait>(&self, rt: &W, aim: Aim) {
         let bell: &Bell = match aim {
             Aim::Phases(_) => &self.hints.phases,
             Aim::Room(_) => &self.hints.room,
         };
         let found = bell.lie_down();
-        if !self.is_reached(aim) {
+        let is_woken = match aim {
+            Aim::Phases(_) => true,
+            Aim::Room(least) => self.hints.is_wanted(found, least),
+        };
+        if is_woken && !self.is_reached(aim) {
             bell.sleep(rt, found);
         }
         bell.get_up();
     }
 
-    fn pause<W: Wait>(&self, rt: &W, aim: Aim) {
-        if !self.is_seen(aim) && !self.comes_soon(aim) {
+    /// Pauses while the phase is not complete, or for some time, before a wait for so many phases.
+    /// A wait for none, or for more than the bound, is refused, and does not pause.
+    pub fn pause_for_phase<W: Wait>(&self, rt: &W, phase: u64, phases: u64) {
+        let aim = Aim::Phases(phase.saturating_add(1));
+        if phases != 0 && phases <= self.hints.bound() && !self.comes_soon(aim) {
             self.sleep(rt, aim);
         }
     }
 
-    /// Pauses while the phase is not complete, or for some time, before a wait for so many phases.
-    /// A wait for none, or for more than the bound, is refused, and does not pause.
-    pub fn pause_for_phase<W: Wait>(&self, rt: &W, phase: u64, phases: u64) {
-        if phases != 0 && phases <= self.hints.bound() {
-            self.pause(rt, Aim::Phases(phase.saturating_add(1)));
-        }
-    }
-
     /// Pauses while a signal of so many phases from this one on is ahead, or for some time. At
-    /// first it is for room for half the bound, and does not sleep.
+    /// first it is for room for half the bound, and then it does not sleep.
     pub fn pause_for_room<W: Wait>(&self, rt: &W, phase: u64, phases: u64, is_first: bool) {
-        let next = phase.saturating_add(phases);
-        let more = phase.saturating_add(self.hints.bound() / 2);
-        if next >= more {
-            self.pause(rt, Aim::Room(self.hints.least(next)));
-        } else if is_first {
-            self.hints.want_more(next, more);
-            let aim = Aim::Room(self.hints.least(more));
-            let _soon = self.is_seen(aim) || self.comes_soon(aim);
-        } else {
-            self.sleep(rt, Aim::Room(self.hints.least(next)));
+        let wants = self.hints.wants(phase, phases);
+        let is_over = is_first && self.comes_soon(Aim::Room(wants.more));
+        if is_over || (is_first && wants.own < wants.more) {
+            return;
         }
+        self.sleep(rt, Aim::Room(wants.own));
     }
 }

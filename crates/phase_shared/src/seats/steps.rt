@@ -127,8 +127,8 @@ pub fn signal<A: Accumulate, K: SignalRule>(
     let phase = match answer {
         Ok(phase) => phase,
         Err(refused) => {
-            let next = entry.signal_phase.saturating_add(1);
-            phaser.hints.want(Some(refused.0), next, Hints::look(core));
+            let wants = phaser.hints.wants(entry.signal_phase, 1);
+            phaser.hints.want(Some(refused.0), wants, Hints::look(core));
             let told = phaser.lock.told();
             let seat = phaser.lock.give::<Same>(turn, told);
             return (seat, entry, Err(Tried::Refused(refused.0)));

@@ -5,7 +5,7 @@ ghost use Rattle.turn_lock.specs.Seats.{seat_number, seat_view, turn_number, tur
 ghost use Rattle.turn_lock.specs.Steps.{Takes, GivesBack, Looks, Forks, Merges, Busy};
 
 use super::TurnLock;
-use super::ghost_steps::{OnGive, OnJoin, OnLook, OnSplit, OnTake};
+use super::ghost_steps::{OnGive, OnJoin, OnLook, OnSight, OnSplit, OnTake};
 use crate::rule::{Learns, Tells, TurnRule};
 use crate::seat::{Seat, Turn};
 use atomic_table::{Join, Split, Table};
@@ -62,6 +62,11 @@ impl<T, R: TurnRule<T>> TurnLock<T, R> {
     {
         let Seat { mut inner } = seat;
         let shared = &self.table.shared;
+        // Who finds the turn taken leaves the word's line of memory where it is.
+        let seen = shared.load::<OnSight<R>>(&mut inner, 0);
+        if seen % 2 == TAKEN {
+            return Err(Seat { inner });
+        }
         let found = shared.fetch_or::<OnTake<M, R>>(&mut inner, 0, TAKEN);
         if found % 2 == TAKEN {
             return Err(Seat { inner });
@@ -69,8 +74,8 @@ impl<T, R: TurnRule<T>> TurnLock<T, R> {
         Ok(Turn { inner })
     }
 
-    /// Ends a turn: the value is at home as the turn left it, and the lock tells this number. It takes
-    /// no memory.
+    /// Ends a turn: the value is at home as the turn left it, and the lock tells this number. It
+    /// takes no memory.
     pub fn give<M: Tells<R::Name, T, R::View>>(
         &self,
         turn: Turn<T, R::Name, R::View>,
@@ -89,8 +94,8 @@ impl<T, R: TurnRule<T>> TurnLock<T, R> {
         Seat { inner }
     }
 
-    /// Returns the number that the last give told, and 0 before the first. It needs no seat, and takes
-    /// no memory.
+    /// Returns the number that the last give told, and 0 before the first. It needs no seat, and
+    /// takes no memory.
     ///
     /// It is a hint for when to take a turn, and no contract says which number it is.
     pub fn told(&self) -> u64
