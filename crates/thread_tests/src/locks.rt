@@ -44,11 +44,11 @@ fn turn_lock(rt: HostRuntime) -> Result<(), Fail> {
     let mut turn = lock.take::<AnyValue, HostRuntime>(&rt, a);
     let first = *turn.value(&lock);
     let (b, was_busy) = match lock.try_take::<AnyValue>(b) {
-        Ok(turn) => (lock.give::<AnyValue>(turn), false),
+        Ok(turn) => (lock.give::<AnyValue>(turn, 0), false),
         Err(b) => (b, true),
     };
     *turn.value(&lock) = 6;
-    let a = lock.give::<AnyValue>(turn);
+    let a = lock.give::<AnyValue>(turn, 0);
     assert!(rt; was_busy);
     assert_eq!(rt; first, 5);
 
@@ -56,13 +56,13 @@ fn turn_lock(rt: HostRuntime) -> Result<(), Fail> {
         panic!(rt; "the turn was free")
     };
     let second = *turn.value(&lock);
-    let b = lock.give::<AnyValue>(turn);
+    let b = lock.give::<AnyValue>(turn, 0);
     assert_eq!(rt; second, 6);
 
     let seat = lock.join::<AnyValue, AnyValue>(a, b);
     let mut turn = lock.take::<AnyValue, HostRuntime>(&rt, seat);
     let last = *turn.value(&lock);
-    let _seat = lock.give::<AnyValue>(turn);
+    let _seat = lock.give::<AnyValue>(turn, 0);
     assert_eq!(rt; last, 6);
     Ok(())
 }

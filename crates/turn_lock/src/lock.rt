@@ -44,8 +44,8 @@ impl<T, R: TurnRule<T>> TableRule<T, Doing<R::Name, R::View>, R::Name> for Ruled
 /// `take` tries until it has the turn. Between two tries it spins briefly at first, and then
 /// yields.
 ///
-/// **Cost.** A take that wins is a look and one atomic step, and a give is one. The value stays where it lies.
-/// A split is one step, and a join two.
+/// **Cost.** A take that wins is a look and one atomic step, and a give is one step. The value stays
+/// where it lies. A split is one step, and a join two.
 ///
 /// **Limits.** Any number of seats.
 ///

@@ -58,8 +58,8 @@ impl Bell {
         }
     }
 
-    // Counts a sleeper, and returns the number. Whoever tells something looks for sleepers
-    // afterwards: it sees this one, or this one sees what was told, if it looks after this.
+    // Counts a sleeper, and returns the number. Whoever tells something looks for sleepers behind
+    // it. So it sees this one, or this one sees what was told, where it looks from now on.
     pub fn lie_down(&self) -> u64 {
         let _ = self.sleepers.fetch_add(1, SeqCst);
         self.number.load(SeqCst)
@@ -104,7 +104,7 @@ pub struct Wants {
     pub more: u64,
 }
 
-// What is told beside the lock, and to whom. No number of it ever falls.
+// What is told beside the lock, and where threads sleep. What was told never falls.
 #[derive(Drop)]
 pub struct Hints {
     // Where threads sleep until phases are complete. The lock tells how many are.
@@ -112,7 +112,8 @@ pub struct Hints {
     // Where threads sleep until there is room: how many phases every waiter got, as far as it was
     // wanted.
     pub room: CachePadded<Bell>,
-    // How many phases every waiter has to have got for the next signal that waits for room.
+    // How many phases every waiter has to have got before that is told. A signal that was ahead
+    // writes it under the turn.
     wanted: CachePadded<AtomicU64>,
     bound: u64,
 }
@@ -200,7 +201,7 @@ impl Hints {
         }
     }
 
-    // Whether somebody who sleeps at the room that was found is woken when there is so much.
+    // Whether who sleeps since this room was found is woken when there is so much, at the latest.
     pub fn is_wanted(&self, found: u64, least: u64) -> bool {
         let wanted = self.wanted.load(SeqCst);
         wanted == EACH || (found < wanted && wanted <= least)
@@ -211,8 +212,8 @@ impl Hints {
         self.room.number.load(SeqCst)
     }
 
-    // Returns both numbers, as far as was told, where the lock tells `done`. From now on each turn
-    // tells the second.
+    // Returns both numbers, as far as was told, where the lock tells the first. From now on each
+    // turn tells the second.
     pub fn told(&self, done: u64) -> (u64, u64) {
         self.want_each();
         let done = if done == TOLD_MAX { ENDED } else { done };

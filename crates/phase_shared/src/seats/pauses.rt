@@ -6,10 +6,11 @@ use phase_core::phase_accum::Accumulate;
 use std::sync::Wait;
 use std::{hint, thread};
 
-// How often a pause looks while it spins, and how often it then yields.
+// How often a pause looks while it spins, and how often it then yields. Where others want the
+// processor, each yield costs a slice of their time.
 const LOOKS: u32 = 15;
 
-const YIELDS: u32 = 60;
+const YIELDS: u32 = 20;
 
 // What a pause is for: so many complete phases, or so many phases that every waiter got.
 #[derive(Clone, Copy)]
