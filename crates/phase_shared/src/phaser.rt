@@ -18,8 +18,8 @@ use std::alloc::{AllocError, Global};
 ///
 /// Sends become values by the operation `A`, and each signal abides by the rule `K`.
 ///
-/// **Cost.** A call is a look and one atomic step that takes the turn, the call on the phaser of one
-/// thread, which stays where it lies, and one step that gives the turn back. There is no mutex.
+/// **Cost.** A call is a look and one atomic step that takes the turn, the call on the phaser of
+/// one thread, which stays where it lies, and one step that gives the turn back. There is no mutex.
 /// `make` and registrations take memory, and nothing else does.
 ///
 /// **Limits.** Those of its `Spec`, and as many registrations at a time as a phaser of one thread

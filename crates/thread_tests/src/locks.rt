@@ -48,16 +48,20 @@ fn turn_lock(rt: HostRuntime) -> Result<(), Fail> {
         Err(b) => (b, true),
     };
     *turn.value(&lock) = 6;
-    let a = lock.give::<AnyValue>(turn, 0);
+    let a = lock.give::<AnyValue>(turn, 7);
     assert!(rt; was_busy);
     assert_eq!(rt; first, 5);
+    assert_eq!(rt; lock.told(), 7);
 
     let Ok(mut turn) = lock.try_take::<AnyValue>(b) else {
         panic!(rt; "the turn was free")
     };
     let second = *turn.value(&lock);
+    let meanwhile = lock.told();
     let b = lock.give::<AnyValue>(turn, 0);
     assert_eq!(rt; second, 6);
+    assert_eq!(rt; meanwhile, 7);
+    assert_eq!(rt; lock.told(), 0);
 
     let seat = lock.join::<AnyValue, AnyValue>(a, b);
     let mut turn = lock.take::<AnyValue, HostRuntime>(&rt, seat);

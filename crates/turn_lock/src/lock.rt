@@ -44,13 +44,14 @@ impl<T, R: TurnRule<T>> TableRule<T, Doing<R::Name, R::View>, R::Name> for Ruled
 /// `take` tries until it has the turn. Between two tries it spins briefly at first, and then
 /// yields.
 ///
-/// **Cost.** A take that wins is a look and one atomic step, and a give is one step. The value stays
-/// where it lies. A split is one step, and a join two.
+/// **Cost.** A take that wins is a look and one atomic step, and a give is one step. The value
+/// stays where it lies. A split is one step, and a join two.
 ///
 /// **Limits.** Any number of seats.
 ///
 /// **Example.** The test `turn_lock`: a lock on 5 with the seats a and b. While a has the turn and
-/// writes 6, b is refused. Once a gave, b takes the turn and reads 6.
+/// writes 6, b is refused. Once a gave, and told 7, b takes the turn and reads 6. The lock tells 7
+/// until b gives.
 ///
 /// **Not promised.** That a refused take could not have had the turn, that a seat gets it, in what
 /// order seats get it, and that a turn ends.
