@@ -1,5 +1,5 @@
 -- Each step of the table keeps the rule of the word and the slot.
-use Rattle.std.proofs.Common.{◌≡◌, ◌≢◌, ℕ, zero, suc, ◌*◌, ◌+◌, ◌%◌, ◌<◌, Bool, true, false, Option, Some, None, List, [], ◌∷◌, ◌++◌, map, length, set, slice_index, sym, refl, ap, ◌∙◌, subst, inl, inr, ⊎_elim, eqb, arith}
+use Rattle.std.proofs.Common.{◌≡◌, ◌≢◌, ℕ, zero, suc, ◌*◌, ◌+◌, ◌%◌, ◌<◌, Bool, true, false, Option, Some, None, List, [], ◌∷◌, ◌++◌, map, length, set, slice_index, sym, refl, ap, ◌∙◌, subst, inl, inr, ⊎_elim, arith}
 use mathlib.Core.Option.{none, some, some-injective, some-ne-none}
 use Rattle.std.proofs.lemmas.Bool.{eqb-true}
 use mathlib.Core.Bool.{true≢false}
