@@ -73,7 +73,10 @@ stalled_so job None None true e = (refl, refl, refl)
 
 pub stop_means : (stream : StreamState) (s : List (List ℤ)) (m : Moment) (given : ℕ → List ℤ)
     (stop : Stopped) → IsStreamAt stream s m given → StreamStopsAt stream s m given stop
-    → (stop ≡ stopped.Done → answer_of (started (with_samples s stream.job) m)
+    → (stop ≡ stopped.Done → (more : List (List ℤ))
+    → IsFed (with_samples s stream.job) (ended_at stream) more
+    → IsReady (with_samples more stream.job)
+    → answer_of (started (with_samples more stream.job) m)
     ≡ Ok (map (kept_behind given) stream.machine.lines.items))
     → ((place : Place) (n : ℕ) → stop ≡ stopped.TooBig place n → (more : List (List ℤ))
     → IsFed (with_samples s stream.job) (ended_at stream) more
@@ -81,7 +84,7 @@ pub stop_means : (stream : StreamState) (s : List (List ℤ)) (m : Moment) (give
     → IsFaultAt (started (with_samples more stream.job) m) (place, n))
     → HasStopped stream s m stop
 stop_means stream s m given stopped.Done at stops done big =
-    done refl ∙ ap (λ l. Ok l) at.lines.values
+    λ more fed ready. done refl more fed ready ∙ ap (λ l. Ok l) at.lines.values
 stop_means stream s m given (stopped.TooBig place n) at stops done big = big place n refl
 stop_means stream s m given stopped.Stalled at stops done big =
     let job = with_samples s stream.job in
@@ -101,21 +104,24 @@ pub with_three : {X E : Type 0} (r : Result X E) (A B C D : X → Type 0)
 with_three (Ok x) A B C D f a b c = f x a b c
 with_three (Err e) A B C D f a b c = tt
 
+-- samples that go on behind those of a stream do so behind those of one with the same inputs
+fed_same : (old new : StreamState) (s more : List (List ℤ)) → new.job ≡ old.job
+    → new.inputs ≡ old.inputs → IsFed (with_samples s new.job) (ended_at new) more
+    → IsFed (with_samples s old.job) (ended_at old) more
+fed_same old new s more job inputs fed = rw (job, inputs) at fed
+
 pub stopped_same : (old new : StreamState) (s : List (List ℤ)) (m : Moment) (stop : Stopped)
     → new.job ≡ old.job → new.inputs ≡ old.inputs → HasStopped old s m stop
     → HasStopped new s m stop
-stopped_same old new s m stopped.Done job inputs is =
-    subst (λ (j : Job). answer_of (started (with_samples s j) m)
-    ≡ Ok (map (λ t. (t, kept_by j m t)) (sinks_of j))) (sym job) is
+stopped_same old new s m stopped.Done job inputs is = λ more fed ready.
+    subst (λ (j : Job). answer_of (started (with_samples more j) m)
+    ≡ Ok (map (λ t. (t, kept_by j m t)) (sinks_of j))) (sym job)
+    (is more (fed_same old new s more job inputs fed)
+    (subst (λ (j : Job). IsReady (with_samples more j)) job ready))
 stopped_same old new s m (stopped.TooBig place n) job inputs is = λ more fed ready.
     subst (λ (j : Job). IsFaultAt (started (with_samples more j) m) (place, n)) (sym job)
     (is more (fed_same old new s more job inputs fed)
     (subst (λ (j : Job). IsReady (with_samples more j)) job ready))
-  where
-    fed_same : (old new : StreamState) (s more : List (List ℤ)) → new.job ≡ old.job
-        → new.inputs ≡ old.inputs → IsFed (with_samples s new.job) (ended_at new) more
-        → IsFed (with_samples s old.job) (ended_at old) more
-    fed_same old new s more job inputs fed = rw (job, inputs) at fed
 stopped_same old new s m stopped.Stalled job inputs is =
     subst (λ (j : Job). (is_some_live j m ≡ true)
     × (list_all (is_at_rest (with_samples s j) m) (all_tasks j) ≡ true)) (sym job) is

@@ -5,6 +5,7 @@ use Rattle.std.specs.List.{flat_map}
 use Rattle.std.specs.Io.KnownBytes.{Appends}
 use mathlib.Core.List.{IsPrefix}
 use Rattle.graph_commands.specs.FileJobs.{Known}
+use Rattle.graph_commands.specs.GraphRuns.{sinks_text}
 use Rattle.graph_commands.specs.OutputTexts.{value_text, values_of_sink}
 use Rattle.graph_commands.specs.declared.failure.Failure.{Failure}
 use Rattle.graph_commands.specs.declared.failure.Failure.TheVariants as failure
@@ -105,6 +106,28 @@ found_values f start (u ∷ ts) i t lt is = by (eqb u t) refl i lt is (found_val
         search rules
     by false e (suc i) lt is rest = rw e (rest i t (omega arith) is)
 
+-- a list of all sinks, each with where it begins
+map_map : (start : ℕ → Option ℕ) (f : ℕ → List ℤ) (ts : List ℕ)
+    → map {B = ℕ × Option ℕ × List ℤ} (λ (line : ℕ × List ℤ). (line.0, start line.0, line.1))
+    (map {B = ℕ × List ℤ} (λ u. (u, f u)) ts)
+    ≡ map {B = ℕ × Option ℕ × List ℤ} (λ u. (u, start u, f u)) ts
+map_map start f [] = refl
+map_map start f (u ∷ ts) = cc (map_map start f ts)
+
+-- where a job's answer is what its sinks kept, its values fit, and the text of a sink is of those
+whole_by : (job : Job) (kept : ℕ → List ℤ) (sink t : ℕ) → sink < length (sinks_of job)
+    → get_or (sinks_of job) sink 0 ≡ t
+    → answer_of job ≡ Ok (map {B = ℕ × List ℤ} (λ u. (u, kept u)) (sinks_of job))
+    → Fits job × (sinks_text job (Some t) ≡ flat_map value_text (kept t))
+whole_by job kept sink t there is answer =
+    let lines = map {B = ℕ × List ℤ} (λ u. (u, kept u)) (sinks_of job) in (
+      answer_fits job lines answer,
+      ap (flat_map value_text) (ap (λ l. values_of_sink t (map (with_start job) l))
+          (answer_lines job lines answer)
+          ∙ ap (values_of_sink t) (map_map (start_in job) kept (sinks_of job))
+          ∙ found_values kept (start_in job) (sinks_of job) sink t there is),
+    )
+
 pub whole_of : {R : Type 0} (remaining : R → Option (List ℕ)) (held : Known)
     (old now : Option (List ℕ)) (session : Session R)
     → IsSinkNumber session.stream.job session.task session.sink
@@ -114,30 +137,21 @@ whole_of remaining held old now session sink st =
     let stands = st.stands in
     let stream = session.stream in
     let m = stands.moment in
-    let t = session.task in
-    let job = started (with_samples stands.samples stream.job) m in
-    let lines = map {B = ℕ × List ℤ} (λ u. (u, kept_by stream.job m u)) (sinks_of stream.job) in
-    let all : lines_of job ≡ lines = answer_lines job lines st.stopped_is in
-    let values : values_of_sink t (map (with_start job) (lines_of job)) ≡ stands.given t =
-    ap (λ l. values_of_sink t (map (with_start job) l)) all
-    ∙ ap (values_of_sink t) (map_map (start_in job) (kept_by stream.job m) (sinks_of stream.job))
-    ∙ found_values (kept_by stream.job m) (start_in job) (sinks_of stream.job) session.sink t
-    sink.there sink.task ∙ sym st.whole in
+    let machine = stands.reaches.at.machine in
     record {
       samples = stands.samples;
       ended = has_ended stream.inputs;
       came = stands.reaches.came;
+      ready = record { graph = machine.graph; apart = machine.apart };
       starts = (started stream.job m).starts;
-      fits = answer_fits job lines st.stopped_is;
-      written = subst (λ l. Appends old now (flat_map value_text l)) (sym values) stands.written;
+      values = stands.given session.task;
+      whole = λ more goes.
+          let whole = whole_by (started (with_samples more stream.job) m) (kept_by stream.job m)
+          session.sink session.task sink.there sink.task
+          (st.stopped_is more goes.feeds goes.ready) in
+          (whole.0, whole.1 ∙ ap (flat_map value_text) (sym st.whole));
+      written = stands.written;
     }
-  where
-    map_map : (start : ℕ → Option ℕ) (f : ℕ → List ℤ) (ts : List ℕ)
-        → map {B = ℕ × Option ℕ × List ℤ} (λ (line : ℕ × List ℤ). (line.0, start line.0, line.1))
-        (map {B = ℕ × List ℤ} (λ u. (u, f u)) ts)
-        ≡ map {B = ℕ × Option ℕ × List ℤ} (λ u. (u, start u, f u)) ts
-    map_map start f [] = refl
-    map_map start f (u ∷ ts) = cc (map_map start f ts)
 
 -- ---- failures
 

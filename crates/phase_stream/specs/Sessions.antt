@@ -98,11 +98,13 @@ pub record StandsBy {R : Type 0} (remaining : R → Option (List ℕ)) (held : K
 -- ---- a stop
 
 -- what a stop tells of samples and a moment, whatever was handed over: where it is done, what each
--- sink has kept is its whole list; a value too big is one of every run whose samples go on so; and
--- a stalled run has a live task, and no task can move, whatever samples come
+-- sink has kept is its whole list in every run whose samples go on so; a value too big is one of
+-- every such run; and a stalled run has a live task, and no task can move, whatever samples come
 abbrev pub HasStopped : StreamState → List (List ℤ) → Moment → Stopped → Type 0
-HasStopped stream s m stopped.Done =
-    answer_of (started (with_samples s stream.job) m)
+HasStopped stream s m stopped.Done = (more : List (List ℤ))
+    → IsFed (with_samples s stream.job) (ended_at stream) more
+    → IsReady (with_samples more stream.job)
+    → answer_of (started (with_samples more stream.job) m)
     ≡ Ok (map (λ t. (t, kept_by stream.job m t)) (sinks_of stream.job))
 HasStopped stream s m (stopped.TooBig place n) = (more : List (List ℤ))
     → IsFed (with_samples s stream.job) (ended_at stream) more

@@ -67,15 +67,20 @@ pub record WritesPart (held : Known) (job : Job) (t : ℕ) (old now : Option (Li
       → IsPrefix values (sink_list (with_starts starts (with_samples more job)) t)
   pub written : AppendsPrefix old now (flat_map value_text values)
 
--- the values of the sink over the samples that came were written, all of which are in range
+-- what was written is all values of the sink in every run whose samples go on behind those that came,
+-- and they are in range
 pub record WritesWhole (held : Known) (job : Job) (t : ℕ) (old now : Option (List ℕ)) : Type 0 where
   pub samples : List (List ℤ)
   pub ended : ℕ → Bool
   pub came : CameOf held job ended samples
+  pub ready : IsReady (with_samples samples job)
   pub starts : List ℕ
-  pub fits : Fits (with_starts starts (with_samples samples job))
-  pub written : Appends old now
-      (sinks_text (with_starts starts (with_samples samples job)) (Some t))
+  pub values : List ℤ
+  pub whole : (more : List (List ℤ)) → GoesOnBehind job ended samples more
+      → Fits (with_starts starts (with_samples more job))
+      × (sinks_text (with_starts starts (with_samples more job)) (Some t)
+      ≡ flat_map value_text values)
+  pub written : Appends old now (flat_map value_text values)
 
 -- ---- which sink
 

@@ -77,13 +77,15 @@ pub record Finishes (source : ℕ) (old new : StreamState) : Type 0 where
 
 -- ---- a stop
 
--- the run stopped so: where it is done its sinks got what the definitions give, and a value out of
--- range is so in every run whose samples go on so
+-- the run stopped so: where it is done its sinks got what the definitions give of every run whose
+-- samples go on so, and a value out of range is so in each of them
 pub record StopsFor (run : StreamState) (stop : Stopped) : Type 0 where
   pub stops : (s : List (List ℤ)) (m : Moment) (given : ℕ → List ℤ) → IsStreamAt run s m given
       → StreamStopsAt run s m given stop
   pub done : stop ≡ Done → (s : List (List ℤ)) (m : Moment) (given : ℕ → List ℤ)
-      → IsStreamAt run s m given → answer_of (started (with_samples s run.job) m)
+      (more : List (List ℤ)) → IsStreamAt run s m given
+      → IsFed (with_samples s run.job) (ended_at run) more → IsReady (with_samples more run.job)
+      → answer_of (started (with_samples more run.job) m)
       ≡ Ok (map (kept_behind given) run.machine.lines.items)
   pub too_big : (place : Place) (n : ℕ) → stop ≡ TooBig place n → (s : List (List ℤ)) (m : Moment)
       (given : ℕ → List ℤ) (more : List (List ℤ)) → IsStreamAt run s m given

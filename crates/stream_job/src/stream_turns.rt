@@ -39,8 +39,9 @@ impl Stream {
     ///
     /// A source that was not told to have ended waits for a sample where it has none left, but a
     /// child that is due there comes first. A sink without room is told before a hungry source,
-    /// since to read it may let others move. A value out of range is the first that a turn meets,
-    /// and one of every run whose samples go on so; it is told again by each later call.
+    /// since to read it may let others move. Done is said once no task is left: then the sinks have
+    /// all that they get, whatever samples go on so. A value out of range is the first that a turn
+    /// meets, and one of every run whose samples go on so; it is told again by each later call.
     ///
     /// A child's registration may ask for memory, and nothing else does. Where there is none, no
     /// value is lost, and the call can be made again.
@@ -50,8 +51,10 @@ impl Stream {
             (given : ℕ → List ℤ) → IsStreamAt self.new s m given
             → StreamStopsAt self.new s m given stop) }
         ensures done { IfOk result (λ stop. stop ≡ Done → (s : List (List ℤ)) (m : Moment)
-            (given : ℕ → List ℤ) → IsStreamAt self.new s m given
-            → answer_of (started (with_samples s self.new.job) m)
+            (given : ℕ → List ℤ) (more : List (List ℤ)) → IsStreamAt self.new s m given
+            → IsFed (with_samples s self.new.job) (ended_at self.new) more
+            → IsReady (with_samples more self.new.job)
+            → answer_of (started (with_samples more self.new.job) m)
             ≡ Ok (map (kept_behind given) self.new.machine.lines.items)) }
         ensures too_big { IfOk result (λ stop. (place : PlaceValue) (n : ℕ)
             → stop ≡ TooBig place n → (s : List (List ℤ)) (m : Moment) (given : ℕ → List ℤ)
@@ -61,6 +64,7 @@ impl Stream {
             → IsFaultAt (started (with_samples more self.new.job) m) (place, n)) }
     {
         self.rounds()?;
+        feeds::runs_go_on();
         outcomes::all_gone();
         Ok(self.stop())
     }

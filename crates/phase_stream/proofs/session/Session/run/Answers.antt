@@ -27,6 +27,6 @@ pub returns-clause-stops : goal.returns-clause-stops
 returns-clause-stops g c =
     with_three c.run.result _ _ _ _
     (λ stop stops done big s m given at. stop_means c.run.new.self s m given stop at
-    (stops s m given at) (λ e. done e s m given at)
+    (stops s m given at) (λ e more fed ready. done e s m given more at fed ready)
     (λ place n e more fed ready. big place n e s m given more at fed ready))
     c.run.ensures.stops c.run.ensures.done c.run.ensures.too_big

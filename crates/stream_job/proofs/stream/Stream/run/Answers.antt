@@ -1,4 +1,4 @@
--- Where nobody is live the sinks have all.
+-- Where nobody is live the sinks have all, whatever comes.
 use Rattle.std.proofs.Common.{sym, ap, subst, ◌∙◌}
 use Rattle.std.specs.Prelude.{Ok}
 use Rattle.stream_eval.specs.stream_lists.Jobs.{with_samples}
@@ -11,7 +11,7 @@ use Rattle.stream_job.proofs.SinksKeep.{lines_taken}
 use Rattle.stream_job.proofs.stream.Stream.run.Goals as goal
 
 pub returns-clause-done : goal.returns-clause-done
-returns-clause-done c = λ done s m given at.
+returns-clause-done c = λ done s m given more at fed ready.
     let stream = c.rounds.new.self in
     let job = with_samples s stream.job in
     let stops : StreamStopsAt stream s m given stopped.Done =
@@ -19,8 +19,10 @@ returns-clause-done c = λ done s m given at.
     let dead = none_live job m (done_dead job (first_full job m given)
     (first_hungry job (ended_at stream) m) (is_some_live job m) stops.1) in
     let met = subst (HasMet job m) stops.0.none at.met in
-    c.all_gone.ensures.answer job m
-    (record { graph = at.machine.graph; apart = at.machine.apart }) at.machine.reached dead met
+    c.all_gone.ensures.answer (with_samples more stream.job) m ready
+    (c.runs_go_on.ensures.reachable job m more at.machine.graph at.machine.reached
+    (feed_continues job (ended_at stream) m more at.machine.reached.ran at.stays_open fed))
+    dead met
     ∙ ap (λ l. Ok l)
     (sym (at.lines.values ∙ lines_taken job m at.machine.graph at.machine.reached.ran met))
 
