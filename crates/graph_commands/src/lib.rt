@@ -5,8 +5,8 @@
 //! that is asked for; `end` answers the status of both. `read_job` gives the job of a graph's file:
 //! its graph, and the samples in the files of its sources; `read_asked` that and the sink that is
 //! asked for; `write_lines` writes what an evaluation gave each sink, `write_values` what it gave
-//! one, and `write_sinks` what was asked for. These are for another command that gives the same
-//! values.
+//! one, and `write_sinks` what was asked for; `stall_told` what a person is told of a stall. These
+//! are for another command that gives the same values.
 #![tactic(auto)]
 
 mod answered;
@@ -33,6 +33,7 @@ mod records;
 mod refused;
 mod sinks;
 mod sources;
+mod stall_told;
 
 pub use answered::{check, eval};
 pub use asked::{AskedJob, read_asked, write_sinks};
@@ -40,7 +41,6 @@ pub use drawn::draw;
 pub use explained::{end, report};
 pub use failure::Failure;
 pub use fault::JobFault;
-pub use further::further_lines;
 pub use graph_file::{GRAPH_MAX, read_graph_file};
 pub use graph_show::watched_io;
 pub use job_file::read_job;
@@ -48,4 +48,5 @@ pub use lines::{write_lines, write_values};
 pub use refused::{FileRefusal, Refuses, TellingFiles};
 pub use sinks::find_sink;
 pub use sources::read_sources;
+pub use stall_told::stall_told;
 pub use stream_eval::stream_lists;

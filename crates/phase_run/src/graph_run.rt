@@ -7,7 +7,6 @@ ghost use Rattle.phase_run.specs.Runs.{RunFails, Runs};
 ghost use Rattle.phase_words.specs.RunLine.{run_of};
 ghost use Rattle.stream_workers.specs.graph_commands.watched_io.States.{writer_state};
 
-use crate::stall_told::stall_told;
 use phase_words::{Explain, RunCall};
 use std::alloc::Global;
 use std::io::Write;
@@ -15,7 +14,7 @@ use std::sync::Wait;
 use std::thread::Threads;
 use stream_workers::graph_commands::stream_lists::Job;
 use stream_workers::graph_commands::watched_io::{Files, IoFault, Watched};
-use stream_workers::graph_commands::{AskedJob, Failure, read_asked, write_sinks};
+use stream_workers::graph_commands::{AskedJob, Failure, read_asked, stall_told, write_sinks};
 use stream_workers::{Open, RunFault, Stand};
 
 /// Reads a graph and the samples of its sources, runs it by as many worker threads as the call asks

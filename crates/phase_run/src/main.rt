@@ -12,7 +12,6 @@
 mod cli;
 mod graph_run;
 mod laws;
-mod stall_told;
 
 use cli::run_cli;
 use std::process::ExitCode;

@@ -20,6 +20,7 @@ mod places;
 mod refusal;
 mod sample_counts;
 mod span;
+mod stand;
 mod task_spans;
 
 pub use counts::taken_count;
@@ -32,3 +33,4 @@ pub use places::{input_number, output_number};
 pub use refusal::JobRefusal;
 pub use sample_counts::COUNT_MAX;
 pub use span::{LENGTH_MAX, Span};
+pub use stand::{End, NextCall, Stand};

@@ -10,7 +10,6 @@ use crate::gate::Gate;
 use crate::hold::Hold;
 use crate::run::Run;
 use crate::seed::Seed;
-use crate::stand::Stand;
 use crate::task_state::TaskState;
 use crate::unregistered::Unregistered;
 use crate::went::Went;
@@ -19,7 +18,7 @@ use graph_runs::ends::first_calls;
 use std::alloc::AllocError;
 use std::marker::{Model, PhantomData};
 use std::sync::Wait;
-use stream_eval::stream_lists::Job;
+use stream_eval::stream_lists::{Job, Stand};
 
 /// A task of a run with its registrations: whoever has it makes its next event.
 ///

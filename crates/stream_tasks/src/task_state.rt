@@ -5,13 +5,12 @@ ghost use Rattle.stream_tasks.specs.TaskLefts.{IsGone, left_by};
 use crate::child::Child;
 use crate::ending::task_left::{TaskKnowledge, TaskLeft};
 use crate::hold::Hold;
-use crate::stand::End;
 use graph_runs::phase_accum::Outcome;
 use graph_runs::{Owed, first_input_of};
 use smallvec::SmallVec;
 use std::sync::Wait;
 use stream_eval::stream_filters::Fir;
-use stream_eval::stream_lists::Job;
+use stream_eval::stream_lists::{End, Job};
 use stream_members::{AnyLeft, Places};
 
 /// How far a task has come, with its registrations.

@@ -7,7 +7,8 @@ use crate::stopped::Stopped;
 use std::alloc::Global;
 use std::sync::Wait;
 use std::thread::Threads;
-use stream_tasks::{Gate, Run, Stand, TaskLeft};
+use stream_tasks::stream_lists::Stand;
+use stream_tasks::{Gate, Run, TaskLeft};
 use worker_pool::{Fault, Pool};
 
 /// Runs the tasks of a pool by so many workers, and gives what each leaves behind, in the order in

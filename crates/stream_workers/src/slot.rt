@@ -5,7 +5,8 @@ ghost use Rattle.stream_tasks.specs.TaskLefts.{IsTaskLeft};
 use std::alloc::AllocError;
 use std::mem;
 use std::sync::Wait;
-use stream_tasks::{Gate, Run, Stand, Task, TaskLeft, Unregistered};
+use stream_tasks::stream_lists::Stand;
+use stream_tasks::{Gate, Run, Task, TaskLeft, Unregistered};
 use worker_pool::{Fault, Progress, Work};
 
 /// A task of a graph, or its place before it is registered.

@@ -15,9 +15,9 @@ use std::sync::Wait;
 use std::thread::Threads;
 use stream_tasks::graph_base::Place;
 use stream_tasks::stream_eval::{EvalFault, Lines, eval};
-use stream_tasks::stream_lists::Job;
+use stream_tasks::stream_lists::{Job, Stand};
 use stream_tasks::stream_members::{AnyPhaser, AnyReg};
-use stream_tasks::{Gate, Run, Stand, open_phasers};
+use stream_tasks::{Gate, Run, open_phasers};
 use thiserror::Error;
 use worker_pool::Fault;
 

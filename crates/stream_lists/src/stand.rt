@@ -1,8 +1,10 @@
 //! Where a task stands on a phaser.
+ghost use Rattle.std.specs.Prelude.{◌≡◌};
+ghost use Rattle.stream_lists.specs.Stands.{call_on};
 
-use graph_runs::phase_base::Entry;
+use graph_base::phase_accum::phase_base::Entry;
 
-/// Where a task stands on a phaser, as the task knows it. No contract speaks of it.
+/// Where a task stands on a phaser, as it is told of a run that stalled.
 #[derive(Clone, Copy, Debug, PartialEq, Eq)]
 pub struct Stand {
     /// The number of the task.
@@ -31,14 +33,16 @@ pub enum End {
     Input(usize),
     /// It signals on this output.
     Output(usize),
-    /// It leaves.
+    /// It leaves, registers a child, or makes no call.
     Nowhere,
 }
 
 impl End {
     /// The call that is made at this end, where it is on a registration of this input and this
     /// output.
-    pub fn call_on(self, input: Option<usize>, output: Option<usize>) -> Option<NextCall> {
+    pub fn call_on(self, input: Option<usize>, output: Option<usize>) -> Option<NextCall>
+        ensures { result ≡ call_on self input output }
+    {
         match self {
             End::Input(k) if input == Some(k) => Some(NextCall::Wait),
             End::Output(j) if output == Some(j) => Some(NextCall::Signal),

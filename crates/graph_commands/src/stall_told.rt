@@ -1,12 +1,11 @@
 //! What a person is told of a stall: what each task that is left waits for.
-ghost use Rattle.stream_workers.specs.graph_commands.Explained.{AreFurtherLines};
+ghost use Rattle.graph_commands.specs.Explained.{AreFurtherLines};
 
+use crate::further::further_lines;
 use itoa::Buffer;
 use std::alloc::{AllocError, Global};
-use stream_workers::graph_commands::further_lines;
-use stream_workers::graph_commands::stream_lists::Job;
-use stream_workers::graph_commands::stream_lists::graph_base::Place;
-use stream_workers::{NextCall, Stand};
+use stream_eval::stream_lists::graph_base::Place;
+use stream_eval::stream_lists::{Job, NextCall, Stand};
 
 /// The name of a task.
 fn task_name(job: &Job, t: usize) -> &str {
