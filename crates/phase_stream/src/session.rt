@@ -11,13 +11,14 @@ ghost use Rattle.stream_job.specs.Streams.{IsStreamAt};
 ghost use Rattle.phase_stream.specs.Sessions.{HandsOverAll, HandsPart, IsForgetful, IsKeptRight, IsStreamAtOpening, IsFaultWithoutText, MayStand, HasStopped, IsKnownAs, IsSameSession, IsSinkNumber, StandsBy, StandsLacking, StandsPart, StandsStopped};
 ghost use Rattle.phase_stream.specs.Sources.{AreUnopened};
 ghost use Rattle.phase_stream.specs.Streams.{StopsOf};
+ghost use Rattle.graph_commands.specs.Explained.{AreFurtherLines};
 ghost use Rattle.graph_commands.specs.Failures.{HasPlace};
 ghost use Rattle.graph_commands.specs.watched_io.States.{WriterState};
 
 use crate::opens::Opens;
 use crate::source::{Lack, Room, Source};
-use graph_commands::watched_io::{IoFault, Watched, WriteFailed};
-use graph_commands::{Failure, JobFault, write_values};
+use graph_commands::watched_io::{Explain, IoFault, Watched, WriteFailed};
+use graph_commands::{Failure, JobFault, stall_told, write_values};
 use std::alloc::{AllocError, Global};
 use std::io::{Read, Write};
 use stream_job::graph_base::Place;
@@ -174,6 +175,19 @@ impl<R: Read + Drop> Session<R> {
         match String::from_str(alloc, graph.name(Place::Task(task))) {
             Ok(name) => unread(alloc, JobFault::BadSample { name, number }),
             Err(_) => unread(alloc, JobFault::OutOfMemory),
+        }
+    }
+
+    /// What a person is told of a stall, where that is asked for.
+    pub fn stall_told(&self, alloc: Global, explain: Explain) -> Vec<u8>
+        ensures { AreFurtherLines result.items }
+    {
+        if explain == Explain::No {
+            return Vec::new(alloc);
+        }
+        match self.stream.stands(alloc) {
+            Ok(stands) => stall_told(alloc, self.stream.job(), &stands),
+            Err(_) => Vec::new(alloc),
         }
     }
 

@@ -14,7 +14,7 @@ use crate::opens::Opens;
 use crate::session::Session;
 use crate::sink::asked_sink;
 use crate::source::Room;
-use graph_commands::watched_io::{Files, IoFault, Watched};
+use graph_commands::watched_io::{Explain, Files, IoFault, Watched};
 use graph_commands::{Failure, GRAPH_MAX, JobFault};
 use phase_words::StreamCall;
 use sample_pieces::graph_lang::{FaultKind, GraphFault, read_graph};
@@ -60,7 +60,7 @@ pub fn stream<'a, H: Wait, W: Write, F: Opens>(
         });
     };
     match Session::new(alloc, stream, sink.task, sink.number) {
-        Ok(session) => go(rt, alloc, session, output, files),
+        Ok(session) => go(rt, alloc, session, call.explain, output, files),
         Err(_) => Err(Failure::Io(IoFault::OutOfMemory)),
     }
 }
@@ -114,6 +114,7 @@ fn go<'a, H: Wait, W: Write, F: Opens>(
     rt: &H,
     alloc: Global,
     mut session: Session<F::Reader>,
+    explain: Explain,
     output: &mut Watched<W>,
     files: &mut F,
 ) -> Result<(), Failure<'a>>
@@ -154,7 +155,7 @@ fn go<'a, H: Wait, W: Write, F: Opens>(
             Stopped::Full { .. } | Stopped::Paused => {}
             Stopped::Stalled => {
                 session.kept_is_right();
-                let further = Vec::new(alloc);
+                let further = session.stall_told(alloc, explain);
                 return Err(Failure::Stalled { further });
             }
             Stopped::TooBig { place, phase } => {

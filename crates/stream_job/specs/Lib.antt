@@ -8,6 +8,7 @@ pub mod Plans
 pub mod Runs
 pub mod SinkLines
 pub mod Stalls
+pub mod Stands
 pub mod Standing
 pub mod Streams
 pub mod TaskLists

@@ -1,0 +1,49 @@
+-- Where the tasks of a run stand on their phasers, and what each of them does next.
+use Rattle.std.specs.Prelude.{ℕ, List, Option, length, option_map, option_to_list}
+use Rattle.std.specs.List.{flat_map, range_with_len}
+use Rattle.phase_any.specs.phase_base.declared.entry.Entry.{Entry}
+use Rattle.graph_runs.specs.Moments.{Moment}
+use Rattle.graph_runs.specs.Nexts as nexts
+use Rattle.graph_runs.specs.Nexts.{Next, next_of, registrations_at}
+use Rattle.graph_runs.specs.TaskPlaces.{registration_at}
+use Rattle.stream_eval.specs.stream_lists.Jobs.{Job}
+use Rattle.stream_eval.specs.stream_lists.Stands.{call_on}
+use Rattle.stream_eval.specs.stream_lists.declared.stand.End.{End}
+use Rattle.stream_eval.specs.stream_lists.declared.stand.End.TheVariants as end
+use Rattle.stream_eval.specs.stream_lists.declared.stand.Stand.{Stand}
+use Rattle.stream_job.specs.Standing.{standing_on}
+use Rattle.stream_job.specs.Streams.{all_tasks}
+
+-- the end at which a task makes its next call
+abbrev pub end_of : Next → End
+end_of nexts.is_not_live = end.Nowhere
+end_of (nexts.registers c) = end.Nowhere
+end_of nexts.leaves = end.Nowhere
+end_of nexts.samples = end.Output 0
+end_of (nexts.signals j) = end.Output j
+end_of (nexts.waits k) = end.Input k
+end_of nexts.exchanges = end.Input 1
+
+-- where task t, whose next call is at this end, stands by its registration k, while it is registered
+abbrev pub stand_by : Job → Moment → ℕ → End → ℕ → Option Stand
+stand_by job m t next k = option_map with (standing_on job m t k)
+  where
+    with : Entry → Stand
+    with entry =
+        let at = registration_at job t k in
+        record {
+          task = t;
+          phaser = at.phaser;
+          entry = entry;
+          next = call_on next at.input at.output;
+        }
+
+-- where task t stands on its phasers, in the order of its registrations
+abbrev pub stands_of : Job → Moment → ℕ → List Stand
+stands_of job m t =
+    flat_map (λ k. option_to_list (stand_by job m t (end_of (next_of job m t)) k))
+    (range_with_len 0 (length (registrations_at job t)))
+
+-- where all tasks stand
+abbrev pub stands_at : Job → Moment → List Stand
+stands_at job m = flat_map (stands_of job m) (all_tasks job)
