@@ -63,7 +63,8 @@ def made():
         look("a copy", refused(TypeError, copied, founder))
     look("a word of no mode", refused(phase.BadMode, founder.register, "signal"))
     words = phase.SharedPhaser("product", 2, 9)
-    look("the word of a mode", words.register("sig_wait").mode == phase.SIG_WAIT)
+    with words.register("sig_wait") as child:
+        look("the word of a mode", child.mode == phase.SIG_WAIT)
     look("a word of no single", refused(phase.BadSingle, words.signal, [3], "half"))
     look("the word of a single", words.next([3, 4], "neg") == (0, -12))
     words.leave()
