@@ -24,7 +24,7 @@ end_of (nexts.signals j) = end.Output j
 end_of (nexts.waits k) = end.Input k
 end_of nexts.exchanges = end.Input 1
 
--- where task t, whose next call is at this end, stands by its registration k, while it is registered
+-- where task t, whose next call is at this end, stands by its registration k, while it is there
 abbrev pub stand_by : Job → Moment → ℕ → End → ℕ → Option Stand
 stand_by job m t next k = option_map with (standing_on job m t k)
   where
