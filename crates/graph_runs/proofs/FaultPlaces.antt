@@ -6,7 +6,7 @@ use Rattle.stream_lists.specs.declared.span.Span.{Span}
 use Rattle.stream_lists.specs.graph_base.declared.place.Place.TheVariants as place
 use Rattle.stream_lists.specs.Jobs.{Job}
 use Rattle.stream_lists.specs.Ranges.{Where}
-use Rattle.stream_lists.specs.Spans.{length_on, lengths_of, nowhere, span_in, span_of, spans_of, spans_over}
+use Rattle.stream_lists.specs.Spans.{length_on, lengths_of, nowhere, span_of, spans_of, spans_over}
 use Rattle.stream_lists.proofs.Growing.{length-grown}
 use Rattle.graph_runs.specs.Settled.{IsFaultAt, IsPlaceThere}
 
