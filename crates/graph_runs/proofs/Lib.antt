@@ -5,6 +5,7 @@ pub mod AnsweredInTurn
 pub mod Anys
 pub mod Composed
 pub mod Entries
+pub mod FaultPlaces
 pub mod Faults
 pub mod FedFeeds
 pub mod FedNexts

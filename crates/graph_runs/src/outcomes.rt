@@ -6,7 +6,7 @@ ghost use Rattle.stream_lists.specs.Jobs.{Job};
 ghost use Rattle.stream_lists.specs.Lists.{sinks_of};
 ghost use Rattle.stream_lists.specs.Ranges.{Where, answer_of};
 ghost use Rattle.graph_runs.specs.Moments.{Moment, IsOver, HasAnsweredNone, HasAnsweredNoneBefore, started};
-ghost use Rattle.graph_runs.specs.Settled.{IsReady, IsFaultAt};
+ghost use Rattle.graph_runs.specs.Settled.{IsReady, IsFaultAt, IsPlaceThere};
 ghost use Rattle.graph_runs.specs.Nexts.{is_live};
 ghost use Rattle.graph_runs.specs.Answers.{TooBig, answer_of_turn, after_answer, turn_tells};
 ghost use Rattle.graph_runs.specs.Beginnings.{opening};
@@ -23,6 +23,11 @@ pub fn told_is_a_fault()
 {
     turns::turns_make_next_events();
 }
+
+/// A fault of a job stands on a line of its graph.
+pub fn faults_are_there()
+    ensures { (job : Job) (at : Where) → IsFaultAt job at → IsPlaceThere job at }
+{}
 
 /// At the opening no wait was answered a value that is too big, and a turn that tells no value out
 /// of range leaves none that was: `opening` and `none`. A turn that tells one leaves at most the

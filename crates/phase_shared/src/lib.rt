@@ -23,7 +23,8 @@
 //!
 //! **Waiting.** The calls that begin with `try_` answer at once. The others spin briefly, then
 //! yield, and then sleep for some milliseconds at a time, until the phase that they wait for is
-//! complete or there is room for theirs.
+//! complete or there is room for theirs. A signal that is ahead spins and yields for room for half
+//! the bound, and sleeps for its own.
 //!
 //! **A registration in a thread.** No closure can hold one, as it cannot be thrown away. Lend it to
 //! the thread, or lend an `Option` that the thread takes it from. Each call asks that the
@@ -115,6 +116,7 @@ mod loose;
 mod next;
 pub mod one_send;
 mod past;
+mod patience;
 mod phaser;
 mod putting;
 mod refusal;

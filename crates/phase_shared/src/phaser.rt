@@ -18,9 +18,9 @@ use std::alloc::{AllocError, Global};
 ///
 /// Sends become values by the operation `A`, and each signal abides by the rule `K`.
 ///
-/// **Cost.** A call is one atomic step that takes the turn, the call on the phaser of one thread,
-/// which stays where it lies, and one that gives the turn back. There is no mutex. `make` and
-/// registrations take memory, and nothing else does.
+/// **Cost.** A call is a look and one atomic step that takes the turn, the call on the phaser of
+/// one thread, which stays where it lies, and one step that gives the turn back. There is no mutex.
+/// `make` and registrations take memory, and nothing else does.
 ///
 /// **Limits.** Those of its `Spec`, and as many registrations at a time as a phaser of one thread
 /// can have. Where threads meet at a barrier, each of which signals a phase and waits for it, the
@@ -70,8 +70,11 @@ impl<A: Accumulate, K: SignalRule> Phaser<A, K> {
     /// complete, and every waiter got the phases below the second. Each is 2^64 - 1 where nobody is
     /// left to wait for. It takes no turn, and neither number ever falls.
     ///
+    /// The second is told where a signal waits for room, and by each turn from the first call of
+    /// this or of `Reg::room` on, or always where the rule tells each.
+    ///
     /// It is a hint for when to try again, and no contract speaks of it.
     pub fn told(&self) -> (u64, u64) {
-        self.locked.hints.told()
+        self.locked.hints.told(self.locked.lock.told())
     }
 }

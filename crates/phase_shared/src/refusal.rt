@@ -2,7 +2,6 @@
 ghost use Rattle.std.specs.Prelude.{◌≡◌, ◌≢◌, ◌⊎◌, IfSome, IfNone};
 
 use crate::tried::Tried;
-use crossbeam_utils::Backoff;
 use phase_core::phase_accum::NO_VALUE;
 use phase_core::phase_base::SENDS_MAX;
 use phase_core::{SignalRefusal, WaitRefusal};
@@ -45,13 +44,5 @@ pub(crate) fn of_wait(tried: Tried<WaitRefusal>) -> Option<WaitRefusal>
     match tried {
         Tried::Busy => None,
         Tried::Refused(refusal) => (refusal != WaitRefusal::NotYet).then_some(refusal),
-    }
-}
-
-// Pauses after a try whose turn was another's, longer each time, and begins anew after another try.
-pub(crate) fn snooze_if_busy<R>(backoff: &Backoff, tried: &Tried<R>) {
-    match tried {
-        Tried::Busy => backoff.snooze(),
-        Tried::Refused(_) => backoff.reset(),
     }
 }

@@ -138,7 +138,8 @@ impl<A: Accumulate, K: SignalRule> Reg<A, K> {
     }
 
     /// Returns how many phases from its signal phase on are not ahead, as far as the turns that
-    /// have ended tell: there may be room for more by now. It takes no turn.
+    /// have ended tell: there may be room for more by now. It takes no turn. Each turn tells it
+    /// from the first call on.
     ///
     /// It is a hint for how much to signal next, and no contract speaks of it.
     pub fn room(&self, phaser: &Phaser<A, K>) -> u64 {

@@ -20,6 +20,12 @@ pub trait SignalRule: Copy {
     fn wake(number: &AtomicU64) {
         number.wake_all();
     }
+
+    /// Whether each call tells how many phases every waiter got, and not only where a signal waits
+    /// for room. A library for C does, whose callers wait elsewhere.
+    fn tells_each() -> bool {
+        false
+    }
 }
 
 /// The rule that allows every signal.
@@ -38,6 +44,10 @@ impl SignalRule for Unwoken {
     ghost allows = { λ rule h task lists single. Unit {0} };
 
     fn wake(_number: &AtomicU64) {}
+
+    fn tells_each() -> bool {
+        true
+    }
 }
 
 /// What a phaser is told when it is made.

@@ -5,5 +5,6 @@ pub mod ghost_steps;
 pub mod hints;
 pub mod join_steps;
 pub mod locked;
+pub mod pauses;
 pub mod steps;
 pub mod view;

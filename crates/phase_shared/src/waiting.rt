@@ -9,6 +9,7 @@ ghost use Rattle.phase_shared.specs.Entries.{entry_stays, entry_after_signal, en
 ghost use Rattle.phase_shared.specs.Nexts.{SignalsAndMayWait};
 
 use crate::past::Past;
+use crate::patience::Patience;
 use crate::phaser::Phaser;
 use crate::refusal;
 use crate::reg::Reg;
@@ -69,7 +70,7 @@ impl<A: Accumulate, K: SignalRule> Reg<A, K> {
             (StandsForSends A.operation self.new.held [] × (self.new.held.count ≡ 0)) }
         ensures held { OnErr result (self.new.held ≡ self.old.held) }
     {
-        let backoff = Backoff::new();
+        let patience = Patience::new();
         let named = &single;
         for _ in rt.forever() {
             let tried = match self.try_signal_and_wait(phaser, *named, waits) {
@@ -79,7 +80,7 @@ impl<A: Accumulate, K: SignalRule> Reg<A, K> {
             if let Some(refusal) = refusal::of_signal(tried) {
                 return Err(refusal);
             }
-            self.pause_for_room(rt, phaser, 1, &backoff, tried);
+            self.pause_for_room(rt, phaser, 1, &patience, tried);
         }
         unreachable!()
     }
@@ -90,14 +91,16 @@ impl<A: Accumulate, K: SignalRule> Reg<A, K> {
         rt: &W,
         phaser: &Phaser<A, K>,
         phases: u64,
-        backoff: &Backoff,
+        patience: &Patience,
         tried: Tried<SignalRefusal>,
     ) {
         if let Tried::Refused(_) = tried {
-            let next = self.entry.signal_phase.saturating_add(phases);
-            phaser.locked.pause_for_room(rt, next);
+            let phase = self.entry.signal_phase;
+            phaser
+                .locked
+                .pause_for_room(rt, phase, phases, patience.is_first());
         }
-        refusal::snooze_if_busy(backoff, &tried);
+        patience.snooze_if_busy(&tried);
     }
 
     /// Waits for its phase, and answers it with its value, or that no more will come. It waits
@@ -112,7 +115,7 @@ impl<A: Accumulate, K: SignalRule> Reg<A, K> {
         ensures waited { result ≢ Err WaitRefusal.NotYet }
         ensures held { self.new.held ≡ self.old.held }
     {
-        let backoff = Backoff::new();
+        let patience = Patience::new();
         for _ in rt.forever() {
             self.pause_for_phase(rt, phaser, 1);
             let tried = match self.try_wait(phaser) {
@@ -122,7 +125,7 @@ impl<A: Accumulate, K: SignalRule> Reg<A, K> {
             if let Some(refusal) = refusal::of_wait(tried) {
                 return Err(refusal);
             }
-            refusal::snooze_if_busy(&backoff, &tried);
+            patience.snooze_if_busy(&tried);
         }
         unreachable!()
     }

@@ -6,6 +6,7 @@ ghost use Rattle.phase_shared.specs.Entries.{entry_stays};
 ghost use Rattle.phase_shared.specs.Blocks.{SignalsBlock, WaitsBlock, MaySignalBlock, entry_after_block, entry_after_values, without_lists};
 ghost use Rattle.phase_shared.specs.Joins.{RegistersNow};
 
+use crate::patience::Patience;
 use crate::phaser::Phaser;
 use crate::refusal;
 use crate::reg::Reg;
@@ -71,7 +72,7 @@ impl<A: Accumulate, K: SignalRule> Reg<A, K> {
         ensures waited { result ≢ Err SignalRefusal.Ahead }
         ensures held { self.new.held ≡ self.old.held }
     {
-        let backoff = Backoff::new();
+        let patience = Patience::new();
         let named = &single;
         for _ in rt.forever() {
             let tried = match self.try_signal_lists(phaser, lists, *named) {
@@ -81,7 +82,7 @@ impl<A: Accumulate, K: SignalRule> Reg<A, K> {
             if let Some(refusal) = refusal::of_signal(tried) {
                 return Err(refusal);
             }
-            self.pause_for_room(rt, phaser, lists.len() as u64, &backoff, tried);
+            self.pause_for_room(rt, phaser, lists.len() as u64, &patience, tried);
         }
         unreachable!()
     }
@@ -106,7 +107,7 @@ impl<A: Accumulate, K: SignalRule> Reg<A, K> {
         ensures waited { result ≢ Err WaitRefusal.NotYet }
         ensures held { self.new.held ≡ self.old.held }
     {
-        let backoff = Backoff::new();
+        let patience = Patience::new();
         for _ in rt.forever() {
             self.pause_for_phase(rt, phaser, out.len() as u64);
             let tried = match self.try_wait_block(phaser, out) {
@@ -116,7 +117,7 @@ impl<A: Accumulate, K: SignalRule> Reg<A, K> {
             if let Some(refusal) = refusal::of_wait(tried) {
                 return Err(refusal);
             }
-            refusal::snooze_if_busy(&backoff, &tried);
+            patience.snooze_if_busy(&tried);
         }
         unreachable!()
     }

@@ -1,5 +1,5 @@
 -- How a session ends, by the one that it began as.
-use Rattle.std.proofs.Common.{◌≡◌, ℕ, ℤ, List, Option, sym, subst, ◌∙◌}
+use Rattle.std.proofs.Common.{◌≡◌, ℕ, ℤ, Bool, List, [], Option, append-nil, refl, sym, subst, ◌∙◌}
 use Rattle.std.specs.Prelude.{⊤}
 use Rattle.std.specs.List.{flat_map}
 use mathlib.Core.List.{IsPrefix}
@@ -9,13 +9,17 @@ use Rattle.graph_commands.specs.declared.failure.Failure.{Failure}
 use Rattle.graph_commands.specs.declared.failure.Failure.TheVariants as failure
 use Rattle.graph_commands.specs.watched_io.States.{WriterState}
 use Rattle.stream_job.specs.SinkLines.{kept_by}
-use Rattle.stream_job.specs.Streams.{IsStreamAt}
+use Rattle.stream_job.specs.Streams.{IsStreamAt, ended_at}
 use Rattle.stream_job.specs.declared.stopped.Stopped.TheVariants as stopped
+use Rattle.stream_job.specs.graph_base.Graphs.{IsPlace}
 use Rattle.stream_job.specs.graph_base.declared.place.Place.{Place}
+use Rattle.stream_job.specs.graph_base.declared.place.Place.TheVariants as place
+use Rattle.stream_job.specs.graph_runs.Feeds.{IsFed}
 use Rattle.stream_job.specs.graph_runs.Moments.{Moment, started}
-use Rattle.stream_job.specs.graph_runs.Settled.{IsFaultAt}
-use Rattle.stream_job.specs.stream_lists.Jobs.{Job, with_samples}
-use Rattle.phase_stream.specs.Sessions.{IsKnownAs, IsKeptRight, IsSameSession, IsSinkNumber, IsTooBigOrNone, StandsPart, StandsStopped}
+use Rattle.stream_job.specs.graph_runs.Settled.{IsFaultAt, IsPlaceThere}
+use Rattle.stream_job.specs.stream_lists.Jobs.{Job, samples_in, with_samples}
+use Rattle.stream_job.specs.stream_lists.Ranges.{Where}
+use Rattle.phase_stream.specs.Sessions.{IsKnownAs, IsKeptRight, IsSameSession, IsSinkNumber, StandsPart, StandsStopped}
 use Rattle.phase_stream.specs.Streams.{IsStandstill, StopsBehind, StopsOf, WritesPart, WritesWhole}
 use Rattle.phase_stream.specs.declared.session.Session.{Session}
 use Rattle.phase_stream.proofs.Handing.{whole_part}
@@ -80,16 +84,19 @@ stall_stops remaining held old new first session same begins right st =
     })
 
 pub too_big_stops : {R : Type 0} (remaining : R → Option (List ℕ)) (held : Known)
-    (old new : WriterState) (first session : Session R) (at : Place) (n : ℕ) (found : Failure)
+    (old new : WriterState) (first session : Session R) (at : Place) (n : ℕ)
     → IsSameSession first session
     → ((s : List (List ℤ)) (m : Moment) (given : ℕ → List ℤ) → IsStreamAt session.stream s m given
     → IsPrefix (given session.task) (kept_by session.stream.job m session.task))
     → IsKeptRight session.stream session.task
     → StandsStopped remaining held old.written new.written session (stopped.TooBig at n)
-    → IsTooBigOrNone session.stream.job at n found
-    → StopsOf held first.stream.job first.task old new found
-too_big_stops {R} remaining held old new first session at n found same begins right st is =
-    moved (λ j t. StopsOf held j t old new found) first session same (by found is)
+    → StopsOf held first.stream.job first.task old new (failure.TooBig session.stream.job at n)
+too_big_stops {R} remaining held old new first session at n same begins right st =
+    moved (λ j t. StopsOf held j t old new (failure.TooBig session.stream.job at n)) first session
+    same (
+      refl,
+      record { part = part; cause = λ more goes. st.stopped_is more goes.feeds goes.ready },
+    )
   where
     part : WritesPart held session.stream.job session.task old.written new.written
     part = part_of held session.stream session.task old.written new.written st.stands.samples
@@ -98,30 +105,29 @@ too_big_stops {R} remaining held old new first session at n found same begins ri
         (whole_part old.written new.written (flat_map value_text (st.stands.given session.task))
         st.stands.written)
 
-    by : (found : Failure) → IsTooBigOrNone session.stream.job at n found
-        → StopsOf held session.stream.job session.task old new found
-    by (failure.TooBig other place phase) told = (
-      told.0,
-      record {
-        part = part_of held session.stream session.task old.written new.written st.stands.samples
-            st.stands.moment st.stands.given (st.stands.given session.task) st.stands.reaches
-            (begins st.stands.samples st.stands.moment st.stands.given st.stands.reaches.at) right
-            (whole_part old.written new.written (flat_map value_text (st.stands.given session.task))
-            st.stands.written);
-        cause = λ more goes.
-            subst (λ p. IsFaultAt (started (with_samples more session.stream.job) st.stands.moment)
-            (p, phase)) (sym told.1)
-            (subst (λ i. IsFaultAt (started (with_samples more session.stream.job) st.stands.moment)
-            (at, i)) (sym told.2) (st.stopped_is more goes.feeds goes.ready));
-      },
-    )
-    by (failure.Io fault) told = (
-      (λ write. absurd (cc (told, write))),
-      record { part = part; cause = tt },
-    )
-    by (failure.Graph fault text) told = absurd told
-    by (failure.NoSink job name) told = absurd told
-    by (failure.Stalled further) told = absurd told
+-- and it stands on a line of the graph
+pub too_big_there : {R : Type 0} (remaining : R → Option (List ℕ)) (held : Known)
+    (old now : Option (List ℕ)) (session : Session R) (at : Place) (n : ℕ)
+    → ((job : Job) (where_is : Where) → IsFaultAt job where_is → IsPlaceThere job where_is)
+    → StandsStopped remaining held old now session (stopped.TooBig at n)
+    → IsPlace session.stream.job.graph at
+too_big_there remaining held old now session at n there st =
+    let stands = st.stands in
+    let machine = stands.reaches.at.machine in
+    of at (there _ (at, n) (st.stopped_is stands.samples
+    (fed_self session.stream.job (ended_at session.stream) stands.samples)
+    (record { graph = machine.graph; apart = machine.apart })))
+  where
+    fed_self : (job : Job) (ended : ℕ → Bool) (s : List (List ℤ)) → IsFed (with_samples s job) ended s
+    fed_self job ended s = record {
+      begins = λ t lt source. ([], append-nil (samples_in job s t));
+      stays = λ t lt source over. refl;
+    }
+
+    of : (at : Place) → IsPlaceThere (started (with_samples stands.samples session.stream.job) stands.moment) (at, n)
+        → IsPlace session.stream.job.graph at
+    of (place.Phaser p) is = is
+    of (place.Task t) is = is
 
 pub lack_stops : {R : Type 0} (held : Known) (old new : WriterState) (first session : Session R)
     (found : Failure) → IsSameSession first session

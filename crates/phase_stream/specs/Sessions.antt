@@ -54,13 +54,6 @@ abbrev pub IsFaultWithoutText : JobFault → Failure → Type 0
 IsFaultWithoutText fault (failure.Graph found text) = found ≡ fault
 IsFaultWithoutText fault found = ⊥
 
--- it tells of this value; or no memory is told where there is no such place
-abbrev pub IsTooBigOrNone : Job → Place → ℕ → Failure → Type 0
-IsTooBigOrNone job at n (failure.TooBig other place phase) =
-    (other ≡ job) × (place ≡ at) × (phase ≡ n)
-IsTooBigOrNone job at n (failure.Io found) = found ≡ OutOfMemory
-IsTooBigOrNone job at n found = ⊥
-
 -- task t is the sink of this number
 pub record IsSinkNumber (job : Job) (t sink : ℕ) : Type 0 where
   pub there : sink < length (sinks_of job)

@@ -67,8 +67,8 @@ pub record WritesPart (held : Known) (job : Job) (t : ℕ) (old now : Option (Li
       → IsPrefix values (sink_list (with_starts starts (with_samples more job)) t)
   pub written : AppendsPrefix old now (flat_map value_text values)
 
--- what was written is all values of the sink in every run whose samples go on behind those that came,
--- and they are in range
+-- what was written is all values of the sink in every run whose samples go on behind those that
+-- came, and they are in range
 pub record WritesWhole (held : Known) (job : Job) (t : ℕ) (old now : Option (List ℕ)) : Type 0 where
   pub samples : List (List ℤ)
   pub ended : ℕ → Bool

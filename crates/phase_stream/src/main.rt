@@ -4,9 +4,9 @@
 //! `stream` reads the graph of a file, then the samples of its sources, a piece of a source that
 //! waits for some at a time, and writes what comes out before it reads again; or answers why not.
 //!
-//! Proved: what is written at status 0 is what `eval` writes of the samples that came, whatever the
-//! status it begins what comes of all samples that may follow, and each status has its cause. Only
-//! tested: when bytes are read and written, and that a stream comes back.
+//! Proved: what is written at status 0 is what `eval` writes of the samples that came, and of all
+//! that may follow them; whatever the status it begins that, and each status has its cause. Only
+//! tested: when bytes are read and written, that a stream comes back, and what is told of a stall.
 #![tactic(auto)]
 
 mod cli;

@@ -7,7 +7,7 @@ ghost use Rattle.graph_commands.specs.FileJobs.{IsGraphOf, Known};
 ghost use Rattle.graph_commands.specs.watched_io.States.{WriterState, writer_state};
 ghost use Rattle.graph_commands.specs.watched_io.Watched.{inner_of};
 ghost use Rattle.phase_words.specs.StreamLine.{stream_asked};
-ghost use Rattle.phase_stream.specs.Sessions.{IsKnownAs, IsStreamAtOpening, IsSinkNumber, IsTooBigOrNone, StandsBy};
+ghost use Rattle.phase_stream.specs.Sessions.{IsKnownAs, IsStreamAtOpening, IsSinkNumber, StandsBy};
 ghost use Rattle.phase_stream.specs.Streams.{GivesNoRun, IsNoStream, StopsOf, StreamFails, Streams, WritesWhole};
 
 use crate::opens::Opens;
@@ -21,8 +21,8 @@ use sample_pieces::graph_lang::{FaultKind, GraphFault, read_graph};
 use std::alloc::Global;
 use std::io::Write;
 use std::sync::Wait;
-use stream_job::graph_base::Place;
-use stream_job::{Job, JobRefusal, Stopped, Stream};
+use stream_job::graph_runs::outcomes;
+use stream_job::{JobRefusal, Stopped, Stream};
 
 /// What stands in place of a name where there are several sinks, or none, and none is named.
 const UNNAMED: &str = "is named";
@@ -160,28 +160,14 @@ fn go<'a, H: Wait, W: Write, F: Opens>(
             }
             Stopped::TooBig { place, phase } => {
                 session.kept_is_right();
-                return Err(too_big(session.into_job(), place, phase));
+                outcomes::faults_are_there();
+                return Err(Failure::TooBig {
+                    job: session.into_job(),
+                    place,
+                    phase: phase as usize,
+                });
             }
         }
     }
     unreachable!()
-}
-
-/// A value of a job that is out of range, at a place of its graph.
-fn too_big<'a>(job: Job, place: Place, phase: u64) -> Failure<'a>
-    ensures told { IsTooBigOrNone job place phase result }
-    ensures place { HasPlace result }
-{
-    let is_there = match place {
-        Place::Phaser(p) => p < job.graph().phasers(),
-        Place::Task(t) => t < job.graph().tasks(),
-    };
-    if !is_there {
-        return Failure::Io(IoFault::OutOfMemory);
-    }
-    Failure::TooBig {
-        job,
-        place,
-        phase: phase as usize,
-    }
 }

@@ -49,6 +49,7 @@ pub mod FedMachines
 pub mod FedStreams
 pub mod OwnSteps
 pub mod BareLists
+pub mod StandLists
 pub mod OpenedInputs
 pub mod OpenedStreams
 pub use Rattle.graph_runs.proofs as graph_runs_lemmas

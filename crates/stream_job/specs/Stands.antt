@@ -1,6 +1,6 @@
 -- Where the tasks of a run stand on their phasers, and what each of them does next.
-use Rattle.std.specs.Prelude.{ℕ, List, Option, length, option_map, option_to_list}
-use Rattle.std.specs.List.{flat_map, range_with_len}
+use Rattle.std.specs.Prelude.{ℕ, List, Option, length, option_map}
+use Rattle.std.specs.List.{filter_map, flat_map, range_with_len}
 use Rattle.phase_any.specs.phase_base.declared.entry.Entry.{Entry}
 use Rattle.graph_runs.specs.Moments.{Moment}
 use Rattle.graph_runs.specs.Nexts as nexts
@@ -24,7 +24,7 @@ end_of (nexts.signals j) = end.Output j
 end_of (nexts.waits k) = end.Input k
 end_of nexts.exchanges = end.Input 1
 
--- where task t, whose next call is at this end, stands by its registration k, while it is registered
+-- where task t, whose next call is at this end, stands by its registration k, while it is there
 abbrev pub stand_by : Job → Moment → ℕ → End → ℕ → Option Stand
 stand_by job m t next k = option_map with (standing_on job m t k)
   where
@@ -41,7 +41,7 @@ stand_by job m t next k = option_map with (standing_on job m t k)
 -- where task t stands on its phasers, in the order of its registrations
 abbrev pub stands_of : Job → Moment → ℕ → List Stand
 stands_of job m t =
-    flat_map (λ k. option_to_list (stand_by job m t (end_of (next_of job m t)) k))
+    filter_map (stand_by job m t (end_of (next_of job m t)))
     (range_with_len 0 (length (registrations_at job t)))
 
 -- where all tasks stand

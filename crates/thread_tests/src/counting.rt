@@ -105,7 +105,7 @@ fn add_to(counter: &Counter, mut turn: CounterTurn) -> CounterSeat
 {
     let value = turn.value(counter);
     *value = value.wrapping_add(1);
-    counter.give::<Add>(turn)
+    counter.give::<Add>(turn, 0)
 }
 
 /// Adds 1, modulo 2^64. It may wait.
@@ -208,7 +208,7 @@ pub fn read_sum<R: Wait>(rt: &R, counter: &Counter, seat: CounterSeat) -> (u64, 
 {
     let mut turn = counter.take::<Grab, R>(rt, seat);
     let value = *turn.value(counter);
-    (value, counter.give::<Return>(turn))
+    (value, counter.give::<Return>(turn, 0))
 }
 
 /// Counts up from 0 in as many threads, a number of times in each. It takes memory, and may wait.

@@ -34,6 +34,8 @@ mod receiver_tries;
 #[cfg(test)]
 mod threads;
 #[cfg(test)]
+mod told;
+#[cfg(test)]
 mod tries;
 #[cfg(test)]
 mod worked_laws;

@@ -44,25 +44,29 @@ fn turn_lock(rt: HostRuntime) -> Result<(), Fail> {
     let mut turn = lock.take::<AnyValue, HostRuntime>(&rt, a);
     let first = *turn.value(&lock);
     let (b, was_busy) = match lock.try_take::<AnyValue>(b) {
-        Ok(turn) => (lock.give::<AnyValue>(turn), false),
+        Ok(turn) => (lock.give::<AnyValue>(turn, 0), false),
         Err(b) => (b, true),
     };
     *turn.value(&lock) = 6;
-    let a = lock.give::<AnyValue>(turn);
+    let a = lock.give::<AnyValue>(turn, 7);
     assert!(rt; was_busy);
     assert_eq!(rt; first, 5);
+    assert_eq!(rt; lock.told(), 7);
 
     let Ok(mut turn) = lock.try_take::<AnyValue>(b) else {
         panic!(rt; "the turn was free")
     };
     let second = *turn.value(&lock);
-    let b = lock.give::<AnyValue>(turn);
+    let meanwhile = lock.told();
+    let b = lock.give::<AnyValue>(turn, 0);
     assert_eq!(rt; second, 6);
+    assert_eq!(rt; meanwhile, 7);
+    assert_eq!(rt; lock.told(), 0);
 
     let seat = lock.join::<AnyValue, AnyValue>(a, b);
     let mut turn = lock.take::<AnyValue, HostRuntime>(&rt, seat);
     let last = *turn.value(&lock);
-    let _seat = lock.give::<AnyValue>(turn);
+    let _seat = lock.give::<AnyValue>(turn, 0);
     assert_eq!(rt; last, 6);
     Ok(())
 }

@@ -1,18 +1,18 @@
 -- Each step of the table keeps the rule of the word and the slot.
-use Rattle.std.proofs.Common.{◌≡◌, ◌≢◌, ℕ, zero, suc, ◌<◌, Bool, true, false, Option, Some, None, List, [], ◌∷◌, ◌++◌, map, length, set, slice_index, sym, refl, ap, ◌∙◌, subst, inl, inr, ⊎_elim, eqb, arith}
+use Rattle.std.proofs.Common.{◌≡◌, ◌≢◌, ℕ, zero, suc, ◌*◌, ◌+◌, ◌%◌, ◌<◌, Bool, true, false, Option, Some, None, List, [], ◌∷◌, ◌++◌, map, length, set, slice_index, sym, refl, ap, ◌∙◌, subst, inl, inr, ⊎_elim, arith}
 use mathlib.Core.Option.{none, some, some-injective, some-ne-none}
 use Rattle.std.proofs.lemmas.Bool.{eqb-true}
 use mathlib.Core.Bool.{true≢false}
 use mathlib.Core.List.{map-append}
 use lib.ListN.{get_elem?}
 use lib.Seq.{map-set}
-use prog.Atomic.{either}
+use lib.Bits.{bit_or, or_add_and, and_mask}
 use Rattle.atomic_table.proofs.Lists.{at_set, at_snoc, at_map, at_longer, set_here, set_else, set_again}
 use Rattle.atomic_table.specs.Table.{State, Me, step, Act, keeps, takes, gives, stepped, carried_after, rest, Valid, Allows, Splits, Joins}
 use Rattle.turn_lock.specs.declared.seat.Doing.{Doing}
 use Rattle.turn_lock.specs.Held.{is_alone, alone_value}
 use Rattle.turn_lock.specs.Steps.{Takes, GivesBack, Looks, Forks, Merges, Busy}
-use Rattle.turn_lock.specs.Word.{doing, client, IsFree, IsTaken, Locked, spare, tried, gave, looked}
+use Rattle.turn_lock.specs.Word.{doing, client, IsFree, IsTaken, Locked, spare, saw, tried, gave, looked}
 
 pub within : {A : Type 0} (l : List A) (i : ℕ) (a : A) → get_elem? l i ≡ some a → i < length l
 within [] i a e = absurd (some-ne-none a (sym e))
@@ -40,14 +40,32 @@ hub ws hs vs = record { words = ws; homes = hs; views = vs }
 same_word : (ws : List ℕ) (n : ℕ) → ws ≡ n ∷ spare → set ws 0 (slice_index ws 0) ≡ ws
 same_word ws n e = subst (λ (z : List ℕ). set z 0 (slice_index z 0) ≡ z) (sym e) refl
 
+or_one : (n : ℕ) → bit_or n 1 + n % 2 ≡ n + 1
+or_one n = let a = or_add_and n 1 in let b = and_mask n 1 in omega (arith, a, b)
+
+even_is : (t : ℕ) → (t * 2) % 2 ≡ 0
+even_is t = omega arith
+
+odd_is : (t : ℕ) → (t * 2 + 1) % 2 ≡ 1
+odd_is t = omega arith
+
+or_even : (t : ℕ) → bit_or (t * 2) 1 ≡ t * 2 + 1
+or_even t = let a = or_one (t * 2) in let b = even_is t in omega arith
+
+or_odd : (t : ℕ) → bit_or (t * 2 + 1) 1 ≡ t * 2 + 1
+or_odd t = let a = or_one (t * 2 + 1) in let b = odd_is t in omega arith
+
 abbrev swapped : ℕ → ℕ
-swapped n = either (eqb n 0) 1 n
+swapped n = bit_or n 1
 
-same_tried : (ws : List ℕ) → ws ≡ 1 ∷ spare → set ws 0 (swapped (slice_index ws 0)) ≡ ws
-same_tried ws e = subst (λ (z : List ℕ). set z 0 (swapped (slice_index z 0)) ≡ z) (sym e) refl
+same_tried : (ws : List ℕ) (t : ℕ) → ws ≡ (t * 2 + 1) ∷ spare → set ws 0 (swapped (slice_index ws 0)) ≡ ws
+same_tried ws t e = subst (λ (z : List ℕ). set z 0 (swapped (slice_index z 0)) ≡ z) (sym e) (ap (λ (n : ℕ). n ∷ spare) (or_odd t))
 
-one_not_zero : (ws : List ℕ) → ws ≡ 1 ∷ spare → slice_index ws 0 ≡ 0 → ⊥
-one_not_zero ws e h = let p : slice_index ws 0 ≡ 1 = ap (λ (z : List ℕ). slice_index z 0) e in omega arith
+not_even : (ws : List ℕ) (t : ℕ) → ws ≡ (t * 2 + 1) ∷ spare → slice_index ws 0 % 2 ≡ 0 → ⊥
+not_even ws t e h = let p : slice_index ws 0 ≡ t * 2 + 1 = ap (λ (z : List ℕ). slice_index z 0) e in let o = odd_is t in let q : (t * 2 + 1) % 2 ≡ 0 = ap (λ (n : ℕ). n % 2) (sym p) ∙ h in omega arith
+
+even_word : (ws : List ℕ) (t : ℕ) → ws ≡ (t * 2) ∷ spare → slice_index ws 0 % 2 ≡ 0
+even_word ws t e = ap (λ (z : List ℕ). slice_index z 0 % 2) e ∙ even_is t
 
 -- the value in a slot that is held alone
 abbrev item : {T : Type 0} → T → List (ℕ × T) → T
@@ -112,6 +130,7 @@ module _ {N T V : Type 0} (holds : N → Option T → List V → Type 0) (name :
       → holds name (Some f.value) (map client ys) → IsFree holds name (hub s.words s.homes ys)
   still_free s ys f same k = record {
     value = f.value;
+    told = f.told;
     word = f.word;
     home = f.home;
     rests = λ j d e. not_true d.turn (λ t. not_both d.turn t (f.rests j d (same.back j d e t)));
@@ -123,6 +142,7 @@ module _ {N T V : Type 0} (holds : N → Option T → List V → Type 0) (name :
   still_taken s ys f same k = record {
     holder = f.holder;
     view = f.view;
+    told = f.told;
     word = f.word;
     home = f.home;
     there = same.forth f.holder f.view f.there f.turns;
@@ -180,7 +200,7 @@ module _ {N T V : Type 0} (holds : N → Option T → List V → Type 0) (name :
         w,
         keeps,
         tt,
-        inl (subst (λ (ws : List ℕ). IsFree holds name (hub ws s.homes (set s.views id w))) (sym (same_word s.words 0 f.word))
+        inl (subst (λ (ws : List ℕ). IsFree holds name (hub ws s.homes (set s.views id w))) (sym (same_word s.words (f.told * 2) f.word))
             (still_free s (set s.views id w) f (set_same s.views id me.0 w at idle refl)
             (subst (holds name (Some f.value)) (sym (map-set client s.views id w)) t.1))),
         (sym idle, refl, refl, λ n e. subst (λ (k : N). then k me.0.client t.0) (named name n me.0.name is e) t.2),
@@ -191,7 +211,7 @@ module _ {N T V : Type 0} (holds : N → Option T → List V → Type 0) (name :
         w,
         keeps,
         tt,
-        inr (subst (λ (ws : List ℕ). IsTaken holds name (hub ws s.homes (set s.views id w))) (sym (same_word s.words 1 f.word))
+        inr (subst (λ (ws : List ℕ). IsTaken holds name (hub ws s.homes (set s.views id w))) (sym (same_word s.words (f.told * 2 + 1) f.word))
             (still_taken s (set s.views id w) f (set_same s.views id me.0 w at idle refl)
             (subst (holds name None) (sym (map-set client s.views id w)) t.1))),
         (sym idle, refl, refl, λ n e. subst (λ (k : N). then k me.0.client t.0) (named name n me.0.name is e) t.2),
@@ -211,37 +231,54 @@ module _ {N T V : Type 0} (holds : N → Option T → List V → Type 0) (name :
   Tries slots id d then s =
       (w : Doing N V) × (a : Act T) × Valid s.homes [] a
       × Locked holds name (stepped s 0 (swapped (slice_index s.words 0)) id [] w a)
-      × tried holds then (step slots 0 0 1 none) (d, []) (slice_index s.words 0) (w, carried_after [] a)
+      × tried holds then (step slots 0 1 0 none) (d, []) (slice_index s.words 0) (w, carried_after [] a)
 
-  take_free : (slots id : ℕ) (d : Doing N V) (then : N → V → T → V → Type 0) (views : List (Doing N V)) (x : T) → d.name ≡ Some name
+  take_free : (slots id : ℕ) (d : Doing N V) (then : N → V → T → V → Type 0) (t : ℕ) (views : List (Doing N V)) (x : T) → d.name ≡ Some name
       → Takes holds name id d.client (then name)
       → ((j : ℕ) (u : Doing N V) → get_elem? views j ≡ some u → u.turn ≡ false) → holds name (Some x) (map client views)
       → get_elem? views id ≡ some d
-      → Tries slots id d then (hub (0 ∷ spare) (some x ∷ []) views)
-  take_free slots id d then views x is asked rests kept at =
-      let t = asked x (map client views) kept (at_map client views id d at) in
-      let w : Doing N V = doing d.name true t.0 in (
+      → Tries slots id d then (hub ((t * 2) ∷ spare) (some x ∷ []) views)
+  take_free slots id d then t views x is asked rests kept at =
+      let p = asked x (map client views) kept (at_map client views id d at) in
+      let w : Doing N V = doing d.name true p.0 in (
         w,
         takes 0 x,
         refl,
         inr record {
           holder = id;
           view = w;
-          word = refl;
+          told = t;
+          word = ap (λ (n : ℕ). n ∷ spare) (or_even t);
           home = refl;
           there = set_here views id w (within views id d at);
           turns = refl;
           only = λ j u e turns. ⊎_elim
-              (λ (p : (j ≡ id) × (w ≡ u)). p.0)
-              (λ (p : (j ≢ id) × (get_elem? views j ≡ some u)). absurd (not_both u.turn turns (rests j u p.1)))
+              (λ (q : (j ≡ id) × (w ≡ u)). q.0)
+              (λ (q : (j ≢ id) × (get_elem? views j ≡ some u)). absurd (not_both u.turn turns (rests j u q.1)))
               (at_set views id j w u e);
-          kept = subst (holds name None) (sym (map-set client views id w)) t.1;
+          kept = subst (holds name None) (sym (map-set client views id w)) p.1;
         },
         (
-          (λ _. (x, refl, refl, refl, λ n e. subst (λ (k : N). then k d.client x t.0) (named name n d.name is e) t.2)),
-          (λ differs. absurd (differs refl)),
+          (λ _. (x, refl, refl, refl, λ n e. subst (λ (k : N). then k d.client x p.0) (named name n d.name is e) p.2)),
+          (λ differs. absurd (differs (even_is t))),
         ),
       )
+
+  -- where the turn is taken, a seat that rests is not the one that has it
+  is_busy : (id : ℕ) (d : Doing N V) (s : Hub N T V) → d.turn ≡ false → d.name ≡ Some name
+      → IsTaken holds name s → get_elem? s.views id ≡ some d
+      → (n : N) → d.name ≡ Some n → Busy holds n d.client
+  is_busy id d s idle is f at n e = subst (λ (k : N). Busy holds k d.client) (named name n d.name is e) record {
+    views = map client s.views;
+    number = id;
+    holder = f.holder;
+    kept = f.kept;
+    here = at_map client s.views id d at;
+    other = λ same. not_both d.turn
+        (ap (λ (z : Doing N V). z.turn) (some-injective d f.view (sym at ∙ ap (get_elem? s.views) (sym same) ∙ f.there)) ∙ f.turns)
+        idle;
+    there = within (map client s.views) f.holder f.view.client (at_map client s.views f.holder f.view f.there);
+  }
 
   take_taken : (slots id : ℕ) (d : Doing N V) (then : N → V → T → V → Type 0) (s : Hub N T V) → d.turn ≡ false → d.name ≡ Some name
       → IsTaken holds name s → get_elem? s.views id ≡ some d → Tries slots id d then s
@@ -249,91 +286,114 @@ module _ {N T V : Type 0} (holds : N → Option T → List V → Type 0) (name :
     d,
     keeps,
     tt,
-    inr (subst (IsTaken holds name) (λ i. hub (sym (same_tried s.words f.word) i) s.homes (sym (set_again s.views id d at) i)) f),
+    inr (subst (IsTaken holds name) (λ i. hub (sym (same_tried s.words f.told f.word) i) s.homes (sym (set_again s.views id d at) i)) f),
     (
-      (λ free. absurd (one_not_zero s.words f.word free)),
-      λ _. (
-        refl,
-        λ n e. subst (λ (k : N). Busy holds k d.client) (named name n d.name is e) record {
-          views = map client s.views;
-          number = id;
-          holder = f.holder;
-          kept = f.kept;
-          here = at_map client s.views id d at;
-          other = λ same. not_both d.turn
-              (ap (λ (z : Doing N V). z.turn) (some-injective d f.view (sym at ∙ ap (get_elem? s.views) (sym same) ∙ f.there)) ∙ f.turns)
-              idle;
-          there = within (map client s.views) f.holder f.view.client (at_map client s.views f.holder f.view f.there);
-        },
-      ),
+      (λ free. absurd (not_even s.words f.told f.word free)),
+      λ _. (refl, is_busy id d s idle is f at),
     ),
   )
 
-  pub tries : (slots id : ℕ) (me : Me T (Doing N V)) (then : N → V → T → V → Type 0) → me.0.turn ≡ false → me.1 ≡ []
+  -- the step that looks at the word before a try
+  pub sees : (slots id : ℕ) (me : Me T (Doing N V)) → me.0.turn ≡ false → me.1 ≡ [] → me.0.name ≡ Some name
+      → Allows (Locked holds name) slots id me 0 (λ n. n) (saw holds (step slots 0 0 0 none) me)
+  sees slots id me idle empty is =
+      let P : Me T (Doing N V) → Type 0 =
+      λ m. Allows (Locked holds name) slots id m 0 (λ n. n) (saw holds (step slots 0 0 0 none) m) in
+      let d : Doing N V = me.0 in
+      let at_none : P (d, []) = λ s locked _ at _. ⊎_elim
+      (λ (f : IsFree holds name s). (
+        d,
+        keeps,
+        tt,
+        inl (subst (IsFree holds name) (λ i. hub (sym (same_word s.words (f.told * 2) f.word) i) s.homes (sym (set_again s.views id d at) i)) f),
+        (refl, λ odd. absurd (odd (even_word s.words f.told f.word))),
+      ))
+      (λ (f : IsTaken holds name s). (
+        d,
+        keeps,
+        tt,
+        inr (subst (IsTaken holds name) (λ i. hub (sym (same_word s.words (f.told * 2 + 1) f.word) i) s.homes (sym (set_again s.views id d at) i)) f),
+        (refl, λ _. is_busy id d s idle is f at),
+      ))
+      locked in
+      subst P (λ i. (d, sym empty i)) at_none
+
+  tries : (slots id : ℕ) (me : Me T (Doing N V)) (then : N → V → T → V → Type 0) → me.0.turn ≡ false → me.1 ≡ []
       → me.0.name ≡ Some name → Takes holds name id me.0.client (then name)
-      → Allows (Locked holds name) slots id me 0 swapped (tried holds then (step slots 0 0 1 none) me)
+      → Allows (Locked holds name) slots id me 0 swapped (tried holds then (step slots 0 1 0 none) me)
   tries slots id me then idle empty is asked =
       let P : Me T (Doing N V) → Type 0 =
-      λ m. Allows (Locked holds name) slots id m 0 swapped (tried holds then (step slots 0 0 1 none) m) in
+      λ m. Allows (Locked holds name) slots id m 0 swapped (tried holds then (step slots 0 1 0 none) m) in
       let d : Doing N V = me.0 in
       let at_none : P (d, []) = λ s locked _ at _. ⊎_elim
       (λ (f : IsFree holds name s).
-      let is_hub : s ≡ hub (0 ∷ spare) (some f.value ∷ []) s.views = λ i. hub (f.word i) (f.home i) s.views in
-      subst (Tries slots id d then) (sym is_hub) (take_free slots id d then s.views f.value is asked f.rests f.kept at))
+      let is_hub : s ≡ hub ((f.told * 2) ∷ spare) (some f.value ∷ []) s.views = λ i. hub (f.word i) (f.home i) s.views in
+      subst (Tries slots id d then) (sym is_hub) (take_free slots id d then f.told s.views f.value is asked f.rests f.kept at))
       (λ (f : IsTaken holds name s). take_taken slots id d then s idle is f at)
       locked in
       subst P (λ i. (d, sym empty i)) at_none
 
-  -- what the step that gives back owes at the state s, for a seat that holds the slot with y
-  abbrev Returns : ℕ → ℕ → Doing N V → T → (N → V → T → V → Type 0) → Hub N T V → Type 0
-  Returns slots id d y then s =
-      (w : Doing N V) × (a : Act T) × Valid s.homes ((0, y) ∷ []) a
-      × Locked holds name (stepped s 0 0 id ((0, y) ∷ []) w a)
-      × gave then (step slots 0 0 0 none) (d, (0, y) ∷ []) (slice_index s.words 0) (w, carried_after ((0, y) ∷ []) a)
+  pub tries_after : (slots id number : ℕ) (me old : Me T (Doing N V)) (then : N → V → T → V → Type 0)
+      → id ≡ number → me ≡ old → old.0.turn ≡ false → old.1 ≡ [] → old.0.name ≡ Some name
+      → Takes holds name number old.0.client (then name)
+      → Allows (Locked holds name) slots id me 0 swapped (tried holds then (step slots 0 1 0 none) me)
+  tries_after slots id number me old then same same' idle empty is asked =
+      let P : ℕ × Me T (Doing N V) → Type 0 =
+      λ m. Allows (Locked holds name) slots m.0 m.1 0 swapped (tried holds then (step slots 0 1 0 none) m.1) in
+      subst P {x = (number, old)} {y = (id, me)} (λ i. (sym same i, sym same' i))
+      (tries slots number old then idle empty is asked)
 
-  give_taken : (slots id : ℕ) (d : Doing N V) (y : T) (then : N → V → T → V → Type 0) (views : List (Doing N V)) → d.name ≡ Some name
+  -- what the step that gives back owes at the state s, for a seat that holds the slot with y
+  abbrev Returns : ℕ → ℕ → ℕ → Doing N V → T → (N → V → T → V → Type 0) → Hub N T V → Type 0
+  Returns more slots id d y then s =
+      (w : Doing N V) × (a : Act T) × Valid s.homes ((0, y) ∷ []) a
+      × Locked holds name (stepped s 0 (more * 2) id ((0, y) ∷ []) w a)
+      × gave then (step slots 0 (more * 2) 0 none) (d, (0, y) ∷ []) (slice_index s.words 0) (w, carried_after ((0, y) ∷ []) a)
+
+  give_taken : (more t slots id : ℕ) (d : Doing N V) (y : T) (then : N → V → T → V → Type 0) (views : List (Doing N V)) → d.name ≡ Some name
       → GivesBack holds name id d.client y (then name) → get_elem? views id ≡ some d
       → ((j : ℕ) (u : Doing N V) → get_elem? views j ≡ some u → u.turn ≡ true → j ≡ id) → holds name None (map client views)
-      → Returns slots id d y then (hub (1 ∷ spare) (none ∷ []) views)
-  give_taken slots id d y then views is asked at only kept =
-      let t = asked (map client views) kept (at_map client views id d at) in
-      let w : Doing N V = doing d.name false t.0 in (
+      → Returns more slots id d y then (hub ((t * 2 + 1) ∷ spare) (none ∷ []) views)
+  give_taken more t slots id d y then views is asked at only kept =
+      let p = asked (map client views) kept (at_map client views id d at) in
+      let w : Doing N V = doing d.name false p.0 in (
         w,
         gives,
         tt,
         inl record {
           value = y;
+          told = more;
           word = refl;
           home = refl;
           rests = λ j u e. not_true u.turn (λ turns. ⊎_elim
-              (λ (p : (j ≡ id) × (w ≡ u)). not_both u.turn turns (ap (λ (z : Doing N V). z.turn) (sym p.1)))
-              (λ (p : (j ≢ id) × (get_elem? views j ≡ some u)). p.0 (only j u p.1 turns))
+              (λ (q : (j ≡ id) × (w ≡ u)). not_both u.turn turns (ap (λ (z : Doing N V). z.turn) (sym q.1)))
+              (λ (q : (j ≢ id) × (get_elem? views j ≡ some u)). q.0 (only j u q.1 turns))
               (at_set views id j w u e));
-          kept = subst (holds name (Some y)) (sym (map-set client views id w)) t.1;
+          kept = subst (holds name (Some y)) (sym (map-set client views id w)) p.1;
         },
         (
           refl,
           refl,
           refl,
           λ n z e lies.
-              subst (λ (k : N × T). then k.0 d.client k.1 t.0) (λ i. (named name n d.name is e i, same_item y z lies i)) t.2,
+              subst (λ (k : N × T). then k.0 d.client k.1 p.0) (λ i. (named name n d.name is e i, same_item y z lies i)) p.2,
         ),
       )
 
-  pub gives_back : (slots id : ℕ) (me : Me T (Doing N V)) (y : T) (then : N → V → T → V → Type 0)
+  pub gives_back : (more slots id : ℕ) (me : Me T (Doing N V)) (y : T) (then : N → V → T → V → Type 0)
       → me.1 ≡ alone y → me.0.turn ≡ true → me.0.name ≡ Some name
       → GivesBack holds name id me.0.client y (then name)
-      → Allows (Locked holds name) slots id me 0 (λ _. 0) (gave then (step slots 0 0 0 none) me)
-  gives_back slots id me y then lies turns is asked =
+      → Allows (Locked holds name) slots id me 0 (λ _. more * 2) (gave then (step slots 0 (more * 2) 0 none) me)
+  gives_back more slots id me y then lies turns is asked =
       let d : Doing N V = me.0 in
       let P : Me T (Doing N V) → Type 0 =
-      λ m. Allows (Locked holds name) slots id m 0 (λ _. 0) (gave then (step slots 0 0 0 none) m) in
+      λ m. Allows (Locked holds name) slots id m 0 (λ _. more * 2) (gave then (step slots 0 (more * 2) 0 none) m) in
       let with_slot : P (d, alone y) = λ s locked _ at _. ⊎_elim
       (λ (f : IsFree holds name s). absurd (not_both d.turn turns (f.rests id d at)))
       (λ (f : IsTaken holds name s).
-      let is_hub : s ≡ hub (1 ∷ spare) (none ∷ []) s.views = λ i. hub (f.word i) (f.home i) s.views in
+      let is_hub : s ≡ hub ((f.told * 2 + 1) ∷ spare) (none ∷ []) s.views = λ i. hub (f.word i) (f.home i) s.views in
       let mine : id ≡ f.holder = f.only id d at turns in
-      subst (Returns slots id d y then) (sym is_hub)
-      (give_taken slots id d y then s.views is asked at (λ j u e h. f.only j u e h ∙ sym mine) f.kept))
+      subst (Returns more slots id d y then) (sym is_hub)
+      (give_taken more f.told slots id d y then s.views is asked at (λ j u e h. f.only j u e h ∙ sym mine) f.kept))
       locked in
       subst P (λ i. (d, sym lies i)) with_slot

@@ -1,6 +1,7 @@
 -- The rule of the lock's word and its slot, and what each of its steps tells.
--- The word is 0 while the turn is free, and 1 while a seat has it. The words behind it are spare.
-use Rattle.std.specs.Prelude.{◌≡◌, ◌≢◌, ℕ, Bool, true, false, Option, Some, None, List, [], ◌∷◌}
+-- The word is even while the turn is free, and odd while a seat has it; half of it is what the last
+-- give told. The words behind it are spare.
+use Rattle.std.specs.Prelude.{◌≡◌, ◌≢◌, ℕ, ◌*◌, ◌+◌, ◌%◌, Bool, true, false, Option, Some, None, List, [], ◌∷◌}
 use Rattle.std.specs.Prelude.{map, replicate, ◌⊎◌}
 use mathlib.Core.Option.{none, some}
 use lib.ListN.{get_elem?}
@@ -28,7 +29,8 @@ spare = replicate 16 0
 pub record IsFree {N T V : Type 0} (holds : N → Option T → List V → Type 0) (name : N)
     (s : State T (Doing N V)) : Type 0 where
   pub value : T
-  pub word : s.words ≡ 0 ∷ spare
+  pub told : ℕ
+  pub word : s.words ≡ (told * 2) ∷ spare
   pub home : s.homes ≡ some value ∷ []
   pub rests : (j : ℕ) (d : Doing N V) → get_elem? s.views j ≡ some d → d.turn ≡ false
   pub kept : holds name (Some value) (map client s.views)
@@ -38,7 +40,8 @@ pub record IsTaken {N T V : Type 0} (holds : N → Option T → List V → Type 
     (s : State T (Doing N V)) : Type 0 where
   pub holder : ℕ
   pub view : Doing N V
-  pub word : s.words ≡ 1 ∷ spare
+  pub told : ℕ
+  pub word : s.words ≡ (told * 2 + 1) ∷ spare
   pub home : s.homes ≡ none ∷ []
   pub there : get_elem? s.views holder ≡ some view
   pub turns : view.turn ≡ true
@@ -56,12 +59,19 @@ module _ {N T V : Type 0} where
       (x : T) × (m'.0.turn ≡ true) × (m'.0.name ≡ m.0.name) × (m'.1 ≡ (0, x) ∷ [])
       × ((name : N) → m.0.name ≡ Some name → then name m.0.client x m'.0.client)
 
-  -- a try to take the turn won it where the word was 0; else nothing changed
+  -- a look at the word: nothing changed, and where the word was odd, another seat had the turn
+  abbrev pub saw : (N → Option T → List V → Type 0)
+      → Step T → Stand N T V → ℕ → Stand N T V → Type 0
+  saw holds st m r m' =
+      (m' ≡ m)
+      × (r % 2 ≢ 0 → (name : N) → m.0.name ≡ Some name → Busy holds name m.0.client)
+
+  -- a try to take the turn won it where the word was even; else nothing changed
   abbrev pub tried : (N → Option T → List V → Type 0) → (N → V → T → V → Type 0)
       → Step T → Stand N T V → ℕ → Stand N T V → Type 0
   tried holds then st m r m' =
-      (r ≡ 0 → Won then m m')
-      × (r ≢ 0 → (m' ≡ m) × ((name : N) → m.0.name ≡ Some name → Busy holds name m.0.client))
+      (r % 2 ≡ 0 → Won then m m')
+      × (r % 2 ≢ 0 → (m' ≡ m) × ((name : N) → m.0.name ≡ Some name → Busy holds name m.0.client))
 
   -- the seat gave back the turn, with the value that lay in the slot
   abbrev pub gave : (N → V → T → V → Type 0)

@@ -37,17 +37,21 @@ impl<T, R: TurnRule<T>> TableRule<T, Doing<R::Name, R::View>, R::Name> for Ruled
 /// A type parameter of the call says what the step tells of the new view: `Tells` at a take and a
 /// give, `Split` at a split, `Join` at a join, and `Learns` at the look that follows a join.
 ///
+/// **Telling.** A give names a number below 2^63, which `told` returns until the next one: for
+/// those that look, without a turn, whether it is time to take one.
+///
 /// **Waiting.** `try_take` answers at once, with the same seat where another one has the turn.
 /// `take` tries until it has the turn. Between two tries it spins briefly at first, and then
 /// yields.
 ///
-/// **Cost.** A take that wins is one atomic step, and so is a give. The value stays where it lies.
-/// A split is one step, and a join two.
+/// **Cost.** A take that wins is a look and one atomic step, and a give is one step. The value
+/// stays where it lies. A split is one step, and a join two.
 ///
 /// **Limits.** Any number of seats.
 ///
 /// **Example.** The test `turn_lock`: a lock on 5 with the seats a and b. While a has the turn and
-/// writes 6, b is refused. Once a gave, b takes the turn and reads 6.
+/// writes 6, b is refused. Once a gave, and told 7, b takes the turn and reads 6. The lock tells 7
+/// until b gives.
 ///
 /// **Not promised.** That a refused take could not have had the turn, that a seat gets it, in what
 /// order seats get it, and that a turn ends.

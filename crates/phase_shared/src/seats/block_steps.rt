@@ -68,6 +68,8 @@ pub fn signal_lists<A: Accumulate, K: SignalRule>(
         unreachable!()
     };
     let reached = Hints::look(core);
+    let wants = phaser.hints.wants(entry.signal_phase, lists.len() as u64);
+    phaser.hints.want(answer.err(), wants, reached);
     let told = (me, lists, &single, answer);
     let seat = put_back::<A, K, Brand, _>(phaser, turn, reached, told);
     (seat, entry, tried_of(answer))

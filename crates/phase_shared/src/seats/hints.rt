@@ -1,43 +1,50 @@
 //! When a waiting call tries again. No contract speaks of it: a wrong number costs time alone.
+ghost use Rattle.std.specs.Prelude.{◌<◌, ◌^◌};
+
 use crate::rule::SignalRule;
 use crossbeam_utils::CachePadded;
-use phase_core::PhaserCore;
 use phase_core::phase_accum::Accumulate;
+use phase_core::{PhaserCore, SignalRefusal};
 use std::sync::Wait;
 use std::sync::atomic::AtomicU64;
 use std::sync::atomic::Ordering::SeqCst;
 use std::time::Duration;
-use std::{hint, thread};
 
 // Above every number that a task waits for.
 const ENDED: u64 = u64::MAX;
 
-// How often a pause looks at its number while it spins, and how often it then yields.
-const LOOKS: u32 = 15;
-
-const YIELDS: u32 = 60;
+// The greatest number that a lock tells. It stands for all above it.
+const TOLD_MAX: u64 = u64::MAX >> 1;
 
 // How many milliseconds a pause sleeps, at most. So a wake that is lost costs these, and no more.
 const SLEEP: u64 = 10;
 
-// A number that others wait for, and how many sleep on it.
+// For how many phases a signal that was ahead waits at first, at most half the bound.
+const MORE: u64 = 32;
+
+// What is wanted where nobody wants room, and where each number has to be told.
+const NONE: u64 = u64::MAX;
+
+const EACH: u64 = 0;
+
+// A number at which threads sleep until it is higher, and how many do.
 #[derive(Drop)]
-struct Hint {
+pub struct Bell {
     number: AtomicU64,
     sleepers: AtomicU64,
 }
 
-impl Hint {
-    fn new() -> Hint {
-        Hint {
+impl Bell {
+    fn new() -> Bell {
+        Bell {
             number: AtomicU64::new(0),
             sleepers: AtomicU64::new(0),
         }
     }
 
-    // Raises the number, where it is lower, and wakes those that sleep on it.
+    // Raises the number, where it is lower, and wakes those that sleep.
     fn raise<K: SignalRule>(&self, number: u64) {
-        if self.is_at(number) {
+        if self.number.load(SeqCst) >= number {
             return;
         }
         let _ = self.number.fetch_max(number, SeqCst);
@@ -46,33 +53,30 @@ impl Hint {
         }
     }
 
-    fn is_at(&self, least: u64) -> bool {
-        self.number.load(SeqCst) >= least
+    // Makes the number one higher, and wakes those that sleep. Where nobody does, it does nothing.
+    fn ring<K: SignalRule>(&self) {
+        if self.sleepers.load(SeqCst) != 0 {
+            let _ = self.number.fetch_add(1, SeqCst);
+            K::wake(&self.number);
+        }
     }
 
-    // Returns when the number is at least `least`, or some time later.
-    fn pause<R: Wait>(&self, rt: &R, least: u64) {
-        for _ in 0..LOOKS {
-            if self.is_at(least) {
-                return;
-            }
-            hint::spin_loop();
-        }
-        for _ in 0..YIELDS {
-            if self.is_at(least) {
-                return;
-            }
-            thread::yield_now();
-        }
-        // Who raises it looks for sleepers afterwards, so it sees this one, or this one its number.
-        self.sleepers.fetch_add(1, SeqCst);
-        let found = self.number.load(SeqCst);
-        if found < least {
-            let word = (found & 0xffff_ffff) as u32;
-            self.number
-                .park_timeout(rt, word, Duration::from_millis(SLEEP));
-        }
-        self.sleepers.fetch_sub(1, SeqCst);
+    // Counts a sleeper, and returns the number. Whoever tells something looks for sleepers behind
+    // it. So it sees this one, or this one sees what was told, where it looks from now on.
+    pub fn lie_down(&self) -> u64 {
+        let _ = self.sleepers.fetch_add(1, SeqCst);
+        self.number.load(SeqCst)
+    }
+
+    // Sleeps, at most for some time, unless the number is another than was found.
+    pub fn sleep<R: Wait>(&self, rt: &R, found: u64) {
+        let word = (found & 0xffff_ffff) as u32;
+        self.number
+            .park_timeout(rt, word, Duration::from_millis(SLEEP));
+    }
+
+    pub fn get_up(&self) {
+        let _ = self.sleepers.fetch_sub(1, SeqCst);
     }
 }
 
@@ -85,21 +89,51 @@ pub struct Reached {
     base: u64,
 }
 
-// How far the phaser was when a turn last ended. Neither number ever falls.
+// What a give tells: by the lock, and after it.
+#[derive(Clone, Copy)]
+pub struct News {
+    // How many phases are complete.
+    pub done: u64,
+    // Whether these are more than before.
+    is_more: bool,
+    // How many every waiter got, where that is wanted.
+    base: Option<u64>,
+}
+
+// How many phases every waiter has to have got: for a signal, and for several.
+#[derive(Clone, Copy)]
+pub struct Wants {
+    pub own: u64,
+    pub more: u64,
+}
+
+// What is told beside the lock, and where threads sleep. What was told never falls.
 #[derive(Drop)]
 pub struct Hints {
-    done: CachePadded<Hint>,
-    base: CachePadded<Hint>,
+    // Where threads sleep until phases are complete. The lock tells how many are.
+    pub phases: CachePadded<Bell>,
+    // Where threads sleep until there is room: how many phases every waiter got, as far as it was
+    // wanted.
+    pub room: CachePadded<Bell>,
+    // How many phases every waiter has to have got before that is told. A signal that was ahead
+    // writes it under the turn.
+    wanted: CachePadded<AtomicU64>,
     bound: u64,
 }
 
 impl Hints {
-    pub fn new(bound: u64) -> Hints {
+    pub fn new<K: SignalRule>(bound: u64) -> Hints {
+        let wanted = if K::tells_each() { EACH } else { NONE };
         Hints {
-            done: CachePadded::new(Hint::new()),
-            base: CachePadded::new(Hint::new()),
+            phases: CachePadded::new(Bell::new()),
+            room: CachePadded::new(Bell::new()),
+            wanted: CachePadded::new(AtomicU64::new(wanted)),
             bound,
         }
+    }
+
+    pub fn bound(&self) -> u64 {
+        self.bound
     }
 
     // Tells how far the phaser is, under the turn.
@@ -118,34 +152,88 @@ impl Hints {
         Reached { done, base }
     }
 
-    // Tells the others how far the phaser is, after the turn: who hears of it while another has the
-    // turn would try in vain.
-    pub fn tell<K: SignalRule>(&self, reached: Reached) {
-        self.done.raise::<K>(reached.done);
-        self.base.raise::<K>(reached.base);
-    }
-
-    // Returns both numbers, as far as was told.
-    pub fn told(&self) -> (u64, u64) {
-        (self.done.number.load(SeqCst), self.base.number.load(SeqCst))
-    }
-
-    // Pauses while the phase is not complete, before a wait for so many phases. A wait for none, or
-    // for more than the bound, is refused, and does not pause.
-    pub fn pause_for_phase<R: Wait>(&self, rt: &R, phase: u64, phases: u64) {
-        if phases != 0 && phases <= self.bound {
-            self.done.pause(rt, phase.saturating_add(1));
+    // What there is to tell, under the turn, where the lock tells `told`.
+    pub fn news(&self, reached: Reached, told: u64) -> News
+        requires { told < 2 ^ 63 }
+        ensures { result.done < 2 ^ 63 }
+    {
+        let done = reached.done.min(TOLD_MAX);
+        let is_wanted = reached.base >= self.wanted.load(SeqCst);
+        News {
+            done: done.max(told),
+            is_more: told < done,
+            base: is_wanted.then_some(reached.base),
         }
     }
 
-    // Returns how many phases from this one on may be signalled, as far as was told.
-    pub fn room(&self, phase: u64) -> u64 {
-        let base = self.base.number.load(SeqCst);
-        base.saturating_add(self.bound).saturating_sub(phase)
+    // Tells the others, after the turn: who hears of it while another has the turn would try in
+    // vain.
+    pub fn tell<K: SignalRule>(&self, news: News) {
+        if news.is_more {
+            self.phases.ring::<K>();
+        }
+        if let Some(base) = news.base {
+            self.room.raise::<K>(base);
+        }
     }
 
-    // Pauses while a signal of the phases below `next` is ahead.
-    pub fn pause_for_room<R: Wait>(&self, rt: &R, next: u64) {
-        self.base.pause(rt, next.saturating_sub(self.bound));
+    // What a signal of so many phases from this one on wants.
+    pub fn wants(&self, phase: u64, phases: u64) -> Wants {
+        let most = phases.max(MORE.min(self.bound / 2));
+        Wants {
+            own: phase.saturating_add(phases).saturating_sub(self.bound),
+            more: phase.saturating_add(most).saturating_sub(self.bound),
+        }
+    }
+
+    // Wants room, under the turn, where a signal was ahead: at first for several phases, and where
+    // no more than that is wanted already, for itself alone. Of two wants the least is kept.
+    pub fn want(&self, refusal: Option<SignalRefusal>, wants: Wants, reached: Reached) {
+        if refusal != Some(SignalRefusal::Ahead) {
+            return;
+        }
+        let wanted = self.wanted.load(SeqCst);
+        let is_open = reached.base < wanted;
+        let least = if is_open && wanted <= wants.more {
+            wants.own
+        } else {
+            wants.more
+        };
+        if wanted != EACH && (!is_open || least < wanted) {
+            self.wanted.store(least, SeqCst);
+        }
+    }
+
+    // Whether who sleeps since this room was found is woken when there is so much, at the latest.
+    pub fn is_wanted(&self, found: u64, least: u64) -> bool {
+        let wanted = self.wanted.load(SeqCst);
+        wanted == EACH || (found < wanted && wanted <= least)
+    }
+
+    // How many phases every waiter got, as far as was told.
+    pub fn told_base(&self) -> u64 {
+        self.room.number.load(SeqCst)
+    }
+
+    // Returns both numbers, as far as was told, where the lock tells the first. From now on each
+    // turn tells the second.
+    pub fn told(&self, done: u64) -> (u64, u64) {
+        self.want_each();
+        let done = if done == TOLD_MAX { ENDED } else { done };
+        (done, self.told_base())
+    }
+
+    fn want_each(&self) {
+        if self.wanted.load(SeqCst) != EACH {
+            self.wanted.store(EACH, SeqCst);
+        }
+    }
+
+    // Returns how many phases from this one on may be signalled, as far as was told. From now on
+    // each turn tells it.
+    pub fn room(&self, phase: u64) -> u64 {
+        self.want_each();
+        let base = self.told_base();
+        base.saturating_add(self.bound).saturating_sub(phase)
     }
 }

@@ -48,7 +48,11 @@ pub fn register_now<A: Accumulate, K: SignalRule>(
     let found = core.view(child);
     let reached = Hints::look(core);
     if let Err(refusal) = answer {
-        return (phaser.lock.give::<Same>(turn), Err(Tried::Refused(refusal)));
+        let told = phaser.lock.told();
+        return (
+            phaser.lock.give::<Same>(turn, told),
+            Err(Tried::Refused(refusal)),
+        );
     }
     let Some(start) = found else { unreachable!() };
     let both = put_back::<A, K, Brand, _>(phaser, turn, reached, (me, child));

@@ -12,7 +12,6 @@ use phase_core::PhaserCore;
 use phase_core::phase_accum::Accumulate;
 use phase_core::phase_base::Spec;
 use std::alloc::{AllocError, Global};
-use std::sync::Wait;
 use turn_lock::TurnLock;
 
 /// A phaser of one thread under a lock, with hints for those that wait. Sends become values by the
@@ -39,17 +38,7 @@ impl<A: Accumulate, K: SignalRule> LockedPhaser<A, K> {
         let bound = terms.limits.bound();
         let core = PhaserCore::new(alloc, terms.limits, 0)?;
         let (lock, seat) = TurnLock::new(alloc, &terms, core)?;
-        let hints = Hints::new(bound);
+        let hints = Hints::new::<K>(bound);
         Ok((LockedPhaser { lock, hints }, seat))
-    }
-
-    /// Pauses while the phase is not complete, or for some time, before a wait for so many phases.
-    pub fn pause_for_phase<W: Wait>(&self, rt: &W, phase: u64, phases: u64) {
-        self.hints.pause_for_phase(rt, phase, phases);
-    }
-
-    /// Pauses while a signal of the phases below `next` is ahead, or for some time.
-    pub fn pause_for_room<W: Wait>(&self, rt: &W, next: u64) {
-        self.hints.pause_for_room(rt, next);
     }
 }

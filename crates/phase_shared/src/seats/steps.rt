@@ -64,8 +64,9 @@ pub(crate) fn put_back<A: Accumulate, K: SignalRule, E: Plan, X: Copy>(
     ensures rule { E.goes (turn_view turn) (seat_view result) }
 {
     let _ = told;
-    let seat = phaser.lock.give::<OnGive<E>>(turn);
-    phaser.hints.tell::<K>(reached);
+    let news = phaser.hints.news(reached, phaser.lock.told());
+    let seat = phaser.lock.give::<OnGive<E>>(turn, news.done);
+    phaser.hints.tell::<K>(news);
     seat
 }
 
@@ -126,7 +127,10 @@ pub fn signal<A: Accumulate, K: SignalRule>(
     let phase = match answer {
         Ok(phase) => phase,
         Err(refused) => {
-            let seat = phaser.lock.give::<Same>(turn);
+            let wants = phaser.hints.wants(entry.signal_phase, 1);
+            phaser.hints.want(Some(refused.0), wants, Hints::look(core));
+            let told = phaser.lock.told();
+            let seat = phaser.lock.give::<Same>(turn, told);
             return (seat, entry, Err(Tried::Refused(refused.0)));
         }
     };
@@ -243,7 +247,11 @@ pub fn register<A: Accumulate, K: SignalRule>(
     let found = core.view(child);
     let reached = Hints::look(core);
     if let Err(refusal) = answer {
-        return (phaser.lock.give::<Same>(turn), Err(Tried::Refused(refusal)));
+        let told = phaser.lock.told();
+        return (
+            phaser.lock.give::<Same>(turn, told),
+            Err(Tried::Refused(refusal)),
+        );
     }
     let Some(start) = found else { unreachable!() };
     let both = put_back::<A, K, Brand, _>(phaser, turn, reached, (me, child, mode));

@@ -1,11 +1,19 @@
 //! What each step tells. These types are for the proofs alone.
-ghost use Rattle.turn_lock.specs.Word.{tried, gave, looked, doing};
+ghost use Rattle.turn_lock.specs.Word.{saw, tried, gave, looked, doing};
 ghost use Rattle.std.specs.Prelude.{None, false};
 
 use crate::rule::{Learns, Tells, TurnRule};
 use crate::seat::Doing;
 use atomic_table::{Join, Play, Split};
 use std::marker::PhantomData;
+
+pub struct OnSight<R> {
+    marker: PhantomData<R>,
+}
+
+impl<T, R: TurnRule<T>> Play<T, Doing<R::Name, R::View>> for OnSight<R> {
+    ghost then = { saw R.holds };
+}
 
 pub struct OnTake<M, R> {
     marker: PhantomData<(M, R)>,

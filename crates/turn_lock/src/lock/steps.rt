@@ -1,11 +1,11 @@
 //! The calls.
-ghost use Rattle.std.specs.Prelude.{◌≡◌, [], ◌∷◌, Some, IfOk, IfErr, OnErr};
+ghost use Rattle.std.specs.Prelude.{◌≡◌, ◌<◌, ◌^◌, [], ◌∷◌, Some, IfOk, IfErr, OnErr};
 ghost use Rattle.turn_lock.specs.Seats.{lock_name, IsSeatOf, IsTurnOf, IsSameSeat};
 ghost use Rattle.turn_lock.specs.Seats.{seat_number, seat_view, turn_number, turn_value, turn_view};
 ghost use Rattle.turn_lock.specs.Steps.{Takes, GivesBack, Looks, Forks, Merges, Busy};
 
 use super::TurnLock;
-use super::ghost_steps::{OnGive, OnJoin, OnLook, OnSplit, OnTake};
+use super::ghost_steps::{OnGive, OnJoin, OnLook, OnSight, OnSplit, OnTake};
 use crate::rule::{Learns, Tells, TurnRule};
 use crate::seat::{Seat, Turn};
 use atomic_table::{Join, Split, Table};
@@ -13,13 +13,12 @@ use crossbeam_utils::Backoff;
 use std::alloc::{AllocError, Global};
 use std::sync::Wait;
 
-const FREE: u64 = 0;
-
+// The word is twice the number that the last give told, and one more while a seat has the turn.
 const TAKEN: u64 = 1;
 
 // The word, and spare ones behind it: then no line of memory has the word and the value, and who
 // tries in vain leaves the lines of the value where they are.
-const WORDS: [u64; 17] = [FREE; 17];
+const WORDS: [u64; 17] = [0; 17];
 
 impl<T, R: TurnRule<T>> TurnLock<T, R> {
     /// Makes a lock and its first seat, which has the number 0.
@@ -63,18 +62,26 @@ impl<T, R: TurnRule<T>> TurnLock<T, R> {
     {
         let Seat { mut inner } = seat;
         let shared = &self.table.shared;
-        let found = shared.compare_exchange::<OnTake<M, R>>(&mut inner, 0, FREE, TAKEN);
-        if found != FREE {
+        // Who finds the turn taken leaves the word's line of memory where it is.
+        let seen = shared.load::<OnSight<R>>(&mut inner, 0);
+        if seen % 2 == TAKEN {
+            return Err(Seat { inner });
+        }
+        let found = shared.fetch_or::<OnTake<M, R>>(&mut inner, 0, TAKEN);
+        if found % 2 == TAKEN {
             return Err(Seat { inner });
         }
         Ok(Turn { inner })
     }
 
-    /// Ends a turn: the value is at home as the turn left it. It takes no memory.
+    /// Ends a turn: the value is at home as the turn left it, and the lock tells this number. It
+    /// takes no memory.
     pub fn give<M: Tells<R::Name, T, R::View>>(
         &self,
         turn: Turn<T, R::Name, R::View>,
+        told: u64,
     ) -> Seat<T, R::Name, R::View>
+        requires told { told < 2 ^ 63 }
         requires turn { IsTurnOf self.now turn }
         requires rule { GivesBack R.holds (lock_name self.now) (turn_number turn) (turn_view turn)
             (turn_value turn) (M.then (lock_name self.now)) }
@@ -83,8 +90,18 @@ impl<T, R: TurnRule<T>> TurnLock<T, R> {
             (seat_view result) }
     {
         let Turn { mut inner } = turn;
-        self.table.shared.swap::<OnGive<M>>(&mut inner, 0, FREE);
+        self.table.shared.swap::<OnGive<M>>(&mut inner, 0, told * 2);
         Seat { inner }
+    }
+
+    /// Returns the number that the last give told, and 0 before the first. It needs no seat, and
+    /// takes no memory.
+    ///
+    /// It is a hint for when to take a turn, and no contract says which number it is.
+    pub fn told(&self) -> u64
+        ensures { result < 2 ^ 63 }
+    {
+        self.table.shared.peek(0) / 2
     }
 
     /// Cuts a seat's view in two: the first seat of the answer keeps the number, and the second is

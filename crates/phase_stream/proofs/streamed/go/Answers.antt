@@ -1,8 +1,8 @@
 -- A turn more, and what stops it.
 use Rattle.std.proofs.Common.{[], Err, refl, ap, subst, ◌∙◌}
-use Rattle.phase_stream.specs.Sessions.{IsTooBigOrNone, StandsStopped}
+use Rattle.phase_stream.specs.Sessions.{StandsStopped}
 use Rattle.phase_stream.proofs.Standing.{same_session}
-use Rattle.phase_stream.proofs.Stopping.{done_writes, held_later, io_stops, lack_stops, sink_same, stall_stops, too_big_stops}
+use Rattle.phase_stream.proofs.Stopping.{done_writes, held_later, io_stops, lack_stops, sink_same, stall_stops, too_big_stops, too_big_there}
 use Rattle.phase_stream.proofs.streamed.go.Goals as goal
 
 pub loop-init : goal.loop-init
@@ -103,7 +103,7 @@ kept_is_right-requires-in-Stalled g c =
 
 pub returns-in-Stalled-clause-failed : goal.returns-in-Stalled-clause-failed
 returns-in-Stalled-clause-failed g c = λ held old is st. (
-  record { texts = []; are = c.new-further.ensures.items },
+  c.stall_told.ensures,
   stall_stops g.F.Reader.Read.remaining held old _ c.args.session c.turn.new.self
       (same_session c.args.session c.loop.session c.turn.new.self c.loop.invariant.0
       c.turn.ensures.same)
@@ -122,14 +122,21 @@ kept_is_right-requires-in-TooBig g c =
 pub returns-in-TooBig-clause-failed : goal.returns-in-TooBig-clause-failed
 returns-in-TooBig-clause-failed g c = λ held old is st.
     too_big_stops g.F.Reader.Read.remaining held old _ c.args.session c.turn.new.self
-    c.in-TooBig.place c.in-TooBig.phase c.too_big.result
+    c.in-TooBig.place c.in-TooBig.phase
     (same_session c.args.session c.loop.session c.turn.new.self c.loop.invariant.0 c.turn.ensures.same)
     c.kept_is_right-in-TooBig.ensures.given c.kept_is_right-in-TooBig.ensures.right
     (subst (StandsStopped g.F.Reader.Read.remaining held old.written _ c.turn.new.self) c.in-TooBig.is
     (c.in-Ok.ensures.ok held old.written (c.loop.invariant.2 held old.written is st)))
-    (subst (λ j. IsTooBigOrNone j c.in-TooBig.place c.in-TooBig.phase c.too_big.result)
-    c.into_job.ensures c.too_big.ensures.told)
 
 pub returns-in-Err-refill-clause-same : goal.returns-in-Err-refill-clause-same
 returns-in-Err-refill-clause-same g c = λ other.
     c.refill.ensures.files other ∙ c.loop.invariant.1 other
+
+pub returns-in-TooBig-clause-place : goal.returns-in-TooBig-clause-place
+returns-in-TooBig-clause-place g c =
+    let (held, old, is, st) = c.requires.stands in
+    subst (λ (j : Job). IsPlace j.graph c.in-TooBig.place) (sym c.into_job.ensures)
+    (too_big_there g.F.Reader.Read.remaining held old _ c.turn.new.self c.in-TooBig.place
+    c.in-TooBig.phase c.faults_are_there.ensures
+    (subst (StandsStopped g.F.Reader.Read.remaining held old _ c.turn.new.self) c.in-TooBig.is
+    (c.in-Ok.ensures.ok held old (c.loop.invariant.2 held old is st))))
