@@ -330,6 +330,15 @@ fn meeting_count(found: &[Known<'_>], above: &Above<'_>) -> usize {
     count
 }
 
+/// This word and this text, and the line that signals a phaser, where its number is not 0.
+fn signalled_mark<'a>(word: usize, text: &'static str, line: usize) -> Mark<'a> {
+    if line == 0 {
+        return Mark::text(word, text);
+    }
+    let wanted = Wanted::with_line(text, line, " signals it");
+    Mark { word, wanted }
+}
+
 /// The output on which the task meets another, where it is known, or the only one on which it may;
 /// else the task.
 fn meeting_mark<'a>(found: &[Known<'a>], above: &Above<'_>, meeting: Option<&str>) -> Mark<'a> {
@@ -342,7 +351,7 @@ fn meeting_mark<'a>(found: &[Known<'a>], above: &Above<'_>, meeting: Option<&str
         };
         if part.is_output() && is_known {
             let wanted = "a phaser that no task of a line above signals in the same phase";
-            return Mark::text(word, wanted);
+            return signalled_mark(word, wanted, above.only_signaller(name));
         }
     }
     Mark::text(
