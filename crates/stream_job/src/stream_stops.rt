@@ -114,7 +114,7 @@ impl Stream {
     }
 
     /// What a task does next.
-    fn step(&self, t: usize) -> Step
+    pub(crate) fn step(&self, t: usize) -> Step
         requires { t < length self.now.job.graph.tasks }
         ensures { (s : List (List ℤ)) (m : Moment) (given : ℕ → List ℤ)
             → IsStreamAt self.now s m given
