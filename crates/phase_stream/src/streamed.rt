@@ -140,10 +140,7 @@ fn go<'a, H: Wait, W: Write, F: Opens>(
     for _ in rt.forever() {
         let stop = match session.turn(output) {
             Ok(stop) => stop,
-            Err(fault) => {
-                session.kept_is_right();
-                return Err(Failure::Io(fault));
-            }
+            Err(fault) => return Err(Failure::Io(fault)),
         };
         match stop {
             Stopped::Done => return Ok(()),
