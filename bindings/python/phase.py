@@ -27,6 +27,7 @@ import enum
 import importlib
 import operator
 import os
+import re
 import threading
 import weakref
 from collections.abc import Mapping, Sequence
@@ -131,7 +132,7 @@ KINDS = {
 
 class Operation(enum.IntEnum):
     """What the sends of a phase come to: their sum, product, least, greatest, or the first of
-    them."""
+    them. Where one is wanted its word is taken too, as "sum"."""
 
     SUM = 1
     PRODUCT = 2
@@ -142,7 +143,8 @@ class Operation(enum.IntEnum):
 
 class Mode(enum.IntEnum):
     """What a task does at a phaser. SIG_WAIT and SINGLE signal and wait in turn; SINGLE may name a
-    single. A mode holds itself and those before it, but WAIT does not hold SIG."""
+    single. A mode holds itself and those before it, but WAIT does not hold SIG. Where one is wanted
+    its word is taken too: "sig", "wait", "sigwait", "single"."""
 
     SIG = 1
     WAIT = 2
@@ -151,7 +153,8 @@ class Mode(enum.IntEnum):
 
 
 class Single(enum.IntEnum):
-    """What is done once with the value of a phase. A clamp has two ends: `Clamp(low, high)`."""
+    """What is done once with the value of a phase. A clamp has two ends: `Clamp(low, high)`. Where
+    one is wanted its word is taken too: "neg", "abs", "halve"."""
 
     NO_SINGLE = 0
     NEG = 1
@@ -197,14 +200,25 @@ class Error(Exception):
 
 
 class GraphError(Error, ValueError):
-    """The text of a graph has a fault: its first line with one, from 1 on, and its kind, a word."""
+    """The text of a graph has a fault: its first line with one, from 1 on, its kind, a word, and
+    the `text` of that line, in which what is at fault is marked where the kind tells it."""
 
-    def __init__(self, line: int, kind: str):
-        super().__init__(line, kind)
-        self.line, self.kind = line, kind
+    def __init__(self, line: int, kind: str, text: str = "", mark: tuple[int, int] = (0, 0)):
+        super().__init__(line, kind, text, mark)
+        self.line, self.kind, self.text, self.mark = line, kind, text, mark
 
     def __str__(self) -> str:
-        return f"graph line {self.line}: {self.kind}"
+        told = f"graph line {self.line}: {self.kind}"
+        if not self.text:
+            return told
+        if self.line == 1 and self.kind == KINDS[SYNTAX] and len(self.text.split()) == 1:
+            return f"{told}: a text is wanted; of a file give pathlib.Path({self.text!r})"
+        shown = "".join(it if it == "\t" or it.isprintable() else "?" for it in self.text)
+        begin, end = self.mark
+        if begin == end:
+            return f"{told}\n  {shown}"
+        blanks = "".join(it if it == "\t" else " " for it in shown[:begin])
+        return f"{told}\n  {shown}\n  {blanks}{'^' * (end - begin)}"
 
 
 class SamplesError(Error, ValueError):
@@ -568,7 +582,7 @@ class Fir:
     """
 
     def __init__(self, taps: ArrayLike, shift: int = 0):
-        self.taps, self.shift = _whole(taps).copy(), operator.index(shift)
+        self.taps, self.shift = _whole(taps, _TAPS).copy(), operator.index(shift)
         self.taps.flags.writeable = False
         if not 0 <= self.shift < 2**32:
             raise TapsError
@@ -638,15 +652,15 @@ class Phaser:
     the object. Calls may come from any thread, and go one by one.
     """
 
-    def __init__(self, operation: int, bound: int, phases: int):
-        operation = _numbered(operation, 32, BadOperation)
+    def __init__(self, operation: Union[int, str], bound: int, phases: int):
+        operation = _word(operation, Operation, 32, BadOperation)
         bound, phases = _numbered(bound, 64, BadBound), _numbered(phases, 64, BadPhases)
         self._place, self._lock = _Place(), threading.Lock()
         _done(_lib.phase_phaser_new(operation, bound, phases, self._place))
         self._made = Operation(operation), bound, phases
         weakref.finalize(self, _free, self._place, self._lock)
 
-    def register(self, parent: int, mode: int) -> int:
+    def register(self, parent: int, mode: Union[int, str]) -> int:
         """Registers a task in a mode that the mode of the parent holds, at both phases of the
         parent, and returns its number: 1 more than the greatest before. The modes are SIG, WAIT,
         SIG_WAIT and SINGLE; each holds itself and those before it, but WAIT does not hold SIG.
@@ -654,7 +668,7 @@ class Phaser:
         It raises NoTask, BadMode, NotAllowed, NotNew, TooManyTasks or MemoryError.
         """
         task = ctypes.c_uint64()
-        mode = _numbered(mode, 32, BadMode)
+        mode = _word(mode, Mode, 32, BadMode)
         _done(self._call(_lib.phase_phaser_register, _task(parent), mode, task))
         return task.value
 
@@ -669,7 +683,9 @@ class Phaser:
         """Ends a task's registration. It raises NoTask."""
         _done(self._call(_lib.phase_phaser_drop, _task(task)))
 
-    def signal(self, task: int, values: ArrayLike, single: Union[int, Clamp, None] = None) -> int:
+    def signal(
+        self, task: int, values: ArrayLike, single: Union[int, str, Clamp, None] = None
+    ) -> int:
         """Signals the task's phase with these sends, a row of whole numbers as of `eval`, and
         returns that phase. A single is done once with the value of the phase: NEG, ABS, HALVE,
         which rounds down, or Clamp(low, high).
@@ -702,7 +718,7 @@ class Phaser:
         return Got(phase.value, value.value if value.value != _NO_VALUE else None)
 
     def signal_block(
-        self, task: int, values: ArrayLike, single: Union[int, Clamp, None] = None
+        self, task: int, values: ArrayLike, single: Union[int, str, Clamp, None] = None
     ) -> int:
         """Signals as many phases in a row as there are values, the first the task's, with one send
         each and the single or none for all of them, and returns the first phase.
@@ -791,6 +807,16 @@ def _numbered(number, bits, refusal):
     return number
 
 
+def _word(word, kind, bits, refusal):
+    """The number of an operation, a mode or a single that its word, or the number, names."""
+    if not isinstance(word, str):
+        return _numbered(word, bits, refusal)
+    found = [it for it in kind if it.name.replace("_", "") == word.upper().replace("_", "")]
+    if not found:
+        raise refusal
+    return found[0]
+
+
 def _places(out):
     """Places for what a wait for a block writes: those that are lent, or so many."""
     if not isinstance(out, numpy.ndarray):
@@ -818,7 +844,7 @@ def _task(task):
 def _single(single):
     """The number of a single or of none, and the ends of a clamp."""
     if not isinstance(single, Clamp):
-        number = NO_SINGLE if single is None else _numbered(single, 32, BadSingle)
+        number = NO_SINGLE if single is None else _word(single, Single, 32, BadSingle)
         if number == CLAMP:
             raise TypeError("a clamp has two ends: Clamp(low, high)")
         return number, 0, 0
@@ -912,7 +938,10 @@ def _in_order(names, samples, named):
     elif isinstance(samples, numpy.ndarray) and samples.ndim == 1 and samples.dtype != object:
         samples = [samples]
     if len(samples) != len(names):
-        raise SamplesError(f"there are {len(names)} sources, and samples of {len(samples)}")
+        told = f"there are {len(names)} sources, and samples of {len(samples)}"
+        if all(numpy.ndim(it) == 0 for it in samples):
+            told += "; the samples of each are a row, as in [[1, 2]]"
+        raise SamplesError(told)
     return [_whole(it) for it in samples]
 
 
@@ -925,13 +954,47 @@ def _sample_text(names, lists, at):
     return "a sample is -2**63, which is none"
 
 
-def _whole(values):
+def _mark(above, line, kind):
+    """Where the word at fault begins and ends in a line, or two zeros where the kind does not say
+    which it is. A kind is told of a line only if it is in the grammar, but for the first two."""
+    words = [(it.group(), it.span()) for it in re.finditer(r"[^ \t]+", line)]
+    texts = [word for word, _ in words]
+    before = [it.split() for it in above]
+    phasers = {it[1] for it in before if it[0:1] == ["phaser"]}
+    names = {it[1] for it in before if it[0:1] and it[0][0] != "#" and it != ["graph", "2"]}
+    if kind <= LIMIT or not texts:
+        return 0, 0
+    # What stands on the line before the first word of another part: its phasers, and arrows.
+    parts = {"shift", "mul", "by", "until", "now", "single"}
+    # A file may have any name.
+    behind = range(3 if texts[0] == "source" else 2, len(texts))
+    stop = next((at for at in behind if texts[at] in parts or "=" in texts[at]), len(texts))
+    lent = [at for at in behind if at < stop and texts[0] != "phaser" and texts[at][-1] != ">"]
+    parent = next((at + 1 for at in behind if texts[at] == "by"), None)
+    found = None
+    if kind == TWICE:
+        again = [at for at in lent if texts[at] in [texts[it] for it in lent if it < at]]
+        found = 1 if texts[1] in names else (again or [None])[0]
+    elif kind == UNKNOWN:
+        found = next((at for at in lent if texts[at] not in phasers), parent)
+    elif kind == BAD_PARENT:
+        found = parent
+    elif kind == OVER_BOUND:
+        found = len(texts) - 1
+    return (0, 0) if found is None else words[found][1]
+
+
+# What is wanted where no taps are given.
+_TAPS = "taps are one row of whole numbers: times 2**k and rounded, with shift=k"
+
+
+def _whole(values, wanted="one row of whole numbers is wanted"):
     """Whole numbers as one row of int64 without gaps, where C may read it."""
+    if numpy.ma.is_masked(values):
+        raise TypeError(f"{wanted}, and some of these are masked")
     given = numpy.asarray(values)
     if given.ndim != 1 or given.size and given.dtype.kind not in "iu":
-        raise TypeError(
-            f"one row of whole numbers is wanted, and not {given.dtype} of {given.ndim} dimensions"
-        )
+        raise TypeError(f"{wanted}, and not {given.dtype} of {given.ndim} dimensions")
     # numpy compares a uint64 with a number of Python as floats.
     if given.dtype.kind == "u" and given.size and int(given.max()) > 2**63 - 1:
         raise OverflowError("a sample is above 2**63 - 1")
@@ -942,7 +1005,10 @@ def _stop(status, fault, text):
     if status == OK:
         return
     if status == E_GRAPH:
-        raise GraphError(fault.line, KINDS[fault.kind])
+        lines = [it.removesuffix("\r") for it in text.decode("ascii", "replace").split("\n")]
+        place = fault.line - 1
+        mark = _mark(lines[:place], lines[place], fault.kind)
+        raise GraphError(fault.line, KINDS[fault.kind], lines[place], mark)
     if status == E_TOO_BIG:
         # Phasers stand before tasks.
         at = fault.number if fault.place == AT_PHASER else _check(text).phasers + fault.number

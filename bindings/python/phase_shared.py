@@ -172,13 +172,13 @@ class Registration:
         # At the end of the interpreter other threads may still be in the middle of a call.
         weakref.finalize(self, _leave, place, os.getpid()).atexit = False
 
-    def register(self, mode: int) -> Registration:
+    def register(self, mode: Union[int, str]) -> Registration:
         """Registers a child in a mode that the mode of this one holds, at both of its phases. It
         may go to another thread.
 
         It raises NoPhaser, BadMode, NotAllowed, NotNew, TooManyTasks or MemoryError.
         """
-        place, mode = _Place(), phase._numbered(mode, 32, BadMode)
+        place, mode = _Place(), phase._word(mode, phase.Mode, 32, BadMode)
         with self._turn:
             phase._done(_lib.phase_shared_register(self._at, mode, place))
         return _of(place)
@@ -194,7 +194,7 @@ class Registration:
     def signal(
         self,
         values: Union[int, ArrayLike] = (),
-        single: Union[int, Clamp, None] = None,
+        single: Union[int, str, Clamp, None] = None,
         timeout: Optional[float] = None,
     ) -> int:
         """Signals the phase with one send or a row of them and a single or none, and returns that
@@ -208,7 +208,7 @@ class Registration:
     def signal_block(
         self,
         values: ArrayLike,
-        single: Union[int, Clamp, None] = None,
+        single: Union[int, str, Clamp, None] = None,
         timeout: Optional[float] = None,
     ) -> int:
         """Signals as many phases in a row as there are values, with one send each and the single or
@@ -222,7 +222,7 @@ class Registration:
     def next(
         self,
         values: Union[int, ArrayLike] = (),
-        single: Union[int, Clamp, None] = None,
+        single: Union[int, str, Clamp, None] = None,
         timeout: Optional[float] = None,
     ) -> Got:
         """Signals the phase, as `signal` does, and then waits for it, as `wait` does: a barrier,
@@ -395,8 +395,8 @@ class SharedPhaser(Registration):
     It raises BadOperation, BadBound, BadPhases or MemoryError.
     """
 
-    def __init__(self, operation: int, bound: int, phases: int):
-        operation = phase._numbered(operation, 32, phase.BadOperation)
+    def __init__(self, operation: Union[int, str], bound: int, phases: int):
+        operation = phase._word(operation, phase.Operation, 32, phase.BadOperation)
         bound = phase._numbered(bound, 64, phase.BadBound)
         phases, place = phase._numbered(phases, 64, phase.BadPhases), _Place()
         phase._done(_lib.phase_shared_new(operation, bound, phases, place))

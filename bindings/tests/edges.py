@@ -97,11 +97,34 @@ with tempfile.TemporaryDirectory() as folder:
     look("the path of a graph", phase.eval(path, s=[1, 2])["out"].tolist() == [1, 3])
 for text in (5, 10**10, None, [112]):
     look(f"a graph that is {text}", refused(TypeError, phase.check, text))
-why = refused(phase.GraphError, phase.check, "phaser x sum 4\nphaser y mean 4\n")
+why = refused(phase.SamplesError, phase.eval, SUMS, [1, 2])
 look(
-    "a fault of the graph",
-    why and (why.line, why.kind, str(why)) == (2, "syntax", "graph line 2: syntax"),
+    "numbers for a source",
+    str(why).endswith("samples of 2; the samples of each are a row, as in [[1, 2]]"),
 )
+why = refused(TypeError, sums, numpy.ma.array([1, 2, 3], mask=[0, 1, 0]))
+look("a masked array", str(why).endswith("is wanted, and some of these are masked"))
+look("an array of which nothing is masked", sums(numpy.ma.array([1, 2])) == [1, 3])
+# The first line with a fault, its kind, the line and what is marked in it.
+FAULTS = [
+    ("phaser y mean 4", "syntax", ""), ("phaser y sum 0", "limit", ""),
+    ("\tphaser x sum 4 ", "twice", "x"), ("split d x -> y y", "twice", "y"),
+    ("source x s.csv -> x", "twice", "x"), ("sink out y", "unknown", "y"),
+    ("source s s.csv\t->\tz", "unknown", "z"), ("sink out x by p at 1", "unknown", "p"),
+    ("fir f x -> y shift 0 taps 1", "unknown", "y"),
+    ("sink out x by new at 1", "bad-parent", "new"),
+    ("sink out x until 1 block=5", "over-bound", "block=5"),
+]
+for line, kind, word in FAULTS:
+    above = "graph 2\nphaser x sum 4\n# x\nsink old x\nsink new x by old at 0 now\n"
+    why = refused(phase.GraphError, phase.check, f"{above}{line}\r\nsink x x\n")
+    look(f"a fault of {line!r}", why and (why.line, why.kind, why.text) == (6, kind, line))
+    begin, end = why.mark
+    look(f"what is marked in {line!r}", line[begin:end] == word)
+why = refused(phase.GraphError, phase.check, "phaser x sum 4\n\tsink\tout y")
+look("how it is told", str(why) == "graph line 2: unknown\n  \tsink\tout y\n  \t    \t    ^")
+why = refused(phase.GraphError, phase.check, "sums.graph")
+look("the name of a file", str(why).endswith("of a file give pathlib.Path('sums.graph')"))
 why = refused(phase.TooBig, phase.eval, BOTH, [[1, MOST], [2, 1]])
 look("a phaser's value out of range", why and (why.name, why.at) == ("x", 1))
 why = refused(phase.TooBig, phase.eval, SUMS, s=[MOST, MOST])
@@ -143,6 +166,8 @@ why = refused(phase.TooBig, sums, [0, MOST, 1])
 look("a block's value out of range", why and why.at == 2 and why.values.tolist() == [6, MOST])
 look("after which the filter stands where it stood", sums([1]).tolist() == [7])
 look("rounded down", phase.Fir([1, 2, 1], 2)([-1, -1, 0]).tolist() == [-1, -1, -1])
+why = refused(TypeError, phase.Fir, [0.5, 0.5])
+look("taps that are fractions", str(why).startswith("taps are one row of whole numbers: times"))
 look("no taps", refused(phase.TapsError, phase.Fir, []))
 look("65 taps", refused(phase.TapsError, phase.Fir, [1] * 65))
 look("a tap of 2**31", refused(phase.TapsError, phase.Fir, [2**31]))

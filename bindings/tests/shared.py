@@ -50,6 +50,7 @@ def together(*works):
 
 
 def made():
+    look("a word of no operation", refused(phase.BadOperation, phase.SharedPhaser, "mean", 2, 9))
     look("no operation", refused(phase.BadOperation, phase.SharedPhaser, 0, 0, 0))
     look("a bound of none", refused(phase.BadBound, sums, 0))
     look("a bound past 64 bits", refused(phase.BadBound, sums, 2**64 + 1))
@@ -60,6 +61,13 @@ def made():
     look("its words", repr(founder) == "<phase.SharedPhaser in SINGLE>")
     for copied in (copy.copy, copy.deepcopy, pickle.dumps):
         look("a copy", refused(TypeError, copied, founder))
+    look("a word of no mode", refused(phase.BadMode, founder.register, "signal"))
+    words = phase.SharedPhaser("product", 2, 9)
+    with words.register("sig_wait") as child:
+        look("the word of a mode", child.mode == phase.SIG_WAIT)
+    look("a word of no single", refused(phase.BadSingle, words.signal, [3], "half"))
+    look("the word of a single", words.next([3, 4], "neg") == (0, -12))
+    words.leave()
     look("a mode past 32 bits", refused(phase.BadMode, founder.register, 2**32 + 1))
     child = founder.register(phase.SIG)
     look("a child", (child.number, repr(child)) == (1, "<phase.Registration in SIG>"))

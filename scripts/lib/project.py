@@ -45,8 +45,12 @@ def below(names):
 
 
 def built(program):
-    """Where a program stands once it is built."""
-    return os.path.join(TOP, "crates", program, "out", program)
+    """Where a program stands once it is built: proved, or with PHASE_UNPROVED in the environment
+    the unproved build with checks that `./phase` keeps, where it has not been proved."""
+    path = os.path.join(TOP, "crates", program, "out", program)
+    if os.environ.get("PHASE_UNPROVED") and os.path.exists(f"{path}.unproved"):
+        return f"{path}.unproved"
+    return path
 
 
 def proves(*words):

@@ -14,6 +14,7 @@ use crate::records::record_explained;
 use crate::{Failure, FileRefusal, JobFault, Refuses};
 use graph_show::explanation;
 use graph_show::watched_io::{Explain, Files, Status, Watched};
+use itoa::Buffer;
 use std::alloc::{AllocError, Global};
 use std::io::Write;
 
@@ -139,22 +140,32 @@ fn refusal_explained(alloc: Global, name: &str, why: FileRefusal) -> Result<Vec<
     ensures { IfOk result (λ more. TellsRefusal more.items) }
 {
     let file = without_controls(alloc, name.as_bytes())?;
+    let why = why_text(alloc, why)?;
     let mut more = Vec::new(alloc);
     more.extend_from_slice(b"  ")?;
     more.extend_from_slice(&file)?;
     more.extend_from_slice(b": ")?;
-    more.extend_from_slice(told_of(why).as_bytes())?;
+    more.extend_from_slice(&why)?;
     more.extend_from_slice(b"\n")?;
     Ok(more)
 }
 
 /// Why a file was refused, for a person.
-fn told_of(why: FileRefusal) -> &'static str {
+fn why_text(alloc: Global, why: FileRefusal) -> Result<Vec<u8>, AllocError> {
     match why {
-        FileRefusal::Missing => "there is no such file",
-        FileRefusal::Folder => "it is a folder",
-        FileRefusal::NotAllowed => "there is no permission to read it",
-        FileRefusal::TooLong => "it is too long",
-        FileRefusal::Other => "it cannot be read",
+        FileRefusal::Missing => Vec::from_slice(alloc, b"there is no such file"),
+        FileRefusal::Folder => Vec::from_slice(alloc, b"it is a folder"),
+        FileRefusal::NotAllowed => Vec::from_slice(alloc, b"there is no permission to read it"),
+        FileRefusal::TooLong(limit) => limit_text(alloc, limit),
+        FileRefusal::Other => Vec::from_slice(alloc, b"it cannot be read"),
     }
+}
+
+/// What a file has that is too long.
+fn limit_text(alloc: Global, limit: usize) -> Result<Vec<u8>, AllocError> {
+    let mut buffer = Buffer::new();
+    let mut text = Vec::from_slice(alloc, b"it has more than ")?;
+    text.extend_from_slice(buffer.format(limit).as_bytes())?;
+    text.extend_from_slice(b" bytes")?;
+    Ok(text)
 }

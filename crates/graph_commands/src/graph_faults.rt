@@ -3,11 +3,12 @@ ghost use Rattle.std.specs.Prelude.{◌≡◌};
 ghost use Rattle.graph_show.specs.graph_base.Graphs.{IsPlace, name_at};
 ghost use Rattle.graph_commands.specs.Failures.{HasPlace, failure_line};
 ghost use Rattle.graph_commands.specs.GraphRuns.{graph_line, job_line, kind_text, no_sink_line};
-ghost use Rattle.graph_commands.specs.GraphRuns.{samples_line, stalled_line, too_big_line};
+ghost use Rattle.graph_commands.specs.GraphRuns.{samples_line, stalled_line, told_name, too_big_line};
 ghost use Rattle.graph_show.specs.watched_io.Statuses.{Reports, Says};
 ghost use Rattle.graph_show.specs.watched_io.States.{writer_state};
 
 use crate::{Failure, JobFault};
+use graph_show::graph_lang::graph_text::are_printable;
 use graph_show::graph_lang::{FaultKind, Graph, GraphFault, Place};
 use graph_show::watched_io::{IoFault, Watched, report, say};
 use itoa::Buffer;
@@ -73,12 +74,23 @@ fn tell_job_fault<E: Write>(fault: &JobFault, faults: &mut Watched<E>)
     }
 }
 
+/// A name that no sink has, as it is told: a question mark where a byte of it is none of a line.
+fn told_name(name: &str) -> &str
+    ensures { result.now ≡ told_name name.now }
+{
+    if are_printable(name.as_bytes()) {
+        name
+    } else {
+        "?"
+    }
+}
+
 /// Tells that no sink has this name.
 fn tell_no_sink<E: Write>(name: &str, faults: &mut Watched<E>)
     ensures { Says (no_sink_line name.now)
         (writer_state E.contents faults.old) (writer_state E.contents faults.new) }
 {
-    let parts = ["phase: no sink ", name, "\n"];
+    let parts = ["phase: no sink ", told_name(name), "\n"];
     say(parts.as_slice(), faults);
 }
 

@@ -112,8 +112,33 @@ fn number_fault(digits: &[u8], has_minus: bool) -> &'static str {
     "out of range"
 }
 
+/// Whether the byte is a space or a tab.
+fn is_blank(b: u8) -> bool {
+    b == b' ' || b == b'\t'
+}
+
+/// Whether a blank stands at an end of a text.
+fn has_blank_end(text: &[u8]) -> bool {
+    match text {
+        [b, ..] if is_blank(*b) => true,
+        [.., b] => is_blank(*b),
+        _ => false,
+    }
+}
+
+/// Whether a text has a blank at an end, and is else of digits, minuses and blanks.
+fn is_number_in_blanks(text: &[u8]) -> bool {
+    let has_digit = text.iter().any(|b| b'0' <= *b && *b <= b'9');
+    has_digit
+        && has_blank_end(text)
+        && text.iter().all(|b| (b'0' <= *b && *b <= b'9') || *b == b'-' || is_blank(*b))
+}
+
 /// Why a field is no sample.
 fn field_fault(field: &[u8]) -> &'static str {
+    if is_number_in_blanks(field) {
+        return "a blank before or behind the number";
+    }
     match field {
         [b'-', digits @ ..] => number_fault(digits, true),
         [b'+', digits @ ..] if are_digits(digits) => "a sign or zero in front",

@@ -16,8 +16,8 @@ pub enum FileRefusal {
     Folder,
     /// It may not be read.
     NotAllowed,
-    /// It has more bytes than the limit.
-    TooLong,
+    /// It has more bytes than this limit.
+    TooLong(usize),
     /// It could not be opened, or a read failed, for another reason.
     Other,
 }
@@ -67,7 +67,7 @@ fn why_unopened(kind: ErrorKind) -> FileRefusal {
 fn why_refused<R: std::rt::Files>(rt: &R, name: &str, limit: usize) -> FileRefusal {
     match rt.metadata(name) {
         Ok(found) if found.is_dir() => FileRefusal::Folder,
-        Ok(found) if found.len() > limit as u64 => FileRefusal::TooLong,
+        Ok(found) if found.len() > limit as u64 => FileRefusal::TooLong(limit),
         Ok(_) => match File::open(rt, name) {
             Ok(_) => FileRefusal::Other,
             Err(error) => why_unopened(error.kind()),

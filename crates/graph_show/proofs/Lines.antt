@@ -5,7 +5,7 @@ use Rattle.std.proofs.lemmas.Option.{slice_get-get_or, slice_get-map}
 use Rattle.graph_lang.specs.declared.fault.GraphFault.{GraphFault}
 use Rattle.graph_lang.specs.graph_text.Texts.{is_line_feed, lines_of}
 use Rattle.graph_lang.specs.phase_base.Lists.{without_cr}
-use Rattle.graph_show.specs.Explanations.{ExplainsLine, Marks}
+use Rattle.graph_show.specs.Explanations.{ExplainsKind, ExplainsLine}
 
 -- a line of the text is the piece of that number, without the carriage return at its end
 slice_get-lines_of : (text : List ℕ) (pieces : List (Bor (List ℕ))) (i : ℕ) (d : Bor (List ℕ))
@@ -20,18 +20,18 @@ slice_get-lines_of text pieces i d cut within =
     )
     refl
 
--- what marks the line of a fault explains the fault
+-- what explains the line of a fault explains the fault
 pub explains-line : (text : List ℕ) (found : GraphFault) (pieces : List (Bor (List ℕ)))
     (piece : Bor (List ℕ)) (line more : List ℕ)
     → map (λ x. x.now) pieces ≡ slice_split is_line_feed text
     → found.line - 1 < length pieces → found.line - 1 + 1 ≡ found.line
     → piece ≡ get_or pieces (found.line - 1) piece → line ≡ without_cr piece.now
-    → Marks line more → ExplainsLine text found more
-explains-line text found pieces piece line more cut within counted piece_is line_is marks = record {
+    → ExplainsKind found.kind line more → ExplainsLine text found more
+explains-line text found pieces piece line more cut within counted piece_is line_is told = record {
   index = found.line - 1;
   line = line;
   numbered = counted;
   line_is = slice_get-lines_of text pieces (found.line - 1) piece cut within
       ∙ (ap (λ (p : Bor (List ℕ)). Some (without_cr p.now)) (sym piece_is) ∙ ap Some (sym line_is));
-  marks = marks;
+  explains = told;
 }

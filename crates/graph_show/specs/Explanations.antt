@@ -1,9 +1,11 @@
 -- What a person is told of the first fault of a graph's text: the faulty line, a mark under a place
 -- of it, and what was expected there.
-use Rattle.std.specs.Prelude.{◌≡◌, ◌⊎◌, ◌<◌, ◌≤◌, ◌+◌, ◌==◌, ℕ, List, [], ◌∷◌, length, map, take, replicate, codes, Some, if◌then◌else◌, slice_get}
+use Rattle.std.specs.Prelude.{◌≡◌, ◌⊎◌, ◌<◌, ◌≤◌, ◌+◌, ◌==◌, ℕ, List, [], ◌∷◌, ◌++◌, length, map, take, replicate, codes, Some, if◌then◌else◌, slice_get}
 use Rattle.std.specs.List.{concat}
+use Rattle.graph_lang.specs.declared.fault.FaultKind.{FaultKind}
 use Rattle.graph_lang.specs.declared.fault.GraphFault.{GraphFault}
 use Rattle.graph_lang.specs.graph_text.Texts.{is_printable, lines_of}
+use Rattle.graph_show.specs.Forms.{form_told}
 
 -- a byte as it is shown: one that no line may have is a question mark
 abbrev pub shown : ℕ → ℕ
@@ -28,13 +30,20 @@ pub record Marks (line more : List ℕ) : Type 0 where
   pub inside : start ≤ length line
   pub is : more ≡ marked_text line start count wanted
 
--- the text explains this fault of a graph's text: it marks the line of the fault
+-- it does, and where the fault of this kind is one of the grammar, the form of such a line stands
+-- behind that
+pub record ExplainsKind (kind : FaultKind) (line more : List ℕ) : Type 0 where
+  pub front : List ℕ
+  pub marks : Marks line front
+  pub is : more ≡ front ++ form_told kind line
+
+-- the text explains this fault of a graph's text, by the line of the fault
 pub record ExplainsLine (text : List ℕ) (found : GraphFault) (more : List ℕ) : Type 0 where
   pub index : ℕ
   pub line : List ℕ
   pub numbered : index + 1 ≡ found.line
   pub line_is : slice_get (lines_of text) index ≡ Some line
-  pub marks : Marks line more
+  pub explains : ExplainsKind found.kind line more
 
 -- the text explains this fault, or is nothing where the graph's text has no line of that number
 abbrev pub ExplainsFault : List ℕ → GraphFault → List ℕ → Type 0

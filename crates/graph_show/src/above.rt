@@ -117,6 +117,24 @@ impl<'a> Above<'a> {
         }
     }
 
+    /// The number of the only one of these lines whose task signals a phaser of this name, counted
+    /// from 1 in the text, or 0 where none does, or several do.
+    pub(crate) fn only_signaller(&self, name: &[u8]) -> usize {
+        let mut found = 0usize;
+        for i in 0..self.lines.len() {
+            if signals(&self.lines[i], name) {
+                if found != 0 {
+                    return 0;
+                }
+                found = match self.numbers.get(i) {
+                    Some(number) => *number,
+                    None => 0,
+                };
+            }
+        }
+        found
+    }
+
     /// A name that becomes this one by so many edits, fewer than this one has bytes, where one is
     /// declared, as that of a phaser or else as that of a task.
     fn near(&self, name: &[u8], edits: usize, is_phaser: bool) -> Option<&'a [u8]> {

@@ -1,10 +1,12 @@
 //! The explanation of a graph's fault.
 ghost use Rattle.std.specs.Prelude.{◌≡◌, ◌≤◌, length, map, take, replicate, IfOk};
 ghost use Rattle.std.specs.List.{flat_map};
-ghost use Rattle.graph_show.specs.Explanations.{ExplainsFault, Marks, blank_under, marked_text, shown};
+ghost use Rattle.graph_show.specs.Explanations.{ExplainsFault, ExplainsKind, Marks, blank_under};
+ghost use Rattle.graph_show.specs.Explanations.{marked_text, shown};
 
 use crate::above::Above;
 use crate::below::Below;
+use crate::forms::put_form;
 use crate::grammar::Reading;
 use crate::mark::{Mark, mark_of};
 use crate::parts::put;
@@ -120,9 +122,22 @@ fn wanted_at(alloc: Global, line: &[u8], mark: Mark<'_>) -> Result<Vec<u8>, Allo
     Ok(wanted)
 }
 
-/// Explains a fault of a line, by the lines above it and those below, and by the phaser on which
-/// tasks meet.
-fn line_explained<'a>(
+/// What was expected in place of the character that begins with these bytes, the first of which no
+/// line may have.
+fn bytes_wanted(rest: &[u8]) -> &'static [u8] {
+    match rest {
+        [0xE2, 0x86, 0x92, ..] => b"the two characters `->` in place of one arrow",
+        [0xE2, 0x86, 0x94, ..] => b"the three characters `<->` in place of one arrow",
+        [0xE2, 0x88, 0x92, ..] | [0xE2, 0x80, 0x93, ..] => b"`-` in place of a longer stroke",
+        [0xC2, 0xA0, ..] => b"a space in place of one at which no line breaks",
+        [0xEF, 0xBB, 0xBF, ..] => b"no byte order mark",
+        _ => b"bytes from 33 to 126, spaces and tabs alone",
+    }
+}
+
+/// Marks what is at fault in a line, by the lines above it and those below, and by the phaser on
+/// which tasks meet.
+fn line_marked<'a>(
     alloc: Global,
     above: &[&'a [u8]],
     below: &Below<'_, 'a>,
@@ -133,8 +148,8 @@ fn line_explained<'a>(
     ensures { IfOk result (λ text. Marks line.now text.items) }
 {
     if !are_printable(line) {
-        let wanted = b"bytes from 33 to 126, spaces and tabs alone";
-        return marked(alloc, line, bad_byte_of(line), 1, wanted);
+        let at = bad_byte_of(line);
+        return marked(alloc, line, at, 1, bytes_wanted(&line[at..]));
     }
     let words = words_of(alloc, line)?;
     let above = Above::of(alloc, above)?;
@@ -148,9 +163,27 @@ fn line_explained<'a>(
     marked(alloc, line, start_of(line, mark.word), count, &wanted)
 }
 
+/// Explains a fault of a line, as `line_marked` marks it, and tells the form of such a line where
+/// that one is not in the grammar.
+fn line_explained<'a>(
+    alloc: Global,
+    above: &[&'a [u8]],
+    below: &Below<'_, 'a>,
+    line: &'a [u8],
+    kind: FaultKind,
+    meeting: Option<&str>,
+) -> Result<Vec<u8>, AllocError>
+    ensures { IfOk result (λ text. ExplainsKind kind line.now text.items) }
+{
+    let mut text = line_marked(alloc, above, below, line, kind, meeting)?;
+    put_form(alloc, &mut text, line, kind)?;
+    Ok(text)
+}
+
 /// Explains the first fault of a graph's text: gives the faulty line, a mark under the word that is
-/// at fault, and what was expected there, a line each. Where the text has no line of that number,
-/// it gives nothing. It takes memory.
+/// at fault, and what was expected there, a line each; and where the line is not in the grammar,
+/// the form of a line that begins as it does. Where the text has no line of that number, it gives
+/// nothing. It takes memory.
 ///
 /// Where tasks meet on a phaser with `any`, the text alone does not tell on which of several
 /// outputs; `meeting` is the name of that phaser, where it is known. Else the task is marked.

@@ -17,6 +17,11 @@ pub(crate) struct Reading<'w, 'a> {
     pub(crate) wanted: Part,
 }
 
+/// Whether a task of this kind may have a parent, and a block.
+fn may_have_parent(kind: &[u8]) -> bool {
+    kind == b"source".as_slice() || kind == b"fir".as_slice() || kind == b"sink".as_slice()
+}
+
 impl<'w, 'a> Reading<'w, 'a> {
     /// Reads the words of a line, where this version of its text is known from the lines above.
     pub(crate) fn of(
@@ -46,10 +51,7 @@ impl<'w, 'a> Reading<'w, 'a> {
         if kind == b"phaser".as_slice() {
             return self.read_single();
         }
-        let may_have_parent = kind == b"source".as_slice()
-            || kind == b"fir".as_slice()
-            || kind == b"sink".as_slice();
-        if may_have_parent {
+        if may_have_parent(kind) {
             return self.read_ends(kind);
         }
         self.read_until("`until`, or the end of the line", "the end of the line")?;
@@ -138,6 +140,27 @@ impl<'w, 'a> Reading<'w, 'a> {
     /// Whether the text is of the second version.
     fn is_of_two(&self) -> bool {
         self.known == Some(Version::Two)
+    }
+
+    /// Whether an arrow is one of the words of the line.
+    pub(crate) fn has_arrow(&self) -> bool {
+        self.words.iter().any(|word| *word == b"->".as_slice())
+    }
+
+    /// Whether the first word that was not read may stand there in a text of the second version.
+    pub(crate) fn wants_two(&self) -> bool {
+        let is_end = matches!(self.wanted, Part::End(_));
+        let Some((_, kind)) = self.found.first() else {
+            return false;
+        };
+        if !is_end || self.is_of_two() {
+            return false;
+        }
+        // Behind the seven words of a sink with a parent.
+        let joins = self.found.len() == 7 && *kind == b"sink".as_slice();
+        let word = self.next();
+        (joins && word == b"now".as_slice())
+            || (may_have_parent(*kind) && word.starts_with(b"block="))
     }
 
     /// Reads the optional ends of a task that may have a parent.

@@ -5,11 +5,12 @@
 //! `until`, `now` and block, an arrow for each wait and each signal, and parents dashed to their
 //! children. `write_drawing` writes it; `drawing_text` gives it as bytes.
 //!
-//! A fault is explained by its line, with the word that is at fault marked, and by what was
-//! expected in its place: by `explanation`.
+//! A fault is explained by its line, with the word that is at fault marked, by what was expected in
+//! its place, and where the line is not in the grammar by the form of such a line: by
+//! `explanation`.
 //!
-//! Proved: how the lines of an explanation are laid out, and that the marked place is one of the
-//! faulty line. Only tested: which word is marked, and what is said to be expected.
+//! Proved: how the lines of an explanation are laid out, that the marked place is one of the faulty
+//! line, and the form. Only tested: which word is marked, and what is said to be expected.
 #![tactic(auto)]
 
 mod above;
@@ -18,6 +19,7 @@ mod below;
 mod drawing;
 mod explain_parts;
 mod explained;
+mod forms;
 mod grammar;
 mod limits;
 mod mark;

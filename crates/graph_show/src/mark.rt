@@ -60,11 +60,25 @@ fn is_behind_file_arrow(found: &[Known<'_>]) -> bool {
     }
 }
 
+/// Whether the last of these words is the name of a file.
+fn is_behind_file(found: &[Known<'_>]) -> bool {
+    match found.last() {
+        Some((part, _)) => matches!(*part, Part::File),
+        None => false,
+    }
+}
+
 /// The first word that is not in the grammar, or an arrow that was taken for the name of a file.
 fn syntax_mark<'a>(reading: &Reading<'_, 'a>) -> Mark<'a> {
     let word = reading.found.len();
     if is_behind_file_arrow(&reading.found) {
         return Mark::text(word.saturating_sub(1), "the name of a file before `->`");
+    }
+    if is_behind_file(&reading.found) && reading.has_arrow() {
+        return Mark::text(word, "`->`: the name of a file is one word, without blanks");
+    }
+    if reading.wants_two() {
+        return Mark::text(word, "text 2 for this word: `graph 2` as the first line");
     }
     let wanted = reading.wanted.wanted_for(reading.next());
     Mark { word, wanted }
@@ -249,7 +263,8 @@ fn order_mark<'a>(found: &[Known<'a>], above: &Above<'_>) -> Mark<'a> {
         if part.is_output() {
             let place = above.place_of(name).unwrap_or(0);
             if place < lowest {
-                let wanted = "a phaser that is declared below those before it on the line";
+                let wanted = "a phaser that is declared below those before it on the line: a graph \
+                    has no feedback";
                 return Mark::text(word, wanted);
             }
             if matches!(part, Part::Exchange) {
@@ -315,6 +330,15 @@ fn meeting_count(found: &[Known<'_>], above: &Above<'_>) -> usize {
     count
 }
 
+/// This word and this text, and the line that signals a phaser, where its number is not 0.
+fn signalled_mark<'a>(word: usize, text: &'static str, line: usize) -> Mark<'a> {
+    if line == 0 {
+        return Mark::text(word, text);
+    }
+    let wanted = Wanted::with_line(text, line, " signals it");
+    Mark { word, wanted }
+}
+
 /// The output on which the task meets another, where it is known, or the only one on which it may;
 /// else the task.
 fn meeting_mark<'a>(found: &[Known<'a>], above: &Above<'_>, meeting: Option<&str>) -> Mark<'a> {
@@ -327,7 +351,7 @@ fn meeting_mark<'a>(found: &[Known<'a>], above: &Above<'_>, meeting: Option<&str
         };
         if part.is_output() && is_known {
             let wanted = "a phaser that no task of a line above signals in the same phase";
-            return Mark::text(word, wanted);
+            return signalled_mark(word, wanted, above.only_signaller(name));
         }
     }
     Mark::text(

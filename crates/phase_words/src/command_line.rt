@@ -13,7 +13,7 @@ ghost use Rattle.phase_words.specs.CommandLine.{explain_rule, graph_app, graph_r
 ghost use Rattle.phase_words.specs.CommandLine.{phase_app, replay_by, replay_shape, script_rule};
 ghost use Rattle.phase_words.specs.CommandLine.{sink_rule, strict_of, strict_rule, texts};
 
-use crate::escape::escaped;
+use crate::escape::refusal_text;
 use crate::help::{
     ABOUT, CHECK, CHECK_END, DRAW, DRAW_END, END, EVAL, EVAL_END, EXPLAIN, GRAPH, REPLAY, SCRIPT,
     SINK, STRICT, VERSION,
@@ -311,7 +311,7 @@ pub(crate) fn no_call(alloc: Global, error: &Error) -> NoCall
     if is_shown(kind) {
         return NoCall::Shown(text);
     }
-    match escaped(alloc, &text) {
+    match refusal_text(alloc, &text, kind) {
         Ok(text) => NoCall::Refused(text),
         Err(_) => NoCall::OutOfMemory,
     }

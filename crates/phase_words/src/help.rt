@@ -67,9 +67,12 @@ Example, with the reply to each line and what it means:
   wait 0            value 0 7    phase 0 is complete, and its value is 7
 A line that is no call is answered by `bad line`.
 
-Programs of their own are `phase run GRAPH`, which runs the tasks of a graph on
-threads, and `phase stream GRAPH`, which writes the values of a sink as samples
-come: `phase run --help` and `phase stream --help` tell of them.
+More commands, of which `phase run --help` and `phase stream --help` tell more:
+  run     Writes the values of each sink of a graph, by a run on threads
+  stream  Writes the values of a sink of a graph, as its samples come
+
+Behind each command on a graph --explain says more of a fault, with a mark under
+the word, and of a graph that is checked.
 
 Exit status: 0 done; 1 a graph or its samples are refused, or a line of a strict
 replay; 2 the words were not understood; 3 a value of a graph is out of range; 4

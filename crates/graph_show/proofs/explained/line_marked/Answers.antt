@@ -1,16 +1,15 @@
-use Rattle.std.proofs.Common.{codes}
 use Rattle.std.proofs.lemmas.Result.{IfOk-weaker}
-use Rattle.graph_show.proofs.explained.line_explained.Goals as goal
+use Rattle.graph_show.proofs.explained.line_marked.Goals as goal
 
--- the first byte that no line may have is marked
+-- the first byte that no line may have is marked, with what was expected there
 pub returns-then-not-are_printable : goal.returns-then-not-are_printable
 returns-then-not-are_printable c =
     IfOk-weaker c.marked.result _ _
     (λ text is. record {
-      start = c.bad_byte_of.result;
+      start = c.bad_byte_of-at.result;
       count = 1;
-      wanted = codes "bytes from 33 to 126, spaces and tabs alone";
-      inside = c.bad_byte_of.ensures;
+      wanted = c.bytes_wanted.result.now;
+      inside = c.bad_byte_of-at.ensures;
       is = is;
     }) c.marked.ensures
 
