@@ -1,5 +1,5 @@
 -- Which command the words of the program are for.
-use Rattle.std.specs.Prelude.{List, [], ◌∷◌, codes, if◌then◌else◌}
+use Rattle.std.specs.Prelude.{List, [], ◌∷◌, Bool, true, false, codes, if◌then◌else◌}
 use Rattle.std.specs.Str.{bytes_eq}
 use Rattle.clap.specs.Words.{Text}
 
@@ -28,3 +28,9 @@ abbrev pub way_of : List Text → Way
 way_of [] = others
 way_of (first ∷ behind) =
     if bytes_eq first (codes "help") then way_helped behind else way_named first behind
+
+-- the words are none, or `replay` alone
+abbrev pub is_bare : List Text → Bool
+is_bare [] = true
+is_bare (word ∷ []) = bytes_eq word (codes "replay")
+is_bare (first ∷ second ∷ more) = false

@@ -1,6 +1,6 @@
 //! Which command the words are for.
 ghost use Rattle.std.specs.Prelude.{◌≡◌, ◌∷◌, IfOk, [], codes};
-ghost use Rattle.phase.specs.Ways.{way_named, way_of};
+ghost use Rattle.phase.specs.Ways.{is_bare, way_named, way_of};
 ghost use Rattle.phase.specs.Standing.{own_texts, way_by};
 ghost use Rattle.phase_commands.specs.phase_words.CommandLine.{texts};
 
@@ -47,6 +47,17 @@ pub(crate) fn way_of(words: &[String]) -> Way<'_>
         [first, name, ..] if first.as_str() == "help" => way_named(name.as_str(), Own::Help),
         [first, behind @ ..] => way_named(first.as_str(), Own::Behind(behind)),
         [] => Way::Others,
+    }
+}
+
+/// Whether the words are none, or `replay` alone.
+pub(crate) fn is_bare(words: &[String]) -> bool
+    ensures { result ≡ is_bare (texts words.now) }
+{
+    match words {
+        [] => true,
+        [word] => word.as_str() == "replay",
+        _ => false,
     }
 }
 

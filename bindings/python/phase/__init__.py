@@ -13,8 +13,8 @@ array([1, 3, 5])
 
 The file behind a source's name is not read: its samples are the array that is given. `Stream` is a
 graph that is fed block by block, `Fir` a filter over blocks, `Phaser` a phaser whose calls never
-block, and `SharedPhaser` one between threads. The library is libphase.so in the folder lib beside
-this one, which scripts/bind makes, or the one that PHASE_LIB names.
+block, and `SharedPhaser` one between threads. The library is the one that PHASE_LIB names, or
+libphase.so in this folder, where the wheel has it, or in bindings/lib, where scripts/bind makes it.
 
 What is refused raises an `Error`; want of memory is a MemoryError, and what is no whole number, or
 no text, a TypeError.
@@ -36,8 +36,8 @@ import numpy
 from numpy.typing import ArrayLike, NDArray
 
 if TYPE_CHECKING:
-    from phase_shared import Registration, SharedPhaser, Signalled
-    from phase_stream import NoStream, Stalled, Stream
+    from .shared import Registration, SharedPhaser, Signalled
+    from .stream import NoStream, Stalled, Stream
 
 __all__ = [
     "check", "names", "eval", "Counts", "Names", "Values", "Fir", "Stream", "Stalled", "NoStream",
@@ -51,7 +51,7 @@ __all__ = [
 ]
 
 # The version, as 10,000 * major + 100 * minor + patch, which the library has to have, too.
-VERSION = 100
+VERSION = 200
 __version__ = f"{VERSION // 10000}.{VERSION // 100 % 100}.{VERSION % 100}"
 
 OK = 0
@@ -168,11 +168,11 @@ NO_SINGLE, NEG, ABS, HALVE, CLAMP = Single
 def __getattr__(name: str) -> Any:
     """What the files have that stand on this one."""
     for file, names in (
-        ("phase_shared", ("SharedPhaser", "Registration", "Signalled")),
-        ("phase_stream", ("Stream", "Stalled", "NoStream")),
+        ("shared", ("SharedPhaser", "Registration", "Signalled")),
+        ("stream", ("Stream", "Stalled", "NoStream")),
     ):
         if name in names:
-            return getattr(importlib.import_module(file), name)
+            return getattr(importlib.import_module("." + file, __name__), name)
     raise AttributeError(f"module {__name__!r} has no attribute {name!r}")
 
 
@@ -445,9 +445,16 @@ class _Standing(ctypes.Structure):
     ]
 
 
-def _load():
+def _found():
+    """Where the library is, or is looked for last."""
     here = os.path.dirname(os.path.abspath(__file__))
-    name = os.environ.get("PHASE_LIB") or os.path.join(here, "..", "lib", "libphase.so")
+    packed = os.path.join(here, "libphase.so")
+    made = os.path.join(here, "..", "..", "lib", "libphase.so")
+    return os.environ.get("PHASE_LIB") or (packed if os.path.exists(packed) else made)
+
+
+def _load():
+    name = _found()
     if not os.path.exists(name):
         raise ImportError(f"there is no {name}: make it by scripts/bind, or name it in PHASE_LIB")
     lib = ctypes.CDLL(name)
