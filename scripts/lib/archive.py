@@ -82,10 +82,12 @@ def lay_files(folder):
     """Puts what stands in files into the folder of the archive."""
     for here, there in FILES.items():
         path = os.path.join(TOP, here)
-        names = [here] if os.path.isfile(path) else git("ls-files", "-z", here).strip("\0").split("\0")
+        names = [here] if os.path.isfile(path) else git("ls-files", here).split("\n")
         for name in names:
-            to = os.path.join(folder, there + name[len(here) :])
-            put(bytes_of(os.path.join(TOP, name)), to)
+            # The tests of a crate want the repository.
+            if "/tests/" not in name:
+                to = os.path.join(folder, there + name[len(here) :])
+                put(bytes_of(os.path.join(TOP, name)), to)
     os.makedirs(os.path.dirname(os.path.join(folder, PACKED)))
     os.link(os.path.join(folder, "lib/libphase.a"), os.path.join(folder, PACKED))
     for name, to in LINKS.items():

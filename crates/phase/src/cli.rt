@@ -89,8 +89,8 @@ fn stream_own<H: Wait, W: Write, E: Write, F: Opens + Refuses>(
     own: Own<'_>,
     streams: &mut Streams<W, E, F>,
 ) -> Status
-    ensures answers { StreamAnswers (own_texts own.entry) (F.file streams.old.files) W.contents result
-        streams.old.files streams.new.files streams.old.output streams.new.output
+    ensures answers { StreamAnswers (own_texts own.entry) (F.file streams.old.files) W.contents
+        result streams.old.files streams.new.files streams.old.output streams.new.output
         (writer_state E.contents streams.old.faults)
         (writer_state E.contents streams.new.faults) }
     ensures quiet { result ≡ Status.Done → streams.new.faults ≡ streams.old.faults }
