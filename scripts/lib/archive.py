@@ -136,8 +136,7 @@ def pack(folder, archive, epoch):
                 entry.type, entry.linkname = tarfile.LNKTYPE, known[found.st_ino]
             else:
                 known[found.st_ino], entry.size = entry.name, found.st_size
-            with open(path, "rb") as file:
-                tar.addfile(entry, file if entry.isreg() else None)
+            tar.addfile(entry, io.BytesIO(bytes_of(path)) if entry.isreg() else None)
     with open(archive, "wb") as file:
         with gzip.GzipFile("", "wb", 9, file, mtime=0) as out:
             out.write(whole.getvalue())
