@@ -77,13 +77,13 @@ def nothing_else():
 def unpacked():
     """The archive is unpacked, small, and its sums agree."""
     [archive] = glob.glob("/tried/*.tar.gz")
-    wants(os.path.getsize(archive) < 3_000_000, f"it has {os.path.getsize(archive)} bytes")
     said(f"mkdir phase && tar -xzf {archive} -C phase --strip-components=1")
     said("sha256sum --strict --quiet -c SHA256SUMS", PREFIX)
     names = said("find . -type f ! -name SHA256SUMS", PREFIX).splitlines()
     with open(os.path.join(PREFIX, "SHA256SUMS"), encoding="utf-8") as sums:
         wants(len(sums.readlines()) == len(names), "there are files without a sum")
     print(f"{os.path.getsize(archive)} bytes, {len(names)} files")
+    wants(os.path.getsize(archive) < 3_000_000, "that is too much")
 
 
 def links_little():

@@ -33,7 +33,7 @@ mod records;
 mod refused;
 mod sinks;
 mod sources;
-mod stall_told;
+mod stalls;
 
 pub use answered::{check, eval};
 pub use asked::{AskedJob, read_asked, write_sinks};
@@ -48,5 +48,5 @@ pub use lines::{write_lines, write_values};
 pub use refused::{FileRefusal, Refuses, TellingFiles};
 pub use sinks::find_sink;
 pub use sources::read_sources;
-pub use stall_told::stall_told;
+pub use stalls::stall_told;
 pub use stream_eval::stream_lists;
