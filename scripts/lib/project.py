@@ -67,7 +67,7 @@ def sources_sum(name):
 def keep_verdict(name, log):
     """Keeps what the prover told of a crate, by the log of its build, beside the crate's sum."""
     for line in log.splitlines():
-        told = re.match(r"logic=proved functions=\d+( may-wait=\d+)? sum=\w+", line)
+        told = re.match(r"logic=proved( (functions|may-wait|axioms|target|cpu|sum)=\S+)+", line)
         if told:
             path = os.path.join(TOP, "crates", name, "out", "verdict")
             with open(path, "w", encoding="utf-8") as it:
