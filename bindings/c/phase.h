@@ -27,8 +27,8 @@
 extern "C" {
 #endif
 
-/* The version, 0.1.0: 10,000 times the first number, 100 times the second, and the third. */
-#define PHASE_VERSION 100
+/* The version, 0.2.0: 10,000 times the first number, 100 times the second, and the third. */
+#define PHASE_VERSION 200
 
 /* The statuses. Those of phasers and of streams stand further below. */
 enum {

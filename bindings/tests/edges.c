@@ -533,7 +533,7 @@ static void four_threads(void)
 
 int main(void)
 {
-    look("the version of the header", phase_version() == PHASE_VERSION && phase_version() == 100);
+    look("the version of the header", phase_version() == PHASE_VERSION && phase_version() == 200);
     check_edges();
     names();
     all_names();

@@ -219,6 +219,6 @@ def by_threads():
 
 
 look("four threads at one filter", len(set(by_threads())) == 2000)
-look("the version", phase.__version__ == "0.1.0")
+look("the version", phase.__version__ == "0.2.0")
 look("all names are there", all(hasattr(phase, it) for it in phase.__all__))
 sys.exit(failed != 0)

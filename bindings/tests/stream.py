@@ -14,7 +14,7 @@ import tracemalloc
 import numpy
 
 import phase
-import phase_stream
+from phase import stream as phase_stream
 
 PASS = "phaser x sum 4\nsource s s.csv -> x\nsink out x\n"
 BOTH = "phaser x sum 4\nsource s s.csv -> x\nsource t t.csv -> x\nsink out x\n"

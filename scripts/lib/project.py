@@ -1,4 +1,5 @@
 """The checkout in which a script stands: its crates, its programs, and the other scripts."""
+import hashlib
 import importlib.machinery
 import importlib.util
 import os
@@ -51,6 +52,40 @@ def built(program):
     if os.environ.get("PHASE_UNPROVED") and os.path.exists(f"{path}.unproved"):
         return f"{path}.unproved"
     return path
+
+
+def sources_sum(name):
+    """A sum of all files that a crate is proved from."""
+    found, folder = hashlib.sha256(), os.path.join(TOP, "crates", name)
+    for part in ("src", "specs", "proofs"):
+        for place, folders, files in os.walk(os.path.join(folder, part)):
+            folders.sort()
+            for file in sorted(files):
+                path = os.path.join(place, file)
+                with open(path, "rb") as it:
+                    one = hashlib.sha256(it.read()).hexdigest()
+                found.update(f"{os.path.relpath(path, folder)} {one}\n".encode())
+    return found.hexdigest()
+
+
+def keep_verdict(name, log):
+    """Keeps what the prover told of a crate, by the log of its build, beside the crate's sum."""
+    for line in log.splitlines():
+        told = re.match(r"logic=proved( (functions|may-wait|axioms|target|cpu|sum)=\S+)+", line)
+        if told:
+            path = os.path.join(TOP, "crates", name, "out", "verdict")
+            with open(path, "w", encoding="utf-8") as it:
+                it.write(f"{sources_sum(name)} {told[0]}\n")
+
+
+def verdict(name):
+    """What the prover told of a crate, as it stands, or nothing."""
+    path = os.path.join(TOP, "crates", name, "out", "verdict")
+    if not os.path.isfile(path):
+        return ""
+    with open(path, encoding="utf-8") as it:
+        kept, _, told = it.read().strip().partition(" ")
+    return told if kept == sources_sum(name) else ""
 
 
 def proves(*words):

@@ -158,8 +158,7 @@ class Maker:
 def ended(folder, *words, **settings):
     """The status and both streams of the program of these words, in an environment with these
     settings; the status is None where it took too long."""
-    is_own = words[0] in ("run", "stream")
-    own = [project.built(f"phase_{words[0]}" if is_own else "phase_cli"), *words[is_own:]]
+    own = [project.built("phase" if words[0] in ("run", "stream") else "phase_cli"), *words]
     try:
         done = subprocess.run(
             own, cwd=folder, capture_output=True, timeout=60, stdin=subprocess.DEVNULL,

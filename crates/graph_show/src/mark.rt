@@ -255,6 +255,10 @@ fn lowest_input(found: &[Known<'_>], above: &Above<'_>) -> usize {
     lowest
 }
 
+/// What is wanted of an output.
+const NO_FEEDBACK: &str =
+    "a phaser that is declared below those before it on the line: a graph has no feedback";
+
 /// The output that is declared above an input.
 fn order_mark<'a>(found: &[Known<'a>], above: &Above<'_>) -> Mark<'a> {
     let mut lowest = lowest_input(found, above);
@@ -263,9 +267,7 @@ fn order_mark<'a>(found: &[Known<'a>], above: &Above<'_>) -> Mark<'a> {
         if part.is_output() {
             let place = above.place_of(name).unwrap_or(0);
             if place < lowest {
-                let wanted = "a phaser that is declared below those before it on the line: a graph \
-                    has no feedback";
-                return Mark::text(word, wanted);
+                return Mark::text(word, NO_FEEDBACK);
             }
             if matches!(part, Part::Exchange) {
                 lowest = place;

@@ -12,9 +12,9 @@ use Rattle.phase_c.specs.Refusals.{RefusesEval, RefusesText}
 use Rattle.phase_c.specs.declared.refusal.Refusal.{Refusal}
 use Rattle.phase_c.specs.declared.refusal.Refusal.TheVariants as refusal
 
--- the version of the library, 0.1.0, as a number
+-- the version of the library, 0.2.0, as a number
 abbrev pub version : ℕ
-version = 0 * 10000 + 1 * 100 + 0
+version = 0 * 10000 + 2 * 100 + 0
 
 -- the status of a refusal, from -1 on downwards
 abbrev pub status_of : Refusal → ℤ

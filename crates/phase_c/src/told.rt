@@ -6,7 +6,7 @@ use crate::refusal::Refusal;
 use graph_numbers::{NO_FAULT, PhaseFault, graph_fault, too_big_fault};
 
 /// The version of the library: 10,000 times its first number, 100 times its second, and its third.
-pub const VERSION: u32 = 100;
+pub const VERSION: u32 = 200;
 
 /// What a refusal tells beside its status.
 pub(crate) fn fault_of(why: Refusal) -> PhaseFault

@@ -1,14 +1,12 @@
-//! The program `phase`: it replays scripts of calls on a phaser, from its input to its output, and
-//! checks, evaluates and draws graphs of filters over phasers.
+//! The program `phase` without its commands `run` and `stream`: it replays scripts of calls on a
+//! phaser, from its input to its output, and checks, evaluates and draws graphs of filters over
+//! phasers.
 #![tactic(auto)]
 
-mod cli;
-mod laws;
-
-use cli::run_cli;
-use graph_commands::TellingFiles;
-use phase_replay::Watched;
-use phase_replay::watched_io::{Streams, own_words, refuse_words};
+use phase_commands::graph_commands::TellingFiles;
+use phase_commands::phase_replay::Watched;
+use phase_commands::phase_replay::watched_io::{Streams, own_words, refuse_words};
+use phase_commands::run_cli;
 use std::process::ExitCode;
 
 fn main(rt: HostRuntime) -> ExitCode {

@@ -114,7 +114,9 @@ pub too_big_there : {R : Type 0} (remaining : R → Option (List ℕ)) (held : K
 too_big_there remaining held old now session at n there st =
     let stands = st.stands in
     let machine = stands.reaches.at.machine in
-    of at (there _ (at, n) (st.stopped_is stands.samples
+    let job = started (with_samples stands.samples session.stream.job) stands.moment in
+    of job at
+    (there job (at, n) (st.stopped_is stands.samples
     (fed_self session.stream.job (ended_at session.stream) stands.samples)
     (record { graph = machine.graph; apart = machine.apart })))
   where
@@ -124,10 +126,9 @@ too_big_there remaining held old now session at n there st =
       stays = λ t lt source over. refl;
     }
 
-    of : (at : Place) → IsPlaceThere (started (with_samples stands.samples session.stream.job) stands.moment) (at, n)
-        → IsPlace session.stream.job.graph at
-    of (place.Phaser p) is = is
-    of (place.Task t) is = is
+    of : (job : Job) (at : Place) → IsPlaceThere job (at, n) → IsPlace job.graph at
+    of job (place.Phaser p) is = is
+    of job (place.Task t) is = is
 
 pub lack_stops : {R : Type 0} (held : Known) (old new : WriterState) (first session : Session R)
     (found : Failure) → IsSameSession first session

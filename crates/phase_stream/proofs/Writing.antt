@@ -2,7 +2,6 @@
 use Rattle.std.proofs.Common.{◌≡◌, ◌<◌, ◌++◌, ℕ, ℤ, Bool, true, false, eqb, List, [], ◌∷◌, Option, Some, None, Ok, Err, length, get_or, map, zero, suc, refl, sym, ap, subst, ◌∙◌, append_assoc, rules, arith}
 use Rattle.std.proofs.lemmas.Bool.{eq-eqb, eqb-true}
 use Rattle.std.specs.List.{flat_map}
-use Rattle.std.specs.Io.KnownBytes.{Appends}
 use mathlib.Core.List.{IsPrefix}
 use Rattle.graph_commands.specs.FileJobs.{Known}
 use Rattle.graph_commands.specs.GraphRuns.{sinks_text}

@@ -6,8 +6,6 @@ use mathlib.Core.List.{IsPrefix}
 use Rattle.graph_commands.specs.FileJobs.{Known}
 use Rattle.graph_commands.specs.OutputTexts.{value_text}
 use Rattle.graph_commands.specs.watched_io.Prefix.{AppendsPrefix}
-use Rattle.graph_commands.specs.watched_io.declared.fault.IoFault.TheVariants.{OutOfMemory}
-use Rattle.stream_job.specs.graph_base.declared.place.Place.{Place}
 use Rattle.graph_commands.specs.declared.failure.Failure.{Failure}
 use Rattle.graph_commands.specs.declared.failure.Failure.TheVariants as failure
 use Rattle.graph_commands.specs.declared.fault.JobFault.{JobFault}

@@ -97,6 +97,7 @@ impl<R: Read + Drop> Session<R> {
         ensures err { OnErr result ((held : Known) (old : Option (List ℕ))
             → StandsBy R.remaining held old (W.contents (inner_of output.old)) self.old
             → StandsPart held old (W.contents (inner_of output.new)) self.new) }
+        ensures right { OnErr result (IsKeptRight self.new.stream self.new.task) }
         ensures failed { IsErrOf result io_fault.WriteFault → has_failed_of output.new ≡ true }
         ensures fault { IfErr result (λ fault. fault ≢ io_fault.ReadFault) }
         ensures same { IsSameSession self.old self.new }
@@ -110,7 +111,10 @@ impl<R: Read + Drop> Session<R> {
         };
         match self.hand_over(output) {
             Ok(()) => Ok(stop),
-            Err(_) => Err(IoFault::WriteFault),
+            Err(_) => {
+                self.kept_is_right();
+                Err(IoFault::WriteFault)
+            }
         }
     }
 

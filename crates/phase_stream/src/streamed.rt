@@ -3,6 +3,7 @@ ghost use Rattle.std.specs.Prelude.{◌≡◌, ℕ, List, Option, OnOk, IfOk, If
 ghost use Rattle.std.specs.Io.KnownBytes.{Appends};
 ghost use Rattle.graph_commands.specs.Explained.{IsTextOf};
 ghost use Rattle.graph_commands.specs.Failures.{HasPlace};
+ghost use Rattle.graph_commands.specs.declared.failure.Failure.TheVariants as failure;
 ghost use Rattle.graph_commands.specs.FileJobs.{IsGraphOf, Known};
 ghost use Rattle.graph_commands.specs.watched_io.States.{WriterState, writer_state};
 ghost use Rattle.graph_commands.specs.watched_io.Watched.{inner_of};
@@ -21,8 +22,9 @@ use sample_pieces::graph_lang::{FaultKind, GraphFault, read_graph};
 use std::alloc::Global;
 use std::io::Write;
 use std::sync::Wait;
+use stream_job::graph_base::Place;
 use stream_job::graph_runs::outcomes;
-use stream_job::{JobRefusal, Stopped, Stream};
+use stream_job::{Job, JobRefusal, Stopped, Stream};
 
 /// What stands in place of a name where there are several sinks, or none, and none is named.
 const UNNAMED: &str = "is named";
@@ -138,18 +140,14 @@ fn go<'a, H: Wait, W: Write, F: Opens>(
     for _ in rt.forever() {
         let stop = match session.turn(output) {
             Ok(stop) => stop,
-            Err(fault) => {
-                session.kept_is_right();
-                return Err(Failure::Io(fault));
-            }
+            Err(fault) => return Err(Failure::Io(fault)),
         };
         match stop {
             Stopped::Done => return Ok(()),
             Stopped::Hungry { source } => {
                 session.close_left();
-                match session.refill(alloc, files, &mut room, source) {
-                    Ok(()) => {}
-                    Err(lack) => return Err(session.lacking(alloc, source, lack)),
+                if let Err(lack) = session.refill(alloc, files, &mut room, source) {
+                    return Err(session.lacking(alloc, source, lack));
                 }
             }
             Stopped::Full { .. } | Stopped::Paused => {}
@@ -161,13 +159,20 @@ fn go<'a, H: Wait, W: Write, F: Opens>(
             Stopped::TooBig { place, phase } => {
                 session.kept_is_right();
                 outcomes::faults_are_there();
-                return Err(Failure::TooBig {
-                    job: session.into_job(),
-                    place,
-                    phase: phase as usize,
-                });
+                return Err(too_big(session.into_job(), place, phase));
             }
         }
     }
     unreachable!()
+}
+
+/// A value of a job that is out of range.
+fn too_big<'a>(job: Job, place: Place, phase: u64) -> Failure<'a>
+    ensures { result ≡ failure.TooBig job place phase }
+{
+    Failure::TooBig {
+        job,
+        place,
+        phase: phase as usize,
+    }
 }

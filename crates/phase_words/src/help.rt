@@ -8,7 +8,7 @@ read from standard input, a call a line, and each line is answered by one line
 on standard output.";
 
 /// The version of the program and of its libraries.
-pub(crate) const VERSION: &str = "0.1.0";
+pub(crate) const VERSION: &str = "0.2.0";
 
 /// What `replay` does, in the list of commands.
 pub(crate) const REPLAY: &str = "Replays the script, as `phase` with no command does";

@@ -14,15 +14,15 @@ use Rattle.stream_eval.specs.stream_lists.declared.stand.Stand.{Stand}
 use Rattle.stream_job.specs.Standing.{standing_on}
 use Rattle.stream_job.specs.Streams.{all_tasks}
 
--- the end at which a task makes its next call
-abbrev pub end_of : Next → End
-end_of nexts.is_not_live = end.Nowhere
-end_of (nexts.registers c) = end.Nowhere
-end_of nexts.leaves = end.Nowhere
-end_of nexts.samples = end.Output 0
-end_of (nexts.signals j) = end.Output j
-end_of (nexts.waits k) = end.Input k
-end_of nexts.exchanges = end.Input 1
+-- the end at which a task makes this call next
+abbrev pub call_end : Next → End
+call_end nexts.is_not_live = end.Nowhere
+call_end (nexts.registers c) = end.Nowhere
+call_end nexts.leaves = end.Nowhere
+call_end nexts.samples = end.Output 0
+call_end (nexts.signals j) = end.Output j
+call_end (nexts.waits k) = end.Input k
+call_end nexts.exchanges = end.Input 1
 
 -- where task t, whose next call is at this end, stands by its registration k, while it is there
 abbrev pub stand_by : Job → Moment → ℕ → End → ℕ → Option Stand
@@ -41,7 +41,7 @@ stand_by job m t next k = option_map with (standing_on job m t k)
 -- where task t stands on its phasers, in the order of its registrations
 abbrev pub stands_of : Job → Moment → ℕ → List Stand
 stands_of job m t =
-    filter_map (stand_by job m t (end_of (next_of job m t)))
+    filter_map (stand_by job m t (call_end (next_of job m t)))
     (range_with_len 0 (length (registrations_at job t)))
 
 -- where all tasks stand

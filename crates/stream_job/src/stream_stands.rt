@@ -5,7 +5,7 @@ ghost use Rattle.graph_runs.specs.Moments.{Moment};
 ghost use Rattle.graph_runs.specs.Nexts.{next_of, registrations_at};
 ghost use Rattle.stream_eval.specs.stream_lists.Jobs.{with_samples};
 ghost use Rattle.stream_job.specs.Machines.{next_by};
-ghost use Rattle.stream_job.specs.Stands.{end_of, stand_by, stands_at, stands_of};
+ghost use Rattle.stream_job.specs.Stands.{call_end, stand_by, stands_at, stands_of};
 
 use crate::step::Step;
 use crate::stream::Stream;
@@ -36,7 +36,7 @@ impl Stream {
             → IsStreamAt self.now s m given → stands.new.items
             ≡ stands.old.items ++ stands_of (with_samples s self.now.job) m t) }
     {
-        let end = end_of(self.step(t));
+        let end = call_end(self.step(t));
         for k in 0..self.job.graph().registrations(t) {
             if let Some(stand) = self.stand_by(t, end, k) {
                 stands.push(stand)?;
@@ -66,8 +66,8 @@ impl Stream {
 }
 
 /// The end at which a task makes its next call.
-fn end_of(step: Step) -> End
-    ensures { result ≡ end_of (next_by step) }
+fn call_end(step: Step) -> End
+    ensures { result ≡ call_end (next_by step) }
 {
     match step {
         Step::NotLive | Step::Register { .. } | Step::Leave => End::Nowhere,

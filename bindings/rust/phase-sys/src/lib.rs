@@ -9,7 +9,7 @@ mod stream;
 pub use shared::*;
 pub use stream::*;
 
-pub const PHASE_VERSION: u32 = 100;
+pub const PHASE_VERSION: u32 = 200;
 
 pub const PHASE_OK: i32 = 0;
 pub const PHASE_E_GRAPH: i32 = -1;

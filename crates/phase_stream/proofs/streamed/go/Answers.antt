@@ -1,6 +1,11 @@
 -- A turn more, and what stops it.
-use Rattle.std.proofs.Common.{[], Err, refl, ap, subst, ◌∙◌}
+use Rattle.std.proofs.Common.{Err, refl, ap, subst, sym, ◌∙◌}
+use Rattle.graph_commands.specs.Failures.{HasPlace}
+use Rattle.graph_commands.specs.declared.failure.Failure.TheVariants as failure
+use Rattle.stream_job.specs.graph_base.Graphs.{IsPlace}
+use Rattle.stream_job.specs.stream_lists.Jobs.{Job}
 use Rattle.phase_stream.specs.Sessions.{StandsStopped}
+use Rattle.phase_stream.specs.Streams.{StopsOf}
 use Rattle.phase_stream.proofs.Standing.{same_session}
 use Rattle.phase_stream.proofs.Stopping.{done_writes, held_later, io_stops, lack_stops, sink_same, stall_stops, too_big_stops, too_big_there}
 use Rattle.phase_stream.proofs.streamed.go.Goals as goal
@@ -15,19 +20,13 @@ loop-init g c = (
 pub turn-requires : goal.turn-requires
 turn-requires g c = sink_same c.args.session c.loop.session c.loop.invariant.0 c.requires.sink
 
-pub kept_is_right-requires : goal.kept_is_right-requires
-kept_is_right-requires g c =
-    sink_same c.args.session c.turn.new.self
-    (same_session c.args.session c.loop.session c.turn.new.self c.loop.invariant.0 c.turn.ensures.same)
-    c.requires.sink
-
 pub returns-in-Err-clause-failed : goal.returns-in-Err-clause-failed
 returns-in-Err-clause-failed g c = λ held old is st. (
   (λ e. c.turn.ensures.failed (c.in-Err.is ∙ ap Err e)),
   io_stops held old _ c.args.session c.turn.new.self
       (same_session c.args.session c.loop.session c.turn.new.self c.loop.invariant.0
       c.turn.ensures.same)
-      c.kept_is_right.ensures.right
+      c.in-Err.ensures.right
       (c.in-Err.ensures.err held old.written (c.loop.invariant.2 held old.written is st)),
 )
 
@@ -74,8 +73,8 @@ returns-in-Err-refill-clause-failed g c = λ held old is st.
     (held_later held (g.F.Files.file c.args.files.now) (g.F.Files.file c.loop.files)
     c.loop.invariant.1 is) (c.close_left.ensures.stands held old.written _ stopped.stands))))
 
-pub loop-preserved-in-Ok-refill : goal.loop-preserved-in-Ok-refill
-loop-preserved-in-Ok-refill g c = (
+pub loop-preserved-in_default : goal.loop-preserved-in_default
+loop-preserved-in_default g c = (
   same_session c.args.session c.close_left.new.self c.refill.new.self
       (same_session c.args.session c.turn.new.self c.close_left.new.self
       (same_session c.args.session c.loop.session c.turn.new.self c.loop.invariant.0
@@ -83,7 +82,7 @@ loop-preserved-in-Ok-refill g c = (
   λ other. c.refill.ensures.files other ∙ c.loop.invariant.1 other,
   λ held old is st.
       (let stopped = c.in-Ok.ensures.ok held old (c.loop.invariant.2 held old is st) in
-      c.in-Ok-refill.ensures.ok held old _
+      c.in_default.ensures.ok held old _
       (held_later held (g.F.Files.file c.args.files.now) (g.F.Files.file c.loop.files)
       c.loop.invariant.1 is) (c.close_left.ensures.stands held old _ stopped.stands)),
 )
@@ -95,19 +94,19 @@ loop-preserved g c = (
   λ held old is st. (c.in-Ok.ensures.ok held old (c.loop.invariant.2 held old is st)).stands,
 )
 
-pub kept_is_right-requires-in-Stalled : goal.kept_is_right-requires-in-Stalled
-kept_is_right-requires-in-Stalled g c =
+pub kept_is_right-requires : goal.kept_is_right-requires
+kept_is_right-requires g c =
     sink_same c.args.session c.turn.new.self
     (same_session c.args.session c.loop.session c.turn.new.self c.loop.invariant.0 c.turn.ensures.same)
     c.requires.sink
 
 pub returns-in-Stalled-clause-failed : goal.returns-in-Stalled-clause-failed
 returns-in-Stalled-clause-failed g c = λ held old is st. (
-  c.stall_told.ensures,
+  c.stall_told-further.ensures,
   stall_stops g.F.Reader.Read.remaining held old _ c.args.session c.turn.new.self
       (same_session c.args.session c.loop.session c.turn.new.self c.loop.invariant.0
       c.turn.ensures.same)
-      c.kept_is_right-in-Stalled.ensures.given c.kept_is_right-in-Stalled.ensures.right
+      c.kept_is_right.ensures.given c.kept_is_right.ensures.right
       (subst (StandsStopped g.F.Reader.Read.remaining held old.written _ c.turn.new.self)
       c.in-Stalled.is
       (c.in-Ok.ensures.ok held old.written (c.loop.invariant.2 held old.written is st))),
@@ -121,12 +120,15 @@ kept_is_right-requires-in-TooBig g c =
 
 pub returns-in-TooBig-clause-failed : goal.returns-in-TooBig-clause-failed
 returns-in-TooBig-clause-failed g c = λ held old is st.
-    too_big_stops g.F.Reader.Read.remaining held old _ c.args.session c.turn.new.self
+    let told = c.too_big.ensures ∙ ap (λ j. failure.TooBig j c.in-TooBig.place c.in-TooBig.phase)
+    c.into_job.ensures in
+    subst (StopsOf held c.args.session.stream.job c.args.session.task old _) (sym told)
+    (too_big_stops g.F.Reader.Read.remaining held old _ c.args.session c.turn.new.self
     c.in-TooBig.place c.in-TooBig.phase
     (same_session c.args.session c.loop.session c.turn.new.self c.loop.invariant.0 c.turn.ensures.same)
     c.kept_is_right-in-TooBig.ensures.given c.kept_is_right-in-TooBig.ensures.right
     (subst (StandsStopped g.F.Reader.Read.remaining held old.written _ c.turn.new.self) c.in-TooBig.is
-    (c.in-Ok.ensures.ok held old.written (c.loop.invariant.2 held old.written is st)))
+    (c.in-Ok.ensures.ok held old.written (c.loop.invariant.2 held old.written is st))))
 
 pub returns-in-Err-refill-clause-same : goal.returns-in-Err-refill-clause-same
 returns-in-Err-refill-clause-same g c = λ other.
@@ -135,8 +137,9 @@ returns-in-Err-refill-clause-same g c = λ other.
 pub returns-in-TooBig-clause-place : goal.returns-in-TooBig-clause-place
 returns-in-TooBig-clause-place g c =
     let (held, old, is, st) = c.requires.stands in
-    subst (λ (j : Job). IsPlace j.graph c.in-TooBig.place) (sym c.into_job.ensures)
-    (too_big_there g.F.Reader.Read.remaining held old _ c.turn.new.self c.in-TooBig.place
+    let there = too_big_there g.F.Reader.Read.remaining held old _ c.turn.new.self c.in-TooBig.place
     c.in-TooBig.phase c.faults_are_there.ensures
     (subst (StandsStopped g.F.Reader.Read.remaining held old _ c.turn.new.self) c.in-TooBig.is
-    (c.in-Ok.ensures.ok held old (c.loop.invariant.2 held old is st))))
+    (c.in-Ok.ensures.ok held old (c.loop.invariant.2 held old is st))) in
+    subst HasPlace (sym c.too_big.ensures)
+    (subst (λ (j : Job). IsPlace j.graph c.in-TooBig.place) (sym c.into_job.ensures) there)

@@ -1,0 +1,119 @@
+//! A run of the program over any input, outputs and files.
+ghost use Rattle.std.specs.Prelude.{◌≡◌, ◌≢◌, List};
+ghost use Rattle.clap.specs.Words.{Text};
+ghost use Rattle.phase.specs.Answers.{OthersAnswer, RunAnswers, StreamAnswers};
+ghost use Rattle.phase.specs.Standing.{own_texts};
+ghost use Rattle.phase.specs.Ways.{others, run, stream, way_of};
+ghost use Rattle.phase_commands.specs.graph_commands.watched_io.States.{writer_state};
+ghost use Rattle.phase_commands.specs.phase_words.Answers.{IsAnswer};
+ghost use Rattle.phase_commands.specs.phase_words.CommandLine.{texts};
+
+use crate::way::{Own, Way, help_word, way_of};
+use phase_commands::graph_commands::Refuses;
+use phase_commands::phase_replay::Watched;
+use phase_commands::phase_replay::watched_io::{Status, Streams};
+use phase_commands::phase_words::{NoCall, answer};
+use phase_stream::Opens;
+use std::alloc::Global;
+use std::io::{Read, Write};
+use std::sync::Wait;
+use std::thread::Threads;
+
+/// Runs the program on its words, without its own name, and answers its status: that of `run` or of
+/// `stream` on the words behind its name, or that of the other commands on all the words.
+/// `help run` asks for what `run --help` does, and `help stream` for what `stream --help` does.
+///
+/// A run and a stream wait, and it is not promised that they come back.
+pub fn run_cli<H: Threads + Wait + Sync, R: Read, W: Write, E: Write, F: Opens + Refuses>(
+    rt: &H,
+    alloc: Global,
+    words: &[String],
+    input: &mut Watched<R>,
+    streams: &mut Streams<W, E, F>,
+) -> Status
+    // How each command answers, by the words.
+    ensures run { (own : List Text) → way_of (texts words.now) ≡ run own
+        → RunAnswers own (F.file streams.old.files) W.contents result
+        streams.old.files streams.new.files streams.old.output streams.new.output
+        (writer_state E.contents streams.old.faults)
+        (writer_state E.contents streams.new.faults) }
+    ensures stream { (own : List Text) → way_of (texts words.now) ≡ stream own
+        → StreamAnswers own (F.file streams.old.files) W.contents result
+        streams.old.files streams.new.files streams.old.output streams.new.output
+        (writer_state E.contents streams.old.faults)
+        (writer_state E.contents streams.new.faults) }
+    ensures others { way_of (texts words.now) ≡ others
+        → OthersAnswer (texts words.now) (F.file streams.old.files) R.remaining W.contents result
+        input.old input.new
+        streams.old.files streams.new.files streams.old.output streams.new.output
+        (writer_state E.contents streams.old.faults)
+        (writer_state E.contents streams.new.faults) }
+
+    // That the input is left to the files by a run and by a stream.
+    ensures unread { way_of (texts words.now) ≢ others → input.new ≡ input.old }
+    ensures quiet { result ≡ Status.Done → streams.new.faults ≡ streams.old.faults }
+{
+    match way_of(words) {
+        Way::Run(own) => run_own(rt, alloc, own, streams),
+        Way::Stream(own) => stream_own(rt, alloc, own, streams),
+        Way::Others => phase_commands::run_cli(alloc, words, input, streams),
+    }
+}
+
+/// Runs a graph by the words of `run`.
+fn run_own<H: Threads + Wait + Sync, W: Write, E: Write, F: Opens + Refuses>(
+    rt: &H,
+    alloc: Global,
+    own: Own<'_>,
+    streams: &mut Streams<W, E, F>,
+) -> Status
+    ensures answers { RunAnswers (own_texts own.entry) (F.file streams.old.files) W.contents result
+        streams.old.files streams.new.files streams.old.output streams.new.output
+        (writer_state E.contents streams.old.faults)
+        (writer_state E.contents streams.new.faults) }
+    ensures quiet { result ≡ Status.Done → streams.new.faults ≡ streams.old.faults }
+{
+    match own {
+        Own::Behind(words) => phase_run::run_cli(rt, alloc, words, streams),
+        Own::Help => match help_word(alloc) {
+            Ok(words) => phase_run::run_cli(rt, alloc, words.as_slice(), streams),
+            Err(_) => out_of_memory(streams),
+        },
+    }
+}
+
+/// Streams a graph by the words of `stream`.
+fn stream_own<H: Wait, W: Write, E: Write, F: Opens + Refuses>(
+    rt: &H,
+    alloc: Global,
+    own: Own<'_>,
+    streams: &mut Streams<W, E, F>,
+) -> Status
+    ensures answers { StreamAnswers (own_texts own.entry) (F.file streams.old.files) W.contents
+        result streams.old.files streams.new.files streams.old.output streams.new.output
+        (writer_state E.contents streams.old.faults)
+        (writer_state E.contents streams.new.faults) }
+    ensures quiet { result ≡ Status.Done → streams.new.faults ≡ streams.old.faults }
+{
+    match own {
+        Own::Behind(words) => phase_stream::run_cli(rt, alloc, words, streams),
+        Own::Help => match help_word(alloc) {
+            Ok(words) => phase_stream::run_cli(rt, alloc, words.as_slice(), streams),
+            Err(_) => out_of_memory(streams),
+        },
+    }
+}
+
+/// Tells that memory ran out over the words.
+fn out_of_memory<W: Write, E: Write, F>(streams: &mut Streams<W, E, F>) -> Status
+    ensures told { IsAnswer NoCall.OutOfMemory result streams.old.output streams.new.output
+        (writer_state E.contents streams.old.faults)
+        (writer_state E.contents streams.new.faults) }
+    ensures unopened { streams.new.files ≡ streams.old.files }
+{
+    answer(
+        &NoCall::OutOfMemory,
+        &mut streams.output,
+        &mut streams.faults,
+    )
+}

@@ -1,0 +1,40 @@
+//! The program `phase`, with all its commands: it replays scripts of calls on a phaser, checks,
+//! evaluates and draws graphs of filters over phasers, runs them on threads, and streams them.
+//!
+//! `run_cli` goes by the first word to the command `run`, to `stream`, or to the others.
+#![tactic(auto)]
+
+mod cli;
+mod laws;
+mod way;
+
+use cli::run_cli;
+use phase_commands::phase_replay::Watched;
+use phase_commands::phase_replay::watched_io::{Streams, own_words, refuse_words};
+use phase_stream::StreamFiles;
+use std::io::IsTerminal;
+use std::process::ExitCode;
+use way::is_bare;
+
+/// What a person at a terminal is told where the input is replayed.
+const READS: &[u8] = b"phase: reads a script from here, a call a line, until Control-D; \
+phase --help shows one\n";
+
+fn main(rt: HostRuntime) -> ExitCode {
+    let mut faults = Watched::new(rt.stderr());
+    let words = match own_words(&rt) {
+        Ok(words) => words,
+        Err(error) => return ExitCode::from(refuse_words(&error, &mut faults).code()),
+    };
+    if is_bare(words.as_slice()) && rt.stdin().is_terminal() && rt.stderr().is_terminal() {
+        let _ = faults.send(READS);
+    }
+    let mut input = Watched::new(rt.stdin());
+    let mut streams = Streams {
+        output: Watched::new(rt.stdout()),
+        faults,
+        files: StreamFiles::new(&rt, rt.stdin()),
+    };
+    let status = run_cli(&rt, rt.alloc(), words.as_slice(), &mut input, &mut streams);
+    ExitCode::from(status.code())
+}

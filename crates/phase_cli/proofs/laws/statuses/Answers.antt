@@ -1,8 +1,0 @@
-use Rattle.phase_cli.proofs.Asking.{none-stalled, taken-not-refused}
-use Rattle.phase_cli.proofs.laws.statuses.Goals as goal
-
-pub returns-clause-any : goal.returns-clause-any
-returns-clause-any c = none-stalled
-
-pub returns-clause-taken : goal.returns-clause-taken
-returns-clause-taken c = taken-not-refused

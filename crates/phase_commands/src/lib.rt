@@ -1,0 +1,14 @@
+//! The commands of the program `phase` that need no threads: it replays scripts of calls on a
+//! phaser, and checks, evaluates and draws graphs of filters over phasers.
+//!
+//! `run_cli` does what the words ask for, over any input, outputs and files, and answers the
+//! program's status; `laws` says which statuses never come.
+#![tactic(auto)]
+
+mod cli;
+pub mod laws;
+
+pub use cli::run_cli;
+pub use graph_commands;
+pub use phase_replay;
+pub use phase_words;

@@ -1,0 +1,22 @@
+//! The command `stream` of the program `phase`: a graph of filters over phasers whose samples come
+//! piece by piece, and the values of one sink of it, written as they come.
+//!
+//! `run_cli` reads the words behind `stream`. `stream` reads the graph of a file, then the samples
+//! of its sources, a piece of a source that waits for some at a time, and writes what comes out
+//! before it reads again; or answers why not. `StreamFiles` are the files of the disk.
+//!
+//! Proved: what is written at status 0 is what `eval` writes of the samples that came, and of all
+//! that may follow them; whatever the status it begins that, and each status has its cause. Only
+//! tested: when bytes are read and written, that a stream comes back, and what is told of a stall.
+#![tactic(auto)]
+
+mod cli;
+mod opens;
+mod session;
+mod sink;
+mod source;
+mod streamed;
+
+pub use cli::run_cli;
+pub use graph_commands;
+pub use opens::{Opens, Samples, StreamFiles};

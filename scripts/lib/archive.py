@@ -1,0 +1,180 @@
+"""What a release has in it: the folder of the archive, the archive, and the wheel.
+
+Whatever is made twice of the same files has the same bytes: names are sorted, times are that of the
+commit, owners are nobody in particular.
+"""
+import gzip
+import hashlib
+import io
+import os
+import re
+import shutil
+import subprocess
+import tarfile
+
+import project
+
+TOP = project.TOP
+BACKEND = "/usr/bin/python3"
+# Where a file stands in the archive, by where it stands here; of a folder all that git keeps.
+FILES = {
+    "bindings/lib/libphase.a": "lib/libphase.a",
+    "bindings/lib/libphase.so.0": "lib/libphase.so.0",
+    "bindings/c/phase.h": "include/phase.h",
+    "bindings/c/phase.hpp": "include/phase.hpp",
+    "bindings/c/phase_shared.h": "include/phase_shared.h",
+    "scripts/lib/completion.bash": "share/bash-completion/completions/phase",
+    "bindings/c/eval.c": "share/doc/phase/examples/bindings/eval.c",
+    "bindings/python/eval.py": "share/doc/phase/examples/bindings/eval.py",
+    "bindings/rust/phase-sys": "share/phase/rust/phase-sys",
+    "bindings/rust/phase": "share/phase/rust/phase",
+    "LICENSE-MIT": "share/doc/phase/LICENSE-MIT",
+    "LICENSE-APACHE": "share/doc/phase/LICENSE-APACHE",
+    "README.md": "share/doc/phase/README.md",
+    "CHANGELOG.md": "share/doc/phase/CHANGELOG.md",
+    "CONTRIBUTING.md": "share/doc/phase/CONTRIBUTING.md",
+    "docs": "share/doc/phase/docs",
+    "examples": "share/doc/phase/examples",
+}
+# Names of other files, by where they stand.
+LINKS = {
+    "lib/libphase.so": "libphase.so.0",
+    # So that what README shows can be typed in that folder.
+    "share/doc/phase/phase": "../../../bin/phase",
+}
+# The library that stands with the crate, too.
+PACKED = "share/phase/rust/phase-sys/lib/libphase.a"
+
+
+def git(*words):
+    return subprocess.check_output(["git", "-C", TOP, *words], text=True).strip()
+
+
+def version():
+    """The version: that of the newest head of CHANGELOG.md."""
+    return re.search(r"^## (\d+\.\d+\.\d+)", project.text_of("CHANGELOG.md"), re.M)[1]
+
+
+def other_versions():
+    """The files that name another version."""
+    for file in (
+        "bindings/python/pyproject.toml",
+        "bindings/rust/phase/Cargo.toml",
+        "bindings/rust/phase-sys/Cargo.toml",
+    ):
+        if f'\nversion = "{version()}"\n' not in project.text_of(file):
+            yield file
+
+
+def put(data, path, mode=0o644):
+    os.makedirs(os.path.dirname(path), exist_ok=True)
+    with open(path, "wb") as file:
+        file.write(data)
+    os.chmod(path, mode)
+
+
+def bytes_of(path):
+    with open(path, "rb") as file:
+        return file.read()
+
+
+def lay_files(folder):
+    """Puts what stands in files into the folder of the archive."""
+    for here, there in FILES.items():
+        path = os.path.join(TOP, here)
+        names = [here] if os.path.isfile(path) else git("ls-files", here).split("\n")
+        for name in names:
+            # The tests of a crate want the repository.
+            if "/tests/" not in name:
+                to = os.path.join(folder, there + name[len(here) :])
+                put(bytes_of(os.path.join(TOP, name)), to)
+    os.makedirs(os.path.dirname(os.path.join(folder, PACKED)))
+    os.link(os.path.join(folder, "lib/libphase.a"), os.path.join(folder, PACKED))
+    for name, to in LINKS.items():
+        os.symlink(to, os.path.join(folder, name))
+
+
+def lay_made(folder):
+    """Puts what is made of the program and of the version into the folder of the archive."""
+    program = os.path.join(folder, "bin/phase")
+    put(bytes_of(project.built("phase")), program, 0o755)
+    page = subprocess.check_output([os.path.join(TOP, "scripts/lib/man-page"), program])
+    put(page, os.path.join(folder, "share/man/man1/phase.1"))
+    words = project.text_of("scripts/lib/phase.pc").replace("VERSION", version())
+    put(words.encode(), os.path.join(folder, "lib/pkgconfig/phase.pc"))
+
+
+def files_below(folder):
+    """The names of all files below a folder, sorted."""
+    found = []
+    for at, _, names in os.walk(folder):
+        found += [os.path.relpath(os.path.join(at, name), folder) for name in names]
+    return sorted(found)
+
+
+def sums_of(folder, names):
+    """A line for each of these files, as `sha256sum` writes it."""
+    for name in names:
+        if not os.path.islink(os.path.join(folder, name)):
+            yield f"{hashlib.sha256(bytes_of(os.path.join(folder, name))).hexdigest()}  {name}\n"
+
+
+def pack(folder, archive, epoch):
+    """Makes the archive of a folder, with one name for the files that are one."""
+    whole, known = io.BytesIO(), {}
+    root = os.path.basename(folder)
+    with tarfile.open(fileobj=whole, mode="w", format=tarfile.USTAR_FORMAT) as tar:
+        for name in files_below(folder):
+            path = os.path.join(folder, name)
+            entry = tarfile.TarInfo(f"{root}/{name}")
+            entry.mtime, entry.uname, entry.gname = epoch, "root", "root"
+            found = os.lstat(path)
+            entry.mode = found.st_mode & 0o777
+            if os.path.islink(path):
+                entry.type, entry.linkname, entry.mode = tarfile.SYMTYPE, os.readlink(path), 0o777
+            elif found.st_ino in known:
+                entry.type, entry.linkname = tarfile.LNKTYPE, known[found.st_ino]
+            else:
+                known[found.st_ino], entry.size = entry.name, found.st_size
+            tar.addfile(entry, io.BytesIO(bytes_of(path)) if entry.isreg() else None)
+    with open(archive, "wb") as file:
+        with gzip.GzipFile("", "wb", 9, file, mtime=0) as out:
+            out.write(whole.getvalue())
+
+
+def lowest_glibc(file):
+    """The lowest version of glibc that has all that a file asks of it."""
+    said = subprocess.check_output(["objdump", "-T", file], text=True)
+    return max((tuple(map(int, it.split("."))) for it in re.findall(r"GLIBC_([\d.]+)", said)))
+
+
+def make_wheel(folder, work, epoch):
+    """Makes the wheel, of the files of Python and libphase.so, and answers its name."""
+    library = os.path.join(TOP, "bindings/lib/libphase.so.0")
+    source = os.path.join(work, "wheel")
+    for name in git("ls-files", "bindings/python").split("\n"):
+        put(bytes_of(os.path.join(TOP, name)), os.path.join(source, name.split("/", 2)[2]))
+    for name in ("LICENSE-MIT", "LICENSE-APACHE"):
+        put(bytes_of(os.path.join(TOP, name)), os.path.join(source, name))
+    put(bytes_of(library), os.path.join(source, "phase/libphase.so"), 0o755)
+    platform = "manylinux_%d_%d_x86_64" % lowest_glibc(library)
+    options = {"--build-option": [f"--plat-name={platform}"]}
+    call = f"from setuptools import build_meta; build_meta.build_wheel('made', {options})"
+    said = subprocess.run(
+        [BACKEND, "-c", call], cwd=source, stdin=subprocess.DEVNULL, stdout=subprocess.PIPE,
+        stderr=subprocess.STDOUT, text=True, check=False,
+        env={**os.environ, "SOURCE_DATE_EPOCH": str(epoch), "PYTHONDONTWRITEBYTECODE": "1"},
+    )
+    if said.returncode:
+        raise OSError(f"no wheel was made:\n{said.stdout}")
+    [name] = [it for it in os.listdir(os.path.join(source, "made")) if it.endswith(".whl")]
+    shutil.copyfile(os.path.join(source, "made", name), os.path.join(folder, name))
+    return name
+
+
+def paths_inside(folder, paths):
+    """The files in which one of these paths stands."""
+    for name in files_below(folder):
+        path = os.path.join(folder, name)
+        if not os.path.islink(path) and any(it.encode() in bytes_of(path) for it in paths):
+            yield name

@@ -1,0 +1,231 @@
+"""Goes through a release where there is nothing else: scripts/lib/try-release calls it in a root of
+its own. It unpacks the archive, and types what a user would; the last line tells how many looks
+agreed, and the status is 1 where one did not.
+"""
+import glob
+import os
+import re
+import resource
+import shutil
+import subprocess
+import sys
+import time
+
+sys.path.insert(0, os.path.dirname(os.path.realpath(__file__)))
+import project
+
+HOME = os.environ["HOME"]
+PREFIX = os.path.join(HOME, "phase")
+SHARE = os.path.join(PREFIX, "share")
+PAGES = os.path.join(SHARE, "doc/phase")
+BINDINGS = os.path.join(PAGES, "docs/BINDINGS.md")
+SHOWN = "1\n3\n5\n"
+# The examples of Python's modules.
+EXAMPLES = """\
+import doctest, importlib, sys
+modules = map(importlib.import_module, ("phase", "phase.shared", "phase.stream"))
+sys.exit(any([doctest.testmod(module).failed for module in modules]))
+"""
+# What a line of README names that the archive has not.
+ELSEWHERE = ("scripts/", ".ci/", "--prove", "g++", "plain-replay")
+
+
+class Wrong(Exception):
+    """What is not as it should be."""
+
+
+def wants(is_so, why):
+    if not is_so:
+        raise Wrong(why)
+
+
+def said(command, folder=HOME, status=0, **settings):
+    """What a command of the shell writes, which has to end with this status."""
+    run = subprocess.run(
+        ["bash", "-c", command], cwd=folder, env={**os.environ, **settings}, text=True, timeout=300,
+        stdin=subprocess.DEVNULL, stdout=subprocess.PIPE, stderr=subprocess.STDOUT, check=False,
+    )
+    told = f"`{command}` ended with {run.returncode}: {run.stdout[-1500:]}"
+    wants(run.returncode == status, told)
+    return run.stdout
+
+
+def shown(kind, number=1):
+    """What the page of the bindings shows of a kind."""
+    with open(BINDINGS, encoding="utf-8") as page:
+        return re.findall(rf"^```{kind}\n(.*?)^```$", page.read(), re.M | re.S)[number - 1]
+
+
+def put(name, text):
+    path = os.path.join(HOME, name)
+    os.makedirs(os.path.dirname(path), exist_ok=True)
+    with open(path, "w", encoding="utf-8") as file:
+        file.write(text)
+
+
+# ---- the looks
+
+
+def nothing_else():
+    """Neither the toolchain nor the repository is there, and the user is not root."""
+    for path in ("/opt/rattle", "/usr/local/bin/rt", "/work", "/root", "/tried/crates"):
+        wants(not os.path.exists(path), f"there is {path}")
+    wants(shutil.which("rt") is None, "rt is on the PATH")
+    print(f"as user {os.getuid()}, in a root with {' '.join(sorted(os.listdir('/')))}")
+
+
+def unpacked():
+    """The archive is unpacked, small, and its sums agree."""
+    [archive] = glob.glob("/tried/*.tar.gz")
+    said(f"mkdir phase && tar -xzf {archive} -C phase --strip-components=1")
+    said("sha256sum --strict --quiet -c SHA256SUMS", PREFIX)
+    names = said("find . -type f ! -name SHA256SUMS", PREFIX).splitlines()
+    with open(os.path.join(PREFIX, "SHA256SUMS"), encoding="utf-8") as sums:
+        wants(len(sums.readlines()) == len(names), "there are files without a sum")
+    print(f"{os.path.getsize(archive)} bytes, {len(names)} files")
+    wants(os.path.getsize(archive) < 3_000_000, "that is too much")
+
+
+def links_little():
+    """The program and the library ask for the C library alone."""
+    for name in ("bin/phase", "lib/libphase.so.0"):
+        asked = re.findall(r"^\s*(\S+)", said(f"ldd {name}", PREFIX), re.M)
+        other = [it for it in asked if not re.match(r"linux-vdso|libc\.so|libm\.so|.*ld-linux", it)]
+        wants(not other or asked == ["not"], f"{name} asks for {other}")
+        lowest = re.findall(r"GLIBC_([\d.]+)", said(f"objdump -T {name}", PREFIX))
+        print(f"{name}: {', '.join(asked)}; glibc", max(lowest, default="none",
+              key=lambda it: tuple(map(int, it.split(".")))))
+
+
+def readme():
+    """What README shows is what comes, typed in the folder of the pages."""
+    pages = project.script("pages")
+    pages.TOP = PAGES
+    shell, typed = pages.Shell(PAGES), 0
+    for number, _, block in pages.blocks("README.md"):
+        lines = pages.commands(block)
+        is_shown = any(out for _, out in lines)
+        for line, out in lines:
+            if any(it in line for it in ELSEWHERE):
+                continue
+            written, status = shell.type(line)
+            same = written.rstrip("\n").split("\n") == (out or [""])
+            wants(same if is_shown else status == 0, f"{number}: `{line}` wrote {written[-500:]}")
+            typed += 1
+    wants(typed > 3, f"README has {typed} lines to type")
+
+
+def man():
+    """The page of man says what the help says."""
+    page = said("man phase | col -bx", MANPATH=os.path.join(SHARE, "man"), MANWIDTH="100")
+    lines = {" ".join(it.split()) for it in page.splitlines()}
+    for command in ("replay", "check", "eval", "draw", "run", "stream"):
+        for line in said(f"phase help {command}").splitlines():
+            wants(" ".join(line.split()) in lines, f"the page has no line `{line}`")
+
+
+def completion():
+    """What bash completes are the commands, and words that their help has."""
+    file = os.path.join(SHARE, "bash-completion/completions/phase")
+
+    def completed(*typed):
+        words = f"COMP_WORDS=(phase {' '.join(typed)}); COMP_CWORD={len(typed)}"
+        call = f"source {file}; {words}; _phase phase {typed[-1]}; echo ${{COMPREPLY[*]}}"
+        return said(call).split()
+
+    wants(completed("st") == ["stream"] and completed("r") == ["replay", "run"], "of commands")
+    for command in ("replay", "check", "eval", "draw", "run", "stream"):
+        wants(command in completed(command[:2]), f"it has no {command}")
+        words = completed(command, "--")
+        has = set(re.findall(r"--\w+", said(f"phase {command} --help").partition("Example")[0]))
+        wants(set(words) == has - {"--version"}, f"{command}: {words}, and help has {sorted(has)}")
+
+
+def in_c():
+    """A program in C, by pkg-config, with either library, and one in C++."""
+    put("sums.c", shown("c"))
+    config = {"PKG_CONFIG_PATH": os.path.join(PREFIX, "lib/pkgconfig")}
+    library = os.path.join(PREFIX, "lib")
+    said("cc -Wall -Werror sums.c -o shared $(pkg-config --cflags --libs phase)", **config)
+    wants(said("./shared", LD_LIBRARY_PATH=library) == SHOWN, "with libphase.so")
+    archive = f"$(pkg-config --cflags phase) {library}/libphase.a"
+    said(f"cc -Wall -Werror sums.c -o static {archive}", **config)
+    wants(said("./static") == SHOWN, "with libphase.a")
+    put("owner.cpp", '#include "phase.hpp"\n' + shown("c"))
+    said("g++ -std=c++17 owner.cpp -o owner $(pkg-config --cflags --libs phase)", **config)
+    wants(said("./owner", LD_LIBRARY_PATH=library) == SHOWN, "in C++")
+    steps = os.path.join(PAGES, "examples/threads/steps")
+    said(f"cc {steps}.c -o steps -pthread $(pkg-config --cflags --libs phase)", **config)
+    with open(f"{steps}.stdout", encoding="utf-8") as wanted:
+        wants(said("./steps", LD_LIBRARY_PATH=library) == wanted.read(), "threads in C")
+
+
+def in_rust():
+    """A program over the crates: the library by its own folder, by pkg-config, or by a name."""
+    crate = os.path.join(SHARE, "phase/rust/phase")
+    put("page/Cargo.toml", '[package]\nname = "page"\nversion = "0.1.0"\nedition = "2024"\n')
+    put("page/src/main.rs", shown("rust"))
+    page, config = os.path.join(HOME, "page"), os.path.join(PREFIX, "lib/pkgconfig")
+    said(f"cargo add --quiet --offline --path {crate}", page)
+    library = os.path.join(PREFIX, "lib")
+    for settings in ({}, {"PKG_CONFIG_PATH": config}, {"PHASE_LIB_DIR": library}):
+        said("rm -rf target && cargo build --quiet --offline", page, **settings)
+        wants("1, 3, 5" in said("target/debug/page", page), f"with {settings}")
+    said("rm -rf target; cargo build --offline", page, 101, PHASE_LIB_DIR="/tmp")
+
+
+def in_python():
+    """The wheel in a new environment, with numpy and nothing else: its examples and the page's."""
+    [wheel] = glob.glob("/tried/*.whl")
+    said("/usr/bin/python3 -m venv --system-site-packages env")
+    said(f"env/bin/pip install --no-index {wheel}")
+    put("examples.py", EXAMPLES)
+    said("env/bin/python examples.py")
+    where = said("env/bin/python -c 'import phase; print(phase.__file__, phase.__version__)'")
+    wants(where.startswith(os.path.join(HOME, "env/lib")), where)
+    put("page.py", f'"""\n{shown("python")}"""\n')
+    said("env/bin/python -m doctest page.py")
+    wants(os.path.exists(where.split()[0].replace("__init__.py", "py.typed")), "no py.typed")
+    print(os.path.basename(wheel))
+
+
+def rows():
+    """The rows of the programs' runs, by the program of the archive."""
+    told = said("/tried/scripts/check/program-cases --of $(command -v phase)").splitlines()
+    print(told[-1])
+
+
+def begins_soon():
+    """A start of the program takes less than 3 ms of processor."""
+    command = [os.path.join(PREFIX, "bin/phase"), "--version"]
+    before, started = resource.getrusage(resource.RUSAGE_CHILDREN), time.monotonic()
+    for _ in range(100):
+        subprocess.run(command, stdout=subprocess.DEVNULL, check=True)
+    after = resource.getrusage(resource.RUSAGE_CHILDREN)
+    took = 10 * (after.ru_utime + after.ru_stime - before.ru_utime - before.ru_stime)
+    print(f"{took:.2f} ms of processor, {10 * (time.monotonic() - started):.2f} ms of the clock")
+    wants(took < 3, "that is too much")
+
+
+LOOKS = (
+    nothing_else, unpacked, links_little, readme, man, completion, in_c, in_rust, in_python, rows,
+    begins_soon,
+)
+
+
+def main():
+    passed, failed = 0, 0
+    for look in LOOKS:
+        try:
+            look()
+            passed += 1
+            print(f"well: {look.__doc__}", flush=True)
+        except (Wrong, subprocess.SubprocessError, OSError, IndexError) as why:
+            failed += 1
+            print(f"NOT SO: {look.__doc__} {why}", flush=True)
+    print(f"release: {passed} looks agreed, {failed} did not")
+    return 1 if failed else 0
+
+
+if __name__ == "__main__":
+    sys.exit(main())
