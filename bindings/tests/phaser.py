@@ -44,10 +44,6 @@ def made():
         look("a word of no mode", refused(phase.BadMode, words.register, 0, "signal"))
         modes = [words.view(words.register(0, it)).mode for it in ("sig", "wait", "sigwait")]
         look("words of modes", modes == [phase.SIG, phase.WAIT, phase.SIG_WAIT])
-    with phase.Phaser("sum", 2, 100) as words:
-        look("a word of no single", refused(phase.BadSingle, words.signal, 0, [4], "half"))
-        look("a word of a single", words.signal(0, [4, 5], "neg") == 0 and words.wait(0)[1] == -9)
-        look("a clamp has ends", refused(TypeError, words.signal, 0, [4], "clamp"))
     look("no operation", refused(phase.BadOperation, phase.Phaser, 0, 0, 0))
     look("a sixth operation", refused(phase.BadOperation, phase.Phaser, phase.ANY + 1, 2, 100))
     look(

@@ -65,8 +65,7 @@ def made():
     words = phase.SharedPhaser("product", 2, 9)
     with words.register("sig_wait") as child:
         look("the word of a mode", child.mode == phase.SIG_WAIT)
-    look("a word of no single", refused(phase.BadSingle, words.signal, [3], "half"))
-    look("the word of a single", words.next([3, 4], "neg") == (0, -12))
+    look("the word of an operation", words.next([3, 4]) == (0, 12))
     words.leave()
     look("a mode past 32 bits", refused(phase.BadMode, founder.register, 2**32 + 1))
     child = founder.register(phase.SIG)

@@ -153,8 +153,7 @@ class Mode(enum.IntEnum):
 
 
 class Single(enum.IntEnum):
-    """What is done once with the value of a phase. A clamp has two ends: `Clamp(low, high)`. Where
-    one is wanted its word is taken too: "neg", "abs", "halve"."""
+    """What is done once with the value of a phase. A clamp has two ends: `Clamp(low, high)`."""
 
     NO_SINGLE = 0
     NEG = 1
@@ -691,7 +690,7 @@ class Phaser:
         _done(self._call(_lib.phase_phaser_drop, _task(task)))
 
     def signal(
-        self, task: int, values: ArrayLike, single: Union[int, str, Clamp, None] = None
+        self, task: int, values: ArrayLike, single: Union[int, Clamp, None] = None
     ) -> int:
         """Signals the task's phase with these sends, a row of whole numbers as of `eval`, and
         returns that phase. A single is done once with the value of the phase: NEG, ABS, HALVE,
@@ -725,7 +724,7 @@ class Phaser:
         return Got(phase.value, value.value if value.value != _NO_VALUE else None)
 
     def signal_block(
-        self, task: int, values: ArrayLike, single: Union[int, str, Clamp, None] = None
+        self, task: int, values: ArrayLike, single: Union[int, Clamp, None] = None
     ) -> int:
         """Signals as many phases in a row as there are values, the first the task's, with one send
         each and the single or none for all of them, and returns the first phase.
@@ -815,7 +814,7 @@ def _numbered(number, bits, refusal):
 
 
 def _word(word, kind, bits, refusal):
-    """The number of an operation, a mode or a single that its word, or the number, names."""
+    """The number of an operation or a mode that its word, or the number, names."""
     if not isinstance(word, str):
         return _numbered(word, bits, refusal)
     found = [it for it in kind if it.name.replace("_", "") == word.upper().replace("_", "")]
@@ -851,7 +850,7 @@ def _task(task):
 def _single(single):
     """The number of a single or of none, and the ends of a clamp."""
     if not isinstance(single, Clamp):
-        number = NO_SINGLE if single is None else _word(single, Single, 32, BadSingle)
+        number = NO_SINGLE if single is None else _numbered(single, 32, BadSingle)
         if number == CLAMP:
             raise TypeError("a clamp has two ends: Clamp(low, high)")
         return number, 0, 0

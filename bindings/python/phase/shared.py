@@ -194,7 +194,7 @@ class Registration:
     def signal(
         self,
         values: Union[int, ArrayLike] = (),
-        single: Union[int, str, Clamp, None] = None,
+        single: Union[int, Clamp, None] = None,
         timeout: Optional[float] = None,
     ) -> int:
         """Signals the phase with one send or a row of them and a single or none, and returns that
@@ -208,7 +208,7 @@ class Registration:
     def signal_block(
         self,
         values: ArrayLike,
-        single: Union[int, str, Clamp, None] = None,
+        single: Union[int, Clamp, None] = None,
         timeout: Optional[float] = None,
     ) -> int:
         """Signals as many phases in a row as there are values, with one send each and the single or
@@ -222,7 +222,7 @@ class Registration:
     def next(
         self,
         values: Union[int, ArrayLike] = (),
-        single: Union[int, str, Clamp, None] = None,
+        single: Union[int, Clamp, None] = None,
         timeout: Optional[float] = None,
     ) -> Got:
         """Signals the phase, as `signal` does, and then waits for it, as `wait` does: a barrier,
