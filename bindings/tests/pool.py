@@ -20,7 +20,7 @@ def main():
         told = [
             evaluated[0].result(60)["out"].tolist() == [1, 3, 5],
             str(evaluated[1].exception(60)) == "too big at f 1",
-            str(faulty.exception(60)) == "graph line 2: syntax",
+            str(faulty.exception(60)) == "graph line 2: syntax\n  phaser y mean 4",
             evaluated[2].result(60)["out"].tolist() == [4],
             pool.submit(phase.check, SUMS).result(60) == (2, 3, 1, 1),
         ]
