@@ -3,7 +3,7 @@ use Rattle.std.specs.Prelude.{◌≡◌, ◌⊎◌, ℕ, List, [], Option}
 use Rattle.clap.specs.Words.{Kinds, Text}
 use Rattle.phase_commands.specs.Ends.{EndsAs, LeavesAlone, MayEndAsked}
 use Rattle.phase_commands.specs.graph_commands.FileJobs.{Known}
-use Rattle.phase_commands.specs.graph_commands.watched_io.States.{ReaderState, WriterState, reader_state, writer_state}
+use Rattle.phase_commands.specs.graph_commands.watched_io.States.{WriterState, reader_state, writer_state}
 use Rattle.phase_commands.specs.graph_commands.watched_io.declared.status.Status.{Status}
 use Rattle.phase_commands.specs.graph_commands.watched_io.declared.watched.Watched.{Watched}
 use Rattle.phase_commands.specs.phase_replay.Replays.{ReplayEnds}
