@@ -1,12 +1,13 @@
 -- How a command on a graph ends, by its status, and what stands on its streams then.
-use Rattle.std.specs.Prelude.{◌≡◌, ◌≢◌, ◌⊎◌, ◌++◌, ℕ, List, [], Option}
+use Rattle.std.specs.Prelude.{◌≡◌, ◌≢◌, ◌⊎◌, ◌++◌, ℕ, List, [], Option, None}
 use Rattle.std.specs.Io.KnownBytes.{Appends}
 use Rattle.graph_commands.specs.Explained.{AreFurtherLines, Tells, no_memory_line}
 use Rattle.graph_commands.specs.Failures.{FailsBy, IsUnanswered, IsUndrawn, IsUnread}
 use Rattle.graph_commands.specs.Failures.{failure_line, failure_status}
 use Rattle.graph_commands.specs.FileJobs.{IsJobOf, Known}
 use Rattle.graph_commands.specs.GraphDrawings.{Draws, DrawsPrefix}
-use Rattle.graph_commands.specs.GraphRuns.{Evaluates, EvaluatesPrefix, check_line}
+use Rattle.graph_commands.specs.GraphRuns.{Evaluates, EvaluatesColumns, EvaluatesColumnsPrefix}
+use Rattle.graph_commands.specs.GraphRuns.{EvaluatesPrefix, check_line}
 use Rattle.graph_commands.specs.declared.failure.Failure.{Failure}
 use Rattle.graph_commands.specs.declared.failure.Failure.TheVariants as failure
 use Rattle.graph_show.specs.graph_base.Graphs.{Graph}
@@ -154,3 +155,21 @@ EvalEnds explain known name asked status contents old new before after =
     EndsBy explain known
     (Evaluates known name asked (writer_state contents old) (writer_state contents new))
     (EvalFails known name asked contents old new) status before after
+
+-- ---- an evaluation whose sinks are the columns of a table
+
+-- why it failed
+abbrev pub ColumnsFail : {W : Type 0} → Known → List ℕ → (W → Option (List ℕ))
+    → Watched W → Watched W → Failure → Type 0
+ColumnsFail known name contents old new found =
+    FailsBy (IsUnanswered ⊥ known name None)
+    (EvaluatesColumnsPrefix known name (writer_state contents old) (writer_state contents new))
+    contents old new found
+
+-- how it ends
+abbrev pub ColumnsEnd : {W : Type 0} → Explain → Known → List ℕ → Status
+    → (W → Option (List ℕ)) → Watched W → Watched W → WriterState → WriterState → Type 0
+ColumnsEnd explain known name status contents old new before after =
+    EndsBy explain known
+    (EvaluatesColumns known name (writer_state contents old) (writer_state contents new))
+    (ColumnsFail known name contents old new) status before after

@@ -12,6 +12,7 @@ use Rattle.graph_show.specs.graph_base.declared.place.Place.TheVariants as place
 use Rattle.stream_eval.specs.stream_lists.Jobs.{Job}
 use Rattle.stream_eval.specs.stream_lists.Lists.{is_sink_at, lines_of, with_start}
 use Rattle.stream_eval.specs.stream_lists.Ranges.{Fits}
+use Rattle.graph_commands.specs.ColumnTexts.{columns_text}
 use Rattle.graph_commands.specs.OutputTexts.{lines_text}
 use Rattle.graph_commands.specs.FileJobs.{IsJobOf, Known}
 use Rattle.graph_commands.specs.declared.fault.JobFault.{JobFault}
@@ -68,6 +69,21 @@ pub record EvaluatesPrefix (known : Known) (name : List ℕ) (asked : Option (Li
   pub sink : Option ℕ
   pub asks : AsksSink job asked sink
   pub written : AppendsPrefix old.written new.written (sinks_text job sink)
+
+-- the files tell a job whose values fit, and the table of its sinks was written
+pub record EvaluatesColumns (known : Known) (name : List ℕ) (old new : WriterState) : Type 0 where
+  pub job : Job
+  pub job_of : IsJobOf known name job
+  pub fits : Fits job
+  pub written : Appends old.written new.written (columns_text job (lines_of job))
+
+-- the files tell a job whose values fit, and a prefix of that table was written
+pub record EvaluatesColumnsPrefix (known : Known) (name : List ℕ) (old new : WriterState)
+    : Type 0 where
+  pub job : Job
+  pub job_of : IsJobOf known name job
+  pub fits : Fits job
+  pub written : AppendsPrefix old.written new.written (columns_text job (lines_of job))
 
 -- ---- the lines of faults
 

@@ -1,3 +1,4 @@
+pub mod ColumnTexts
 pub mod Ends
 pub mod Explained
 pub mod Failures

@@ -1,15 +1,16 @@
 //! A check and an evaluation of a graph.
 ghost use Rattle.std.specs.Prelude.{◌≡◌, ℕ, List, Option, true, OnOk, OnErr, IfErr, option_map};
 ghost use Rattle.std.specs.Io.KnownBytes.{Appends};
-ghost use Rattle.graph_commands.specs.Ends.{AreNotes, CheckFails, Checks, EvalFails};
+ghost use Rattle.graph_commands.specs.Ends.{AreNotes, CheckFails, Checks, ColumnsFail, EvalFails};
 ghost use Rattle.graph_commands.specs.Ends.{WritesCheck, WritesCheckPrefix};
 ghost use Rattle.graph_commands.specs.FileJobs.{IsJobOf, Known};
-ghost use Rattle.graph_commands.specs.GraphRuns.{AsksSink, Evaluates, check_line};
+ghost use Rattle.graph_commands.specs.GraphRuns.{AsksSink, Evaluates, EvaluatesColumns, check_line};
 ghost use Rattle.graph_show.specs.watched_io.Prefix.{AppendsPrefix};
 ghost use Rattle.graph_show.specs.watched_io.States.{writer_state};
 ghost use Rattle.graph_show.specs.watched_io.Watched.{has_failed_of, inner_of};
 
 use crate::asked::{AskedJob, read_asked, write_sinks};
+use crate::columns::write_columns;
 use crate::further::further_lines;
 use crate::notes::job_notes;
 use crate::{Failure, read_job};
@@ -133,6 +134,49 @@ fn eval_asked<'a, W: Write>(
     let AskedJob { job, sink } = asked;
     match stream_eval::eval(alloc, &job) {
         Ok(lines) => match write_sinks(output, &job, &lines, sink) {
+            Ok(()) => Ok(()),
+            Err(_) => Err(Failure::Io(IoFault::WriteFault)),
+        },
+        Err(EvalFault::TooBig { place, phase }) => Err(Failure::TooBig { job, place, phase }),
+        Err(EvalFault::OutOfMemory) => Err(Failure::Io(IoFault::OutOfMemory)),
+    }
+}
+
+/// Evaluates a graph on the samples of its sources, and writes its sinks as the columns of a table,
+/// a line a step.
+pub fn eval_columns<'a, W: Write, F: Files>(
+    alloc: Global,
+    name: &str,
+    output: &mut Watched<W>,
+    files: &mut F,
+) -> Result<(), Failure<'a>>
+    ensures done { OnOk result (EvaluatesColumns (F.file files.old) name.now
+        (writer_state W.contents output.old) (writer_state W.contents output.new)) }
+    ensures failed { IfErr result (λ found. ColumnsFail (F.file files.old) name.now
+        W.contents output.old output.new found) }
+    ensures same { (other : List ℕ) → F.file files.new other ≡ F.file files.old other }
+{
+    match read_job(alloc, files, name) {
+        Ok(job) => job_columns(alloc, job, output),
+        Err(failure) => Err(failure),
+    }
+}
+
+/// Evaluates a job, and writes its sinks as the columns of a table.
+fn job_columns<'a, W: Write>(
+    alloc: Global,
+    job: Job,
+    output: &mut Watched<W>,
+) -> Result<(), Failure<'a>>
+    ensures done { OnOk result ((known : Known) (name : List ℕ)
+        → IsJobOf known name job → EvaluatesColumns known name
+        (writer_state W.contents output.old) (writer_state W.contents output.new)) }
+    ensures failed { IfErr result (λ found. (known : Known) (name : List ℕ)
+        → IsJobOf known name job
+        → ColumnsFail known name W.contents output.old output.new found) }
+{
+    match stream_eval::eval(alloc, &job) {
+        Ok(lines) => match write_columns(output, &job, &lines) {
             Ok(()) => Ok(()),
             Err(_) => Err(Failure::Io(IoFault::WriteFault)),
         },

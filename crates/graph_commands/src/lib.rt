@@ -11,6 +11,7 @@
 
 mod answered;
 mod asked;
+mod columns;
 mod controls;
 mod drawn;
 mod explained;
@@ -35,7 +36,7 @@ mod sinks;
 mod sources;
 mod stalls;
 
-pub use answered::{check, eval};
+pub use answered::{check, eval, eval_columns};
 pub use asked::{AskedJob, read_asked, write_sinks};
 pub use drawn::draw;
 pub use explained::{end, report};
