@@ -7,5 +7,6 @@ pub mod Needed
 mod Noting
 pub mod Places
 mod Putting
+mod Slashes
 mod TextExamples
 pub mod Finding

@@ -4,6 +4,7 @@ pub mod Explained
 pub mod Failures
 pub mod Faults
 pub mod FileJobs
+pub mod Folders
 pub mod GraphDrawings
 pub mod GraphRuns
 pub mod Puts

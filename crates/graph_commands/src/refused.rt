@@ -1,8 +1,9 @@
 //! Files that tell a person why they refuse one.
-ghost use Rattle.std.specs.Prelude.{◌≡◌, ◌≤◌, length, IfOk};
+ghost use Rattle.std.specs.Prelude.{◌≡◌, ◌≤◌, ℕ, List, length, IfOk};
 
+use crate::folders::{LooksBeside, path_beside};
 use graph_show::watched_io::{DiskFiles, FileFault, Files};
-use std::alloc::Global;
+use std::alloc::{AllocError, Global};
 use std::fs::File;
 use std::io::ErrorKind;
 
@@ -29,12 +30,24 @@ pub trait Refuses {
     fn refused(&self) -> Option<(&str, FileRefusal)>;
 }
 
+/// Where files are opened.
+#[derive(Drop)]
+enum Origin {
+    /// By their names as they are written.
+    Here,
+    /// Beside the file of this name.
+    Beside(String),
+    /// Beside one for whose name there was no memory.
+    Lost,
+}
+
 /// The files of the disk, as `DiskFiles` reads them, with standard input as the one of the name
 /// `-`, and why one was refused.
 #[derive(Drop)]
 pub struct TellingFiles<'a, R> {
     rt: &'a R,
     files: DiskFiles<'a, R>,
+    origin: Origin,
     refused: Option<(String, FileRefusal)>,
 }
 
@@ -44,8 +57,27 @@ impl<'a, R> TellingFiles<'a, R> {
         TellingFiles {
             rt,
             files: DiskFiles::new(rt),
+            origin: Origin::Here,
             refused: None,
         }
+    }
+
+    /// The name under which a file is opened, where it is another than its own.
+    pub fn path(&self, alloc: Global, name: &str) -> Result<Option<String>, AllocError> {
+        match &self.origin {
+            Origin::Here => Ok(None),
+            Origin::Beside(file) => Ok(Some(path_beside(alloc, file.as_str(), name)?)),
+            Origin::Lost => Err(AllocError),
+        }
+    }
+}
+
+impl<R: std::rt::Files> LooksBeside for TellingFiles<'_, R> {
+    fn look_beside(&mut self, alloc: Global, file: &str) {
+        self.origin = match String::from_str(alloc, file) {
+            Ok(file) => Origin::Beside(file),
+            Err(_) => Origin::Lost,
+        };
     }
 }
 
@@ -78,6 +110,10 @@ fn why_refused<R: std::rt::Files>(rt: &R, name: &str, limit: usize) -> FileRefus
 
 impl<R: std::rt::Files> Files for TellingFiles<'_, R> {
     fn read(&mut self, alloc: Global, name: &str, limit: usize) -> Result<Vec<u8>, FileFault> {
+        let Ok(path) = self.path(alloc, name) else {
+            return Err(FileFault::OutOfMemory);
+        };
+        let name = path.as_deref().unwrap_or(name);
         let read = self.files.read(alloc, opened_as(name), limit);
         if let Err(FileFault::ReadFault) = &read {
             let why = why_refused(self.rt, opened_as(name), limit);
