@@ -5,9 +5,11 @@ _phase() {
         1,*) words='check draw eval help replay run stream --help --version' ;;
         2,help,*) words='check draw eval replay run stream' ;;
         *,replay,-*) words='--help --strict' ;;
-        *,check,-* | *,draw,-*) words='--explain --help' ;;
-        *,eval,-* | *,stream,-*) words='--explain --help --sink' ;;
-        *,run,-*) words='--explain --help --sink --workers' ;;
+        *,check,-*) words='--beside --explain --help' ;;
+        *,draw,-*) words='--explain --help' ;;
+        *,eval,-*) words='--beside --columns --explain --help --sink' ;;
+        *,stream,-*) words='--beside --explain --help --sink' ;;
+        *,run,-*) words='--beside --explain --help --sink --workers' ;;
         *) return ;;
     esac
     COMPREPLY=($(compgen -W "$words" -- "$2"))

@@ -9,7 +9,7 @@ ghost use Rattle.phase_commands.specs.phase_words.Answers.{IsAnswer};
 ghost use Rattle.phase_commands.specs.phase_words.CommandLine.{texts};
 
 use crate::way::{Own, Way, help_word, way_of};
-use phase_commands::graph_commands::Refuses;
+use phase_commands::graph_commands::{LooksBeside, Refuses};
 use phase_commands::phase_replay::Watched;
 use phase_commands::phase_replay::watched_io::{Status, Streams};
 use phase_commands::phase_words::{NoCall, answer};
@@ -24,7 +24,7 @@ use std::thread::Threads;
 /// `help run` asks for what `run --help` does, and `help stream` for what `stream --help` does.
 ///
 /// A run and a stream wait, and it is not promised that they come back.
-pub fn run_cli<H: Threads + Wait + Sync, R: Read, W: Write, E: Write, F: Opens + Refuses>(
+pub fn run_cli<H: Threads + Wait + Sync, R: Read, W: Write, E: Write, F: Opens + Refuses + LooksBeside>(
     rt: &H,
     alloc: Global,
     words: &[String],
@@ -61,7 +61,7 @@ pub fn run_cli<H: Threads + Wait + Sync, R: Read, W: Write, E: Write, F: Opens +
 }
 
 /// Runs a graph by the words of `run`.
-fn run_own<H: Threads + Wait + Sync, W: Write, E: Write, F: Opens + Refuses>(
+fn run_own<H: Threads + Wait + Sync, W: Write, E: Write, F: Opens + Refuses + LooksBeside>(
     rt: &H,
     alloc: Global,
     own: Own<'_>,
@@ -83,7 +83,7 @@ fn run_own<H: Threads + Wait + Sync, W: Write, E: Write, F: Opens + Refuses>(
 }
 
 /// Streams a graph by the words of `stream`.
-fn stream_own<H: Wait, W: Write, E: Write, F: Opens + Refuses>(
+fn stream_own<H: Wait, W: Write, E: Write, F: Opens + Refuses + LooksBeside>(
     rt: &H,
     alloc: Global,
     own: Own<'_>,

@@ -6,7 +6,7 @@ use Rattle.phase_words.proofs.Answering.{may-end-taken, untaken-not-stalled}
 use Rattle.phase_words.proofs.NoCalls.{taken-or-not}
 use Rattle.phase_words.specs.Answers.{MayEnd}
 use Rattle.phase_words.specs.CommandLine.{AreTaken, Asked, Asks, AskFile, asked_in, asked_of}
-use Rattle.phase_words.specs.CommandLine.{check, draw, eval, file_asked, kinds_of, replay, replay_file}
+use Rattle.phase_words.specs.CommandLine.{check, columns, draw, eval, file_asked, kinds_of, replay, replay_file}
 use Rattle.phase_words.specs.declared.call.Call.{Call}
 use Rattle.phase_words.specs.declared.call.Strict.TheVariants as strictly
 use Rattle.phase_words.specs.declared.call.Call.TheVariants as call
@@ -32,8 +32,9 @@ leaves-asked words asked input rest closed files asks leaves = record {
         → (Asks words replay → ⊥) → rest ≡ input
     unread-by call.Replay asks leaves other = absurd (other asks)
     unread-by (call.ReplayFile script strict) asks leaves other = leaves
-    unread-by (call.Check graph explain) asks leaves other = leaves
-    unread-by (call.Eval graph sink explain) asks leaves other = leaves
+    unread-by (call.Check graph explain beside) asks leaves other = leaves
+    unread-by (call.Eval graph sink explain beside) asks leaves other = leaves
+    unread-by (call.Columns graph explain beside) asks leaves other = leaves
     unread-by (call.Draw graph explain) asks leaves other = leaves
 
     opens : (what : Asked) (name : List ℕ) → Asks words what → file_asked what ≡ Some name
@@ -44,8 +45,9 @@ leaves-asked words asked input rest closed files asks leaves = record {
         → ((name : List ℕ) → AskFile words name → ⊥) → files ≡ closed
     unopened-by call.Replay asks leaves other = leaves
     unopened-by (call.ReplayFile script strict) asks leaves other = opens _ script.now asks refl other
-    unopened-by (call.Check graph explain) asks leaves other = opens _ graph.now asks refl other
-    unopened-by (call.Eval graph sink explain) asks leaves other = opens _ graph.now asks refl other
+    unopened-by (call.Check graph explain beside) asks leaves other = opens _ graph.now asks refl other
+    unopened-by (call.Eval graph sink explain beside) asks leaves other = opens _ graph.now asks refl other
+    unopened-by (call.Columns graph explain beside) asks leaves other = opens _ graph.now asks refl other
     unopened-by (call.Draw graph explain) asks leaves other = opens _ graph.now asks refl other
 
 -- ---- statuses
@@ -65,8 +67,9 @@ failed-as words status failed what asks = by what
     by replay = inr failed
     by (replay_file strictly.No name) = inr failed
     by (replay_file strictly.Yes name) = inr (inr failed)
-    by (check explain name) = inr (inr failed)
-    by (eval explain name sink) = inr (inr (inr failed))
+    by (check beside explain name) = inr (inr failed)
+    by (eval beside explain name sink) = inr (inr (inr failed))
+    by (columns beside explain name) = inr (inr (inr failed))
     by (draw explain name) = inr (inr failed)
 
 -- ---- no other status comes
@@ -92,8 +95,9 @@ as-not replay status other is done refused big failed (inr e) = failed (sym is �
 as-not (replay_file strictly.No name) status other is done refused big failed (inl e) = done (sym is ∙ e)
 as-not (replay_file strictly.No name) status other is done refused big failed (inr e) = failed (sym is ∙ e)
 as-not (replay_file strictly.Yes name) status other is done refused big failed ends = read-not status other is done refused failed ends
-as-not (check explain name) status other is done refused big failed ends = read-not status other is done refused failed ends
-as-not (eval explain name sink) status other is done refused big failed ends = evaluated-not status other is done refused big failed ends
+as-not (check beside explain name) status other is done refused big failed ends = read-not status other is done refused failed ends
+as-not (eval beside explain name sink) status other is done refused big failed ends = evaluated-not status other is done refused big failed ends
+as-not (columns beside explain name) status other is done refused big failed ends = evaluated-not status other is done refused big failed ends
 as-not (draw explain name) status other is done refused big failed ends = read-not status other is done refused failed ends
 
 asked-not : (words : List (List ℕ)) (status other : Status) → status ≡ other → other ≢ Done → other ≢ GraphRefused → other ≢ TooBig → other ≢ Failed

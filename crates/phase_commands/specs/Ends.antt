@@ -1,7 +1,8 @@
 -- How a run of the program may end, by what its words ask for.
 use Rattle.std.specs.Prelude.{◌≡◌, ◌⊎◌, ℕ, List, Option}
-use Rattle.graph_commands.specs.Ends.{CheckEnds, DrawEnds, EvalEnds}
+use Rattle.graph_commands.specs.Ends.{CheckEnds, ColumnsEnd, DrawEnds, EvalEnds}
 use Rattle.graph_commands.specs.FileJobs.{Known}
+use Rattle.graph_commands.specs.Folders.{known_by}
 use Rattle.phase_replay.specs.FileReplays.{FileReplayEnds, StrictFileReplayEnds}
 use Rattle.phase_replay.specs.Replays.{ReplayEnds}
 use Rattle.phase_replay.specs.watched_io.States.{ReaderState, WriterState, writer_state}
@@ -9,7 +10,7 @@ use Rattle.phase_replay.specs.watched_io.declared.status.Status.{Status}
 use Rattle.phase_replay.specs.watched_io.declared.status.Status.TheVariants.{Done, Failed, GraphRefused, TooBig}
 use Rattle.phase_replay.specs.watched_io.declared.watched.Watched.{Watched}
 use Rattle.phase_words.specs.CommandLine.{Asked, Asks, AskFile, AskReplay}
-use Rattle.phase_words.specs.CommandLine.{check, draw, eval, replay, replay_file}
+use Rattle.phase_words.specs.CommandLine.{check, columns, draw, eval, replay, replay_file}
 use Rattle.phase_words.specs.declared.call.Strict.TheVariants.{No, Yes}
 
 -- the statuses of what words that are taken ask for
@@ -18,8 +19,10 @@ MayEndAs replay status = (status ≡ Done) ⊎ (status ≡ Failed)
 MayEndAs (replay_file No _) status = (status ≡ Done) ⊎ (status ≡ Failed)
 MayEndAs (replay_file Yes _) status =
     (status ≡ Done) ⊎ ((status ≡ GraphRefused) ⊎ (status ≡ Failed))
-MayEndAs (check _ _) status = (status ≡ Done) ⊎ ((status ≡ GraphRefused) ⊎ (status ≡ Failed))
-MayEndAs (eval _ _ _) status =
+MayEndAs (check _ _ _) status = (status ≡ Done) ⊎ ((status ≡ GraphRefused) ⊎ (status ≡ Failed))
+MayEndAs (eval _ _ _ _) status =
+    (status ≡ Done) ⊎ ((status ≡ GraphRefused) ⊎ ((status ≡ TooBig) ⊎ (status ≡ Failed)))
+MayEndAs (columns _ _ _) status =
     (status ≡ Done) ⊎ ((status ≡ GraphRefused) ⊎ ((status ≡ TooBig) ⊎ (status ≡ Failed)))
 MayEndAs (draw _ _) status = (status ≡ Done) ⊎ ((status ≡ GraphRefused) ⊎ (status ≡ Failed))
 
@@ -40,10 +43,12 @@ EndsAs (replay_file No name) known contents status input rest old new before aft
 EndsAs (replay_file Yes name) known contents status input rest old new before after =
     StrictFileReplayEnds (known name) status (writer_state contents old) (writer_state contents new)
     before after
-EndsAs (check explain name) known contents status input rest old new before after =
-    CheckEnds explain known name status contents old new before after
-EndsAs (eval explain name sink) known contents status input rest old new before after =
-    EvalEnds explain known name sink status contents old new before after
+EndsAs (check beside explain name) known contents status input rest old new before after =
+    CheckEnds explain (known_by beside name known) name status contents old new before after
+EndsAs (eval beside explain name sink) known contents status input rest old new before after =
+    EvalEnds explain (known_by beside name known) name sink status contents old new before after
+EndsAs (columns beside explain name) known contents status input rest old new before after =
+    ColumnsEnd explain (known_by beside name known) name status contents old new before after
 EndsAs (draw explain name) known contents status input rest old new before after =
     DrawEnds explain known name status contents old new before after
 

@@ -8,6 +8,7 @@ use Rattle.phase_replay.specs.watched_io.declared.watched.Watched.{Watched}
 abbrev pub LeavesBy : {R F : Type 0} → Call → Watched R → Watched R → F → F → Type 0
 LeavesBy call.Replay input rest closed files = files ≡ closed
 LeavesBy (call.ReplayFile script strict) input rest closed files = rest ≡ input
-LeavesBy (call.Check graph explain) input rest closed files = rest ≡ input
-LeavesBy (call.Eval graph sink explain) input rest closed files = rest ≡ input
+LeavesBy (call.Check graph explain beside) input rest closed files = rest ≡ input
+LeavesBy (call.Eval graph sink explain beside) input rest closed files = rest ≡ input
+LeavesBy (call.Columns graph explain beside) input rest closed files = rest ≡ input
 LeavesBy (call.Draw graph explain) input rest closed files = rest ≡ input

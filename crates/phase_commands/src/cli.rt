@@ -1,15 +1,16 @@
 //! A run of the program over any input, outputs and files.
 ghost use Rattle.std.specs.Prelude.{◌≡◌, ◌⊎◌, option_map};
-ghost use Rattle.graph_commands.specs.Ends.{CheckEnds, DrawEnds, EvalEnds};
+ghost use Rattle.graph_commands.specs.Ends.{CheckEnds, ColumnsEnd, DrawEnds, EvalEnds};
+ghost use Rattle.graph_commands.specs.Folders.{known_by};
 ghost use Rattle.phase_commands.specs.Ends.{EndsAs, LeavesAlone, MayEndAs, MayEndAsked};
 ghost use Rattle.phase_commands.specs.Leaving.{LeavesBy};
 ghost use Rattle.phase_replay.specs.Replays.{ReplayEnds};
 ghost use Rattle.phase_words.specs.Answers.{AnswerEnds, IsUnbegun, MayEnd};
 ghost use Rattle.phase_words.specs.CommandLine.{AreTaken, AskReplay, Asked, Asks, asked_of, kinds_of};
-ghost use Rattle.phase_words.specs.CommandLine.{check, draw, eval, replay_file, texts};
+ghost use Rattle.phase_words.specs.CommandLine.{check, columns, draw, eval, replay_file, texts};
 ghost use Rattle.phase_replay.specs.watched_io.States.{ReaderState, reader_state, writer_state};
 
-use graph_commands::{Refuses, check, draw, end, eval};
+use graph_commands::{LooksBeside, Refuses, check, draw, end, eval, eval_columns, look_by};
 use phase_replay::watched_io::{Explain, Files, Status, Streams};
 use phase_replay::{Watched, replay_and_report, replay_file_and_report, replay_file_strictly};
 use phase_words::{Call, Strict, answer, read_words};
@@ -24,7 +25,7 @@ use std::io::{Read, Write};
 ///
 /// A refusal's text goes to the fault stream, and so does a fault's line. Where that stream fails
 /// too, the status stands alone.
-pub fn run_cli<R: Read, W: Write, E: Write, F: Files + Refuses>(
+pub fn run_cli<R: Read, W: Write, E: Write, F: Files + Refuses + LooksBeside>(
     alloc: Global,
     words: &[String],
     input: &mut Watched<R>,
@@ -72,7 +73,7 @@ pub fn run_cli<R: Read, W: Write, E: Write, F: Files + Refuses>(
 }
 
 /// Does what a call asks for, and answers the status.
-fn run_call<R: Read, W: Write, E: Write, F: Files + Refuses>(
+fn run_call<R: Read, W: Write, E: Write, F: Files + Refuses + LooksBeside>(
     alloc: Global,
     call: Call<'_>,
     input: &mut Watched<R>,
@@ -92,12 +93,22 @@ fn run_call<R: Read, W: Write, E: Write, F: Files + Refuses>(
             replay_and_report(alloc, input, &mut streams.output, &mut streams.faults)
         }
         Call::ReplayFile { script, strict } => run_replay(alloc, script, strict, streams),
-        Call::Check { graph, explain } => run_check(alloc, graph, explain, streams),
+        Call::Check {
+            graph,
+            explain,
+            beside,
+        } => run_check(alloc, graph, explain, beside, streams),
         Call::Eval {
             graph,
             sink,
             explain,
-        } => run_eval(alloc, graph, sink, explain, streams),
+            beside,
+        } => run_eval(alloc, graph, sink, explain, beside, streams),
+        Call::Columns {
+            graph,
+            explain,
+            beside,
+        } => run_columns(alloc, graph, explain, beside, streams),
         Call::Draw { graph, explain } => run_draw(alloc, graph, explain, streams),
     }
 }
@@ -129,19 +140,22 @@ fn run_replay<W: Write, E: Write, F: Files + Refuses>(
 }
 
 /// Checks a graph, and reports why it could not be checked.
-fn run_check<W: Write, E: Write, F: Files + Refuses>(
+fn run_check<W: Write, E: Write, F: Files + Refuses + LooksBeside>(
     alloc: Global,
     graph: &str,
     explain: Explain,
+    beside: bool,
     streams: &mut Streams<W, E, F>,
 ) -> Status
-    ensures status { MayEndAs (check explain graph.now) result }
-    ensures ends { CheckEnds explain (F.file streams.old.files) graph.now result W.contents
+    ensures status { MayEndAs (check beside explain graph.now) result }
+    ensures ends { CheckEnds explain
+        (known_by beside graph.now (F.file streams.old.files)) graph.now result W.contents
         streams.old.output streams.new.output
         (writer_state E.contents streams.old.faults)
         (writer_state E.contents streams.new.faults) }
     ensures quiet { result ≡ Status.Done → streams.new.faults ≡ streams.old.faults }
 {
+    look_by(alloc, &mut streams.files, beside, graph);
     let done = check(
         alloc,
         graph,
@@ -185,23 +199,54 @@ fn run_draw<W: Write, E: Write, F: Files + Refuses>(
 }
 
 /// Evaluates a graph, and reports why it could not be evaluated.
-fn run_eval<W: Write, E: Write, F: Files + Refuses>(
+fn run_eval<W: Write, E: Write, F: Files + Refuses + LooksBeside>(
     alloc: Global,
     graph: &str,
     sink: Option<&str>,
     explain: Explain,
+    beside: bool,
     streams: &mut Streams<W, E, F>,
 ) -> Status
     ensures status { MayEndAs
-        (eval explain graph.now (option_map (λ s. s.now) sink.entry)) result }
-    ensures ends { EvalEnds explain (F.file streams.old.files) graph.now
+        (eval beside explain graph.now (option_map (λ s. s.now) sink.entry)) result }
+    ensures ends { EvalEnds explain
+        (known_by beside graph.now (F.file streams.old.files)) graph.now
         (option_map (λ s. s.now) sink.entry) result W.contents
         streams.old.output streams.new.output
         (writer_state E.contents streams.old.faults)
         (writer_state E.contents streams.new.faults) }
     ensures quiet { result ≡ Status.Done → streams.new.faults ≡ streams.old.faults }
 {
+    look_by(alloc, &mut streams.files, beside, graph);
     let done = eval(alloc, graph, sink, &mut streams.output, &mut streams.files);
+    end(
+        alloc,
+        done,
+        graph,
+        explain,
+        &mut streams.faults,
+        &mut streams.files,
+    )
+}
+
+/// Evaluates a graph as columns, and reports why it could not be evaluated.
+fn run_columns<W: Write, E: Write, F: Files + Refuses + LooksBeside>(
+    alloc: Global,
+    graph: &str,
+    explain: Explain,
+    beside: bool,
+    streams: &mut Streams<W, E, F>,
+) -> Status
+    ensures status { MayEndAs (columns beside explain graph.now) result }
+    ensures ends { ColumnsEnd explain
+        (known_by beside graph.now (F.file streams.old.files)) graph.now result W.contents
+        streams.old.output streams.new.output
+        (writer_state E.contents streams.old.faults)
+        (writer_state E.contents streams.new.faults) }
+    ensures quiet { result ≡ Status.Done → streams.new.faults ≡ streams.old.faults }
+{
+    look_by(alloc, &mut streams.files, beside, graph);
+    let done = eval_columns(alloc, graph, &mut streams.output, &mut streams.files);
     end(
         alloc,
         done,

@@ -13,7 +13,7 @@ use std::io::Write;
 use std::sync::Wait;
 use std::thread::Threads;
 use stream_workers::graph_commands::watched_io::{Files, Status, Streams};
-use stream_workers::graph_commands::{Refuses, end};
+use stream_workers::graph_commands::{LooksBeside, Refuses, end, look_by};
 
 /// Runs the program on its words, those behind `phase run`, and answers its status: `Done` where
 /// the graph was run, or help or the version was shown, `GraphRefused` where the graph or its
@@ -23,7 +23,7 @@ use stream_workers::graph_commands::{Refuses, end};
 ///
 /// A refusal's text goes to the fault stream, and so does a fault's line. Where that stream fails
 /// too, the status stands alone. A run waits, and it is not promised that it comes back.
-pub fn run_cli<H: Threads + Wait + Sync, W: Write, E: Write, F: Files + Refuses>(
+pub fn run_cli<H: Threads + Wait + Sync, W: Write, E: Write, F: Files + Refuses + LooksBeside>(
     rt: &H,
     alloc: Global,
     words: &[String],
@@ -60,7 +60,7 @@ pub fn run_cli<H: Threads + Wait + Sync, W: Write, E: Write, F: Files + Refuses>
 }
 
 /// Runs a graph as a call asks for it, reports why there is no answer, and answers the status.
-fn run_call<H: Threads + Wait + Sync, W: Write, E: Write, F: Files + Refuses>(
+fn run_call<H: Threads + Wait + Sync, W: Write, E: Write, F: Files + Refuses + LooksBeside>(
     rt: &H,
     alloc: Global,
     call: RunCall<'_>,
@@ -75,6 +75,7 @@ fn run_call<H: Threads + Wait + Sync, W: Write, E: Write, F: Files + Refuses>(
 {
     let graph = call.graph;
     let explain = call.explain;
+    look_by(alloc, &mut streams.files, call.beside, graph);
     let done = run(rt, alloc, call, &mut streams.output, &mut streams.files);
     end(
         alloc,

@@ -1,6 +1,7 @@
 -- How a run of the program may end, by what its words ask for.
 use Rattle.std.specs.Prelude.{◌≡◌, ◌⊎◌, ℕ, List, Option}
 use Rattle.graph_commands.specs.FileJobs.{Known}
+use Rattle.graph_commands.specs.Folders.{known_by}
 use Rattle.graph_commands.specs.watched_io.States.{WriterState}
 use Rattle.graph_commands.specs.watched_io.declared.status.Status.{Status}
 use Rattle.graph_commands.specs.watched_io.declared.status.Status.TheVariants.{Done, Failed, GraphRefused, Stalled, TooBig}
@@ -18,4 +19,4 @@ MayEndAsStream status =
 abbrev pub EndsAsStream : {W : Type 0} → Stream → Known → (W → Option (List ℕ)) → Status
     → Watched W → Watched W → WriterState → WriterState → Type 0
 EndsAsStream what known contents status old new before after =
-    StreamEnds what.explain known what.graph what.sink status contents old new before after
+    StreamEnds what.explain (known_by what.beside what.graph known) what.graph what.sink status contents old new before after

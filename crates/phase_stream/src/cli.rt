@@ -12,7 +12,7 @@ ghost use Rattle.phase_words.specs.StreamLine.{AreStreamTaken, AsksStream, Strea
 use crate::opens::Opens;
 use crate::streamed::stream;
 use graph_commands::watched_io::{Explain, Files, Status, Streams, Watched};
-use graph_commands::{Failure, JobFault, Refuses, report};
+use graph_commands::{Failure, JobFault, LooksBeside, Refuses, look_by, report};
 use phase_words::{StreamCall, answer, read_stream_words};
 use sample_pieces::graph_lang::{FaultKind, GraphFault};
 use std::alloc::Global;
@@ -28,7 +28,7 @@ use std::sync::Wait;
 /// A refusal's text goes to the fault stream, and so does a fault's line. Where that stream fails
 /// too, the status stands alone. It waits where a reader waits, and it is not promised that it
 /// comes back.
-pub fn run_cli<H: Wait, W: Write, E: Write, F: Opens + Refuses>(
+pub fn run_cli<H: Wait, W: Write, E: Write, F: Opens + Refuses + LooksBeside>(
     rt: &H,
     alloc: Global,
     words: &[String],
@@ -65,7 +65,7 @@ pub fn run_cli<H: Wait, W: Write, E: Write, F: Opens + Refuses>(
 }
 
 /// Streams a graph as a call asks for it, reports why it stopped, and answers the status.
-fn run_call<H: Wait, W: Write, E: Write, F: Opens + Refuses>(
+fn run_call<H: Wait, W: Write, E: Write, F: Opens + Refuses + LooksBeside>(
     rt: &H,
     alloc: Global,
     call: StreamCall<'_>,
@@ -79,6 +79,7 @@ fn run_call<H: Wait, W: Write, E: Write, F: Opens + Refuses>(
     ensures quiet { result ≡ Status.Done → streams.new.faults ≡ streams.old.faults }
 {
     let (graph, explain) = (call.graph, call.explain);
+    look_by(alloc, &mut streams.files, call.beside, graph);
     let done = stream(rt, alloc, call, &mut streams.output, &mut streams.files);
     end(
         alloc,

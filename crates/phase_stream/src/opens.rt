@@ -3,7 +3,7 @@ ghost use Rattle.std.specs.Prelude.{◌≡◌, ℕ, List, IfOk};
 ghost use Rattle.std.specs.Io.KnownBytes.{Keeps};
 
 use graph_commands::watched_io::{FileFault, Files, ReadFailed};
-use graph_commands::{FileRefusal, Refuses, TellingFiles};
+use graph_commands::{FileRefusal, LooksBeside, Refuses, TellingFiles};
 use std::alloc::Global;
 use std::fs::File;
 use std::io;
@@ -91,6 +91,10 @@ impl<R: std::rt::Files, I: Read + Drop> Opens for StreamFiles<'_, R, I> {
     type Reader = Samples<R::File, I>;
 
     fn open(&mut self, alloc: Global, name: &str) -> Result<Samples<R::File, I>, ReadFailed> {
+        let Ok(path) = self.files.path(alloc, name) else {
+            return Err(ReadFailed);
+        };
+        let name = path.as_deref().unwrap_or(name);
         if name == "-" {
             return match self.input.take() {
                 Some(input) => Ok(Samples::Input(input)),
@@ -110,6 +114,12 @@ impl<R: std::rt::Files, I: Read + Drop> Opens for StreamFiles<'_, R, I> {
 impl<R: std::rt::Files, I> Files for StreamFiles<'_, R, I> {
     fn read(&mut self, alloc: Global, name: &str, limit: usize) -> Result<Vec<u8>, FileFault> {
         self.files.read(alloc, name, limit)
+    }
+}
+
+impl<R: std::rt::Files, I> LooksBeside for StreamFiles<'_, R, I> {
+    fn look_beside(&mut self, alloc: Global, file: &str) {
+        self.files.look_beside(alloc, file);
     }
 }
 

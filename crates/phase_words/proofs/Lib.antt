@@ -1,5 +1,6 @@
 pub mod Answering
 mod Called
+mod Conflicts
 pub mod NoCalls
 mod Refused
 mod Simple

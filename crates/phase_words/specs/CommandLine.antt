@@ -1,13 +1,14 @@
 -- What the words of a command line ask for, by what clap makes of them. The program's own name is
 -- not among them.
-use Rattle.std.specs.Prelude.{◌≡◌, ◌≢◌, ◌⊎◌, true, List, [], ◌∷◌, Option, Some, None}
+use Rattle.std.specs.Prelude.{◌≡◌, ◌≢◌, ◌⊎◌, ◌&&◌, Bool, true, false, is_some, List, [], ◌∷◌, Option, Some, None}
 use Rattle.std.specs.Prelude.{String, codes, if◌then◌else◌, map, option_map, string_bytes, unwrap_or, ⊤}
 use Rattle.std.specs.Str.{bytes_eq}
 use Rattle.clap.specs.Words.{App, IsAmong, Kinds, Row, Rule, Shape, Text, fault_of, first_of}
 use Rattle.clap.specs.Words.{new_app, new_rule, subcommand_of, with_rule, with_subcommand}
 use Rattle.clap.specs.declared.builder.action.ArgAction.TheVariants.{SetTrue}
 use Rattle.clap.specs.declared.error.kind.ErrorKind.{ErrorKind}
-use Rattle.clap.specs.declared.error.kind.ErrorKind.TheVariants.{DisplayHelp, DisplayVersion}
+use Rattle.clap.specs.Kinds.{or_else}
+use Rattle.clap.specs.declared.error.kind.ErrorKind.TheVariants.{ArgumentConflict, DisplayHelp, DisplayVersion}
 use Rattle.phase_words.specs.declared.call.Call.{Call}
 use Rattle.phase_words.specs.declared.call.Call.TheVariants as call
 use Rattle.watched_io.specs.declared.explain.Explain.{Explain}
@@ -43,6 +44,16 @@ graph_shape name = (graph_app name).top
 abbrev pub sink_rule : Rule
 sink_rule = record (new_rule (codes "sink")) { long = Some (codes "sink"); value_names = 1 }
 
+-- the word `--columns`, which may be given
+abbrev pub columns_rule : Rule
+columns_rule =
+    record (new_rule (codes "columns")) { long = Some (codes "columns"); action = Some SetTrue }
+
+-- the word `--beside`, which may be given
+abbrev pub beside_rule : Rule
+beside_rule =
+    record (new_rule (codes "beside")) { long = Some (codes "beside"); action = Some SetTrue }
+
 -- the word `--explain`, which may be given
 abbrev pub explain_rule : Rule
 explain_rule =
@@ -50,11 +61,12 @@ explain_rule =
 
 -- the command `check`
 abbrev pub check_shape : Shape
-check_shape = (with_rule (graph_app (codes "check")) explain_rule).top
+check_shape = (with_rule (with_rule (graph_app (codes "check")) beside_rule) explain_rule).top
 
 -- the command `eval`
 abbrev pub eval_shape : Shape
-eval_shape = (with_rule (with_rule (graph_app (codes "eval")) sink_rule) explain_rule).top
+eval_shape = (with_rule (with_rule (with_rule (with_rule (graph_app (codes "eval")) sink_rule)
+    columns_rule) beside_rule) explain_rule).top
 
 -- the command `draw`
 abbrev pub draw_shape : Shape
@@ -82,10 +94,29 @@ phase_app =
 
 -- ---- what the words ask for
 
--- the kinds of answer that clap may give in place of taking the words; a call for help is one, and
+-- whether a flag stands there, by the value that clap gives it, or none
+abbrev pub is_given : Option Text → Bool
+is_given None = false
+is_given (Some value) = bytes_eq value (codes "true")
+
+-- whether `--columns` and `--sink` stand there together, by what clap found for a command's words
+abbrev pub has_both : List Row → Bool
+has_both rows = is_given (first_of (codes "columns") rows) && is_some (first_of (codes "sink") rows)
+
+-- whether they do behind the command that it found
+abbrev pub has_conflict : Option (Text × List Row) → Bool
+has_conflict None = false
+has_conflict (Some command) = has_both command.1
+
+-- they are refused together, as clap refuses words in conflict
+abbrev pub conflict_kinds : Bool → Kinds
+conflict_kinds both = if both then ArgumentConflict ∷ [] else []
+
+-- the kinds of answer that may be given in place of taking the words; a call for help is one, and
 -- so is one for the version
 unfoldable pub kinds_of : List Text → Kinds
-kinds_of words = fault_of phase_app words
+kinds_of words =
+    or_else (fault_of phase_app words) (conflict_kinds (has_conflict (subcommand_of phase_app words)))
 
 -- clap takes the words: they ask for no help and no version, and nothing is refused
 abbrev pub AreTaken : List Text → Type 0
@@ -113,12 +144,14 @@ AreRefused words = Refuse (kinds_of words)
 
 -- what words that are taken ask for: a replay of standard input, or of the script in a file, also
 -- one that ends at the first line that is refused; a check of a graph's file, its evaluation, for
--- all its sinks or for the one of a name, or its drawing, also with a fault explained
+-- all its sinks, for the one of a name or as columns, or its drawing, also with a fault explained;
+-- but for a drawing also with the files of its sources opened beside it
 pub data Asked : Type 0 where
   replay : Asked
   replay_file : Strict → Text → Asked
-  check : Explain → Text → Asked
-  eval : Explain → Text → Option Text → Asked
+  check : Bool → Explain → Text → Asked
+  eval : Bool → Explain → Text → Option Text → Asked
+  columns : Bool → Explain → Text → Asked
   draw : Explain → Text → Asked
 
 -- whether `--explain` stands there, by the value that clap gives it, or none
@@ -137,11 +170,17 @@ replay_by strictly.No name =
     if bytes_eq name (codes "-") then replay else replay_file strictly.No name
 replay_by strictly.Yes name = replay_file strictly.Yes name
 
+-- an evaluation as columns, or of all sinks or one
+abbrev pub eval_as : Bool → Bool → Explain → Text → Option Text → Asked
+eval_as true beside explain graph sink = columns beside explain graph
+eval_as false beside explain graph sink = eval beside explain graph sink
+
 -- by the command and the words that are given to it
-abbrev pub asked_as : Text → Option Text → Option Text → Explain → Asked
-asked_as name graph sink explain =
-    if bytes_eq name (codes "check") then check explain (unwrap_or graph [])
-    else if bytes_eq name (codes "eval") then eval explain (unwrap_or graph []) sink
+abbrev pub asked_as : Text → Option Text → Option Text → Bool → Bool → Explain → Asked
+asked_as name graph sink as_columns beside explain =
+    if bytes_eq name (codes "check") then check beside explain (unwrap_or graph [])
+    else if bytes_eq name (codes "eval") then
+    eval_as as_columns beside explain (unwrap_or graph []) sink
     else if bytes_eq name (codes "draw") then draw explain (unwrap_or graph [])
     else replay
 
@@ -155,6 +194,7 @@ replay_with rows =
 abbrev pub graph_call_with : Text → List Row → Asked
 graph_call_with name rows =
     asked_as name (first_of (codes "graph") rows) (first_of (codes "sink") rows)
+    (is_given (first_of (codes "columns") rows)) (is_given (first_of (codes "beside") rows))
     (explain_of (first_of (codes "explain") rows))
 
 -- by a command, and what clap found for its words
@@ -190,12 +230,16 @@ AskReplayStrictly words name = Asks words (replay_file strictly.Yes name)
 
 -- the words ask for a check of the graph in the file of this name
 abbrev pub AskCheck : List Text → Text → Type 0
-AskCheck words name = Asks words (check No name)
+AskCheck words name = Asks words (check false No name)
 
 -- the words ask for an evaluation of the graph in the file of this name, for all its sinks, or for
 -- the one of this name
 abbrev pub AskEval : List Text → Text → Option Text → Type 0
-AskEval words name sink = Asks words (eval No name sink)
+AskEval words name sink = Asks words (eval false No name sink)
+
+-- the words ask for an evaluation of it whose sinks are the columns of a table
+abbrev pub AskColumns : List Text → Text → Type 0
+AskColumns words name = Asks words (columns false No name)
 
 -- the words ask for a drawing of the graph in the file of this name
 abbrev pub AskDraw : List Text → Text → Type 0
@@ -203,11 +247,15 @@ AskDraw words name = Asks words (draw No name)
 
 -- the words ask for a check, and for an explanation of a fault
 abbrev pub AskCheckExplained : List Text → Text → Type 0
-AskCheckExplained words name = Asks words (check Yes name)
+AskCheckExplained words name = Asks words (check false Yes name)
 
 -- the words ask for an evaluation, and for an explanation of a fault
 abbrev pub AskEvalExplained : List Text → Text → Option Text → Type 0
-AskEvalExplained words name sink = Asks words (eval Yes name sink)
+AskEvalExplained words name sink = Asks words (eval false Yes name sink)
+
+-- the words ask for such columns, and for an explanation of a fault
+abbrev pub AskColumnsExplained : List Text → Text → Type 0
+AskColumnsExplained words name = Asks words (columns false Yes name)
 
 -- the words ask for a drawing, and for an explanation of a fault
 abbrev pub AskDrawExplained : List Text → Text → Type 0
@@ -217,8 +265,9 @@ AskDrawExplained words name = Asks words (draw Yes name)
 abbrev pub file_asked : Asked → Option Text
 file_asked replay = None
 file_asked (replay_file strict name) = Some name
-file_asked (check explain name) = Some name
-file_asked (eval explain name sink) = Some name
+file_asked (check beside explain name) = Some name
+file_asked (eval beside explain name sink) = Some name
+file_asked (columns beside explain name) = Some name
 file_asked (draw explain name) = Some name
 
 -- the words ask for something of the script or the graph in the file of this name
@@ -231,8 +280,10 @@ pub record AskFile (words : List Text) (name : Text) : Type 0 where
 abbrev pub asked_of : Call → Asked
 asked_of call.Replay = replay
 asked_of (call.ReplayFile script strict) = replay_file strict script.now
-asked_of (call.Check graph explain) = check explain graph.now
-asked_of (call.Eval graph sink explain) = eval explain graph.now (option_map (λ s. s.now) sink)
+asked_of (call.Check graph explain beside) = check beside explain graph.now
+asked_of (call.Eval graph sink explain beside) =
+    eval beside explain graph.now (option_map (λ s. s.now) sink)
+asked_of (call.Columns graph explain beside) = columns beside explain graph.now
 asked_of (call.Draw graph explain) = draw explain graph.now
 
 -- the words as texts

@@ -1,11 +1,11 @@
 -- What the words behind `phase run` ask for, by what clap makes of them.
-use Rattle.std.specs.Prelude.{◌≡◌, ℕ, List, [], ◌∷◌, Option, Some, None, codes, if◌then◌else◌, option_map}
+use Rattle.std.specs.Prelude.{◌≡◌, ℕ, Bool, false, List, [], ◌∷◌, Option, Some, None, codes, if◌then◌else◌, option_map}
 use Rattle.std.specs.Str.Parse.{digits_value, without_leading_plus}
 use Rattle.clap.specs.ValueTests.{is_unsigned_in}
 use Rattle.clap.specs.Words.{App, Kinds, Row, Rule, Text, fault_of, first_of, matches_of, new_rule, with_rule}
 use Rattle.clap.specs.declared.builder.value_parser.ValueParser.TheVariants as vp
 use Rattle.clap.specs.declared.error.kind.ErrorKind.TheVariants.{DisplayHelp, DisplayVersion}
-use Rattle.phase_words.specs.CommandLine.{Refuse, explain_of, explain_rule}
+use Rattle.phase_words.specs.CommandLine.{Refuse, explain_of, explain_rule, is_given}
 use Rattle.phase_words.specs.SinkLine.{graph_by, sink_app}
 use Rattle.watched_io.specs.declared.explain.Explain.{Explain}
 use Rattle.watched_io.specs.declared.explain.Explain.TheVariants.{No, Yes}
@@ -22,7 +22,8 @@ workers_rule = record (new_rule (codes "workers")) {
   parser = Some (vp.Unsigned 1 WORKERS_MAX);
 }
 
--- the words behind `phase run`: a graph's file, a sink, a number of workers and `--explain`
+-- the words behind `phase run`: a graph's file, a sink, `--beside`, a number of workers and
+-- `--explain`
 unfoldable pub run_app : App
 run_app = with_rule (with_rule sink_app workers_rule) explain_rule
 
@@ -61,12 +62,14 @@ workers_of None = WORKERS
 workers_of (Some word) = workers_named word
 
 -- a run of the graph in the file of a name by so many workers, for all its sinks, or for the one of
--- a name, with an explanation of a fault or without
+-- a name, with an explanation of a fault or without, and with the files of its sources opened
+-- beside it or not
 pub record Run : Type 0 where
   pub graph : Text
   pub sink : Option Text
   pub workers : ℕ
   pub explain : Explain
+  pub beside : Bool
 
 -- by what clap finds in the words
 abbrev pub run_by : List Row → Run
@@ -75,6 +78,7 @@ run_by rows = record {
   sink = first_of (codes "sink") rows;
   workers = workers_of (first_of (codes "workers") rows);
   explain = explain_of (first_of (codes "explain") rows);
+  beside = is_given (first_of (codes "beside") rows);
 }
 
 -- the run that the words ask for, by what clap finds in them
@@ -90,12 +94,24 @@ pub record AsksRun (words : List Text) (what : Run) : Type 0 where
 -- sinks, or for the one of this name, without an explanation of a fault
 abbrev pub AskRun : List Text → Text → Option Text → ℕ → Type 0
 AskRun words name sink workers =
-    AsksRun words (record { graph = name; sink = sink; workers = workers; explain = No })
+    AsksRun words (record {
+      graph = name;
+      sink = sink;
+      workers = workers;
+      explain = No;
+      beside = false;
+    })
 
 -- and such a run with an explanation of a fault
 abbrev pub AskRunExplained : List Text → Text → Option Text → ℕ → Type 0
 AskRunExplained words name sink workers =
-    AsksRun words (record { graph = name; sink = sink; workers = workers; explain = Yes })
+    AsksRun words (record {
+      graph = name;
+      sink = sink;
+      workers = workers;
+      explain = Yes;
+      beside = false;
+    })
 
 -- what a call asks for
 abbrev pub run_of : RunCall → Run
@@ -104,4 +120,5 @@ run_of call = record {
   sink = option_map (λ s. s.now) call.sink;
   workers = call.workers;
   explain = call.explain;
+  beside = call.beside;
 }

@@ -1,8 +1,8 @@
 -- What the words behind `phase stream` ask for, by what clap makes of them.
-use Rattle.std.specs.Prelude.{◌≡◌, List, [], ◌∷◌, Option, codes, option_map}
+use Rattle.std.specs.Prelude.{◌≡◌, Bool, false, List, [], ◌∷◌, Option, codes, option_map}
 use Rattle.clap.specs.Words.{App, Kinds, Row, Text, fault_of, first_of, matches_of, with_rule}
 use Rattle.clap.specs.declared.error.kind.ErrorKind.TheVariants.{DisplayHelp, DisplayVersion}
-use Rattle.phase_words.specs.CommandLine.{Refuse, explain_of, explain_rule}
+use Rattle.phase_words.specs.CommandLine.{Refuse, explain_of, explain_rule, is_given}
 use Rattle.phase_words.specs.SinkLine.{graph_by, sink_app}
 use Rattle.watched_io.specs.declared.explain.Explain.{Explain}
 use Rattle.watched_io.specs.declared.explain.Explain.TheVariants.{No, Yes}
@@ -10,7 +10,7 @@ use Rattle.phase_words.specs.declared.call.StreamCall.{StreamCall}
 
 -- ---- the command line
 
--- the words behind `phase stream`: a graph's file, a sink and `--explain`
+-- the words behind `phase stream`: a graph's file, a sink, `--beside` and `--explain`
 unfoldable pub stream_app : App
 stream_app = with_rule sink_app explain_rule
 
@@ -37,11 +37,13 @@ abbrev pub AreStreamRefused : List Text → Type 0
 AreStreamRefused words = Refuse (stream_kinds_of words)
 
 -- the values of a sink, of the name or of the only one, of the graph in the file of a name, as they
--- come, with an explanation of a fault or without
+-- come, with an explanation of a fault or without, and with the files of its sources opened beside
+-- it or not
 pub record Stream : Type 0 where
   pub graph : Text
   pub sink : Option Text
   pub explain : Explain
+  pub beside : Bool
 
 -- by what clap finds in the words
 abbrev pub stream_by : List Row → Stream
@@ -49,6 +51,7 @@ stream_by rows = record {
   graph = graph_by rows;
   sink = first_of (codes "sink") rows;
   explain = explain_of (first_of (codes "explain") rows);
+  beside = is_given (first_of (codes "beside") rows);
 }
 
 -- the stream that the words ask for, by what clap finds in them
@@ -64,12 +67,12 @@ pub record AsksStream (words : List Text) (what : Stream) : Type 0 where
 -- file of this name, without an explanation of a fault
 abbrev pub AskStream : List Text → Text → Option Text → Type 0
 AskStream words name sink =
-    AsksStream words (record { graph = name; sink = sink; explain = No })
+    AsksStream words (record { graph = name; sink = sink; explain = No; beside = false })
 
 -- and for such a stream with an explanation of a fault
 abbrev pub AskStreamExplained : List Text → Text → Option Text → Type 0
 AskStreamExplained words name sink =
-    AsksStream words (record { graph = name; sink = sink; explain = Yes })
+    AsksStream words (record { graph = name; sink = sink; explain = Yes; beside = false })
 
 -- what a call asks for
 abbrev pub stream_asked : StreamCall → Stream
@@ -77,4 +80,5 @@ stream_asked call = record {
   graph = call.graph.now;
   sink = option_map (λ s. s.now) call.sink;
   explain = call.explain;
+  beside = call.beside;
 }

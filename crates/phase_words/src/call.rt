@@ -21,10 +21,12 @@ pub enum Call<'a> {
         script: &'a str,
         strict: Strict,
     },
-    /// A check of the graph in the file of this name.
+    /// A check of the graph in the file of this name. Here and below `beside` says whether the files
+    /// of its sources are opened beside it.
     Check {
         graph: &'a str,
         explain: Explain,
+        beside: bool,
     },
     /// An evaluation of the graph in the file of this name, for all its sinks, or for the one of a
     /// name.
@@ -32,6 +34,13 @@ pub enum Call<'a> {
         graph: &'a str,
         sink: Option<&'a str>,
         explain: Explain,
+        beside: bool,
+    },
+    /// An evaluation of it whose sinks are the columns of a table.
+    Columns {
+        graph: &'a str,
+        explain: Explain,
+        beside: bool,
     },
     /// A drawing of the graph in the file of this name.
     Draw {
@@ -54,6 +63,7 @@ pub struct RunCall<'a> {
     pub sink: Option<&'a str>,
     pub workers: usize,
     pub explain: Explain,
+    pub beside: bool,
 }
 
 /// What the words behind `phase stream` ask for: the values, as they come, of the sink of a name,
@@ -63,6 +73,7 @@ pub struct StreamCall<'a> {
     pub graph: &'a str,
     pub sink: Option<&'a str>,
     pub explain: Explain,
+    pub beside: bool,
 }
 
 /// Why the words give no call.

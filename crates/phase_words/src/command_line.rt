@@ -1,6 +1,6 @@
 //! The words of the program, as clap reads them.
-ghost use Rattle.std.specs.Prelude.{◌≡◌, ◌↔◌, IfOk, IfErr, IsTrue, Some, false, option_map, true};
-ghost use Rattle.clap.specs.Words.{App, FailsBy, Shape, app_of, fault_of, found_of, is_simple};
+ghost use Rattle.std.specs.Prelude.{◌≡◌, ◌↔◌, ◌∷◌, [], IfOk, IfErr, IsTrue, Some, false, option_map, true};
+ghost use Rattle.clap.specs.Words.{App, FailsBy, HasKind, Shape, app_of, fault_of, found_of, is_simple};
 ghost use Rattle.clap.specs.Words.{is_simple_and_free, kind_of, matches_of, rows_of, rule_of};
 ghost use Rattle.clap.specs.Words.{shape_of, subcommand_of, subcommand_rows_of, with_subcommand};
 ghost use Rattle.clap.specs.declared.builder.command.Command.{out-Command};
@@ -8,15 +8,16 @@ ghost use Rattle.phase_words.specs.CommandLine.{Asks, IsNoCall, IsShown};
 ghost use Rattle.phase_words.specs.ClapErrors.{IsToldBy, bare_app};
 ghost use Rattle.phase_words.specs.CommandLine.{asked_as, asked_by, asked_in, asked_of, asked_with};
 ghost use Rattle.phase_words.specs.CommandLine.{graph_call_with, replay_with};
-ghost use Rattle.phase_words.specs.CommandLine.{check_shape, draw_shape, eval_shape, explain_of};
+ghost use Rattle.phase_words.specs.CommandLine.{beside_rule, check_shape, columns_rule, draw_shape};
+ghost use Rattle.phase_words.specs.CommandLine.{eval_as, eval_shape, explain_of, has_both, has_conflict, is_given};
 ghost use Rattle.phase_words.specs.CommandLine.{explain_rule, graph_app, graph_rule, kinds_of};
 ghost use Rattle.phase_words.specs.CommandLine.{phase_app, replay_by, replay_shape, script_rule};
 ghost use Rattle.phase_words.specs.CommandLine.{sink_rule, strict_of, strict_rule, texts};
 
 use crate::escape::refusal_text;
 use crate::help::{
-    ABOUT, CHECK, CHECK_END, DRAW, DRAW_END, END, EVAL, EVAL_END, EXPLAIN, GRAPH, REPLAY, SCRIPT,
-    SINK, STRICT, VERSION,
+    ABOUT, BESIDE, BOTH, CHECK, CHECK_END, COLUMNS, DRAW, DRAW_END, END, EVAL, EVAL_END, EXPLAIN,
+    GRAPH, REPLAY, SCRIPT, SINK, STRICT, VERSION,
 };
 use crate::{Call, Explain, NoCall, Strict};
 use clap::error::ErrorKind;
@@ -43,6 +44,28 @@ pub(crate) fn sink_word<'a>(alloc: Global) -> Arg<'a>
         .long("sink")
         .value_name("NAME")
         .help(SINK)
+}
+
+/// The word `--columns`, which may be given.
+fn columns_word<'a>(alloc: Global) -> Arg<'a>
+    ensures rule { rule_of result ≡ columns_rule }
+    ensures local { result.global ≡ false }
+{
+    Arg::new(alloc, "columns")
+        .long("columns")
+        .action(ArgAction::SetTrue)
+        .help(COLUMNS)
+}
+
+/// The word `--beside`, which may be given.
+pub(crate) fn beside_word<'a>(alloc: Global) -> Arg<'a>
+    ensures rule { rule_of result ≡ beside_rule }
+    ensures local { result.global ≡ false }
+{
+    Arg::new(alloc, "beside")
+        .long("beside")
+        .action(ArgAction::SetTrue)
+        .help(BESIDE)
 }
 
 /// The word `--explain`, which may be given.
@@ -77,7 +100,9 @@ fn check_command<'a>(alloc: Global) -> Result<Command<'a>, AllocError>
     ensures shape { IfOk result (λ c. shape_of c ≡ check_shape) }
     ensures local { IfOk result (λ c. (out-Command c).has_globals ≡ false) }
 {
-    graph_command(alloc, "check", CHECK, CHECK_END)?.arg(explain_word(alloc))
+    graph_command(alloc, "check", CHECK, CHECK_END)?
+        .arg(beside_word(alloc))?
+        .arg(explain_word(alloc))
 }
 
 /// The command `eval`.
@@ -87,6 +112,8 @@ fn eval_command<'a>(alloc: Global) -> Result<Command<'a>, AllocError>
 {
     graph_command(alloc, "eval", EVAL, EVAL_END)?
         .arg(sink_word(alloc))?
+        .arg(columns_word(alloc))?
+        .arg(beside_word(alloc))?
         .arg(explain_word(alloc))
 }
 
@@ -208,6 +235,8 @@ fn graph_call_with<'a>(name: &str, own: &ArgMatches<'a>) -> Call<'a>
         name,
         own.get_str("graph").unwrap_or(""),
         own.get_str("sink"),
+        is_given(own.get_str("columns")),
+        is_given(own.get_str("beside")),
         explain_of(own.get_str("explain")),
     )
 }
@@ -232,6 +261,16 @@ fn strict_of(value: Option<&str>) -> Strict
     }
 }
 
+/// Whether the value that clap gives a flag, or none, is that of one that stands there.
+pub(crate) fn is_given(value: Option<&str>) -> bool
+    ensures { result ≡ is_given (option_map (λ s. s.now) value.entry) }
+{
+    match value {
+        Some(value) => value == "true",
+        None => false,
+    }
+}
+
 /// Whether the value that clap gives `--explain`, or none, is that of a flag that stands there.
 pub(crate) fn explain_of(value: Option<&str>) -> Explain
     ensures { result ≡ explain_of (option_map (λ s. s.now) value.entry) }
@@ -242,20 +281,53 @@ pub(crate) fn explain_of(value: Option<&str>) -> Explain
     }
 }
 
-/// What a command with the name of a file, and that of a sink or none, asks for.
-fn call_named<'a>(name: &str, graph: &'a str, sink: Option<&'a str>, explain: Explain) -> Call<'a>
+/// An evaluation of a graph, as columns, or for all sinks or one.
+fn eval_as<'a>(
+    columns: bool,
+    graph: &'a str,
+    sink: Option<&'a str>,
+    beside: bool,
+    explain: Explain,
+) -> Call<'a>
     ensures { asked_of result
-        ≡ asked_as name.now (Some graph.now) (option_map (λ s. s.now) sink.entry) explain }
+        ≡ eval_as columns beside explain graph.now (option_map (λ s. s.now) sink.entry) }
+{
+    if columns {
+        return Call::Columns {
+            graph,
+            explain,
+            beside,
+        };
+    }
+    Call::Eval {
+        graph,
+        sink,
+        explain,
+        beside,
+    }
+}
+
+/// What a command with the name of a file, that of a sink or none, and these flags asks for.
+fn call_named<'a>(
+    name: &str,
+    graph: &'a str,
+    sink: Option<&'a str>,
+    columns: bool,
+    beside: bool,
+    explain: Explain,
+) -> Call<'a>
+    ensures { asked_of result ≡ asked_as name.now (Some graph.now)
+        (option_map (λ s. s.now) sink.entry) columns beside explain }
 {
     if name == "check" {
-        return Call::Check { graph, explain };
+        return Call::Check {
+            graph,
+            explain,
+            beside,
+        };
     }
     if name == "eval" {
-        return Call::Eval {
-            graph,
-            sink,
-            explain,
-        };
+        return eval_as(columns, graph, sink, beside, explain);
     }
     if name == "draw" {
         return Call::Draw { graph, explain };
@@ -287,7 +359,47 @@ fn parse<'a>(alloc: Global, words: &'a [String]) -> Result<Call<'a>, Error>
     ensures call { IfOk result (λ call. asked_of call ≡ asked_in (texts words.now)) }
 {
     let matches = found_by(command(alloc), words)?;
+    if has_conflict(&matches) {
+        return Err(conflict(alloc));
+    }
     Ok(call_of(&matches))
+}
+
+/// Whether `--columns` and `--sink` stand there together.
+fn has_conflict(matches: &ArgMatches<'_>) -> bool
+    ensures { result ≡ has_conflict (subcommand_rows_of matches.now) }
+{
+    match matches.subcommand() {
+        Some((_name, own)) => has_both(own),
+        None => false,
+    }
+}
+
+/// Whether they do, by what clap found for a command's words.
+fn has_both(own: &ArgMatches<'_>) -> bool
+    ensures { result ≡ has_both (rows_of (found_of own.now)) }
+{
+    let columns = is_given(own.get_str("columns"));
+    let sink = own.get_str("sink");
+    columns && sink.is_some()
+}
+
+/// What is told of `--columns` and `--sink` together, as clap tells of words in conflict.
+fn conflict(alloc: Global) -> Error
+    ensures { HasKind (ErrorKind.ArgumentConflict ∷ []) result }
+{
+    match conflict_error(alloc) {
+        Ok(error) => error,
+        Err(lack) => Error::from(lack),
+    }
+}
+
+/// The error of that, where there is memory for its text.
+fn conflict_error(alloc: Global) -> Result<Error, AllocError>
+    ensures { IfOk result (λ e. kind_of e ≡ ErrorKind.ArgumentConflict) }
+{
+    let mut command = eval_command(alloc)?.bin_name("phase eval")?;
+    command.error(ErrorKind::ArgumentConflict, BOTH)
 }
 
 /// Whether an answer of this kind is what was asked for, help or the version, and no refusal.

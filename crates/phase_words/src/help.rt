@@ -37,6 +37,16 @@ pub(crate) const GRAPH: &str =
 /// What the word behind `--sink` is.
 pub(crate) const SINK: &str = "Write the values of this sink alone, each on a line";
 
+/// What the word `--columns` is.
+pub(crate) const COLUMNS: &str =
+    "Write a table: a line of the sinks' names, then one for each step, with commas";
+
+/// What is said of `--columns` and `--sink` together.
+pub(crate) const BOTH: &str = "the argument '--columns' cannot be used with '--sink <NAME>'";
+
+/// What the word `--beside` is.
+pub(crate) const BESIDE: &str = "Open the files of the graph's sources in the graph's folder";
+
 /// What the word `--explain` is.
 pub(crate) const EXPLAIN: &str =
     "Say more of a fault, behind its line, and of a graph that is checked";
@@ -88,7 +98,8 @@ Example: where the file `sums` holds the three lines
 and the file `numbers` the lines 1, 2 and 3, `phase check sums` writes
   ok phasers 1 tasks 2
 
-Files are opened from the current folder, by their names as they are written.
+Files are opened from the current folder, by their names as they are written,
+and with --beside those of the sources in the folder of the graph.
 
 Exit status: 0 done; 1 the graph or its samples are refused; 2 the words were
 not understood; 5 a read or a write failed, or memory ran out.";
@@ -107,9 +118,10 @@ and the file `numbers` the lines 1, 2 and 3, `phase eval sums` writes
   3
   5
 and `phase eval sums --sink out` the last three of these lines, which may be the
-samples of another source.
+samples of another source. With --columns the first line is `out`.
 
-Files are opened from the current folder, by their names as they are written.
+Files are opened from the current folder, by their names as they are written,
+and with --beside those of the sources in the folder of the graph.
 
 Exit status: 0 done; 1 the graph or its samples are refused, or no sink has the
 name; 2 the words were not understood; 3 a value is out of range; 5 a read or a
@@ -154,7 +166,8 @@ four filters of 64 taps it took 0.05 s for 300,000 samples, and a run by 2
 workers 0.08 s at bound 64 and 0.77 s at bound 1. A run shows whether the graph
 stands still within its bounds, and where sinks join while it runs.
 
-Files are opened from the current folder, by their names as they are written.
+Files are opened from the current folder, by their names as they are written,
+and with --beside those of the sources in the folder of the graph.
 
 Exit status: 0 done; 1 the graph or its samples are refused, or no sink has the
 name; 2 the words were not understood; 3 a value is out of range; 4 every task
@@ -179,7 +192,8 @@ may be a pipe, and - is standard input, for one source. It is opened when the
 graph waits for its first sample. There is no limit on how many samples come,
 and memory does not grow with them.
 
-Files are opened from the current folder, by their names as they are written.
+Files are opened from the current folder, by their names as they are written,
+and with --beside those of the sources in the folder of the graph.
 
 Exit status: 0 done; 1 the graph or its samples are refused, no sink has the
 name, or none is named of several; 2 the words were not understood; 3 a value is

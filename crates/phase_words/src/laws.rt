@@ -1,13 +1,16 @@
 //! What clap makes of the words that the program's pages name.
-ghost use Rattle.std.specs.Prelude.{◌≤◌, ℕ, List, Option, [], ◌∷◌, Some, None, codes};
-ghost use Rattle.phase_words.specs.CommandLine.{AreRefused, AskCheck, AskDraw, AskEval, AskHelp};
+ghost use Rattle.std.specs.Prelude.{◌≤◌, ℕ, List, Option, [], ◌∷◌, Some, None, codes, true};
+ghost use Rattle.phase_words.specs.CommandLine.{AreRefused, AskCheck, AskColumns, AskDraw, AskEval};
+ghost use Rattle.phase_words.specs.CommandLine.{AskColumnsExplained, AskHelp, Asks, check, columns, eval};
 ghost use Rattle.phase_words.specs.CommandLine.{AskCheckExplained, AskDrawExplained};
 ghost use Rattle.phase_words.specs.CommandLine.{AskEvalExplained, AskReplay};
 ghost use Rattle.phase_words.specs.CommandLine.{AskReplayFile, AskReplayStrictly, AskVersion};
 ghost use Rattle.phase_words.specs.RunLine.{AreRunRefused, AskRun, AskRunExplained, AskRunHelp};
 ghost use Rattle.phase_words.specs.RunLine.{AskRunVersion, AsksRun, Run};
 ghost use Rattle.phase_words.specs.StreamLine.{AreStreamRefused, AskStream, AskStreamExplained};
-ghost use Rattle.phase_words.specs.StreamLine.{AskStreamHelp, AskStreamVersion};
+ghost use Rattle.phase_words.specs.StreamLine.{AskStreamHelp, AskStreamVersion, AsksStream};
+
+use crate::Explain;
 
 /// `phase` and `phase replay` ask for a replay, `phase replay s` for one of the script in the file
 /// s, and `--strict` for one that ends at the first line that is refused. `-` is standard input.
@@ -31,6 +34,22 @@ pub fn words_for_graphs()
         (codes "g") (Some (codes "out")) }
     ensures sink_first { AskEval (codes "eval" ∷ codes "--sink=out" ∷ codes "g" ∷ [])
         (codes "g") (Some (codes "out")) }
+{}
+
+/// `phase eval g --columns` asks for the sinks of the graph in the file g as columns. With a sink
+/// of a name it is refused, and so it is behind the other commands.
+pub fn words_for_columns()
+    ensures columns { AskColumns (codes "eval" ∷ codes "g" ∷ codes "--columns" ∷ []) (codes "g") }
+    ensures first { AskColumns (codes "eval" ∷ codes "--columns" ∷ codes "g" ∷ []) (codes "g") }
+    ensures explain { AskColumnsExplained
+        (codes "eval" ∷ codes "g" ∷ codes "--columns" ∷ codes "--explain" ∷ []) (codes "g") }
+    ensures sink { AreRefused
+        (codes "eval" ∷ codes "g" ∷ codes "--columns" ∷ codes "--sink" ∷ codes "out" ∷ []) }
+    ensures sink_first { AreRefused
+        (codes "eval" ∷ codes "--sink=out" ∷ codes "--columns" ∷ codes "g" ∷ []) }
+    ensures check { AreRefused (codes "check" ∷ codes "g" ∷ codes "--columns" ∷ []) }
+    ensures run { AreRunRefused (codes "g" ∷ codes "--columns" ∷ []) }
+    ensures stream { AreStreamRefused (codes "g" ∷ codes "--columns" ∷ []) }
 {}
 
 /// `phase draw g` asks for a drawing of the graph in the file g. No file, two, and a sink are
@@ -60,6 +79,22 @@ pub fn words_for_explanations()
     ensures stream { AskStreamExplained (codes "--explain" ∷ codes "g" ∷ []) (codes "g") None }
     ensures draw { AskDrawExplained
         (codes "draw" ∷ codes "g" ∷ codes "--explain" ∷ []) (codes "g") }
+{}
+
+/// `--beside` asks of a check, of an evaluation, of a run and of a stream that the files of the
+/// sources are opened beside the graph. A drawing opens none, and refuses it.
+pub fn words_for_files_beside()
+    ensures check { Asks (codes "check" ∷ codes "d/g" ∷ codes "--beside" ∷ [])
+        (check true Explain.No (codes "d/g")) }
+    ensures eval { Asks (codes "eval" ∷ codes "--beside" ∷ codes "d/g" ∷ codes "--explain" ∷ [])
+        (eval true Explain.Yes (codes "d/g") None) }
+    ensures columns { Asks (codes "eval" ∷ codes "d/g" ∷ codes "--columns" ∷ codes "--beside" ∷ [])
+        (columns true Explain.No (codes "d/g")) }
+    ensures run { AsksRun (codes "d/g" ∷ codes "--beside" ∷ []) (record {
+        graph = codes "d/g"; sink = None; workers = 4; explain = Explain.No; beside = true }) }
+    ensures stream { AsksStream (codes "d/g" ∷ codes "--beside" ∷ []) (record {
+        graph = codes "d/g"; sink = None; explain = Explain.No; beside = true }) }
+    ensures draw { AreRefused (codes "draw" ∷ codes "g" ∷ codes "--beside" ∷ []) }
 {}
 
 /// `--help` and `-h` ask for help, alone and behind each command.

@@ -5,7 +5,7 @@ ghost use Rattle.phase_words.specs.CommandLine.{ExplainsNone, texts};
 ghost use Rattle.phase_words.specs.RunLine.{AsksRun, run_app, run_by, run_in, run_kinds_of, run_of};
 ghost use Rattle.phase_words.specs.RunLine.{workers_of, workers_rule};
 
-use crate::command_line::{explain_of, explain_word, found_by, no_call};
+use crate::command_line::{explain_of, explain_word, found_by, is_given, no_call};
 use crate::help::{RUN, RUN_END, WORKERS_WORD};
 use crate::sink_line::{graph_of, sink_command};
 use crate::{NoCall, RunCall, WORKERS, WORKERS_MAX};
@@ -43,6 +43,7 @@ fn call_of<'a>(matches: &ArgMatches<'a>) -> RunCall<'a>
         sink: matches.get_str("sink"),
         workers: workers_of(matches.get_str("workers")),
         explain: explain_of(matches.get_str("explain")),
+        beside: is_given(matches.get_str("beside")),
     }
 }
 

@@ -5,7 +5,7 @@ ghost use Rattle.phase_words.specs.CommandLine.{ExplainsNone, texts};
 ghost use Rattle.phase_words.specs.StreamLine.{AsksStream, stream_app, stream_by, stream_in};
 ghost use Rattle.phase_words.specs.StreamLine.{stream_kinds_of, stream_asked};
 
-use crate::command_line::{explain_of, explain_word, found_by, no_call};
+use crate::command_line::{explain_of, explain_word, found_by, is_given, no_call};
 use crate::help::{STREAM, STREAM_END};
 use crate::sink_line::{graph_of, sink_command};
 use crate::{NoCall, StreamCall};
@@ -27,6 +27,7 @@ fn call_of<'a>(matches: &ArgMatches<'a>) -> StreamCall<'a>
         graph: graph_of(matches),
         sink: matches.get_str("sink"),
         explain: explain_of(matches.get_str("explain")),
+        beside: is_given(matches.get_str("beside")),
     }
 }
 

@@ -2,6 +2,7 @@ use Rattle.std.proofs.Common.{inl, inr, refl, option_map}
 use Rattle.std.proofs.lemmas.Result.{IfErr-weaker}
 use Rattle.graph_commands.proofs.Counted.{known-same}
 use Rattle.graph_commands.proofs.Ends.{ends-by, ends-status, fails-place, fails-status, unread-place, unread-status}
+use Rattle.graph_commands.specs.Folders.{known_by}
 use Rattle.phase_commands.specs.Ends.{MayEndAs}
 use Rattle.phase_words.specs.CommandLine.{check}
 use Rattle.phase_commands.proofs.cli.run_check.Goals as goal
@@ -10,20 +11,21 @@ use Rattle.phase_commands.proofs.cli.run_check.Goals as goal
 pub end-requires : goal.end-requires
 end-requires g c =
     IfErr-weaker c.check-done.result _ _
-    (λ found fails. fails-place _ _ g.W.Write.contents _ _ found (unread-place (g.F.Files.file c.args.streams.now.files) c.args.graph.now) fails)
+    (λ found fails. fails-place _ _ g.W.Write.contents _ _ found (unread-place (g.F.Files.file c.look_by.new.files) c.args.graph.now) fails)
     c.check-done.ensures.failed
 
 pub returns-clause-status : goal.returns-clause-status
 returns-clause-status g c =
-    ends-status _ _ (MayEndAs (check c.args.explain c.args.graph.now)) c.check-done.result c.end.result c.check-done.ensures.failed
+    ends-status _ _ (MayEndAs (check c.args.beside c.args.explain c.args.graph.now)) c.check-done.result c.end.result c.check-done.ensures.failed
     c.end.ensures.done c.end.ensures.status (inl refl)
-    (λ found fails. fails-status _ _ g.W.Write.contents _ _ found (MayEndAs (check c.args.explain c.args.graph.now))
-    (λ found cause. inr (unread-status (g.F.Files.file c.args.streams.now.files) c.args.graph.now found cause)) (inr (inr refl)) fails)
+    (λ found fails. fails-status _ _ g.W.Write.contents _ _ found (MayEndAs (check c.args.beside c.args.explain c.args.graph.now))
+    (λ found cause. inr (unread-status (g.F.Files.file c.look_by.new.files) c.args.graph.now found cause)) (inr (inr refl)) fails)
 
 -- the files are known as before when a failure is told
 pub returns-clause-ends : goal.returns-clause-ends
 returns-clause-ends g c =
-    let known = g.F.Files.file c.args.streams.now.files in
-    let same = known-same (g.F.Files.file c.check-done.new.files) known c.check-done.ensures.same in
-    ends-by _ c.args.explain known _ _ c.check-done.result c.end.result _ _ c.check-done.ensures.done
-    c.check-done.ensures.failed c.end.ensures.done c.end.ensures.status (rw same at c.end.ensures.told)
+    let known = known_by c.args.beside c.args.graph.now (g.F.Files.file c.args.streams.now.files) in
+    let moved = known-same (g.F.Files.file c.look_by.new.files) known c.look_by.ensures in
+    let same = known-same (g.F.Files.file c.check-done.new.files) (g.F.Files.file c.look_by.new.files) c.check-done.ensures.same in
+    ends-by _ c.args.explain known _ _ c.check-done.result c.end.result _ _ (rw moved at c.check-done.ensures.done)
+    (rw moved at c.check-done.ensures.failed) c.end.ensures.done c.end.ensures.status (rw (same, moved) at c.end.ensures.told)

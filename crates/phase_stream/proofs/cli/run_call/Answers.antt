@@ -1,3 +1,4 @@
+use Rattle.graph_commands.specs.Folders.{known_by}
 use Rattle.phase_words.specs.StreamLine.{stream_asked}
 use Rattle.phase_stream.proofs.Ending.{known_same, status_ends, stream_ends}
 use Rattle.phase_stream.proofs.cli.run_call.Goals as goal
@@ -10,9 +11,11 @@ returns-clause-status g c =
 pub returns-clause-ends : goal.returns-clause-ends
 returns-clause-ends g c =
     let what = stream_asked c.args.call in
-    let known = g.F.Files.file c.args.streams.now.files in
-    let same = known_same (g.F.Files.file c.stream-done.new.files) known c.stream-done.ensures.same in
+    let known = known_by what.beside what.graph (g.F.Files.file c.args.streams.now.files) in
+    let moved = known_same (g.F.Files.file c.look_by.new.files) known c.look_by.ensures in
+    let same = known_same (g.F.Files.file c.stream-done.new.files) (g.F.Files.file c.look_by.new.files)
+    c.stream-done.ensures.same in
     stream_ends _ what.explain known what.graph what.sink
-    g.W.Write.contents _ _ c.stream-done.result c.end.result _ _ c.stream-done.ensures.done
-    c.stream-done.ensures.failed c.end.ensures.done c.end.ensures.status
-    (rw same at c.end.ensures.told)
+    g.W.Write.contents _ _ c.stream-done.result c.end.result _ _ (rw moved at c.stream-done.ensures.done)
+    (rw moved at c.stream-done.ensures.failed) c.end.ensures.done c.end.ensures.status
+    (rw (same, moved) at c.end.ensures.told)

@@ -1,4 +1,4 @@
--- The command of a graph's file, with one more word.
+-- The command of a graph's file, with two more words.
 use Rattle.std.proofs.Common.{◌||◌, ◌∙◌, ap, ap₂}
 use Rattle.std.proofs.lemmas.Result.{IfOk-weaker}
 use Rattle.clap.specs.Words.{App, with_rule}
@@ -7,12 +7,17 @@ use Rattle.phase_words.proofs.command_line.check_command.Goals as goal
 pub returns-clause-shape : goal.returns-clause-shape
 returns-clause-shape c =
     let of_graph = c.in_ok-graph_command.ensures in
-    IfOk-weaker c.arg.result _ _
+    let with_beside = c.in_ok-arg.ensures.shape c.beside_word.ensures.local
+    ∙ ap₂ with_rule of_graph.app c.beside_word.ensures.rule in
+    IfOk-weaker c.arg-2.result _ _
     (λ r adds. ap (λ (a : App). a.top) (adds.shape c.explain_word.ensures.local
-    ∙ ap₂ with_rule of_graph.app c.explain_word.ensures.rule)) c.arg.ensures
+    ∙ ap₂ with_rule with_beside c.explain_word.ensures.rule)) c.arg-2.ensures
 
 pub returns-clause-local : goal.returns-clause-local
 returns-clause-local c =
-    IfOk-weaker c.arg.result _ _
-    (λ r adds. adds.globals ∙ ap₂ (λ old global. old || global) c.in_ok-graph_command.ensures.local
-    c.explain_word.ensures.local) c.arg.ensures
+    let with_beside = c.in_ok-arg.ensures.globals
+    ∙ ap₂ (λ old global. old || global) c.in_ok-graph_command.ensures.local
+    c.beside_word.ensures.local in
+    IfOk-weaker c.arg-2.result _ _
+    (λ r adds. adds.globals ∙ ap₂ (λ old global. old || global) with_beside
+    c.explain_word.ensures.local) c.arg-2.ensures

@@ -1,4 +1,4 @@
--- The command of a graph's file, with two more words.
+-- The command of a graph's file, with four more words.
 use Rattle.std.proofs.Common.{◌||◌, ◌∙◌, ap, ap₂}
 use Rattle.std.proofs.lemmas.Result.{IfOk-weaker}
 use Rattle.clap.specs.Words.{App, with_rule}
@@ -9,15 +9,23 @@ returns-clause-shape c =
     let of_graph = c.in_ok-graph_command.ensures in
     let with_sink = c.in_ok-arg.ensures.shape c.sink_word.ensures.local
     ∙ ap₂ with_rule of_graph.app c.sink_word.ensures.rule in
-    IfOk-weaker c.arg-2.result _ _
+    let with_columns = c.in_ok-arg-2.ensures.shape c.columns_word.ensures.local
+    ∙ ap₂ with_rule with_sink c.columns_word.ensures.rule in
+    let with_beside = c.in_ok-arg-3.ensures.shape c.beside_word.ensures.local
+    ∙ ap₂ with_rule with_columns c.beside_word.ensures.rule in
+    IfOk-weaker c.arg-4.result _ _
     (λ r adds. ap (λ (a : App). a.top) (adds.shape c.explain_word.ensures.local
-    ∙ ap₂ with_rule with_sink c.explain_word.ensures.rule)) c.arg-2.ensures
+    ∙ ap₂ with_rule with_beside c.explain_word.ensures.rule)) c.arg-4.ensures
 
 pub returns-clause-local : goal.returns-clause-local
 returns-clause-local c =
     let with_sink = c.in_ok-arg.ensures.globals
     ∙ ap₂ (λ old global. old || global) c.in_ok-graph_command.ensures.local
     c.sink_word.ensures.local in
-    IfOk-weaker c.arg-2.result _ _
-    (λ r adds. adds.globals ∙ ap₂ (λ old global. old || global) with_sink
-    c.explain_word.ensures.local) c.arg-2.ensures
+    let with_columns = c.in_ok-arg-2.ensures.globals
+    ∙ ap₂ (λ old global. old || global) with_sink c.columns_word.ensures.local in
+    let with_beside = c.in_ok-arg-3.ensures.globals
+    ∙ ap₂ (λ old global. old || global) with_columns c.beside_word.ensures.local in
+    IfOk-weaker c.arg-4.result _ _
+    (λ r adds. adds.globals ∙ ap₂ (λ old global. old || global) with_beside
+    c.explain_word.ensures.local) c.arg-4.ensures
