@@ -1,5 +1,5 @@
 -- A signal and a wait of the only member, at a phase that no signal has joined.
-use Rattle.std.proofs.Common.{◌≡◌, ℕ, ℤ, ◌+◌, ◌<◌, eqb, leb, ltb, true, false, not, cond, List, [], ◌∷◌, ◌++◌, Option, Some, None, Ok, max, length, refl, sym, subst, ◌∙◌, ap, arith, inl, inr}
+use Rattle.std.proofs.Common.{◌≡◌, ℕ, ℤ, ◌+◌, ◌<◌, eqb, leb, ltb, true, false, not, cond, List, [], ◌∷◌, ◌++◌, Option, Some, None, Ok, max, length, refl, sym, subst, ◌∙◌, ap, arith, inl, inr, ◌≤◌}
 use Rattle.std.specs.Prelude.{is_some, unwrap_or, IfSome}
 use Rattle.std.specs.Option.{option_and_then}
 use Rattle.std.proofs.lemmas.Option.{same_Some}
@@ -7,6 +7,7 @@ use Rattle.std.proofs.lemmas.Bool.{eq-eqb, ne_eqb, eqb-true, le-leb, lt-leb, lt-
 use Rattle.phase_registry.specs.phase_base.Limits.{Limits}
 use Rattle.phase_registry.specs.phase_base.Modes.{mode_signals, mode_waits}
 use Rattle.phase_registry.specs.phase_base.declared.entry.Entry.{Entry}
+use Rattle.phase_registry.specs.phase_base.declared.limits.TheConstants.{SENDS_MAX}
 use Rattle.phase_registry.specs.phase_base.Members.{Members, member, entry_of, changed_at, signal_phases, wait_phases, least, signalled, waited}
 use Rattle.phase_registry.specs.phase_base.Lists.{first_row}
 use Rattle.phase_registry.specs.Rosters.{Roster, roster}
@@ -21,18 +22,20 @@ use Rattle.phase_history.specs.declared.got.Got.TheVariants as got
 use Rattle.phase_history.specs.declared.refusal.WaitRefusal.TheVariants as wait
 use Rattle.phase_history.specs.Histories.{History, members_of, top_of, done_of, signal_phase, wait_phase, positions_of}
 use Rattle.phase_history.specs.Phases.{value_of_phase, sends_of_phase, single_of_phase, list_in_phase, is_among, first_named}
-use Rattle.phase_history.specs.Refusals.{signal_refusal, wait_refusal, wait_rows, refusal_at}
+use Rattle.phase_history.specs.Refusals.{phase_rows, signal_refusal, wait_refusal, wait_rows, refusal_at}
 use Rattle.phase_history.specs.Replies.{wait_reply, refused_or, got_at}
 use Rattle.phase_history.specs.Legal.{IsLegal}
 use Rattle.phase_history.proofs.Refused.{first_row_none}
 use Rattle.phase_history.proofs.Steps.{member_entry_is}
 use Rattle.phase_ring.specs.declared.board.Board.{Board}
 use Rattle.phase_ring.specs.declared.role.Role.TheVariants.{Signaller, Waiter}
+use Rattle.phase_ring.specs.Rings.{slot_at}
 use Rattle.phase_ring.specs.Standings.{one_if_same, count_of}
+use Rattle.phase_ring.proofs.Slots.{slot_at-some}
 use Rattle.phase_ring.specs.Boards.{IsBoard}
 use Rattle.phase_ring.specs.Calls.{HasPassed, StandsAlone}
 use Rattle.phase_core.specs.Cores.{StandsFor, IsBoarded, IsCore, core_of}
-use Rattle.phase_core.specs.Blocks.{block_rows}
+use Rattle.phase_core.specs.Blocks.{block_rows, count_at, named_at}
 use Rattle.phase_core.specs.Passes.{Passes}
 use Rattle.phase_core.proofs.Admitting.{Met, passed, admitted, replied}
 use Rattle.phase_core.proofs.Boarded.{boarded_beside, slowest_is}
@@ -149,16 +152,17 @@ module _ (limits : Limits) (h : History) (task : ℕ) (e : Entry) (sends : List 
 
 -- the only member, which is not refused, at a phase that no signal has joined
 pub record Alone {A : Type 0} (op : Operation A) (reg : Roster) (b : Board A) (task : ℕ) (e : Entry)
-    (held : Parcel A) (single : Option Single) (slowest : Option ℕ) : Type 0 where
-  pub met : Met op reg b task e (held ∷ []) single slowest
-  pub row : first_row (block_rows b.limits slowest b.ring (held ∷ []) single e) ≡ None
+    (held : Parcel A) (single : Option Single) : Type 0 where
+  pub met : Met op reg b task e (held ∷ []) single (least (wait_phases reg.members))
+  pub few : held.count ≤ SENDS_MAX
+  pub below : e.signal_phase < b.limits.phases_max
   pub one : length reg.members ≡ 1
   pub waits : mode_waits e.mode ≡ true
   pub level : e.wait_phase ≡ e.signal_phase
   pub fresh : b.top ≡ e.signal_phase
 
-module _ {A : Type 0} {op : Operation A} {reg : Roster} {b : Board A} {task : ℕ} {e : Entry} {held : Parcel A} {single : Option Single} {slowest : Option ℕ}
-    (a : Alone op reg b task e held single slowest)
+module _ {A : Type 0} {op : Operation A} {reg : Roster} {b : Board A} {task : ℕ} {e : Entry} {held : Parcel A} {single : Option Single}
+    (a : Alone op reg b task e held single)
   where
     pub only : reg.members ≡ member task e ∷ []
     only = only_member reg.members task e a.one a.met.found
@@ -169,6 +173,35 @@ module _ {A : Type 0} {op : Operation A} {reg : Roster} {b : Board A} {task : �
     pub base_is : b.ring.base ≡ e.signal_phase
     base_is = same_Some _ _ (sym (slowest_is op reg.members b.ring b.limits.bound b.done b.top boarded)
         ∙ ap (λ ms. least (wait_phases ms)) only ∙ ap least (waits_one task e a.waits)) ∙ a.level
+
+    -- nothing refuses its signal in a phase that no signal has joined
+    pub row : first_row (block_rows b.limits (least (wait_phases reg.members)) b.ring (held ∷ []) single e) ≡ None
+    row =
+        let bound = (limits_of b.limits a.met.core.history a.met.core.stands.legal).bound_least in
+        let k = boarded.kept in
+        let long = k.long in
+        let level = a.level in
+        let base = base_is in
+        let slot = slot_at-some b.ring e.signal_phase (record { low = omega arith; high = omega arith }) in
+        let unused = k.unused e.signal_phase slot.0 (omega arith) slot.1 (let f = a.fresh in omega arith) in
+        let slowest : least (wait_phases reg.members) ≡ Some e.signal_phase =
+        slowest_is op reg.members b.ring b.limits.bound b.done b.top boarded ∙ ap Some base in
+        let count : count_at (slot_at b.ring e.signal_phase) ≡ 0 = ap count_at slot.1 ∙ unused.count_is in
+        let named : named_at (slot_at b.ring e.signal_phase) ≡ None = ap named_at slot.1 ∙ unused.named_is in
+        let few = a.few in
+        ap (λ o. first_row (block_rows b.limits o b.ring (held ∷ []) single e)) slowest
+        ∙ ap (λ n. first_row (phase_rows b.limits (Some e.signal_phase) n (named_at (slot_at b.ring e.signal_phase)) held.count single e ++ [])) count
+        ∙ ap (λ o. first_row (phase_rows b.limits (Some e.signal_phase) 0 o held.count single e ++ [])) named
+        ∙ first_row_none (phase_rows b.limits (Some e.signal_phase) 0 None held.count single e ++ []) (
+          rw a.waits (ne_eqb e.signal_phase (e.wait_phase + 1) (λ q. omega arith)),
+          (
+            lt-leb b.limits.phases_max e.signal_phase a.below,
+            (
+              lt-leb (e.signal_phase + b.limits.bound) e.signal_phase (omega arith),
+              (refl, (le-ltb SENDS_MAX (0 + held.count) (omega arith), tt)),
+            ),
+          ),
+        )
 
     pub stands_alone : StandsAlone b.ring.base b
     stands_alone Signaller p = boarded.signallers_are p ∙ ap (λ ms. count_of p (signal_phases ms)) only
@@ -195,7 +228,7 @@ module _ {A : Type 0} {op : Operation A} {reg : Roster} {b : Board A} {task : �
             let here : members_of h ≡ member task e ∷ [] = sym stands.members_are ∙ only in
             let fresh : top_of h ≡ e.signal_phase = sym stands.top_is ∙ a.fresh in
             let signals = (passed a.met).signals in
-            let none = admitted a.met a.row h (sends ∷ []) stands (holds, tt) in
+            let none = admitted a.met row h (sends ∷ []) stands (holds, tt) in
             let accepted : IsLegal b.limits (Signalled task (sends ∷ []) single ∷ h) =
             (stands.legal, (none, lists-are op (held ∷ []) (sends ∷ []) (holds, tt), can)) in
             let legal = legal_after b.limits h task e sends single stands.legal here signals a.waits a.level fresh none accepted in
@@ -204,7 +237,7 @@ module _ {A : Type 0} {op : Operation A} {reg : Roster} {b : Board A} {task : �
             let L : Limits → Type 0 = λ l. IsLegal l (Waited task 1 ∷ Signalled task (sends ∷ []) single ∷ h) in
             let new_top : new.top ≡ e.signal_phase + 1 = moved.top ∙ moved.base ∙ ap (λ p. p + 1) base_is in
             record {
-              signals = replied a.met a.row h (sends ∷ []) stands (holds, tt);
+              signals = replied a.met row h (sends ∷ []) stands (holds, tt);
               waits = got_alone b.limits h task e sends single stands.legal here signals a.waits a.level fresh op
                   ∙ ap (λ o. Ok (got.Value e.signal_phase (applied single o))) (sym (laws.finishes held.part sends holds.part_is))
                   ∙ ap (λ o. Ok (got.Value e.signal_phase o)) (sym value);

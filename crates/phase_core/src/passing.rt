@@ -7,7 +7,6 @@ ghost use Rattle.phase_history.specs.Replies.{signal_reply, wait_reply};
 ghost use Rattle.phase_core.specs.Cores.{StandsFor};
 ghost use Rattle.phase_core.specs.Passes.{after_both, PassedAt};
 
-use crate::list_refusals::list_refusal;
 use crate::phaser_core::PhaserCore;
 use crate::refusal_rows;
 use crate::signalling::check_single;
@@ -39,8 +38,7 @@ impl<A: Accumulate> PhaserCore<A> {
         if refusal_rows::block_refusal(limits, 1, single, entry).is_some() {
             return None;
         }
-        let slowest = self.least_wait();
-        if list_refusal(&self.board, slowest, entry, pending, single).is_some() {
+        if phase >= limits.phases_max() {
             return None;
         }
         check_single(single);
