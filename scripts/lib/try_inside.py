@@ -220,10 +220,11 @@ LOOKS = (
 def main():
     passed, failed = 0, 0
     for look in LOOKS:
+        started = time.monotonic()
         try:
             look()
             passed += 1
-            print(f"well: {look.__doc__}", flush=True)
+            print(f"well, in {time.monotonic() - started:.0f} s: {look.__doc__}", flush=True)
         except (Wrong, subprocess.SubprocessError, OSError, IndexError) as why:
             failed += 1
             print(f"NOT SO: {look.__doc__} {why}", flush=True)
