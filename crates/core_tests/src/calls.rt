@@ -15,6 +15,10 @@ pub enum Call {
     /// A signal that names the negation.
     SignalNeg(u64, i64),
     Block(u64, &'static [i64]),
+    /// A signal and a wait in one.
+    Both(u64, Option<i64>),
+    /// The same, where the signal names the negation.
+    BothNeg(u64, i64),
     Wait(u64),
     /// A wait for as many phases as this many places hold, the first of the phaser's `places`.
     Take(u64, usize),
@@ -39,6 +43,10 @@ pub enum Answer {
     NotJoined(SignalRefusal),
     /// A refusal, after which the caller has something else.
     Lost(SignalRefusal),
+    /// Both in one phase, with its value.
+    Passed(u64, i64),
+    /// The phase of the signal, behind which the wait was refused.
+    JoinedAlone(u64, WaitRefusal),
     Value(u64, i64),
     TooBig(u64),
     Empty(u64),
@@ -139,6 +147,25 @@ impl Phaser {
         })
     }
 
+    fn both(
+        &mut self,
+        task: u64,
+        send: Option<i64>,
+        single: Option<Single>,
+    ) -> Result<Answer, Fail> {
+        let pending = pending_of(send)?;
+        let (phase, reply) = match self.core.signal_and_wait(task, pending, single) {
+            Ok(answer) => answer,
+            Err((refusal, back)) if back == pending => return Ok(Answer::NotJoined(refusal)),
+            Err((refusal, _)) => return Ok(Answer::Lost(refusal)),
+        };
+        Ok(match got(reply) {
+            Answer::Value(of, value) if of == phase => Answer::Passed(phase, value),
+            Answer::GetsNot(refusal) => Answer::JoinedAlone(phase, refusal),
+            other => other,
+        })
+    }
+
     fn block(&mut self, task: u64, sends: &[i64]) -> Result<Answer, Fail> {
         let lists = lists_of(self.alloc, sends)?;
         let same = lists_of(self.alloc, sends)?;
@@ -173,6 +200,8 @@ impl Phaser {
             Call::Signal(task, send) => self.signal(task, send, None)?,
             Call::SignalNeg(task, send) => self.signal(task, Some(send), Some(Single::Neg))?,
             Call::Block(task, sends) => self.block(task, sends)?,
+            Call::Both(task, send) => self.both(task, send, None)?,
+            Call::BothNeg(task, send) => self.both(task, Some(send), Some(Single::Neg))?,
             Call::Wait(task) => got(core.wait(task)),
             Call::Take(task, count) => self.take(task, count),
             Call::Places => self.held(),

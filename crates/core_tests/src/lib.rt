@@ -6,6 +6,8 @@
 #[cfg(test)]
 mod blocks;
 #[cfg(test)]
+mod both;
+#[cfg(test)]
 mod calls;
 #[cfg(test)]
 mod limits;

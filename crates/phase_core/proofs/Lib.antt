@@ -9,6 +9,7 @@ pub mod MemberCounts
 pub mod MemberSteps
 pub mod NewCore
 pub mod OneSends
+pub mod OnlyMember
 pub mod Replies
 pub mod RingSlots
 pub mod SignalCore

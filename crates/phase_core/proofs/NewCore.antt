@@ -1,5 +1,5 @@
 -- A new core, and what the readers tell.
-use Rattle.std.proofs.Common.{◌≡◌, ℕ, [], ◌∷◌, Option, Some, None, unwrap_or, refl, sym, ◌∙◌, ap, subst, arith, inl, inr}
+use Rattle.std.proofs.Common.{◌≡◌, ℕ, [], ◌∷◌, Option, Some, None, unwrap_or, refl, sym, ◌∙◌, ap, arith, inl, inr}
 use Rattle.std.specs.Prelude.{IsSome}
 use Rattle.phase_registry.specs.phase_base.Limits.{AreLimits}
 use Rattle.phase_registry.specs.phase_base.Members.{member, signal_phases, least}

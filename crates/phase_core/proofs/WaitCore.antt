@@ -1,5 +1,5 @@
 -- What a wait leaves of a core over a registry and a board.
-use Rattle.std.proofs.Common.{◌≡◌, ℕ, ◌+◌, ◌<◌, ◌≤◌, ◌⊎◌, true, Bool, [], ◌∷◌, Option, Some, None, Ok, length, unwrap_or, refl, sym, ◌∙◌, ap, subst, arith, ⊎_elim, inl, inr, zero, suc, ◌-◌, cond, map, take, drop, min, List, ◌++◌, Result}
+use Rattle.std.proofs.Common.{◌≡◌, ℕ, ◌+◌, ◌<◌, ◌≤◌, ◌⊎◌, true, Bool, [], ◌∷◌, Option, Some, None, Ok, length, unwrap_or, refl, sym, ◌∙◌, ap, arith, ⊎_elim, inl, inr, zero, suc, ◌-◌, cond, map, take, drop, min, List, ◌++◌, Result}
 use Rattle.std.specs.Prelude.{is_some, slice_range}
 use Rattle.std.proofs.lemmas.Option.{same_Some}
 use Rattle.phase_registry.specs.phase_base.Modes.{mode_waits}
@@ -27,7 +27,7 @@ use Rattle.phase_ring.specs.Boards.{IsRingAt, IsBoard}
 use Rattle.phase_ring.specs.Calls.{HasWaited}
 use Rattle.phase_ring.proofs.Slots.{slot_at-some}
 use Rattle.phase_ring.proofs.Kept.{standing-within}
-use Rattle.phase_core.specs.Cores.{CoreState, StandsFor, IsBoarded, IsCore, sent_of, core_of, core_with}
+use Rattle.phase_core.specs.Cores.{StandsFor, IsBoarded, IsCore, sent_of, core_of, core_with}
 use Rattle.phase_core.proofs.CoreSteps.{waits_stands, kept_value}
 use Rattle.phase_core.proofs.LeastCounts.{waiters-waited, two_counts, wait_phases-few, waiter-counted}
 use Rattle.phase_core.proofs.Boarded.{boarded_of, waits-some, slowest_is, ReadyToWait, ready_to_wait}

@@ -6,6 +6,7 @@
 mod list_refusals;
 mod members;
 mod one_sends;
+mod passing;
 mod phaser_core;
 mod refusal_rows;
 mod signalling;

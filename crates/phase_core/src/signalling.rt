@@ -14,7 +14,7 @@ use phase_history::SignalRefusal;
 use phase_history::phase_accum::{Accumulate, Pending, Single};
 
 /// Reads a clamp's range, which says that its ends are one. It does nothing.
-fn check_single(single: &Option<Single>)
+pub(crate) fn check_single(single: &Option<Single>)
     ensures { CanBeNamed single.now }
 {
     if let Some(Single::Clamp(range)) = single {

@@ -187,6 +187,13 @@ impl Registry {
         }
     }
 
+    /// Returns how many tasks are registered.
+    pub fn tasks(&self) -> u64
+        ensures { result ≡ length self.now.members }
+    {
+        self.members.len() as u64
+    }
+
     /// Returns how many tasks are registered that signal.
     pub fn signallers(&self) -> u64
         ensures { result ≡ length (signal_phases self.now.members) }

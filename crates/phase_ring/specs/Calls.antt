@@ -58,6 +58,17 @@ pub record HasWaited {A : Type 0} (from to : ℕ) (old new : Board A) : Type 0 w
   pub keeps : KeepsBounds old new
   pub moves : HasMoved Waiter from to old.ring new.ring
 
+-- one task stands in each role, at this phase
+abbrev pub StandsAlone : {A : Type 0} → ℕ → Board A → Type 0
+StandsAlone phase board = (role : Role) (p : ℕ) → standing board.ring role p ≡ one_if_same phase p
+
+-- the first phase that is kept was completed, and is kept no more
+pub record HasPassed {A : Type 0} (old new : Board A) : Type 0 where
+  pub limits : new.limits ≡ old.limits
+  pub base : new.ring.base ≡ old.ring.base + 1
+  pub done : new.done ≡ new.ring.base
+  pub top : new.top ≡ new.ring.base
+
 -- a task with the entry stands nowhere any more, and the limits and the top stay
 pub record HasLeftBoard {A : Type 0} (entry : Entry) (old new : Board A) : Type 0 where
   pub limits : new.limits ≡ old.limits

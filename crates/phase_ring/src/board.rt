@@ -1,5 +1,6 @@
 //! A ring with the first phase that is not complete, and the top.
 ghost use Rattle.std.specs.Prelude.{◌≡◌, ℕ, ◌<◌, ◌≤◌, ◌+◌, ◌⊎◌, max, true, false, OnOk, OnErr, IfOk, IfErr, Some, None, [], ◌∷◌, length, drop, ◌++◌};
+ghost use Rattle.phase_accum.specs.Values.{applied};
 ghost use Rattle.phase_ring.specs.declared.role.Role.{Role};
 ghost use Rattle.phase_ring.specs.declared.role.Role.TheVariants.{Signaller, Waiter};
 ghost use Rattle.phase_ring.specs.Slots.{Slot, slot_value, joined, merge_refusal, IsUnused};
@@ -7,13 +8,13 @@ ghost use Rattle.phase_ring.specs.Rings.{standing, sents, slot_at, with_slot, is
 ghost use Rattle.phase_ring.specs.Standings.{one_if_same, other, takes_part, phase_for, counted};
 ghost use Rattle.phase_ring.specs.Boards.{IsBoard};
 ghost use Rattle.phase_ring.specs.Blocks.{block_joined, block_values, BlockFits};
-ghost use Rattle.phase_ring.specs.Calls.{MaySignal, MayWait, IsSettled, KeepsBounds, HasMoved, HasSignalled, HasWaited, HasLeftBoard};
+ghost use Rattle.phase_ring.specs.Calls.{MaySignal, MayWait, IsSettled, KeepsBounds, HasMoved, HasSignalled, HasWaited, HasPassed, StandsAlone, HasLeftBoard};
 ghost use Rattle.phase_ring.specs.GoingOn.{MayGoOn};
 
 use crate::role::Role;
 use crate::slot_ring::SlotRing;
 use phase_accum::phase_base::{Entry, MEMBERS_MAX, PHASES_MAX, Spec};
-use phase_accum::{Accumulate, Outcome, Pending, Single};
+use phase_accum::{self, Accumulate, Outcome, Pending, Single};
 use std::alloc::{AllocError, Global};
 
 /// The phases that are kept while a waiter is registered, and which of them are complete.
@@ -203,6 +204,30 @@ impl<A: Accumulate> Board<A> {
         self.ring.leave(phase, Role::Waiter);
         self.ring.enter(phase + count as u64, Role::Waiter);
         self.give_up();
+    }
+
+    /// Passes a phase of the only task, whose signal and wait both are for the base and which no
+    /// signal has joined: returns the value of its sends, with the single applied, and moves the
+    /// task on in both roles. No slot changes, since the phase has no sends of others and leaves
+    /// none.
+    pub fn pass(&mut self, pending: &Pending<A>, single: &Option<Single>) -> Outcome
+        requires invariant { IsBoard A.operation self.old }
+        requires alone { StandsAlone self.old.ring.base self.old }
+        requires fresh { self.old.top ≡ self.old.ring.base }
+        requires far { self.old.top < PHASES_MAX }
+        ensures value { result ≡ applied single.now (A.operation.finish pending.now.part) }
+        ensures invariant { IsBoard A.operation self.new }
+        ensures passed { HasPassed self.old self.new }
+        ensures alone { StandsAlone self.new.ring.base self.new }
+    {
+        let outcome = pending.part().finish();
+        self.ring.shift();
+        self.done += 1;
+        self.top += 1;
+        match *single {
+            Some(single) => phase_accum::apply(single, outcome),
+            None => outcome,
+        }
     }
 
     /// Raises the top to this one, where no waiter is registered and nobody looks at the slots.

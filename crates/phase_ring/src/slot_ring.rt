@@ -3,7 +3,7 @@ ghost use Rattle.std.specs.Prelude.{◌≡◌, ◌+◌, ◌-◌, ◌^◌, ◌<�
 ghost use Rattle.circular_buffer.specs.Buffer.{buffer};
 ghost use Rattle.phase_ring.specs.declared.role.Role.TheVariants.{Waiter};
 ghost use Rattle.phase_ring.specs.Slots.{Slot, empty_slot, IsHeld, IsUnused, with_standing, standing_of, joined, sealed, slot_value, merge_refusal};
-ghost use Rattle.phase_ring.specs.Rings.{Ring, standing, IsWithin, slot_at, with_slot, is_sealed, fresh_ring, released, cleared};
+ghost use Rattle.phase_ring.specs.Rings.{Ring, ring, standing, IsWithin, slot_at, with_slot, is_sealed, fresh_ring, released, cleared};
 
 use crate::role::Role;
 use crate::slot::{MergeRefusal, Slot};
@@ -234,6 +234,15 @@ impl<A: Accumulate> SlotRing<A> {
     {
         // The buffer is full, so its first slot goes.
         self.slots.push_back(Slot::<A>::empty());
+        self.base += 1;
+    }
+
+    // Moves each slot on to the next phase. The last phase of the ring is a new one, and the slot
+    // of the first is that of the second now.
+    pub(crate) fn shift(&mut self)
+        requires { self.old.base < 2 ^ 62 }
+        ensures { self.new ≡ ring (self.old.base + 1) self.old.slots }
+    {
         self.base += 1;
     }
 

@@ -1,15 +1,17 @@
 //! The steps of a seat at rest that speaks for one task. Each call of a registration is one.
-ghost use Rattle.std.specs.Prelude.{◌≡◌, ℤ, List, [], ◌∷◌, true, false, IfOk, IfErr, IsOk, IsErr};
+ghost use Rattle.std.specs.Prelude.{◌≡◌, ℤ, List, [], ◌∷◌, true, false, Ok, Err, IfOk, IfErr, IsOk, IsErr, OnErr};
 ghost use Rattle.turn_lock.specs.Seats.{IsSeatAt, IsTurnAt, IsSameSeat, seat_view, turn_number, turn_view, turn_value};
 ghost use Rattle.turn_lock.specs.Steps.{GivesBack};
 ghost use Rattle.phase_core.specs.phase_accum.Parcels.{StandsForSends};
 ghost use Rattle.phase_core.specs.phase_history.Histories.{History};
-ghost use Rattle.phase_core.specs.phase_history.Replies.{wait_reply, after_wait};
+ghost use Rattle.phase_core.specs.phase_history.declared.event.Event.TheVariants.{Signalled};
+ghost use Rattle.phase_core.specs.phase_history.Replies.{signal_reply, wait_reply};
 ghost use Rattle.phase_core.specs.phase_history.Others.{OnlyUsed, OthersCame};
 ghost use Rattle.phase_shared.specs.declared.seats.view.View.TheVariants.{Resting};
 ghost use Rattle.phase_shared.specs.Views.{known_of, joining, first_part, other_part, SpeaksForOne, SpeaksForTwo};
 ghost use Rattle.phase_shared.specs.Rule.{HasOneHistory, AfterTake, IsGoodAt, IsSeatOfTask, LearnedAt, HaveMet};
 ghost use Rattle.phase_core.specs.Cores.{StandsFor};
+ghost use Rattle.phase_core.specs.Passes.{after_both};
 ghost use Rattle.phase_shared.specs.Steps.{IsStep, RegistersSeat};
 ghost use Rattle.phase_shared.specs.Calls.{Tries, Waits, LeavesSeat, SignalsAndMayWait, number_after, tried};
 ghost use Rattle.phase_shared.specs.Entries.{entry_stays, entry_after_wait, entry_after_both};
@@ -70,23 +72,37 @@ pub(crate) fn put_back<A: Accumulate, K: SignalRule, E: Plan, X: Copy>(
     seat
 }
 
-// Waits where that is asked for. Where it is not, the wait is refused.
-fn wait_where<A: Accumulate>(
+// Signals, and then waits where that is asked for. Where it is not, the wait is refused.
+fn signal_where<A: Accumulate>(
     core: &mut PhaserCore<A>,
     me: u64,
+    pending: Pending<A>,
+    single: Option<Single>,
     asked: bool,
-) -> Result<Got, WaitRefusal>
-    ensures reply { (h : History) → StandsFor A.operation core.old h → asked ≡ true
-        → wait_reply A.operation.value core.old.limits h me ≡ result }
-    ensures none { asked ≡ false → IsErr result }
-    ensures after { (h : History) → StandsFor A.operation core.old h
-        → StandsFor A.operation core.new (after_wait result me h) }
+) -> Result<(u64, Result<Got, WaitRefusal>), (SignalRefusal, Pending<A>)>
+    ensures signalled { IfOk result (λ answer. (h : History) (sends : List ℤ)
+        → StandsFor A.operation core.old h → StandsForSends A.operation pending sends
+        → signal_reply core.old.limits h me (sends ∷ []) single ≡ Ok answer.0) }
+    ensures waited { IfOk result (λ answer. (h : History) (sends : List ℤ)
+        → StandsFor A.operation core.old h → StandsForSends A.operation pending sends
+        → asked ≡ true → let middle = Signalled me (sends ∷ []) single ∷ h in
+        wait_reply A.operation.value core.old.limits middle me ≡ answer.1) }
+    ensures none { asked ≡ false → IfOk result (λ answer. IsErr answer.1) }
+    ensures refused { IfErr result (λ e. (h : History) (sends : List ℤ)
+        → StandsFor A.operation core.old h → StandsForSends A.operation pending sends
+        → signal_reply core.old.limits h me (sends ∷ []) single ≡ Err e.0) }
+    ensures after { (h : History) (sends : List ℤ)
+        → StandsFor A.operation core.old h → StandsForSends A.operation pending sends
+        → StandsFor A.operation core.new (after_both result me (sends ∷ []) single h) }
     ensures limits { core.new.limits ≡ core.old.limits }
+    ensures err { OnErr result (core.new ≡ core.old) }
 {
     if asked {
-        core.wait(me)
-    } else {
-        Err(WaitRefusal::NoWait)
+        return core.signal_and_wait(me, pending, single);
+    }
+    match core.signal(me, pending, single) {
+        Ok(phase) => Ok((phase, Err(WaitRefusal::NoWait))),
+        Err(refused) => Err(refused),
     }
 }
 
@@ -123,9 +139,9 @@ pub fn signal<A: Accumulate, K: SignalRule>(
     };
     let _part = pending.part();
     let core = turn.value(&phaser.lock);
-    let answer = core.signal(me, pending, single);
-    let phase = match answer {
-        Ok(phase) => phase,
+    let answer = signal_where(core, me, pending, single, waits);
+    let (phase, waited) = match answer {
+        Ok(answer) => answer,
         Err(refused) => {
             let wants = phaser.hints.wants(entry.signal_phase, 1);
             phaser.hints.want(Some(refused.0), wants, Hints::look(core));
@@ -134,7 +150,6 @@ pub fn signal<A: Accumulate, K: SignalRule>(
             return (seat, entry, Err(Tried::Refused(refused.0)));
         }
     };
-    let waited = wait_where(core, me, waits);
     let Some(entry) = core.view(me) else {
         unreachable!()
     };

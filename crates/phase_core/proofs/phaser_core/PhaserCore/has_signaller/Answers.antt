@@ -1,8 +1,7 @@
 -- A list has a least number where it is not empty.
-use Rattle.std.proofs.Common.{◌≡◌, sym, ◌∙◌, ap, subst}
-use Rattle.std.specs.Prelude.{nat_lt, is_some}
-use Rattle.phase_registry.specs.phase_base.Members.{signal_phases, least}
-use Rattle.phase_core.specs.Cores.{CoreState}
+use Rattle.std.proofs.Common.{sym, ◌∙◌, ap}
+use Rattle.std.specs.Prelude.{nat_lt}
+use Rattle.phase_registry.specs.phase_base.Members.{signal_phases}
 use Rattle.phase_core.proofs.Boarded.{is_some-least}
 use Rattle.phase_core.proofs.phaser_core.PhaserCore.has_signaller.Goals as goal
 

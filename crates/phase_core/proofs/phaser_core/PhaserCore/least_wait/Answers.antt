@@ -1,7 +1,6 @@
 -- The slowest waiter stands at the base.
-use Rattle.std.proofs.Common.{◌≡◌, Some, length, sym, ◌∙◌, ap, subst}
-use Rattle.phase_registry.specs.phase_base.Members.{wait_phases, least}
-use Rattle.phase_core.specs.Cores.{CoreState}
+use Rattle.std.proofs.Common.{◌≡◌, Some, length, sym, ◌∙◌, ap}
+use Rattle.phase_registry.specs.phase_base.Members.{wait_phases}
 use Rattle.phase_core.proofs.Boarded.{boarded_of, slowest_is}
 use Rattle.phase_core.proofs.phaser_core.PhaserCore.least_wait.Goals as goal
 

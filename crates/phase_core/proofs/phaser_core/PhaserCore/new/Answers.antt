@@ -1,6 +1,5 @@
 -- The founder alone stands on the board and in the registry.
-use Rattle.std.proofs.Common.{sym, ◌∙◌, ap, subst}
-use Rattle.phase_registry.specs.phase_base.Limits.{Limits, AreLimits}
+use Rattle.std.proofs.Common.{◌∙◌, ap}
 use Rattle.phase_history.specs.Histories.{founder}
 use Rattle.phase_registry.specs.Rosters.{added}
 use Rattle.phase_core.proofs.NewCore.{made_core}

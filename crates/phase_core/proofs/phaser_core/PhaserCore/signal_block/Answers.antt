@@ -1,7 +1,4 @@
 -- What is lent are the lists.
-use Rattle.std.proofs.Common.{List, sym, subst}
-use Rattle.phase_history.specs.phase_accum.Parcels.{Parcel}
-use Rattle.phase_core.specs.Blocks.{StandForLists}
 use Rattle.phase_core.proofs.phaser_core.PhaserCore.signal_block.Goals as goal
 
 pub returns-in-Ok-clause-after : goal.returns-in-Ok-clause-after

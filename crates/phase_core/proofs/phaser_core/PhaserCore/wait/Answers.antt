@@ -1,10 +1,8 @@
 -- While a waiter is registered, the board's done is that of the history, and its ring has the
 -- slot of each phase that a waiter has still to get.
-use Rattle.std.proofs.Common.{◌≡◌, ◌<◌, ◌≤◌, ◌+◌, Some, None, Ok, Err, sym, subst, ◌∙◌, arith}
+use Rattle.std.proofs.Common.{◌≡◌, ◌<◌, Some, None, sym, subst, ◌∙◌, arith}
 use Rattle.std.specs.Prelude.{is_some}
 use Rattle.phase_registry.specs.phase_base.Members.{signal_phases, least}
-use Rattle.phase_history.specs.phase_accum.declared.outcome.Outcome.{Outcome}
-use Rattle.phase_history.specs.Histories.{History}
 use Rattle.phase_history.proofs.InRange.{wait_reply-in_range}
 use Rattle.phase_core.specs.Cores.{CoreState, StandsFor, core_of}
 use Rattle.phase_core.proofs.WaitCore.{Awaits, here, one_replied, waits_ended, waits_value, stands_after_wait, core_after_wait}

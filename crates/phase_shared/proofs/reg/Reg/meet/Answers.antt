@@ -1,7 +1,6 @@
 use Rattle.std.proofs.Common.{◌≡◌, [], ◌∷◌, true, false, sym, subst, ap, ◌∙◌}
 use Rattle.std.specs.Prelude.{is_some}
 use Rattle.turn_lock.specs.Seats.{seat_view}
-use Rattle.phase_core.specs.phase_history.Histories.{History}
 use Rattle.phase_core.specs.phase_history.Others.{OthersCame}
 use Rattle.phase_shared.specs.Views.{known_of}
 use Rattle.phase_shared.proofs.Meeting.{Met, met}

@@ -1,6 +1,5 @@
 use Rattle.std.proofs.Common.{◌≡◌, subst, ap, ◌∙◌, rules}
-use Rattle.phase_shared.specs.Regs.{RegState}
-use Rattle.phase_shared.specs.Calls.{Tries, Registers, IsChild}
+use Rattle.phase_shared.specs.Calls.{Tries, Registers}
 use Rattle.phase_shared.proofs.reg.Reg.register.Goals as goal
 
 pub returns-in-Ok-clause-call : goal.returns-in-Ok-clause-call

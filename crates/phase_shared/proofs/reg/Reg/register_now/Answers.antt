@@ -1,7 +1,6 @@
 use Rattle.std.proofs.Common.{◌≡◌, subst, ap, ◌∙◌, rules}
-use Rattle.phase_shared.specs.Regs.{RegState}
 use Rattle.phase_shared.specs.Calls.{Tries}
-use Rattle.phase_shared.specs.Joins.{RegistersNow, IsChildNow}
+use Rattle.phase_shared.specs.Joins.{RegistersNow}
 use Rattle.phase_shared.proofs.reg.Reg.register_now.Goals as goal
 
 pub returns-in-Ok-clause-call : goal.returns-in-Ok-clause-call

@@ -1,6 +1,4 @@
-use Rattle.std.proofs.Common.{◌≤◌, List, [], length, sym, subst}
-use Rattle.phase_core.specs.phase_accum.Parcels.{Parcel}
-use Rattle.phase_core.specs.Blocks.{StandForLists}
+use Rattle.std.proofs.Common.{◌≤◌, [], length}
 use Rattle.phase_core.proofs.SignalRows.{held_next, drop-past}
 use Rattle.phase_shared.proofs.seats.block_steps.are_held.Goals as goal
 

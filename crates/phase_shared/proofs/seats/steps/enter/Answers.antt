@@ -1,10 +1,8 @@
-use Rattle.std.proofs.Common.{sym, subst, ap, ◌∷◌, []}
+use Rattle.std.proofs.Common.{ap, ◌∷◌, []}
 use Rattle.phase_shared.specs.LockedPhasers.{locked_terms}
 use Rattle.turn_lock.specs.Seats.{seat_view, seat_number, turn_value, turn_view}
-use Rattle.turn_lock.specs.Steps.{Takes, Busy}
 use Rattle.phase_shared.specs.Views.{knowledge, known_of}
-use Rattle.phase_shared.specs.Rule.{StandsWithin, HasOneHistory, TookAt, IsSeatOfTask}
-use Rattle.phase_shared.specs.declared.seats.view.View.{View}
+use Rattle.phase_shared.specs.Rule.{StandsWithin, HasOneHistory}
 use Rattle.std.specs.Prelude.{is_some}
 use Rattle.phase_core.proofs.phase_history_lemmas.Used.{IsUsed-member}
 use Rattle.phase_shared.proofs.Keeping.{takes, never_busy, is_in_self}

@@ -1,16 +1,14 @@
 use Rattle.std.proofs.Common.{◌≡◌, ℤ, List, [], ◌∷◌, Err, true, false, sym, subst, ap, refl, ◌∙◌, rules}
-use Rattle.std.specs.Prelude.{is_some, Option}
+use Rattle.std.specs.Prelude.{is_some}
 use Rattle.phase_shared.specs.LockedPhasers.{locked_terms}
 use Rattle.turn_lock.specs.Seats.{seat_view, turn_view, turn_value, turn_number}
 use Rattle.phase_core.specs.phase_history.declared.event.Event.TheVariants.{Signalled}
-use Rattle.phase_core.specs.phase_history.declared.got.Got.{Got}
 use Rattle.phase_core.specs.phase_history.Histories.{History, signal_phase}
 use Rattle.phase_core.specs.Cores.{CoreState}
 use Rattle.phase_core.specs.phase_history.Replies.{signal_reply, wait_reply, after_wait}
 use Rattle.phase_core.specs.phase_accum.Parcels.{StandsForSends}
 use Rattle.phase_shared.specs.Views.{resting, known_of, speaks_of}
 use Rattle.phase_shared.specs.Rule.{StandsWithin}
-use Rattle.phase_shared.specs.Calls.{MayWait}
 use Rattle.phase_shared.specs.declared.seats.view.View.{View}
 use Rattle.phase_core.specs.phase_history.declared.refusal.SignalRefusal.TheVariants as signal
 use Rattle.phase_core.specs.phase_history.Refusals.{signal_refusal}
@@ -23,28 +21,28 @@ use Rattle.phase_shared.specs.Entries.{entry_after_wait}
 use Rattle.phase_shared.proofs.SignalSteps.{member_signals, member_signals_and_waits}
 use Rattle.phase_shared.proofs.WaitSteps.{own_wait, keeps_wait, member_after_wait, may_wait}
 use Rattle.phase_shared.proofs.seats.steps.signal.Given.{Over}
-use Rattle.phase_shared.proofs.seats.steps.signal.Goals.{After-wait_where-waited}
+use Rattle.phase_shared.proofs.seats.steps.signal.Goals.{In-Ok-answer}
 use Rattle.phase_shared.proofs.seats.steps.signal.Goals as goal
 
 -- the phaser under the turn stood for what was seen
-stood : (g : Over) (c : After-wait_where-waited g)
+stood : (g : Over) (c : In-Ok-answer g)
     → StandsWithin g.A.Accumulate.operation (locked_terms c.args.phaser.now).limits c.value-core.result.now c.in-Ok.ensures.took.now
 stood g c =
     lent g.A.Accumulate.operation g.K.SignalRule.allows (locked_terms c.args.phaser.now) c.args.me (turn_value c.in-Ok.turn) c.value-core.result.now
     c.in-Ok.ensures.took.now c.value-core.ensures.value c.in-Ok.ensures.took.stands
 
 -- what the signal of these sends, and the wait, leave there
-left : (g : Over) (c : After-wait_where-waited g) (sends : List ℤ) → StandsForSends g.A.Accumulate.operation c.args.pending sends
+left : (g : Over) (c : In-Ok-answer g) (sends : List ℤ) → StandsForSends g.A.Accumulate.operation c.args.pending sends
     → AfterCall g.A.Accumulate.operation g.K.SignalRule.allows (locked_terms c.args.phaser.now) c.args.me
-    (after_wait c.wait_where-waited.result c.args.me (Signalled c.args.me (sends ∷ []) c.args.single ∷ c.in-Ok.ensures.took.now)) c.wait_where-waited.new.core
+    (after_wait c.in-Ok-answer.answer.1 c.args.me (Signalled c.args.me (sends ∷ []) c.args.single ∷ c.in-Ok.ensures.took.now)) c.signal_where-answer.new.core
 left g c sends held =
     let terms = locked_terms c.args.phaser.now in
     let e = c.in-Ok.ensures.took in
-    let waited = c.wait_where-waited.result in
+    let waited = c.in-Ok-answer.answer.1 in
     let middle : History = Signalled c.args.me (sends ∷ []) c.args.single ∷ e.now in
     after_call g.A.Accumulate.operation g.K.SignalRule.allows terms c.args.me e.now (after_wait waited c.args.me middle) c.value-core.result.now
-    c.wait_where-waited.new.core (stood g c) (c.wait_where-waited.ensures.limits ∙ c.in-Ok-answer.ensures.limits)
-    (c.wait_where-waited.ensures.after middle (c.in-Ok-answer.ensures.after e.now sends (stood g c).stands held))
+    c.signal_where-answer.new.core (stood g c) c.in-Ok-answer.ensures.limits
+    (c.in-Ok-answer.ensures.after e.now sends (stood g c).stands held)
     (keeps_wait (g.K.SignalRule.allows terms.rule) c.args.me middle waited (c.requires.rule e.now sends e.good e.others held, e.good.keeps))
 
 pub unreachable-requires : goal.unreachable-requires
@@ -52,10 +50,10 @@ unreachable-requires g c =
     let op = g.A.Accumulate.operation in
     let e = c.in-Ok.ensures.took in
     let held = c.part-part.ensures.held in
-    let waited = c.wait_where-waited.result in
-    let new = c.wait_where-waited.new.core in
+    let waited = c.in-Ok-answer.answer.1 in
+    let new = c.signal_where-answer.new.core in
     let middle : History = Signalled c.args.me (held.0 ∷ []) c.args.single ∷ e.now in
-    let s = left g (goal.at.unreachable-requires g c).After-wait_where-waited held.0 held.1 in
+    let s = left g (goal.at.unreachable-requires g c).In-Ok-answer held.0 held.1 in
     let some : is_some c.view.result ≡ true = ap (λ o. is_some o) c.view.ensures ∙ member_after_wait op new waited c.args.me middle
     s.stands.stands (member_signals c.args.me held.0 c.args.single e.now (ap (λ o. is_some o) e.member)) in
     absurd (let z : false ≡ true = sym (ap (λ o. is_some o) c.in_default.is) ∙ some in cc)
@@ -68,10 +66,10 @@ put_back-seat-requires-clause-rule g c =
     let turn = c.in-Ok.turn in
     let e = c.in-Ok.ensures.took in
     let held = c.part-part.ensures.held in
-    let waited = c.wait_where-waited.result in
-    let new = c.wait_where-waited.new.core in
+    let waited = c.in-Ok-answer.answer.1 in
+    let new = c.signal_where-answer.new.core in
     let middle : History = Signalled c.args.me (held.0 ∷ []) c.args.single ∷ e.now in
-    let s = left g (goal.at.put_back-seat-requires-clause-rule g c).After-wait_where-waited held.0 held.1 in
+    let s = left g (goal.at.put_back-seat-requires-clause-rule g c).In-Ok-answer held.0 held.1 in
     gives_own op allows terms c.args.me
     (λ v w. (sends : List ℤ) × StandsForSends op c.args.pending sends
     × (w ≡ resting (after_wait waited c.args.me (Signalled c.args.me (sends ∷ []) c.args.single ∷ (known_of v).seen)) (speaks_of v)))
@@ -89,8 +87,8 @@ give-seat-requires-clause-rule g c =
     let e = c.in-Ok.ensures.took in
     let old = c.value-core.result.now in
     let before : StandsWithin op terms.limits old e.now = lent op allows terms c.args.me (turn_value turn) old e.now c.value-core.ensures.value e.stands in
-    let after : StandsWithin op terms.limits c.signal-answer.new.self e.now = subst (λ (z : CoreState g.row.A.Denot). StandsWithin op terms.limits z e.now) (sym c.in-Err-answer.ensures.err) before in
-    gives_same op allows terms c.args.me (turn_number turn) c.signal-answer.new.self (turn_view turn) e.now e.is e.used e.good after
+    let after : StandsWithin op terms.limits c.signal_where-answer.new.core e.now = subst (λ (z : CoreState g.row.A.Denot). StandsWithin op terms.limits z e.now) (sym c.in-Err-answer.ensures.err) before in
+    gives_same op allows terms c.args.me (turn_number turn) c.signal_where-answer.new.core (turn_view turn) e.now e.is e.used e.good after
 
 pub returns-clause-step : goal.returns-clause-step
 returns-clause-step g c =
@@ -98,18 +96,18 @@ returns-clause-step g c =
     let allows = g.K.SignalRule.allows in
     let terms = locked_terms c.args.phaser.now in
     let e = c.in-Ok.ensures.took in
-    let after = (goal.at.returns-clause-step g c).After-wait_where-waited in
+    let after = (goal.at.returns-clause-step g c).In-Ok-answer in
     let before = stood g after in
     let told = c.put_back-seat.ensures.rule in
-    let waited = c.wait_where-waited.result in
-    let new = c.wait_where-waited.new.core in
+    let waited = c.in-Ok-answer.answer.1 in
+    let new = c.signal_where-answer.new.core in
     let middle : History = Signalled c.args.me (told.0 ∷ []) c.args.single ∷ e.now in
     let s = left g after told.0 told.1 in
     let view : seat_view c.put_back-seat.result ≡ resting (after_wait waited c.args.me middle) (c.args.me ∷ []) =
     told.2 ∙ ap (λ (v : View). resting (after_wait waited c.args.me (Signalled c.args.me (told.0 ∷ []) c.args.single ∷ (known_of v).seen)) (speaks_of v)) e.is in
     let last : History = (known_of (seat_view c.put_back-seat.result)).seen in
     let seen : last ≡ after_wait waited c.args.me middle = ap (λ (v : View). (known_of v).seen) view in
-    let limits = c.in-Ok-answer.ensures.limits ∙ before.limits_are in
+    let limits = before.limits_are in
     record {
       call = record {
         middle = middle;
@@ -120,12 +118,12 @@ returns-clause-step g c =
           stands = told.1;
           seen = refl;
           reply = λ sends held. ap (λ l. signal_reply l e.now c.args.me (sends ∷ []) c.args.single) (sym before.limits_are)
-              ∙ c.in-Ok-answer.ensures.ok e.now sends before.stands held;
+              ∙ c.in-Ok-answer.ensures.signalled e.now sends before.stands held;
         };
         waits = rw c.ok.ensures.value (may_wait c.args.waits op.value terms.limits c.args.me middle last waited seen
             (λ asked. ap (λ l. wait_reply op.value l middle c.args.me) (sym limits)
-            ∙ c.wait_where-waited.ensures.reply middle (c.in-Ok-answer.ensures.after e.now told.0 before.stands told.1) asked)
-            c.wait_where-waited.ensures.none);
+            ∙ c.in-Ok-answer.ensures.waited e.now told.0 before.stands told.1 asked)
+            c.in-Ok-answer.ensures.none);
       };
       at = station op allows terms c.args.me c.in-Some.entry (seat_view c.put_back-seat.result) (after_wait waited c.args.me middle) new c.view.result
           view s.good s.stands c.view.ensures c.in-Some.is;
