@@ -29,8 +29,8 @@ value_at job n sink = value_from (span_in job sink.0).offset sink.1 n
 abbrev pub end_at : Job → SinkValues → ℕ
 end_at job sink = end_from (span_in job sink.0).offset sink.1
 
--- a value, or nothing. The only cell of a line has quotes for that: readers of such tables leave out
--- an empty line
+-- a value, or nothing. The only cell of a line has quotes for that: readers of such tables leave
+-- out an empty line
 abbrev pub value_cell : Bool → Option ℤ → List ℕ
 value_cell alone (Some value) = signed_decimal value
 value_cell alone None = if alone then codes "\"\"" else []
