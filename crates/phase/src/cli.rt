@@ -24,7 +24,13 @@ use std::thread::Threads;
 /// `help run` asks for what `run --help` does, and `help stream` for what `stream --help` does.
 ///
 /// A run and a stream wait, and it is not promised that they come back.
-pub fn run_cli<H: Threads + Wait + Sync, R: Read, W: Write, E: Write, F: Opens + Refuses + LooksBeside>(
+pub fn run_cli<
+    H: Threads + Wait + Sync,
+    R: Read,
+    W: Write,
+    E: Write,
+    F: Opens + Refuses + LooksBeside,
+>(
     rt: &H,
     alloc: Global,
     words: &[String],

@@ -116,7 +116,8 @@ conflict_kinds both = if both then ArgumentConflict ∷ [] else []
 -- so is one for the version
 unfoldable pub kinds_of : List Text → Kinds
 kinds_of words =
-    or_else (fault_of phase_app words) (conflict_kinds (has_conflict (subcommand_of phase_app words)))
+    or_else (fault_of phase_app words)
+    (conflict_kinds (has_conflict (subcommand_of phase_app words)))
 
 -- clap takes the words: they ask for no help and no version, and nothing is refused
 abbrev pub AreTaken : List Text → Type 0

@@ -21,8 +21,8 @@ pub enum Call<'a> {
         script: &'a str,
         strict: Strict,
     },
-    /// A check of the graph in the file of this name. Here and below `beside` says whether the files
-    /// of its sources are opened beside it.
+    /// A check of the graph in the file of this name. Here and below `beside` says whether the
+    /// files of its sources are opened beside it.
     Check {
         graph: &'a str,
         explain: Explain,
