@@ -162,7 +162,7 @@ def make_wheel(folder, work, epoch):
     call = f"from setuptools import build_meta; build_meta.build_wheel('made', {options})"
     said = subprocess.run(
         [BACKEND, "-c", call], cwd=source, stdin=subprocess.DEVNULL, stdout=subprocess.PIPE,
-        stderr=subprocess.STDOUT, text=True, check=False,
+        stderr=subprocess.STDOUT, text=True, check=False, umask=0o022,
         env={**os.environ, "SOURCE_DATE_EPOCH": str(epoch), "PYTHONDONTWRITEBYTECODE": "1"},
     )
     if said.returncode:

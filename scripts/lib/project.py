@@ -54,38 +54,23 @@ def built(program):
     return path
 
 
-def sources_sum(name):
-    """A sum of all files that a crate is proved from."""
-    found, folder = hashlib.sha256(), os.path.join(TOP, "crates", name)
-    for part in ("src", "specs", "proofs"):
-        for place, folders, files in os.walk(os.path.join(folder, part)):
-            folders.sort()
-            for file in sorted(files):
-                path = os.path.join(place, file)
-                with open(path, "rb") as it:
-                    one = hashlib.sha256(it.read()).hexdigest()
-                found.update(f"{os.path.relpath(path, folder)} {one}\n".encode())
-    return found.hexdigest()
-
-
-def keep_verdict(name, log):
-    """Keeps what the prover told of a crate, by the log of its build, beside the crate's sum."""
-    for line in log.splitlines():
-        told = re.match(r"logic=proved( (functions|may-wait|axioms|target|cpu|sum)=\S+)+", line)
-        if told:
-            path = os.path.join(TOP, "crates", name, "out", "verdict")
-            with open(path, "w", encoding="utf-8") as it:
-                it.write(f"{sources_sum(name)} {told[0]}\n")
-
-
-def verdict(name):
-    """What the prover told of a crate, as it stands, or nothing."""
-    path = os.path.join(TOP, "crates", name, "out", "verdict")
-    if not os.path.isfile(path):
-        return ""
-    with open(path, encoding="utf-8") as it:
-        kept, _, told = it.read().strip().partition(" ")
-    return told if kept == sources_sum(name) else ""
+def sums(names):
+    """The sum of all that the proof of each of these crates reads here, and of each that they stand
+    on, by their names, lowest first: its files, its line in crates.txt, and the sums below it."""
+    stands_on, found = crates(), {}
+    for name, line in below(names).items():
+        one, folder = hashlib.sha256(line.encode()), os.path.join(TOP, "crates", name)
+        for part in ("src", "specs", "proofs"):
+            for place, folders, files in os.walk(os.path.join(folder, part)):
+                folders.sort()
+                for file in sorted(files):
+                    path = os.path.join(place, file)
+                    with open(path, "rb") as it:
+                        its = hashlib.sha256(it.read()).hexdigest()
+                    one.update(f"{os.path.relpath(path, folder)} {its}\n".encode())
+        one.update("".join(found.get(it, "") for it in stands_on[name]).encode())
+        found[name] = one.hexdigest()
+    return found
 
 
 def proves(*words):
@@ -94,10 +79,14 @@ def proves(*words):
     subprocess.run([os.path.join(TOP, "phase"), "--prove", *words], check=True, **quiet)
 
 
-def script(name):
-    """Another script, by its name in the folder of them, as a module."""
-    path = os.path.join(TOP, "scripts", name)
-    loader = importlib.machinery.SourceFileLoader(re.sub(r"\W", "_", name), path)
+def module(path):
+    """What stands in a file of Python, whatever its name."""
+    loader = importlib.machinery.SourceFileLoader(re.sub(r"\W", "_", os.path.basename(path)), path)
     made = importlib.util.module_from_spec(importlib.util.spec_from_loader(loader.name, loader))
     loader.exec_module(made)
     return made
+
+
+def script(name):
+    """Another script, by its name in the folder of them, as a module."""
+    return module(os.path.join(TOP, "scripts", name))

@@ -154,6 +154,10 @@ def in_c():
     put("owner.cpp", '#include "phase.hpp"\n' + shown("c"))
     said("g++ -std=c++17 owner.cpp -o owner $(pkg-config --cflags --libs phase)", **config)
     wants(said("./owner", LD_LIBRARY_PATH=library) == SHOWN, "in C++")
+    for name, given, wanted in (("fed", "2\\n4\\n6\\n", SHOWN), ("greatest", "", "phase 0: 9\n")):
+        program = os.path.join(PAGES, f"examples/bindings/{name}.c")
+        said(f"cc -Wall -Werror {program} -o {name} $(pkg-config --cflags --libs phase)", **config)
+        wants(said(f"printf '{given}' | ./{name}", LD_LIBRARY_PATH=library) == wanted, program)
     steps = os.path.join(PAGES, "examples/threads/steps")
     said(f"cc {steps}.c -o steps -pthread $(pkg-config --cflags --libs phase)", **config)
     with open(f"{steps}.stdout", encoding="utf-8") as wanted:
@@ -216,10 +220,11 @@ LOOKS = (
 def main():
     passed, failed = 0, 0
     for look in LOOKS:
+        started = time.monotonic()
         try:
             look()
             passed += 1
-            print(f"well: {look.__doc__}", flush=True)
+            print(f"well, in {time.monotonic() - started:.0f} s: {look.__doc__}", flush=True)
         except (Wrong, subprocess.SubprocessError, OSError, IndexError) as why:
             failed += 1
             print(f"NOT SO: {look.__doc__} {why}", flush=True)

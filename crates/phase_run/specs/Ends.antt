@@ -19,5 +19,5 @@ MayEndAsRun status =
 abbrev pub EndsAsRun : {W : Type 0} → Run → Known → (W → Option (List ℕ)) → Status
     → Watched W → Watched W → WriterState → WriterState → Type 0
 EndsAsRun what known contents status old new before after =
-    RunEnds what.explain (known_by what.beside what.graph known) what.graph what.sink
-    status contents old new before after
+    RunEnds what.explain (known_by what.beside what.graph known) what.graph what.sink status
+    contents old new before after

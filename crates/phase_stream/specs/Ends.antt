@@ -19,5 +19,5 @@ MayEndAsStream status =
 abbrev pub EndsAsStream : {W : Type 0} → Stream → Known → (W → Option (List ℕ)) → Status
     → Watched W → Watched W → WriterState → WriterState → Type 0
 EndsAsStream what known contents status old new before after =
-    StreamEnds what.explain (known_by what.beside what.graph known) what.graph what.sink
-    status contents old new before after
+    StreamEnds what.explain (known_by what.beside what.graph known) what.graph what.sink status
+    contents old new before after
