@@ -9,4 +9,5 @@ pub mod Places
 mod Putting
 mod Slashes
 mod TextExamples
+mod ThreeTexts
 pub mod Finding

@@ -1,11 +1,11 @@
 -- What a check and an evaluation of a graph write, and the lines of the faults of commands.
-use Rattle.std.specs.Prelude.{◌≡◌, ◌≢◌, ℕ, ◌&&◌, List, [], ◌∷◌, length, map, codes, decimal, Some, None, string_bytes, if◌then◌else◌}
+use Rattle.std.specs.Prelude.{◌≡◌, ◌≢◌, ℕ, ◌&&◌, List, [], ◌∷◌, length, map, codes, decimal, Some, None, string_bytes}
 use Rattle.std.specs.List.{concat, find, range_with_len}
 use Rattle.std.specs.Str.{bytes_eq}
 use Rattle.std.specs.Io.KnownBytes.{Appends}
 use Rattle.std.specs.declared.option.Option.{Option}
+use Rattle.graph_show.specs.Explanations.{shown}
 use Rattle.graph_show.specs.graph_base.Graphs.{Graph, name_at}
-use Rattle.graph_show.specs.graph_text.Texts.{are_printable}
 use Rattle.graph_show.specs.graph_lang.declared.fault.FaultKind.{FaultKind}
 use Rattle.graph_show.specs.graph_lang.declared.fault.FaultKind.TheVariants.{Syntax, Limit, Twice, Unknown, OutBeforeIn, BadParent, NotHeld, OverBound, AnyMeets}
 use Rattle.graph_show.specs.graph_base.declared.place.Place.TheVariants as place
@@ -114,9 +114,9 @@ abbrev pub too_big_line : List ℕ → ℕ → List ℕ
 too_big_line name n = concat (
     codes "phase: too big at " ∷ name ∷ codes " " ∷ decimal n ∷ codes "\n" ∷ [])
 
--- a name that no sink has, as it is told: a question mark where a byte of it is none of a line
+-- a name that no sink has, as it is told: a question mark for each byte that is none of a line
 abbrev pub told_name : List ℕ → List ℕ
-told_name name = if are_printable name then name else codes "?"
+told_name name = map shown name
 
 -- the line of a name that no sink has
 abbrev pub no_sink_line : List ℕ → List ℕ

@@ -11,7 +11,7 @@ use std::alloc::{AllocError, Global};
 use std::io::Write;
 
 /// A byte as it is shown.
-fn shown(b: u8) -> u8
+pub(crate) fn shown(b: u8) -> u8
     ensures { result ≡ shown b }
 {
     let is_printable = b == b' ' || b == b'\t' || (33 <= b && b <= 126);

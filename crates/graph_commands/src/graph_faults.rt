@@ -1,16 +1,22 @@
 //! The lines of the failures of commands.
-ghost use Rattle.std.specs.Prelude.{◌≡◌};
+ghost use Rattle.std.specs.Prelude.{◌≡◌, ◌++◌, map, true, OnOk, OnErr};
+ghost use Rattle.std.specs.Io.KnownBytes.{Appends};
+ghost use Rattle.graph_show.specs.Explanations.{shown};
 ghost use Rattle.graph_show.specs.graph_base.Graphs.{IsPlace, name_at};
 ghost use Rattle.graph_commands.specs.Failures.{HasPlace, failure_line};
 ghost use Rattle.graph_commands.specs.GraphRuns.{graph_line, job_line, kind_text, no_sink_line};
-ghost use Rattle.graph_commands.specs.GraphRuns.{samples_line, stalled_line, told_name, too_big_line};
+ghost use Rattle.graph_commands.specs.GraphRuns.{samples_line, stalled_line, too_big_line};
+ghost use Rattle.graph_commands.specs.Puts.{PutsBytes};
+ghost use Rattle.graph_show.specs.watched_io.Prefix.{AppendsPrefix};
 ghost use Rattle.graph_show.specs.watched_io.Statuses.{Reports, Says};
 ghost use Rattle.graph_show.specs.watched_io.States.{writer_state};
+ghost use Rattle.graph_show.specs.watched_io.Watched.{has_failed_of, inner_of};
 
+use crate::further::shown;
+use crate::output_buffer::OutputBuffer;
 use crate::{Failure, JobFault};
-use graph_show::graph_lang::graph_text::are_printable;
 use graph_show::graph_lang::{FaultKind, Graph, GraphFault, Place};
-use graph_show::watched_io::{IoFault, Watched, report, say};
+use graph_show::watched_io::{IoFault, Watched, WriteFailed, report, say};
 use itoa::Buffer;
 use std::io::Write;
 
@@ -74,24 +80,47 @@ fn tell_job_fault<E: Write>(fault: &JobFault, faults: &mut Watched<E>)
     }
 }
 
-/// A name that no sink has, as it is told: a question mark where a byte of it is none of a line.
-fn told_name(name: &str) -> &str
-    ensures { result.now ≡ told_name name.now }
-{
-    if are_printable(name.as_bytes()) {
-        name
-    } else {
-        "?"
-    }
-}
-
 /// Tells that no sink has this name.
 fn tell_no_sink<E: Write>(name: &str, faults: &mut Watched<E>)
     ensures { Says (no_sink_line name.now)
         (writer_state E.contents faults.old) (writer_state E.contents faults.new) }
 {
-    let parts = ["phase: no sink ", told_name(name), "\n"];
-    say(parts.as_slice(), faults);
+    let _ = write_no_sink(name, faults);
+}
+
+/// Writes that no sink has this name, with a question mark for each byte that is none of a line.
+fn write_no_sink<E: Write>(name: &str, faults: &mut Watched<E>) -> Result<(), WriteFailed>
+    ensures ok { OnOk result (Appends (E.contents (inner_of faults.old))
+        (E.contents (inner_of faults.new)) (no_sink_line name.now)) }
+    ensures err { OnErr result (AppendsPrefix (E.contents (inner_of faults.old))
+        (E.contents (inner_of faults.new)) (no_sink_line name.now)) }
+    ensures failed { OnErr result (has_failed_of faults.new ≡ true) }
+{
+    let mut piece = OutputBuffer::new();
+    piece.put(b"phase: no sink ", faults)?;
+    piece.put_shown(name.as_bytes(), faults)?;
+    piece.put(b"\n", faults)?;
+    piece.hand_over(faults)
+}
+
+impl OutputBuffer {
+    /// Puts a text as it is shown.
+    fn put_shown<W: Write>(
+        &mut self,
+        text: &[u8],
+        writer: &mut Watched<W>,
+    ) -> Result<(), WriteFailed>
+        ensures ok { OnOk result (PutsBytes (W.contents (inner_of writer.old))
+            (W.contents (inner_of writer.new)) self.old self.new (map shown text.now)) }
+        ensures err { OnErr result (AppendsPrefix (W.contents (inner_of writer.old))
+            (W.contents (inner_of writer.new)) (self.old ++ map shown text.now)) }
+        ensures failed { OnErr result (has_failed_of writer.new ≡ true) }
+    {
+        for b in text {
+            self.put(&[shown(*b)], writer)?;
+        }
+        Ok(())
+    }
 }
 
 /// Tells where a value is out of range.

@@ -91,9 +91,18 @@ pub fn words_for_files_beside()
     ensures columns { Asks (codes "eval" ∷ codes "d/g" ∷ codes "--columns" ∷ codes "--beside" ∷ [])
         (columns true Explain.No (codes "d/g")) }
     ensures run { AsksRun (codes "d/g" ∷ codes "--beside" ∷ []) (record {
-        graph = codes "d/g"; sink = None; workers = 4; explain = Explain.No; beside = true }) }
+      graph = codes "d/g";
+      sink = None;
+      workers = 4;
+      explain = Explain.No;
+      beside = true;
+    }) }
     ensures stream { AsksStream (codes "d/g" ∷ codes "--beside" ∷ []) (record {
-        graph = codes "d/g"; sink = None; explain = Explain.No; beside = true }) }
+      graph = codes "d/g";
+      sink = None;
+      explain = Explain.No;
+      beside = true;
+    }) }
     ensures draw { AreRefused (codes "draw" ∷ codes "g" ∷ codes "--beside" ∷ []) }
 {}
 

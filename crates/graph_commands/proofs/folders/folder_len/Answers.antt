@@ -21,8 +21,7 @@ loop-i-preserved c =
       | else-file-i-eq47 w ↦
           let other : is_slash b ≡ false = search rules in
           let folder : folder_of (take (i + 1) file) ≡ folder_of (take i file) =
-          ap folder_of grown ∙ folder-other (take i file) b other in
-          (
+          ap folder_of grown ∙ folder-other (take i file) b other in (
             omega (arith, w.end-is, c.loop-i.invariant.0),
             ap (λ n. take n file) w.end-is ∙ (c.loop-i.invariant.1 ∙ sym folder),
           )

@@ -1,5 +1,5 @@
 -- The task that is found is a source of the graph.
-use Rattle.std.proofs.Common.{◌≡◌, ◌<◌, ◌&&◌, ◌∙◌, length, true, sym, arith}
+use Rattle.std.proofs.Common.{◌≡◌, ◌&&◌, ◌∙◌, length, true, sym, arith}
 use Rattle.std.specs.Str.{bytes_eq}
 use Rattle.graph_show.specs.graph_base.Graphs.{is_source, name_at, task_at}
 use Rattle.graph_show.specs.graph_base.declared.place.Place.TheVariants as place
