@@ -14,6 +14,7 @@ use phase_ring::Board;
 
 /// The first refusal of a signal in the phase of the entry. `slowest` is the least wait phase of
 /// the waiters.
+#[inline(always)]
 pub fn list_refusal<A: Accumulate>(
     board: &Board<A>,
     slowest: Option<u64>,

@@ -8,7 +8,7 @@ ghost use Rattle.phase_core.specs.Cores.{StandsFor};
 
 use phase_history::phase_accum::Accumulate;
 use phase_registry::Registry;
-use phase_registry::phase_base::{Entry, Mode, Spec};
+use phase_registry::phase_base::{Entry, Member, Mode, Spec};
 use phase_ring::Board;
 use std::alloc::{AllocError, Global};
 use std::marker::Model;
@@ -126,6 +126,16 @@ impl<A: Accumulate> PhaserCore<A> {
             return None;
         }
         Some(self.board.ring.base())
+    }
+
+    /// Returns how many tasks are registered.
+    pub fn count(&self) -> usize {
+        self.registry.count()
+    }
+
+    /// Returns the task at this place of the list of members, with its entry.
+    pub fn at(&self, place: usize) -> Option<Member> {
+        self.registry.at(place)
     }
 
     /// Returns whether a signaller is registered.

@@ -69,6 +69,29 @@ impl<A: Accumulate> PhaserCore<A> {
         Ok(phase)
     }
 
+    /// Signals the task's phase, as `signal` does, with no single and with sends that are lent.
+    #[inline(always)]
+    pub fn signal_plain(&mut self, task: u64, pending: &Pending<A>) -> Result<u64, SignalRefusal> {
+        let Some(entry) = self.registry.get(task) else {
+            return Err(SignalRefusal::NoTask);
+        };
+        if !entry.mode.signals() {
+            return Err(SignalRefusal::NoSignal);
+        }
+        let slowest = self.least_wait();
+        if let Some(refusal) = list_refusal(&self.board, slowest, entry, pending, &None) {
+            return Err(refusal);
+        }
+        let phase = entry.signal_phase;
+        if self.registry.waiters() == 0 {
+            self.board.raise_top(phase + 1);
+        } else {
+            self.board.signal(phase, pending, &None);
+        }
+        self.registry.signalled(task, 1);
+        Ok(phase)
+    }
+
     /// Signals as many phases in a row as there are lists of sends, the first the task's, a list
     /// each, with a single for all of them or none, and answers the first phase. A refused block
     /// signals nothing, and hands all its sends back in their order. It takes no memory.

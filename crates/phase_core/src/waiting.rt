@@ -49,6 +49,19 @@ impl<A: Accumulate> PhaserCore<A> {
         Ok(Got::Value { phase, outcome })
     }
 
+    /// Waits for the tasks whose bits are set, each for this phase, which is complete.
+    #[inline(always)]
+    pub fn wait_each(&mut self, tasks: u64, phase: u64) -> Outcome {
+        let mut left = tasks;
+        let mut count = 0;
+        while left != 0 {
+            self.registry.waited(left.trailing_zeros() as u64, 1);
+            left &= left - 1;
+            count += 1;
+        }
+        self.board.wait_each(phase, count)
+    }
+
     /// Waits for the task's phase and those behind it that are complete, as many as there are
     /// places, and writes their values; or answers that no more will come. The places behind the
     /// values stay. It never blocks, and takes no memory.

@@ -187,6 +187,19 @@ impl Registry {
         }
     }
 
+    /// Returns how many tasks are registered.
+    pub fn count(&self) -> usize {
+        self.members.len()
+    }
+
+    /// Returns the task at this place of the list, with its entry.
+    pub fn at(&self, place: usize) -> Option<Member> {
+        match self.members.get(place) {
+            Some(member) => Some(*member),
+            None => None,
+        }
+    }
+
     /// Returns how many tasks are registered that signal.
     pub fn signallers(&self) -> u64
         ensures { result ≡ length (signal_phases self.now.members) }

@@ -129,6 +129,7 @@ impl<A: Accumulate> Board<A> {
 
     /// Joins a signal to its phase, which does not refuse it, and moves its task on to the next
     /// one.
+    #[inline(always)]
     pub fn signal(&mut self, phase: u64, pending: &Pending<A>, single: &Option<Single>)
         requires invariant { IsBoard A.operation self.old }
         requires may { MaySignal phase (phase + 1) self.old }
@@ -180,6 +181,16 @@ impl<A: Accumulate> Board<A> {
         let outcome = self.ring.value(phase);
         self.ring.leave(phase, Role::Waiter);
         self.ring.enter(phase + 1, Role::Waiter);
+        self.give_up();
+        outcome
+    }
+
+    /// Returns the value of the phase of so many waiters, which is complete, and moves them on to the
+    /// next one.
+    #[inline(always)]
+    pub fn wait_each(&mut self, phase: u64, waiters: u16) -> Outcome {
+        let outcome = self.ring.value(phase);
+        self.ring.go_on_each(phase, waiters);
         self.give_up();
         outcome
     }

@@ -111,6 +111,16 @@ impl<A: Copy> Slot<A> {
         }
     }
 
+    /// So many waiters, of whom as many stand at the phase, leave it.
+    pub fn leave_each(&mut self, waiters: u16) {
+        self.waiters -= waiters;
+    }
+
+    /// So many more waiters stand at the phase.
+    pub fn enter_each(&mut self, waiters: u16) {
+        self.waiters += waiters;
+    }
+
     /// Makes the phase complete.
     pub fn seal(&mut self)
         ensures { self.new ≡ sealed self.old }

@@ -217,6 +217,19 @@ impl<A: Accumulate> SlotRing<A> {
         }
     }
 
+    /// So many waiters go on from a phase to the next one.
+    pub fn go_on_each(&mut self, phase: u64, waiters: u16) {
+        let place = (phase - self.base) as usize;
+        match self.slots.get_mut(place) {
+            Some(slot) => slot.leave_each(waiters),
+            None => unreachable!(),
+        }
+        match self.slots.get_mut(place + 1) {
+            Some(slot) => slot.enter_each(waiters),
+            None => unreachable!(),
+        }
+    }
+
     /// Returns how many of the role stand at the phase.
     pub fn standing(&self, phase: u64, role: Role) -> u32
         requires { IsWithin self.now phase }

@@ -10,6 +10,7 @@ ghost use Rattle.phase_shared.specs.Joins.{RegistersNow};
 use crate::phaser::Phaser;
 use crate::reg::Reg;
 use crate::rule::SignalRule;
+use crate::seats::serving::Spins;
 use crate::seats::{block_steps, join_steps};
 use crate::tried::Tried;
 use phase_core::phase_accum::{Accumulate, Outcome, Pending, Single};
@@ -147,6 +148,7 @@ impl<A: Accumulate, K: SignalRule> Reg<A, K> {
             number: made.0,
             entry: made.2,
             pending: Pending::new(),
+            spins: Spins::new(),
         })
     }
 }

@@ -9,8 +9,11 @@ ghost use Rattle.phase_shared.specs.Nexts.{GoesOrRefuses};
 
 use crate::phaser::Phaser;
 use crate::reg::Reg;
+use crate::patience::Patience;
 use crate::rule::SignalRule;
-use phase_core::phase_accum::{Accumulate, Single};
+use crate::seats::serving::{self, Ask, LANES};
+use crate::tried::Tried;
+use phase_core::phase_accum::{Accumulate, Outcome, Pending, Single};
 use phase_core::{Got, SignalRefusal};
 use std::sync::Wait;
 
@@ -61,6 +64,9 @@ impl<A: Accumulate, K: SignalRule> Reg<A, K> {
             });
         }
         let waits = self.mode().waits();
+        if waits && single.is_none() && self.may_ask() {
+            return self.asks_next(rt, phaser);
+        }
         let answer = match self.signal_and_wait(rt, phaser, single, waits) {
             Ok(answer) => answer,
             Err(refusal) => return Err(refusal),
@@ -78,6 +84,70 @@ impl<A: Accumulate, K: SignalRule> Reg<A, K> {
             signalled: Some(phase),
             got: Some(got),
         })
+    }
+
+    // Whether it can ask others for its next phase: it has a lane, and one send or none.
+    fn may_ask(&self) -> bool {
+        self.number < LANES
+            && self.entry.signal_phase == self.entry.wait_phase
+            && self.pending.count() <= 1
+    }
+
+    // Goes to its next phase, which others may take it to.
+    fn asks_next<W: Wait>(
+        &mut self,
+        rt: &W,
+        phaser: &Phaser<A, K>,
+    ) -> Result<Next, SignalRefusal> {
+        let answer = match self.ask(rt, phaser) {
+            Err(SignalRefusal::Ahead) => self.asks_again(rt, phaser),
+            answer => answer,
+        };
+        match answer {
+            Ok(outcome) => {
+                let phase = self.entry.signal_phase;
+                self.entry.signal_phase = phase + 1;
+                self.entry.wait_phase = phase + 1;
+                self.pending = Pending::new();
+                Ok(Next {
+                    signalled: Some(phase),
+                    got: Some(Got::Value { phase, outcome }),
+                })
+            }
+            Err(refusal) => Err(refusal),
+        }
+    }
+
+    fn ask<W: Wait>(&mut self, rt: &W, phaser: &Phaser<A, K>) -> Result<Outcome, SignalRefusal> {
+        let ask = Ask {
+            me: self.number,
+            phase: self.entry.signal_phase,
+            pending: &self.pending,
+        };
+        let Some(seat) = self.seat.take() else {
+            unreachable!()
+        };
+        let (seat, answer) = serving::next(rt, &phaser.locked, seat, &ask, &mut self.spins);
+        self.seat = Some(seat);
+        answer
+    }
+
+    // Asks again, where it was ahead.
+    fn asks_again<W: Wait>(
+        &mut self,
+        rt: &W,
+        phaser: &Phaser<A, K>,
+    ) -> Result<Outcome, SignalRefusal> {
+        let patience = Patience::new();
+        for _ in rt.forever() {
+            let tried = Tried::Refused(SignalRefusal::Ahead);
+            self.pause_for_room(rt, phaser, 1, &patience, tried);
+            match self.ask(rt, phaser) {
+                Err(SignalRefusal::Ahead) => {}
+                answer => return answer,
+            }
+        }
+        unreachable!()
     }
 
     // Waits where nothing but time can be in the way.

@@ -10,6 +10,7 @@ ghost use Rattle.phase_shared.specs.Regs.{phaser_lock, phaser_terms, phaser_limi
 use crate::reg::Reg;
 use crate::rule::{SignalRule, Terms};
 use crate::seats::locked::LockedPhaser;
+use crate::seats::serving::Spins;
 use phase_core::phase_accum::{Accumulate, Pending};
 use phase_core::phase_base::{Entry, Mode, Spec};
 use std::alloc::{AllocError, Global};
@@ -62,6 +63,7 @@ impl<A: Accumulate, K: SignalRule> Phaser<A, K> {
             number: 0,
             entry,
             pending: Pending::new(),
+            spins: Spins::new(),
         };
         Ok((Phaser { locked }, founder))
     }

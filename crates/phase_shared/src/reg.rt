@@ -11,6 +11,7 @@ ghost use Rattle.phase_shared.specs.Regs.{IsGoodOn};
 use crate::phaser::Phaser;
 use crate::refusal::SendRefusal;
 use crate::rule::SignalRule;
+use crate::seats::serving::Spins;
 use crate::seats::view::PhaserSeat;
 use phase_core::phase_accum::{Accumulate, Pending, SendFault};
 use phase_core::phase_base::{Entry, Mode};
@@ -37,6 +38,7 @@ pub struct Reg<A: Accumulate, K: SignalRule> {
     pub(crate) number: u64,
     pub(crate) entry: Entry,
     pub(crate) pending: Pending<A>,
+    pub(crate) spins: Spins,
 }
 
 impl<A: Accumulate, K: SignalRule> Model for Reg<A, K> {

@@ -1,10 +1,12 @@
 //! A phaser under a lock: what the seats of its lock know, and each call as a step of a seat.
 
 pub mod block_steps;
+pub mod desk;
 pub mod ghost_steps;
 pub mod hints;
 pub mod join_steps;
 pub mod locked;
 pub mod pauses;
+pub mod serving;
 pub mod steps;
 pub mod view;

@@ -13,6 +13,7 @@ use crate::past::Past;
 use crate::phaser::Phaser;
 use crate::reg::Reg;
 use crate::rule::SignalRule;
+use crate::seats::serving::Spins;
 use crate::seats::steps;
 use crate::tried::Tried;
 use phase_core::phase_accum::{Accumulate, Pending, Single};
@@ -137,6 +138,7 @@ impl<A: Accumulate, K: SignalRule> Reg<A, K> {
             number: made.0,
             entry: made.2,
             pending: Pending::new(),
+            spins: Spins::new(),
         })
     }
 
@@ -160,6 +162,7 @@ impl<A: Accumulate, K: SignalRule> Reg<A, K> {
             number,
             entry,
             pending,
+            spins,
         } = self;
         let Some(seat) = seat else { unreachable!() };
         match steps::leave(&phaser.locked, seat, number, entry) {
@@ -169,6 +172,7 @@ impl<A: Accumulate, K: SignalRule> Reg<A, K> {
                 number,
                 entry,
                 pending,
+                spins,
             }),
         }
     }

@@ -3,7 +3,7 @@ ghost use Rattle.std.specs.Prelude.{◌≡◌};
 
 use crate::rule::{SignalRule, Terms};
 use crate::seats::view::View;
-use phase_core::PhaserCore;
+use crate::seats::desk::Desk;
 use phase_core::phase_accum::Accumulate;
 use std::marker::{Brand, PhantomData};
 use turn_lock::{Join, Learns, Split, Tells};
@@ -13,7 +13,7 @@ pub struct OnTake<A, K> {
     marker: PhantomData<(A, K)>,
 }
 
-impl<A: Accumulate, K: SignalRule> Tells<Terms<K>, PhaserCore<A>, View> for OnTake<A, K> {
+impl<A: Accumulate, K: SignalRule> Tells<Terms<K>, Desk<A>, View> for OnTake<A, K> {
     ghost use Rattle.phase_shared.specs.Rule.{TookAt};
 
     ghost then = { TookAt A.operation K.allows };

@@ -42,7 +42,7 @@ pub fn register_now<A: Accumulate, K: SignalRule>(
         Ok(turn) => turn,
         Err(seat) => return (seat, Err(Tried::Busy)),
     };
-    let core = turn.value(&phaser.lock);
+    let core = &mut turn.value(&phaser.lock).core;
     let child = child_of(core);
     let answer = core.register_now(me, child);
     let found = core.view(child);

@@ -8,6 +8,7 @@ ghost use Rattle.phase_shared.specs.Rule.{founding, IsSeatOfTask};
 use crate::rule::{SignalRule, Terms};
 use crate::seats::hints::Hints;
 use crate::seats::view::{PhaserLock, PhaserSeat};
+use crate::seats::desk::Desk;
 use phase_core::PhaserCore;
 use phase_core::phase_accum::Accumulate;
 use phase_core::phase_base::Spec;
@@ -36,7 +37,7 @@ impl<A: Accumulate, K: SignalRule> LockedPhaser<A, K> {
             IsSeatOfTask K.allows terms 0 founder (seat_view made.1)) }
     {
         let bound = terms.limits.bound();
-        let core = PhaserCore::new(alloc, terms.limits, 0)?;
+        let core = Desk { core: PhaserCore::new(alloc, terms.limits, 0)?, asked: 0 };
         let (lock, seat) = TurnLock::new(alloc, &terms, core)?;
         let hints = Hints::new::<K>(bound);
         Ok((LockedPhaser { lock, hints }, seat))

@@ -19,6 +19,7 @@ use crate::rule::SignalRule;
 use crate::seats::ghost_steps::{OnGive, OnJoin, OnLook, OnSplit, OnTake, Plan, Same};
 use crate::seats::hints::{Hints, Reached};
 use crate::seats::locked::LockedPhaser;
+use crate::seats::serving::serve;
 use crate::seats::view::{PhaserSeat, PhaserTurn};
 use crate::tried::Tried;
 use phase_core::phase_accum::{Accumulate, Pending, Single};
@@ -64,6 +65,8 @@ pub(crate) fn put_back<A: Accumulate, K: SignalRule, E: Plan, X: Copy>(
     ensures rule { E.goes (turn_view turn) (seat_view result) }
 {
     let _ = told;
+    let mut turn = turn;
+    serve(phaser, &mut turn);
     let news = phaser.hints.news(reached, phaser.lock.told());
     let seat = phaser.lock.give::<OnGive<E>>(turn, news.done);
     phaser.hints.tell::<K>(news);
@@ -122,7 +125,7 @@ pub fn signal<A: Accumulate, K: SignalRule>(
         Err(seat) => return (seat, entry, Err(Tried::Busy)),
     };
     let _part = pending.part();
-    let core = turn.value(&phaser.lock);
+    let core = &mut turn.value(&phaser.lock).core;
     let answer = core.signal(me, pending, single);
     let phase = match answer {
         Ok(phase) => phase,
@@ -163,7 +166,7 @@ pub fn leave<A: Accumulate, K: SignalRule>(
         Ok(turn) => turn,
         Err(seat) => return Err(seat),
     };
-    let core = turn.value(&phaser.lock);
+    let core = &mut turn.value(&phaser.lock).core;
     let answer = core.drop_task(me);
     let Ok(()) = answer else { unreachable!() };
     let reached = Hints::look(core);
@@ -200,7 +203,7 @@ pub fn wait<A: Accumulate, K: SignalRule>(
         Ok(turn) => turn,
         Err(seat) => return (seat, entry, Err(Tried::Busy)),
     };
-    let core = turn.value(&phaser.lock);
+    let core = &mut turn.value(&phaser.lock).core;
     let answer = core.wait(me);
     let Some(entry) = core.view(me) else {
         unreachable!()
@@ -241,7 +244,7 @@ pub fn register<A: Accumulate, K: SignalRule>(
         Ok(turn) => turn,
         Err(seat) => return (seat, Err(Tried::Busy)),
     };
-    let core = turn.value(&phaser.lock);
+    let core = &mut turn.value(&phaser.lock).core;
     let child = child_of(core);
     let answer = core.register(me, child, mode);
     let found = core.view(child);

@@ -1,7 +1,8 @@
 //! What the seats of a phaser's lock know.
 use crate::rule::{SignalRule, Terms};
+use crate::seats::desk::Desk;
 use phase_core::phase_accum::Accumulate;
-use phase_core::{Event, PhaserCore};
+use phase_core::Event;
 use std::collections::LinkedList;
 use std::marker::PhantomData;
 use turn_lock::{Seat, Turn, TurnLock, TurnRule};
@@ -29,7 +30,7 @@ pub struct OneHistory<A, K> {
     marker: PhantomData<(A, K)>,
 }
 
-impl<A: Accumulate, K: SignalRule> TurnRule<PhaserCore<A>> for OneHistory<A, K> {
+impl<A: Accumulate, K: SignalRule> TurnRule<Desk<A>> for OneHistory<A, K> {
     ghost use Rattle.phase_shared.specs.Rule.{HasOneHistory, founding};
     ghost use Rattle.phase_shared.specs.declared.seats.view.View.{View};
     ghost use Rattle.phase_shared.specs.declared.rule.Terms.{Terms};
@@ -44,10 +45,10 @@ impl<A: Accumulate, K: SignalRule> TurnRule<PhaserCore<A>> for OneHistory<A, K> 
 }
 
 // A phaser under a lock.
-pub type PhaserLock<A, K> = TurnLock<PhaserCore<A>, OneHistory<A, K>>;
+pub type PhaserLock<A, K> = TurnLock<Desk<A>, OneHistory<A, K>>;
 
 // A seat of it.
-pub type PhaserSeat<A, K> = Seat<PhaserCore<A>, Terms<K>, View>;
+pub type PhaserSeat<A, K> = Seat<Desk<A>, Terms<K>, View>;
 
 // A turn of it.
-pub type PhaserTurn<A, K> = Turn<PhaserCore<A>, Terms<K>, View>;
+pub type PhaserTurn<A, K> = Turn<Desk<A>, Terms<K>, View>;

@@ -18,7 +18,7 @@ const TAKEN: u64 = 1;
 
 // The word, and spare ones behind it: then no line of memory has the word and the value, and who
 // tries in vain leaves the lines of the value where they are.
-const WORDS: [u64; 17] = [0; 17];
+const WORDS: [u64; 288] = [0; 288];
 
 impl<T, R: TurnRule<T>> TurnLock<T, R> {
     /// Makes a lock and its first seat, which has the number 0.
@@ -102,6 +102,30 @@ impl<T, R: TurnRule<T>> TurnLock<T, R> {
         ensures { result < 2 ^ 63 }
     {
         self.table.shared.peek(0) / 2
+    }
+
+    /// Whether the turn is free, as far as a look tells.
+    pub fn is_free(&self) -> bool {
+        self.table.shared.peek(0) % 2 != TAKEN
+    }
+
+    /// Returns a word behind the lock's.
+    pub fn read_word(&self, place: usize) -> u64 {
+        self.table.shared.peek(place)
+    }
+
+    /// Writes a word behind the lock's, by a seat.
+    pub fn post_word(&self, seat: &mut Seat<T, R::Name, R::View>, place: usize, word: u64) {
+        self.table
+            .shared
+            .swap::<OnSight<R>>(&mut seat.inner, place, word);
+    }
+
+    /// Writes a word behind the lock's, by the turn.
+    pub fn write_word(&self, turn: &mut Turn<T, R::Name, R::View>, place: usize, word: u64) {
+        self.table
+            .shared
+            .swap::<OnSight<R>>(&mut turn.inner, place, word);
     }
 
     /// Cuts a seat's view in two: the first seat of the answer keeps the number, and the second is
