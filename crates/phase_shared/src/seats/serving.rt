@@ -34,6 +34,14 @@ const IS_TOO_BIG: u64 = 2;
 // an answer once it is late. From one phase in so many on, who does not look tries to again.
 const FIRST: u32 = 40;
 
+// How often to pause before a turn after one that served others, after a post before the first look
+// for its answer, and between two looks.
+const REST: u32 = 2;
+
+const HOLD: u32 = 3;
+
+const GAP: u32 = 1;
+
 const SERVE: u32 = 60;
 
 const LOOKS: u32 = 15;
@@ -47,8 +55,9 @@ const PROBE: u64 = 128;
 // How a registration looks for its answer.
 #[derive(Clone, Copy, Debug, PartialEq, Eq)]
 pub struct Spins {
-    // Whether it had the turn when its last phase was complete.
+    // Whether it had the turn when its last phase was complete, and served others then.
     served: bool,
+    others: bool,
     // How often it looks for posts under the turn, and for its answer after a post.
     serve: u32,
     first: u32,
@@ -62,6 +71,7 @@ impl Spins {
     pub fn new() -> Spins {
         Spins {
             served: true,
+            others: false,
             serve: SERVE,
             first: FIRST,
         }
@@ -346,6 +356,7 @@ fn gather<A: Accumulate, K: SignalRule>(
         spins.serve = doubled(spins.serve, SERVE);
     }
     spins.served = true;
+    spins.others = !is_alone && spins.first != 0;
     (put_back(phaser, turn), Came::Got(outcome))
 }
 
@@ -359,9 +370,15 @@ fn is_soon<A: Accumulate, K: SignalRule>(
         if phaser.lock.told() > phase {
             return true;
         }
-        hint::spin_loop();
+        pause(GAP);
     }
     phaser.lock.told() > phase
+}
+
+fn pause(times: u32) {
+    for _ in 0..times {
+        hint::spin_loop();
+    }
 }
 
 // Posts what it asks for, the value first.
@@ -401,6 +418,9 @@ pub fn next<A: Accumulate, K: SignalRule, W: Wait>(
     let mut seat = seat;
     spins.probe(ask.phase);
     if spins.served || spins.first == 0 {
+        if spins.others {
+            pause(REST);
+        }
         match phaser.lock.try_take::<OnTake<A, K>>(seat) {
             Ok(turn) => return first_turn(rt, phaser, turn, ask, spins),
             Err(back) => seat = back,
@@ -426,6 +446,7 @@ fn first_turn<A: Accumulate, K: SignalRule, W: Wait>(
     if desk.asked == 0 && is_done(&desk.core, ask.phase) {
         let outcome = desk.core.wait_each(1 << ask.me, ask.phase);
         spins.served = true;
+        spins.others = false;
         return (put_back(phaser, turn), Ok(outcome));
     }
     desk.asked |= 1 << ask.me;
@@ -443,6 +464,9 @@ fn posts<A: Accumulate, K: SignalRule, W: Wait>(
 ) -> (PhaserSeat<A, K>, Result<Outcome, SignalRefusal>) {
     let mut seat = seat;
     post(phaser, &mut seat, ask);
+    if spins.first != 0 {
+        pause(HOLD);
+    }
     if is_soon(phaser, ask.phase, spins.first) {
         spins.quick();
         spins.served = false;
