@@ -113,6 +113,15 @@ fn lane_of(task: u64) -> usize {
     LANE * (task as usize + 1)
 }
 
+// A value as a word, and back.
+fn word_of(value: i64) -> u64 {
+    u64::from_le_bytes(value.to_le_bytes())
+}
+
+fn value_of(word: u64) -> i64 {
+    i64::from_le_bytes(word.to_le_bytes())
+}
+
 // The one value that is sent, or none.
 pub fn value_sent<A: Accumulate>(pending: &Pending<A>) -> Option<i64> {
     match pending.count() {
@@ -149,7 +158,7 @@ fn write<A: Accumulate, K: SignalRule>(
     let lock = &phaser.lock;
     let kind = match outcome {
         Outcome::Value(value) => {
-            lock.write_word(turn, NUMBER, value as u64);
+            lock.write_word(turn, NUMBER, word_of(value));
             IS_VALUE
         }
         Outcome::Empty => IS_EMPTY,
@@ -164,7 +173,7 @@ fn read<A: Accumulate, K: SignalRule>(phaser: &LockedPhaser<A, K>) -> Outcome {
     let lock = &phaser.lock;
     let number = lock.read_word(NUMBER);
     match lock.read_word(KIND) {
-        IS_VALUE => Outcome::Value(number as i64),
+        IS_VALUE => Outcome::Value(value_of(number)),
         IS_EMPTY => Outcome::Empty,
         _ => Outcome::TooBig,
     }
@@ -225,7 +234,7 @@ fn collect<A: Accumulate, K: SignalRule>(
     while posted != 0 {
         let task = posted.trailing_zeros() as u64;
         posted &= posted - 1;
-        let value = lock.read_word(lane_of(task) + 1) as i64;
+        let value = value_of(lock.read_word(lane_of(task) + 1));
         if desk.core.signal_plain(task, &held_of(value)).is_ok() {
             made |= 1 << task;
         }
@@ -389,7 +398,7 @@ fn post<A: Accumulate, K: SignalRule>(
 ) {
     let value = value_sent(ask.pending).unwrap_or(NO_VALUE);
     let lane = ask.lane();
-    phaser.lock.post_word(seat, lane + 1, value as u64);
+    phaser.lock.post_word(seat, lane + 1, word_of(value));
     phaser.lock.post_word(seat, lane, ask.phase + 1);
 }
 
