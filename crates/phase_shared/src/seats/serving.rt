@@ -546,6 +546,10 @@ fn later<A: Accumulate, K: SignalRule, W: Wait>(
             }
             thread::yield_now();
         }
+        // Nobody may be left to wake who sleeps while its signal is a post alone.
+        if !made {
+            continue;
+        }
         sleep(rt, phaser, ask.phase);
         if phaser.lock.told() <= ask.phase {
             match phaser.lock.try_take::<OnTake<A, K>>(seat) {
