@@ -90,6 +90,7 @@ impl<A: Accumulate> Board<A> {
     }
 
     /// Moves a signaller on from a phase to a later one, at most the top.
+    #[inline(always)]
     fn go_on(&mut self, from: u64, to: u64)
         requires invariant { IsBoard A.operation self.old }
         requires may { MayGoOn from to self.old }
@@ -107,6 +108,7 @@ impl<A: Accumulate> Board<A> {
 
     // Joins sends to a phase that does not refuse them. No signal has joined the phases from the
     // top on: there it only writes.
+    #[inline(always)]
     fn join(&mut self, phase: u64, pending: &Pending<A>, single: &Option<Single>)
         requires within { IsWithin self.old.ring phase }
         requires below { phase + 1 < self.old.ring.base + length self.old.ring.slots }
