@@ -181,13 +181,23 @@ fn read<A: Accumulate, K: SignalRule>(phaser: &LockedPhaser<A, K>) -> Outcome {
 
 // Under the turn: where a phase is complete, makes the waits of all whose signals were made for
 // them, and tells its value. All of them are at that phase.
+#[inline(always)]
 pub fn serve<A: Accumulate, K: SignalRule>(
+    phaser: &LockedPhaser<A, K>,
+    turn: &mut PhaserTurn<A, K>,
+) {
+    if turn.value(&phaser.lock).asked != 0 {
+        serve_marked(phaser, turn);
+    }
+}
+
+fn serve_marked<A: Accumulate, K: SignalRule>(
     phaser: &LockedPhaser<A, K>,
     turn: &mut PhaserTurn<A, K>,
 ) {
     let desk = turn.value(&phaser.lock);
     let told = phaser.lock.told();
-    if desk.asked != 0 && desk.core.done() > told {
+    if desk.core.done() > told {
         let outcome = wait_for(desk, told);
         write(phaser, turn, outcome);
     }
