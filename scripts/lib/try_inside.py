@@ -188,7 +188,7 @@ def in_python():
     where = said("env/bin/python -c 'import phase; print(phase.__file__, phase.__version__)'")
     wants(where.startswith(os.path.join(HOME, "env/lib")), where)
     put("page.py", f'"""\n{shown("python")}"""\n')
-    said("env/bin/python -m doctest page.py")
+    said(f"{HOME}/env/bin/python -m doctest {HOME}/page.py", PAGES)
     wants(os.path.exists(where.split()[0].replace("__init__.py", "py.typed")), "no py.typed")
     print(os.path.basename(wheel))
 
