@@ -1,0 +1,5 @@
+pub mod Asks
+pub mod Base
+pub mod Desks
+pub mod Lanes
+pub mod Tells
