@@ -10,7 +10,6 @@ use lib.Seq.{map-set}
 use Rattle.atomic_table.proofs.Lists.{at_set, at_snoc, at_map, at_longer, set_here, set_else, set_again}
 use Rattle.atomic_table.specs.Table.{Me, Step, step, Act, keeps, takes, gives, stepped, carried_after, Valid, Allows, Splits, Joins}
 use Rattle.turn_lock.specs.declared.seat.Doing.{Doing}
-use Rattle.turn_lock.specs.Held.{is_alone, alone_value}
 use Rattle.turn_lock.specs.Word.{doing, client, gave}
 use Rattle.turn_lock.specs.WordSteps.{TakesOf, GivesOf, LooksOf, ReadsOf, WritesOf, ReadsIn, WritesIn, JoinLooks, ForksOf, MergesOf, BusyOf}
 use Rattle.turn_lock.specs.Words.{telling, IsIdle, IsOneTurn, IsTurnWith, lock_word, slot_of, IsWordLock, saw_word, tried_word, knew, acted}
@@ -405,8 +404,13 @@ module _ {N T V : Type 0} (holds : N → Option T → ℕ → List ℕ → List 
           kept = subst (holds name None told words) (sym (map-set client views id w)) p.1;
         },
         (
-          (λ _. (x, refl, refl, ap (λ (c : List (ℕ × T)). (0, x) ∷ c) empty,
-              λ n e. subst (λ (k : N). then k d.client x p.0) (named name n d.name is e) p.2)),
+          (λ _. (
+            x,
+            refl,
+            refl,
+            ap (λ (c : List (ℕ × T)). (0, x) ∷ c) empty,
+            λ n e. subst (λ (k : N). then k d.client x p.0) (named name n d.name is e) p.2,
+          )),
           (λ differs. absurd (differs (even_is told))),
         ),
       )

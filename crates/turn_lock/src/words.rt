@@ -10,7 +10,6 @@ use std::marker::PhantomData;
 mod ghost_steps;
 mod steps;
 mod turns;
-mod value;
 
 // The rule of the table that a lock stands on.
 pub struct RuledWords<R> {
@@ -31,7 +30,8 @@ impl<T, R: WordRule<T>> TableRule<T, Doing<R::Name, R::View>, R::Name> for Ruled
 /// the rule `R`, which sees the words and the number that the lock tells.
 ///
 /// **Seats and turns.** They are those of a `TurnLock`: `split` and `join`, `try_take` and `give`.
-/// Where the turn is taken, `try_take` hands the seat back. No call waits for it.
+/// Where the turn is taken, `try_take` hands the seat back: no call waits. `Turn::value_in` lends
+/// the value of a turn.
 ///
 /// **Words.** At first each is 0. A seat reads and writes them by `read` and `write`, whether or
 /// not the turn is free, and a turn by `read_in` and `write_in`. Each call is one atomic step on
