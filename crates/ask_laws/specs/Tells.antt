@@ -47,8 +47,10 @@ pub record TookAsked {T : Type 0} (value : List ℤ → Outcome) (limits : Limit
   pub is : w ≡ Turning (knowledge now (a.task ∷ [])) claims said (Some (a.phase + 1))
 
 -- what who asked learns: the history up to its own wait
-pub record Learnt (limits : Limits) (a : Ask) (f : Knowledge) (w : View) : Type 0 where
+pub record Learnt (limits : Limits) (allows : Allows) (a : Ask) (f : Knowledge) (w : View)
+    : Type 0 where
   pub middle : History
+  pub good : IsGood limits allows (Waited a.task 1 ∷ middle)
   pub made : IsMade limits a f.seen middle
   pub accepted : wait_refusal limits middle a.task 1 ≡ None
   pub complete : a.phase < done_of middle
@@ -59,8 +61,9 @@ abbrev pub Answers : ℕ → ℕ → Type 0
 Answers told phase = (told % 2 ≡ 1) × (phase < told / 2)
 
 -- the look of a seat that asked
-pub record Looked (limits : Limits) (a : Ask) (f : Knowledge) (told : ℕ) (w : View) : Type 0 where
-  pub answered : Answers told a.phase → Learnt limits a f w
+pub record Looked (limits : Limits) (allows : Allows) (a : Ask) (f : Knowledge) (told : ℕ)
+    (w : View) : Type 0 where
+  pub answered : Answers told a.phase → Learnt limits allows a f w
   pub stays : (Answers told a.phase → ⊥) → w ≡ Asking f a
 
 -- the signal of an ask that is not made can be made
