@@ -10,6 +10,7 @@ use std::marker::PhantomData;
 mod ghost_steps;
 mod steps;
 mod turns;
+mod value;
 
 // The rule of the table that a lock stands on.
 pub struct RuledWords<R> {
