@@ -7,6 +7,7 @@ ghost use Rattle.phase_shared.specs.Entries.{entry_stays};
 ghost use Rattle.phase_shared.specs.Blocks.{SignalsBlock, WaitsBlock, MaySignalBlock, entry_after_block, entry_after_values, without_lists};
 ghost use Rattle.phase_shared.specs.Joins.{RegistersNow};
 
+use crate::held::Held;
 use crate::phaser::Phaser;
 use crate::reg::Reg;
 use crate::rule::SignalRule;
@@ -146,7 +147,7 @@ impl<A: Accumulate, K: SignalRule> Reg<A, K> {
             seat: Some(made.1),
             number: made.0,
             entry: made.2,
-            pending: Pending::new(),
+            pending: Held::new(),
         })
     }
 }

@@ -7,10 +7,11 @@ ghost use Rattle.phase_core.specs.phase_history.Others.{OnlyUsed};
 ghost use Rattle.phase_shared.specs.Rule.{IsGoodAt};
 ghost use Rattle.phase_shared.specs.Regs.{phaser_lock, phaser_terms, phaser_limits};
 
+use crate::held::Held;
 use crate::reg::Reg;
 use crate::rule::{SignalRule, Terms};
 use crate::seats::locked::LockedPhaser;
-use phase_core::phase_accum::{Accumulate, Pending};
+use phase_core::phase_accum::Accumulate;
 use phase_core::phase_base::{Entry, Mode, Spec};
 use std::alloc::{AllocError, Global};
 
@@ -61,7 +62,7 @@ impl<A: Accumulate, K: SignalRule> Phaser<A, K> {
             seat: Some(seat),
             number: 0,
             entry,
-            pending: Pending::new(),
+            pending: Held::new(),
         };
         Ok((Phaser { locked }, founder))
     }
@@ -75,6 +76,6 @@ impl<A: Accumulate, K: SignalRule> Phaser<A, K> {
     ///
     /// It is a hint for when to try again, and no contract speaks of it.
     pub fn told(&self) -> (u64, u64) {
-        self.locked.hints.told(self.locked.lock.told())
+        self.locked.hints.told(self.locked.told())
     }
 }

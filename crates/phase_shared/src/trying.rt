@@ -10,12 +10,13 @@ ghost use Rattle.phase_shared.specs.Entries.{entry_stays, entry_after_signal, en
 ghost use Rattle.phase_shared.specs.Nexts.{SignalsAndMayWait};
 
 use crate::past::Past;
+use crate::held::Held;
 use crate::phaser::Phaser;
 use crate::reg::Reg;
 use crate::rule::SignalRule;
 use crate::seats::steps;
 use crate::tried::Tried;
-use phase_core::phase_accum::{Accumulate, Pending, Single};
+use phase_core::phase_accum::{Accumulate, Single};
 use phase_core::phase_base::Mode;
 use phase_core::{Got, RegisterRefusal, SignalRefusal, WaitRefusal};
 
@@ -71,7 +72,7 @@ impl<A: Accumulate, K: SignalRule> Reg<A, K> {
             seat,
             self.number,
             self.entry,
-            self.pending,
+            self.pending.sends(),
             single,
             waits,
         );
@@ -79,7 +80,7 @@ impl<A: Accumulate, K: SignalRule> Reg<A, K> {
         self.entry = entry;
         match answer {
             Ok(answer) => {
-                self.pending = Pending::new();
+                self.pending = Held::new();
                 Ok(answer)
             }
             Err(tried) => Err(tried),
@@ -136,7 +137,7 @@ impl<A: Accumulate, K: SignalRule> Reg<A, K> {
             seat: Some(made.1),
             number: made.0,
             entry: made.2,
-            pending: Pending::new(),
+            pending: Held::new(),
         })
     }
 

@@ -14,7 +14,7 @@ use std::time::Duration;
 const ENDED: u64 = u64::MAX;
 
 // The greatest number that a lock tells. It stands for all above it.
-const TOLD_MAX: u64 = u64::MAX >> 1;
+const TOLD_MAX: u64 = u64::MAX >> 2;
 
 // How many milliseconds a pause sleeps, at most. So a wake that is lost costs these, and no more.
 const SLEEP: u64 = 10;
@@ -154,8 +154,8 @@ impl Hints {
 
     // What there is to tell, under the turn, where the lock tells `told`.
     pub fn news(&self, reached: Reached, told: u64) -> News
-        requires { told < 2 ^ 63 }
-        ensures { result.done < 2 ^ 63 }
+        requires { told < 2 ^ 62 }
+        ensures { result.done < 2 ^ 62 }
     {
         let done = reached.done.min(TOLD_MAX);
         let is_wanted = reached.base >= self.wanted.load(SeqCst);

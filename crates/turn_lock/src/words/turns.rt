@@ -38,6 +38,7 @@ impl<T, R: WordRule<T>> WordLock<T, R> {
     pub fn told_in(&self, turn: Turn<T, R::Name, R::View>) -> (Turn<T, R::Name, R::View>, u64)
         requires { IsTurnAt (word_lock_place self.now) turn }
         ensures told { result.1 ≡ turn_told turn }
+        ensures small { result.1 < 2 ^ 63 }
         ensures turn { IsTurnAt (word_lock_place self.now) result.0
             × (turn_number result.0 ≡ turn_number turn) }
         ensures view { turn_view result.0 ≡ turn_view turn }

@@ -24,10 +24,10 @@ use Rattle.phase_shared.proofs.seats.block_steps.wait_block.Goals as goal
 
 -- the phaser under the turn stood for what was seen
 stood : (g : Over) (c : After-wait_block-answer g)
-    → StandsWithin g.A.Accumulate.operation (locked_terms c.args.phaser.now).limits c.value-core.result.now c.in-Ok.ensures.took.now
+    → StandsWithin g.A.Accumulate.operation (locked_terms c.args.phaser.now).limits c.value_in-core.result.now c.in-Ok.ensures.took.now
 stood g c =
-    lent g.A.Accumulate.operation g.K.SignalRule.allows (locked_terms c.args.phaser.now) c.args.me (turn_value c.in-Ok.turn) c.value-core.result.now
-    c.in-Ok.ensures.took.now c.value-core.ensures.value c.in-Ok.ensures.took.stands
+    lent g.A.Accumulate.operation g.K.SignalRule.allows (locked_terms c.args.phaser.now) c.args.me (turn_value c.in-Ok.turn) c.value_in-core.result.now
+    c.in-Ok.ensures.took.now c.value_in-core.ensures.value c.in-Ok.ensures.took.stands
 
 -- what the wait leaves there
 left : (g : Over) (c : After-wait_block-answer g) → Called g.A.Accumulate.operation g.K.SignalRule.allows (locked_terms c.args.phaser.now) c.args.me
@@ -38,7 +38,7 @@ left g c =
     let e = c.in-Ok.ensures.took in
     let me = c.args.me in
     let answer = c.wait_block-answer.result in
-    called g.A.Accumulate.operation g.K.SignalRule.allows terms me e.now (after_wait_block answer me e.now) c.value-core.result.now c.wait_block-answer.new.self
+    called g.A.Accumulate.operation g.K.SignalRule.allows terms me e.now (after_wait_block answer me e.now) c.value_in-core.result.now c.wait_block-answer.new.self
     (entry_after_values (result_ok answer) c.args.entry) (stood g c) c.wait_block-answer.ensures.limits (c.wait_block-answer.ensures.after e.now (stood g c).stands)
     (keeps_values (g.K.SignalRule.allows terms.rule) me e.now answer e.good.keeps) (own_values me e.now e.now answer (own_none me e.now))
     (member_waits_block me e.now c.args.entry answer e.member)
@@ -91,8 +91,8 @@ returns-clause-step g c =
       out = c.wait_block-answer.ensures.out e.now before.stands;
     })
     -- the task is registered
-    (λ none. wait_refusal-never c.value-core.result.now.limits e.now me n (ap is_some e.member)
-    (refused_is (wait_refusal c.value-core.result.now.limits e.now me n) (got_block_at e.now (wait_phase e.now me) n) wait.NoTask (reply ∙ none)))
+    (λ none. wait_refusal-never c.value_in-core.result.now.limits e.now me n (ap is_some e.member)
+    (refused_is (wait_refusal c.value_in-core.result.now.limits e.now me n) (got_block_at e.now (wait_phase e.now me) n) wait.NoTask (reply ∙ none)))
 
 -- the turn was another's
 pub returns-in-Err-clause-step : goal.returns-in-Err-clause-step

@@ -22,10 +22,10 @@ use Rattle.phase_shared.proofs.seats.steps.register.Goals as goal
 
 -- the phaser under the turn stood for what was seen
 stood : (g : Over) (c : After-view-found g)
-    → StandsWithin g.A.Accumulate.operation (locked_terms c.args.phaser.now).limits c.value-core.result.now c.in-Ok.ensures.took.now
+    → StandsWithin g.A.Accumulate.operation (locked_terms c.args.phaser.now).limits c.value_in-core.result.now c.in-Ok.ensures.took.now
 stood g c =
-    lent g.A.Accumulate.operation g.K.SignalRule.allows (locked_terms c.args.phaser.now) c.args.me (turn_value c.in-Ok.turn) c.value-core.result.now
-    c.in-Ok.ensures.took.now c.value-core.ensures.value c.in-Ok.ensures.took.stands
+    lent g.A.Accumulate.operation g.K.SignalRule.allows (locked_terms c.args.phaser.now) c.args.me (turn_value c.in-Ok.turn) c.value_in-core.result.now
+    c.in-Ok.ensures.took.now c.value_in-core.ensures.value c.in-Ok.ensures.took.stands
 
 -- the event, and where the child stands
 abbrev event : (g : Over) (c : After-view-found g) → Event
@@ -40,15 +40,15 @@ module _ (g : Over) (c : After-view-found g) where
       c.child_of-child.result (begins g c) c.register-answer.new.self
 
   -- what the registration leaves, where the core accepted it
-  made : ((h : History) → StandsFor g.A.Accumulate.operation c.value-core.result.now h → register_refusal h c.args.me c.child_of-child.result c.args.mode ≡ None)
-      → c.register-answer.new.self.limits ≡ c.value-core.result.now.limits
-      → ((h : History) → StandsFor g.A.Accumulate.operation c.value-core.result.now h → StandsFor g.A.Accumulate.operation c.register-answer.new.self (event g c ∷ h))
+  made : ((h : History) → StandsFor g.A.Accumulate.operation c.value_in-core.result.now h → register_refusal h c.args.me c.child_of-child.result c.args.mode ≡ None)
+      → c.register-answer.new.self.limits ≡ c.value_in-core.result.now.limits
+      → ((h : History) → StandsFor g.A.Accumulate.operation c.value_in-core.result.now h → StandsFor g.A.Accumulate.operation c.register-answer.new.self (event g c ∷ h))
       → IsMade
   made ok limits after =
       let e = c.in-Ok.ensures.took in
       let before = stood g c in
       new_member g.A.Accumulate.operation g.K.SignalRule.allows (locked_terms c.args.phaser.now) c.args.me c.args.entry e.now c.child_of-child.result c.args.mode
-      c.value-core.result.now c.register-answer.new.self before e.good e.used e.member (ok e.now before.stands) limits (after e.now before.stands)
+      c.value_in-core.result.now c.register-answer.new.self before e.good e.used e.member (ok e.now before.stands) limits (after e.now before.stands)
 
 -- the child is a member now
 pub unreachable-requires : goal.unreachable-requires
@@ -71,7 +71,7 @@ pub give-requires-clause-rule : goal.give-requires-clause-rule
 give-requires-clause-rule g c =
     let e = c.in-Ok.ensures.took in
     gives_refused g.A.Accumulate.operation g.K.SignalRule.allows (locked_terms c.args.phaser.now) c.args.me c.args.entry (turn_number c.in-Ok.turn) e.now
-    (turn_view c.in-Ok.turn) c.value-core.result.now c.register-answer.new.self (stood g (goal.at.give-requires-clause-rule g c).After-view-found)
+    (turn_view c.in-Ok.turn) c.value_in-core.result.now c.register-answer.new.self (stood g (goal.at.give-requires-clause-rule g c).After-view-found)
     c.in-Err-answer.ensures.err e.is e.used e.good
 
 pub split-seat-requires-clause-two : goal.split-seat-requires-clause-two
@@ -111,7 +111,7 @@ returns-clause-step g c =
             others = e.others;
             seen = ap (λ (v : View). (known_of v).seen) left;
             reply = c.in_default.ensures.ok e.now before.stands;
-            next = child_is_next e.now child c.value-core.result.now.greatest before.stands.greatest_is c.child_of-child.ensures b.new.above;
+            next = child_is_next e.now child c.value_in-core.result.now.greatest before.stands.greatest_is c.child_of-child.ensures b.new.above;
           };
           at = stands.0;
           seen = ap (λ (v : View). (known_of v).seen) right ∙ sym (ap (λ (v : View). (known_of v).seen) left);
@@ -132,7 +132,7 @@ returns-in-Err-answer-clause-step g c =
     let old = (known_of (seat_view c.args.seat)).seen in
     let new = (known_of (seat_view c.give.result)).seen in
     refused_step g.A.Accumulate.operation g.K.SignalRule.allows (locked_terms c.args.phaser.now) c.args.me c.args.entry e.now c.child_of-child.result
-    c.value-core.result.now.greatest c.args.mode c.in-Err-answer.refusal (IsSameSeat c.args.seat c.give.result)
+    c.value_in-core.result.now.greatest c.args.mode c.in-Err-answer.refusal (IsSameSeat c.args.seat c.give.result)
     (RegistersSeat g.K.SignalRule.allows (locked_place c.args.phaser.now) (locked_terms c.args.phaser.now) c.args.me c.args.mode c.args.entry old new)
     (seat_view c.args.seat) (seat_view c.give.result) (turn_view c.in-Ok.turn) c.give.ensures.rule e.is e.good e.member e.others
     before.stands.greatest_is c.child_of-child.ensures (λ other. c.in-Err-answer.ensures.refused other e.now before.stands)
