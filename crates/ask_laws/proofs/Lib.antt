@@ -1,3 +1,4 @@
+pub mod Giving
 pub mod Growing
 pub mod Places
 pub mod Small
