@@ -1,5 +1,6 @@
 pub mod Giving
 pub mod Growing
+pub mod Joining
 pub mod Places
 pub mod Small
 pub mod Stages
