@@ -1,8 +1,9 @@
 -- Seats are cut in two and joined, and the rule stays; and it holds of what was just made.
 use Rattle.std.proofs.Common.{◌≡◌, ◌≢◌, ℕ, ℤ, zero, suc, ◌+◌, ◌<◌, Bool, true, false, not, cond, eqb, List, [], ◌∷◌, ◌++◌, ◌⊎◌, Option, Some, None, length, set, replicate, refl, sym, ap, subst, ◌∙◌, inl, inr, ⊎_elim, arith}
-use Rattle.std.specs.Prelude.{slice_index}
+use Rattle.std.specs.Prelude.{◌%◌}
 use Rattle.std.proofs.lemmas.Bool.{ne_eqb, and_parts, not-true}
 use mathlib.Core.Option.{some, some-injective, some-ne-none}
+use Rattle.std.proofs.lemmas.List.{get_or-replicate}
 use lib.ListN.{get_elem?}
 use Rattle.atomic_table.proofs.Lists.{at_set, at_longer, set_else}
 use Rattle.phase_core.specs.phase_base.Limits.{Limits}
@@ -211,3 +212,31 @@ module _ {T : Type 0} (value : List ℤ → Outcome) (limits : Limits) (allows :
       (subst (λ (h : History). IsUsed h other.0) came.is theirs.1) in
       let here : k.holder ≡ number = sym theirs.0 ∙ (k.owns number (Resting f) other.0 at mine).0 in
       not_both (is_turning (Turning o.0 o.1 o.2 o.3)) refl (ap is_turning (same_view views k.holder number (Turning o.0 o.1 o.2 o.3) (Resting f) o.4 at here))
+
+  -- the rule holds of a phaser that was just made
+  pub founds : (x : T) → StandsFor x (Made 0 ∷ []) → IsLegal limits (Made 0 ∷ [])
+      → Kept value limits allows StandsFor (Some x) 0 (replicate 287 0) (Resting (knowledge (Made 0 ∷ []) (0 ∷ [])) ∷ [])
+  founds x stands legal = record {
+    log = Made 0 ∷ [];
+    good = record { legal = legal; keeps = tt };
+    stands = λ y e. subst (λ (z : T). StandsFor z (Made 0 ∷ [])) (same_some x y e) stands;
+    within = λ odd. absurd (zero_not_odd odd);
+    holder = 0;
+    out = λ e. absurd (none_some x e);
+    sound = λ j v e. subst (λ (u : View). IsSound value limits allows (Some x) 0 (Made 0 ∷ []) 0 (replicate 287 0) j u) (only j v e).1 (OthersCame-refl (0 ∷ []) (Made 0 ∷ []), refl);
+    owner = λ task. 0;
+    owns = λ j v task e has.
+        let o = only j v e in
+        let here : is_in task (0 ∷ []) ≡ true = subst (λ (u : View). is_in task (speaks_of u) ≡ true) (sym o.1) has in
+        (o.0, subst (λ (n : ℕ). IsUsed (Made 0 ∷ []) n) (one_of 0 task here) refl);
+    claimed = λ j g claims said lane e a one. absurd (not_both true refl (ap is_turning (sym (only j (Turning g claims said lane) e).1)));
+    all = λ j g claims said lane e i h a e' m. absurd (not_both true refl (ap is_turning (sym (only j (Turning g claims said lane) e).1)));
+    lanes = λ i low. inl (get_or-replicate 287 (phase_place i) 0 0 (omega arith));
+  }
+    where
+      zero_not_odd : 0 % 2 ≡ 1 → ⊥
+      zero_not_odd e = omega arith
+
+      only : (j : ℕ) (v : View) → get_elem? (Resting (knowledge (Made 0 ∷ []) (0 ∷ [])) ∷ []) j ≡ some v → (0 ≡ j) × (Resting (knowledge (Made 0 ∷ []) (0 ∷ [])) ≡ v)
+      only zero v e = (refl, some-injective (Resting (knowledge (Made 0 ∷ []) (0 ∷ []))) v e)
+      only (suc j) v e = absurd (some-ne-none v (sym e))
