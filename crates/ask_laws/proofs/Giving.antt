@@ -1,30 +1,28 @@
 -- A give keeps the rule: with the giver's own events, and with those of a turn for others that asked.
-use Rattle.std.proofs.Common.{◌≡◌, ◌≢◌, ℕ, ℤ, ◌+◌, ◌<◌, ◌≤◌, Bool, true, false, cond, eqb, List, [], ◌∷◌, ◌++◌, ◌⊎◌, Option, Some, None, set, refl, sym, ap, subst, ◌∙◌, inl, inr, ⊎_elim, arith}
+use Rattle.std.proofs.Common.{◌≡◌, ◌≢◌, ℕ, ℤ, ◌+◌, ◌<◌, ◌≤◌, true, false, cond, List, [], ◌∷◌, ◌++◌, ◌⊎◌, Option, Some, None, set, refl, sym, ap, subst, ◌∙◌, inl, inr, ⊎_elim, arith}
 use Rattle.std.specs.Prelude.{◌/◌, ◌%◌}
-use Rattle.std.proofs.lemmas.Option.{same_Some}
-use mathlib.Core.Option.{some, some-injective}
+use mathlib.Core.Option.{some}
 use lib.ListN.{get_elem?}
-use Rattle.atomic_table.proofs.Lists.{at_set, set_here, set_else}
+use Rattle.atomic_table.proofs.Lists.{at_set, set_here}
 use Rattle.turn_lock.proofs.Keeping.{within}
 use Rattle.phase_core.specs.phase_base.Limits.{Limits}
 use Rattle.phase_core.specs.phase_base.Lists.{is_distinct, is_in}
 use Rattle.phase_core.specs.phase_accum.declared.outcome.Outcome.{Outcome}
 use Rattle.phase_core.specs.phase_history.Histories.{History, done_of}
 use Rattle.phase_core.specs.phase_history.Phases.{value_of_phase}
-use Rattle.phase_core.specs.phase_history.Legal.{IsLegal}
 use Rattle.phase_core.specs.phase_history.Others.{IsUsed, events_of, OthersCame}
 use Rattle.phase_core.proofs.phase_history_lemmas.Used.{IsUsed-longer}
 use Rattle.phase_core.proofs.phase_history_lemmas.OthersEvents.{OthersCame-refl, OthersCame-trans}
-use Rattle.ask_laws.specs.Base.{Knowledge, knowledge, Allows, IsGood, Fits}
+use Rattle.ask_laws.specs.Base.{Knowledge, knowledge, Allows, IsGood}
 use Rattle.ask_laws.specs.Asks.{Ask, Stands, IsUnmade, IsMade, IsAnswered, Stage, Batch, IsOneOf, asks_for}
-use Rattle.ask_laws.specs.Lanes.{lanes_most, board, posted, sent, sends_of}
+use Rattle.ask_laws.specs.Lanes.{lanes_most, board, posted}
 use Rattle.ask_laws.specs.Desks.{View, Resting, Turning, Joining, Posting, Asking, Reading, Spent, speaks_of, IsSound, Asks, Reads, HasLane, LaneIs, AskedAt, IsPast, HeldAt, IsLane, Kept}
 use Rattle.ask_laws.specs.Tells.{StillAsks, LaneIsPast, Ends, Leaves}
 use Rattle.ask_laws.proofs.Small.{same_some, none_some, not_true_is, not_both, apart_phases, is_in_self, in_left, in_right, used_some}
 use Rattle.ask_laws.proofs.Stages.{stage_goes, signal_is, wait_is, done_within}
-use Rattle.ask_laws.proofs.Steadies.{named, found, none_of, same_value, stands_still, stage_still, not_made_and_answered}
+use Rattle.ask_laws.proofs.Steadies.{found, none_of, same_value, stands_still, stage_still, not_made_and_answered}
 use Rattle.ask_laws.proofs.Growing.{past_goes, unmade_before, done_grows, own_batch}
-use Rattle.ask_laws.proofs.Places.{is_asking, is_turning, knows_in, ask_in, lane_in, same_view, two_seats, was, AskingStay, stays}
+use Rattle.ask_laws.proofs.Places.{is_asking, is_turning, knows_in, ask_in, lane_in, same_view, was, stays}
 
 module _ {T : Type 0} (value : List ℤ → Outcome) (limits : Limits) (allows : Allows) (StandsFor : T → History → Type 0)
     (number : ℕ) (f : Knowledge) (claims : List Ask) (said : Outcome) (lane : Option ℕ) (told : ℕ) (words : List ℕ) (views : List View)

@@ -1,5 +1,5 @@
 -- Seats are cut in two and joined, and the rule stays; and it holds of what was just made.
-use Rattle.std.proofs.Common.{◌≡◌, ◌≢◌, ℕ, ℤ, zero, suc, ◌+◌, ◌<◌, Bool, true, false, not, cond, eqb, List, [], ◌∷◌, ◌++◌, ◌⊎◌, Option, Some, None, length, set, replicate, refl, sym, ap, subst, ◌∙◌, inl, inr, ⊎_elim, arith}
+use Rattle.std.proofs.Common.{◌≡◌, ◌≢◌, ℕ, ℤ, zero, suc, true, false, not, cond, eqb, List, [], ◌∷◌, ◌++◌, Option, Some, None, length, set, replicate, refl, sym, ap, subst, ◌∙◌, inl, ⊎_elim, arith}
 use Rattle.std.specs.Prelude.{◌%◌}
 use Rattle.std.proofs.lemmas.Bool.{ne_eqb, and_parts, not-true}
 use mathlib.Core.Option.{some, some-injective, some-ne-none}
@@ -12,13 +12,12 @@ use Rattle.phase_core.specs.phase_accum.declared.outcome.Outcome.{Outcome}
 use Rattle.phase_core.specs.phase_history.declared.event.Event.TheVariants.{Made}
 use Rattle.phase_core.specs.phase_history.Histories.{History}
 use Rattle.phase_core.specs.phase_history.Legal.{IsLegal}
-use Rattle.phase_core.specs.phase_history.Others.{IsUsed, OnlyUsed, OthersCame}
+use Rattle.phase_core.specs.phase_history.Others.{IsUsed, OnlyUsed}
 use Rattle.phase_core.proofs.phase_history_lemmas.OthersEvents.{OthersCame-refl, OthersCame-fewer}
 use Rattle.phase_core.proofs.phase_history_lemmas.Used.{OnlyUsed-others}
 use Rattle.ask_laws.specs.Base.{Knowledge, knowledge, Allows}
-use Rattle.ask_laws.specs.Asks.{Ask, IsOneOf}
-use Rattle.ask_laws.specs.Lanes.{lanes_most, posted, phase_place}
-use Rattle.ask_laws.specs.Desks.{View, Resting, Turning, Joining, Asking, Spent, speaks_of, IsSound, IsLane, Kept}
+use Rattle.ask_laws.specs.Lanes.{posted, phase_place}
+use Rattle.ask_laws.specs.Desks.{View, Resting, Turning, Joining, Asking, Spent, speaks_of, IsSound, Kept}
 use Rattle.ask_laws.specs.Learns.{Learned}
 use Rattle.ask_laws.proofs.Small.{same_some, none_some, not_true_is, not_both, eqb_refl, or_false, snoc_at, one_of, is_in_self, in_second, distinct_append, in_append, used_some}
 use Rattle.ask_laws.proofs.Places.{is_asking, is_turning, same_view, was, stays, AskingStay, TurningStay, asked_stays, lane_stays}

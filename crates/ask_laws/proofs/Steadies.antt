@@ -1,5 +1,5 @@
 -- What stays of an ask, and of where a task stands, while a turn has no events of it.
-use Rattle.std.proofs.Common.{◌≡◌, ◌≢◌, ℕ, ℤ, ◌+◌, ◌<◌, ◌≤◌, Bool, true, false, cond, eqb, List, [], ◌∷◌, ◌++◌, ◌⊎◌, Option, Some, None, refl, sym, ap, subst, ◌∙◌, inl, inr, ⊎_elim, arith}
+use Rattle.std.proofs.Common.{◌≡◌, ℕ, ℤ, ◌+◌, ◌<◌, true, false, cond, eqb, List, [], ◌∷◌, ◌++◌, ◌⊎◌, refl, sym, ap, subst, ◌∙◌, inl, inr, ⊎_elim, arith}
 use Rattle.std.specs.Prelude.{◌||◌}
 use Rattle.std.proofs.lemmas.Bool.{eq-eqb, eqb-true}
 use Rattle.phase_core.specs.phase_base.Limits.{Limits}
@@ -18,7 +18,7 @@ use Rattle.phase_core.proofs.phase_history_lemmas.Used.{entry_of-others}
 use Rattle.phase_core.proofs.phase_history_lemmas.OthersEvents.{OthersCame-trans}
 use Rattle.ask_laws.specs.Asks.{Ask, Stands, IsUnmade, IsMade, IsAnswered, Stage, IsOwn, SignalsFor, WaitsFor, Batch, IsOneOf, asks_for}
 use Rattle.ask_laws.proofs.Small.{one_of, not_true_is, not_both, apart_phases}
-use Rattle.ask_laws.proofs.Stages.{signal_is, wait_is}
+use Rattle.ask_laws.proofs.Stages.{wait_is}
 
 -- who asked for one of these is named among them
 pub named : (claims : List Ask) (a : Ask) → IsOneOf claims a → asks_for claims a.task ≡ true

@@ -1,6 +1,5 @@
 -- A take that wins: the taker has then read each ask whose signal is made and whose wait is not.
-use Rattle.std.proofs.Common.{◌≡◌, ◌≢◌, ℕ, zero, suc, ℤ, ◌+◌, ◌<◌, ◌≤◌, Bool, true, false, cond, eqb, List, [], ◌∷◌, ◌++◌, ◌⊎◌, Option, Some, None, set, refl, sym, ap, subst, ◌∙◌, inl, inr, ⊎_elim, arith}
-use Rattle.std.specs.Prelude.{◌&&◌}
+use Rattle.std.proofs.Common.{◌≡◌, ◌≢◌, ℕ, zero, suc, ℤ, ◌+◌, true, false, cond, eqb, List, [], ◌∷◌, ◌⊎◌, Option, Some, None, set, refl, sym, ap, subst, ◌∙◌, inl, inr, ⊎_elim}
 use Rattle.std.proofs.lemmas.Bool.{eq-eqb, eqb-true, and_parts, and_from}
 use mathlib.Core.Option.{some, some-injective, some-ne-none}
 use lib.ListN.{get_elem?}
@@ -10,15 +9,14 @@ use Rattle.phase_core.specs.phase_base.Limits.{Limits}
 use Rattle.phase_core.specs.phase_base.Lists.{is_distinct, is_in}
 use Rattle.phase_core.specs.phase_accum.declared.outcome.Outcome.{Outcome}
 use Rattle.phase_core.specs.phase_history.Histories.{History, signal_phase, wait_phase}
-use Rattle.phase_core.specs.phase_history.Others.{IsUsed}
 use Rattle.ask_laws.specs.Base.{Knowledge, knowledge, Allows}
-use Rattle.ask_laws.specs.Asks.{Ask, Stands, Stage, IsUnmade, IsMade, IsAnswered, IsOneOf}
-use Rattle.ask_laws.specs.Lanes.{lanes_most, board, posted}
+use Rattle.ask_laws.specs.Asks.{Ask, Stage, IsUnmade, IsMade, IsAnswered, IsOneOf}
+use Rattle.ask_laws.specs.Lanes.{board, posted}
 use Rattle.ask_laws.specs.Desks.{View, Resting, Turning, Joining, Posting, Asking, Reading, Spent, speaks_of, IsSound, Asks, LaneIs, StandsAsked, AskedAt, IsPast, HeldAt, IsLane, Kept, is_made, made_asks}
 use Rattle.ask_laws.specs.Tells.{Took, TookAsked}
 use Rattle.ask_laws.proofs.Small.{none_some, apart_phases, is_in_self}
 use Rattle.ask_laws.proofs.Stages.{signal_is, wait_is}
-use Rattle.ask_laws.proofs.Places.{is_asking, is_turning, knows_in, ask_in, claims_in, same_view, two_seats, ne_of, was}
+use Rattle.ask_laws.proofs.Places.{is_asking, ask_in, claims_in, same_view, ne_of, was}
 
 -- what is listed was asked, and is made
 listed : (log : History) (views : List View) (a : Ask) → IsOneOf (made_asks log views) a

@@ -1,5 +1,5 @@
 -- What the look after a join tells.
-use Rattle.std.specs.Prelude.{◌≡◌, ℕ, List, true}
+use Rattle.std.specs.Prelude.{◌≡◌, true}
 use Rattle.phase_core.specs.phase_base.Limits.{Limits}
 use Rattle.phase_core.specs.phase_base.Lists.{is_distinct}
 use Rattle.phase_core.specs.phase_history.Histories.{History}
