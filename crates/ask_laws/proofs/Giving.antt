@@ -156,9 +156,11 @@ module _ {T : Type 0} (value : List ℤ → Outcome) (limits : Limits) (allows :
         let s = k.sound j (Resting g) e in (to_new g.speaks j (Resting g) ne e refl (λ t h. h) g.seen s.0, s.1)
     other_sound j (Turning g cs sd ln) ne e = absurd (ne (turn_is j g cs sd ln e))
     other_sound j (Joining g h) ne e =
-        let s = k.sound j (Joining g h) e in
-        (to_new g.speaks j (Joining g h) ne e refl (λ t has'. in_left g.speaks h.speaks t has') g.seen s.0,
-        to_new h.speaks j (Joining g h) ne e refl (λ t has'. in_right g.speaks h.speaks t has') h.seen s.1, s.2)
+        let s = k.sound j (Joining g h) e in (
+          to_new g.speaks j (Joining g h) ne e refl (λ t has'. in_left g.speaks h.speaks t has') g.seen s.0,
+          to_new h.speaks j (Joining g h) ne e refl (λ t has'. in_right g.speaks h.speaks t has') h.seen s.1,
+          s.2,
+        )
     other_sound j (Posting g n) ne e =
         let s = k.sound j (Posting g n) e in (to_new g.speaks j (Posting g n) ne e refl (λ t h. h) g.seen s.0, s.1, s.2)
     other_sound j (Asking g a) ne e =

@@ -81,19 +81,19 @@ module _ {T : Type 0} (value : List ℤ → Outcome) (limits : Limits) (allows :
       let s = k.sound number (Joining f g) at in (
         w,
         moves home told words views (set views number w) k
-        (asking_after views number (Joining f g) w at refl) (turning_after views number (Joining f g) w at refl)
-        (asking_before views number w refl) (turning_before views number w refl)
-        (λ j v e. ⊎_elim
-        (λ (p : (j ≡ number) × (w ≡ v)). subst (λ (u : View). IsSound value limits allows home k.holder k.log told words j u) p.1 (OthersCame-refl (f.speaks ++ g.speaks) k.log, s.2))
-        (λ (p : (j ≢ number) × (get_elem? views j ≡ some v)). k.sound j v p.1)
-        (at_set views number j w v e))
-        k.owner
-        (λ j v task e has. ⊎_elim
-        (λ (p : (j ≡ number) × (w ≡ v)).
-        let mine : is_in task (f.speaks ++ g.speaks) ≡ true = subst (λ (u : View). is_in task (speaks_of u) ≡ true) (sym p.1) has in
-        let o = k.owns number (Joining f g) task at mine in (o.0 ∙ sym p.0, o.1))
-        (λ (p : (j ≢ number) × (get_elem? views j ≡ some v)). k.owns j v task p.1 has)
-        (at_set views number j w v e)),
+            (asking_after views number (Joining f g) w at refl) (turning_after views number (Joining f g) w at refl)
+            (asking_before views number w refl) (turning_before views number w refl)
+            (λ j v e. ⊎_elim
+            (λ (p : (j ≡ number) × (w ≡ v)). subst (λ (u : View). IsSound value limits allows home k.holder k.log told words j u) p.1 (OthersCame-refl (f.speaks ++ g.speaks) k.log, s.2))
+            (λ (p : (j ≢ number) × (get_elem? views j ≡ some v)). k.sound j v p.1)
+            (at_set views number j w v e))
+            k.owner
+            (λ j v task e has. ⊎_elim
+            (λ (p : (j ≡ number) × (w ≡ v)).
+            let mine : is_in task (f.speaks ++ g.speaks) ≡ true = subst (λ (u : View). is_in task (speaks_of u) ≡ true) (sym p.1) has in
+            let o = k.owns number (Joining f g) task at mine in (o.0 ∙ sym p.0, o.1))
+            (λ (p : (j ≢ number) × (get_elem? views j ≡ some v)). k.owns j v task p.1 has)
+            (at_set views number j w v e)),
         record { now = k.log; first = s.0; second = s.1; distinct = s.2; good = k.good; is = refl },
       )
 

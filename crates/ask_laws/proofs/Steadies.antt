@@ -92,15 +92,18 @@ module _ (limits : Limits) (claims : List Ask) (speaks : List ℕ) (log : Histor
       (λ (u : IsUnmade a seen log). inl (record { others = OthersCame-trans (a.task ∷ []) seen log (later ++ log) u.others came; stands = stands_still a.task a.phase a.phase later legal none u.stands }, u))
       (λ (r : IsMade limits a seen log ⊎ IsAnswered limits a seen log). inr (⊎_elim
       (λ (m : IsMade limits a seen log). inl m)
-      (λ (n : IsAnswered limits a seen log). inr (record {
-        middle = n.middle;
-        made = n.made;
-        accepted = n.accepted;
-        complete = n.complete;
-        below = (same_value (λ sends. Empty) a.phase later legal n.below).0;
-        since = OthersCame-trans (a.task ∷ []) (Waited a.task 1 ∷ n.middle) log (later ++ log) n.since came;
-        stands = stands_still a.task (a.phase + 1) (a.phase + 1) later legal none n.stands;
-      }, n))
+      (λ (n : IsAnswered limits a seen log). inr (
+        record {
+          middle = n.middle;
+          made = n.made;
+          accepted = n.accepted;
+          complete = n.complete;
+          below = (same_value (λ sends. Empty) a.phase later legal n.below).0;
+          since = OthersCame-trans (a.task ∷ []) (Waited a.task 1 ∷ n.middle) log (later ++ log) n.since came;
+          stands = stands_still a.task (a.phase + 1) (a.phase + 1) later legal none n.stands;
+        },
+        n,
+      ))
       r))
       stage
 
@@ -108,4 +111,3 @@ module _ (limits : Limits) (claims : List Ask) (speaks : List ℕ) (log : Histor
 pub not_made_and_answered : (limits : Limits) (a : Ask) (seen h : History) → IsMade limits a seen h → IsAnswered limits a seen h → ⊥
 not_made_and_answered limits a seen h m n =
     apart_phases a.phase (sym (wait_is h a.task (a.phase + 1) (a.phase + 1) n.stands) ∙ wait_is h a.task (a.phase + 1) a.phase m.stands)
-

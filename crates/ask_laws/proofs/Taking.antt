@@ -216,8 +216,7 @@ module _ {T : Type 0} (value : List ℤ → Outcome) (limits : Limits) (allows :
       → (w : View) × Kept value limits allows StandsFor None told words (set views number w) × Took limits allows StandsFor (Resting f) x w
   takes number f x told words views k at one =
       let s = k.sound number (Resting f) at in
-      let claims : List Ask = made_asks k.log (set views number Spent) in
-      (
+      let claims : List Ask = made_asks k.log (set views number Spent) in (
         Turning (knowledge k.log f.speaks) claims (board words) None,
         took value limits allows StandsFor number (Resting f) x told words views k at f.speaks refl s.1 one None tt
             (λ g a e. absurd (cc)),
@@ -230,8 +229,7 @@ module _ {T : Type 0} (value : List ℤ → Outcome) (limits : Limits) (allows :
       → (w : View) × Kept value limits allows StandsFor None told words (set views number w) × TookAsked value limits allows StandsFor f a x w
   takes_asked number f a x told words views k at =
       let s : Asks value limits allows k.log told words f a = k.sound number (Asking f a) at in
-      let claims : List Ask = made_asks k.log (set views number Spent) in
-      (
+      let claims : List Ask = made_asks k.log (set views number Spent) in (
         Turning (knowledge k.log (a.task ∷ [])) claims (board words) (Some (a.phase + 1)),
         took value limits allows StandsFor number (Asking f a) x told words views k at (a.task ∷ []) s.speaks refl (a.task, is_in_self a.task [])
             (Some (a.phase + 1)) (record { task = a.task; speaks = refl; low = s.low; has = s.posts })
