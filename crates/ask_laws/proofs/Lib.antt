@@ -1,0 +1,8 @@
+pub mod Giving
+pub mod Growing
+pub mod Joining
+pub mod Places
+pub mod Small
+pub mod Stages
+pub mod Steadies
+pub mod Taking
