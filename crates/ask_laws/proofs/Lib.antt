@@ -1,0 +1,5 @@
+pub mod Places
+pub mod Small
+pub mod Stages
+pub mod Steadies
+pub mod Taking
