@@ -1,3 +1,5 @@
+pub mod Giving
+pub mod Growing
 pub mod Places
 pub mod Small
 pub mod Stages

@@ -84,3 +84,18 @@ used_some h task used none = let never : IsUsed [] task = rw none at used in cc
 -- a phase is not the next one
 pub apart_phases : (n : ℕ) → n + 1 ≡ n → ⊥
 apart_phases n e = omega arith
+
+or_true : (b : Bool) → (b || true) ≡ true
+or_true true = refl
+or_true false = refl
+
+pub in_left : (xs ys : List ℕ) (t : ℕ) → is_in t xs ≡ true → is_in t (xs ++ ys) ≡ true
+in_left [] ys t has = absurd (cc)
+in_left (x ∷ xs) ys t has = elim (eqb x t) as (λ b. (b || is_in t xs) ≡ true → (b || is_in t (xs ++ ys)) ≡ true) [
+  | true ↦ λ h. refl
+  | false ↦ λ h. in_left xs ys t h
+] has
+
+pub in_right : (xs ys : List ℕ) (t : ℕ) → is_in t ys ≡ true → is_in t (xs ++ ys) ≡ true
+in_right [] ys t has = has
+in_right (x ∷ xs) ys t has = rw (in_right xs ys t has) (or_true (eqb x t))
