@@ -1,7 +1,9 @@
 pub mod Giving
 pub mod Growing
+pub mod Moves
 pub mod Places
 pub mod Small
 pub mod Stages
 pub mod Steadies
 pub mod Taking
+pub mod Words
