@@ -1,7 +1,9 @@
+pub mod Boards
 pub mod Giving
 pub mod Growing
 pub mod Moves
 pub mod Places
+pub mod Posting
 pub mod Small
 pub mod Stages
 pub mod Steadies
