@@ -4,6 +4,7 @@ pub mod Growing
 pub mod Moves
 pub mod Places
 pub mod Posting
+pub mod Reading
 pub mod Small
 pub mod Stages
 pub mod Steadies
