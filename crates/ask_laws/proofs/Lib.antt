@@ -1,3 +1,4 @@
+pub mod Answering
 pub mod Boards
 pub mod Giving
 pub mod Growing
