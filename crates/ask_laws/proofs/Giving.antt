@@ -1,30 +1,28 @@
 -- A give keeps the rule: with the giver's own events, and with those of a turn for others that asked.
-use Rattle.std.proofs.Common.{◌≡◌, ◌≢◌, ℕ, ℤ, ◌+◌, ◌<◌, ◌≤◌, Bool, true, false, cond, eqb, List, [], ◌∷◌, ◌++◌, ◌⊎◌, Option, Some, None, set, refl, sym, ap, subst, ◌∙◌, inl, inr, ⊎_elim, arith}
+use Rattle.std.proofs.Common.{◌≡◌, ◌≢◌, ℕ, ℤ, ◌+◌, ◌<◌, ◌≤◌, true, false, cond, List, [], ◌∷◌, ◌++◌, ◌⊎◌, Option, Some, None, set, refl, sym, ap, subst, ◌∙◌, inl, inr, ⊎_elim, arith}
 use Rattle.std.specs.Prelude.{◌/◌, ◌%◌}
-use Rattle.std.proofs.lemmas.Option.{same_Some}
-use mathlib.Core.Option.{some, some-injective}
+use mathlib.Core.Option.{some}
 use lib.ListN.{get_elem?}
-use Rattle.atomic_table.proofs.Lists.{at_set, set_here, set_else}
+use Rattle.atomic_table.proofs.Lists.{at_set, set_here}
 use Rattle.turn_lock.proofs.Keeping.{within}
 use Rattle.phase_core.specs.phase_base.Limits.{Limits}
 use Rattle.phase_core.specs.phase_base.Lists.{is_distinct, is_in}
 use Rattle.phase_core.specs.phase_accum.declared.outcome.Outcome.{Outcome}
 use Rattle.phase_core.specs.phase_history.Histories.{History, done_of}
 use Rattle.phase_core.specs.phase_history.Phases.{value_of_phase}
-use Rattle.phase_core.specs.phase_history.Legal.{IsLegal}
 use Rattle.phase_core.specs.phase_history.Others.{IsUsed, events_of, OthersCame}
 use Rattle.phase_core.proofs.phase_history_lemmas.Used.{IsUsed-longer}
 use Rattle.phase_core.proofs.phase_history_lemmas.OthersEvents.{OthersCame-refl, OthersCame-trans}
-use Rattle.ask_laws.specs.Base.{Knowledge, knowledge, Allows, IsGood, Fits}
+use Rattle.ask_laws.specs.Base.{Knowledge, knowledge, Allows, IsGood}
 use Rattle.ask_laws.specs.Asks.{Ask, Stands, IsUnmade, IsMade, IsAnswered, Stage, Batch, IsOneOf, asks_for}
-use Rattle.ask_laws.specs.Lanes.{lanes_most, board, posted, sent, sends_of}
+use Rattle.ask_laws.specs.Lanes.{lanes_most, board, posted}
 use Rattle.ask_laws.specs.Desks.{View, Resting, Turning, Joining, Posting, Asking, Reading, Spent, speaks_of, IsSound, Asks, Reads, HasLane, LaneIs, AskedAt, IsPast, HeldAt, IsLane, Kept}
 use Rattle.ask_laws.specs.Tells.{StillAsks, LaneIsPast, Ends, Leaves}
 use Rattle.ask_laws.proofs.Small.{same_some, none_some, not_true_is, not_both, apart_phases, is_in_self, in_left, in_right, used_some}
 use Rattle.ask_laws.proofs.Stages.{stage_goes, signal_is, wait_is, done_within}
-use Rattle.ask_laws.proofs.Steadies.{named, found, none_of, same_value, stands_still, stage_still, not_made_and_answered}
+use Rattle.ask_laws.proofs.Steadies.{found, none_of, same_value, stands_still, stage_still, not_made_and_answered}
 use Rattle.ask_laws.proofs.Growing.{past_goes, unmade_before, done_grows, own_batch}
-use Rattle.ask_laws.proofs.Places.{is_asking, is_turning, knows_in, ask_in, lane_in, same_view, two_seats, was, AskingStay, stays}
+use Rattle.ask_laws.proofs.Places.{is_asking, is_turning, knows_in, ask_in, lane_in, same_view, was, stays}
 
 module _ {T : Type 0} (value : List ℤ → Outcome) (limits : Limits) (allows : Allows) (StandsFor : T → History → Type 0)
     (number : ℕ) (f : Knowledge) (claims : List Ask) (said : Outcome) (lane : Option ℕ) (told : ℕ) (words : List ℕ) (views : List View)
@@ -61,6 +59,17 @@ module _ {T : Type 0} (value : List ℤ → Outcome) (limits : Limits) (allows :
   -- a turn is the giver's
   turn_is : (j : ℕ) (g : Knowledge) (cs : List Ask) (sd : Outcome) (ln : Option ℕ) → get_elem? views j ≡ some (Turning g cs sd ln) → j ≡ number
   turn_is j g cs sd ln e = let s = k.sound j (Turning g cs sd ln) e in s.2 ∙ sym (k.sound number (Turning f claims said lane) at).2
+
+  -- what is told is no phase that an ask which was read has still to wait for
+  told_waits : (a : Ask) → IsOneOf claims a → told % 2 ≡ 1 → told / 2 ≤ a.phase
+  told_waits a one odd =
+      let c = k.claimed number f claims said lane at a one in
+      let s : Asks value limits allows k.log told words c.knows a = k.sound c.seat (Asking c.knows a) c.at in
+      ⊎_elim
+      (λ (u : IsUnmade a c.knows.seen k.log).
+      let low = k.within odd in let high = done_within k.log a.task a.phase a.phase u.stands in omega arith)
+      (λ (m : IsMade limits a c.knows.seen k.log). s.waits odd m)
+      c.waits_on
 
   module _ (y : T) (used : List Ask) (inside : (a : Ask) → IsOneOf used a → IsOneOf claims a) (later : History) (next : ℕ)
       (batch : Batch (IsOneOf used) f.speaks later k.log) (good : IsGood limits allows (later ++ k.log)) (stands : StandsFor y (later ++ k.log))
@@ -147,9 +156,11 @@ module _ {T : Type 0} (value : List ℤ → Outcome) (limits : Limits) (allows :
         let s = k.sound j (Resting g) e in (to_new g.speaks j (Resting g) ne e refl (λ t h. h) g.seen s.0, s.1)
     other_sound j (Turning g cs sd ln) ne e = absurd (ne (turn_is j g cs sd ln e))
     other_sound j (Joining g h) ne e =
-        let s = k.sound j (Joining g h) e in
-        (to_new g.speaks j (Joining g h) ne e refl (λ t has'. in_left g.speaks h.speaks t has') g.seen s.0,
-        to_new h.speaks j (Joining g h) ne e refl (λ t has'. in_right g.speaks h.speaks t has') h.seen s.1, s.2)
+        let s = k.sound j (Joining g h) e in (
+          to_new g.speaks j (Joining g h) ne e refl (λ t has'. in_left g.speaks h.speaks t has') g.seen s.0,
+          to_new h.speaks j (Joining g h) ne e refl (λ t has'. in_right g.speaks h.speaks t has') h.seen s.1,
+          s.2,
+        )
     other_sound j (Posting g n) ne e =
         let s = k.sound j (Posting g n) e in (to_new g.speaks j (Posting g n) ne e refl (λ t h. h) g.seen s.0, s.1, s.2)
     other_sound j (Asking g a) ne e =
@@ -244,3 +255,163 @@ module _ {T : Type 0} (value : List ℤ → Outcome) (limits : Limits) (allows :
       all = λ j g cs sd ln e i h a e' m. absurd (no_turn j g cs sd ln e);
       lanes = λ i low. lane_given i (k.lanes i low);
     }
+
+both_even_and_odd : (n : ℕ) → n % 2 ≡ 0 → n % 2 ≡ 1 → ⊥
+both_even_and_odd n even odd = omega arith
+
+single_is : (a b : ℕ) → a ∷ [] ≡ b ∷ [] → a ≡ b
+single_is a b e = cc
+
+no_lane : (n : ℕ) → None ≡ Some n → ⊥
+no_lane n e = cc
+
+module _ {T : Type 0} (value : List ℤ → Outcome) (limits : Limits) (allows : Allows) (StandsFor : T → History → Type 0) where
+  -- a give with the giver's own events: no ask's phase is told
+  pub gives_own : (number : ℕ) (f : Knowledge) (claims : List Ask) (said : Outcome) (y : T) (own : History) (speaks : List ℕ) (told next : ℕ) → next % 2 ≡ 0
+      → ((task : ℕ) → is_in task f.speaks ≡ false → events_of task own ≡ [])
+      → IsGood limits allows (own ++ f.seen) → StandsFor y (own ++ f.seen) → is_distinct speaks ≡ true
+      → ((task : ℕ) → is_in task speaks ≡ true → IsUsed (own ++ f.seen) task × ((is_in task f.speaks ≡ true) ⊎ (IsUsed f.seen task → ⊥)))
+      → (words : List ℕ) (views : List View) → Kept value limits allows StandsFor None told words views
+      → get_elem? views number ≡ some (Turning f claims said None)
+      → Kept value limits allows StandsFor (Some y) next words (set views number (Resting (knowledge (own ++ f.seen) speaks)))
+  gives_own number f claims said y own speaks told next even mine' good stands distinct each words views k at =
+      let s = k.sound number (Turning f claims said None) at in
+      gave value limits allows StandsFor number f claims said None told words views k at y [] (λ a one. absurd one) own next
+      (own_batch (IsOneOf []) f.speaks own k.log mine')
+      (subst (λ (h : History). IsGood limits allows (own ++ h)) s.0 good)
+      (subst (λ (h : History). StandsFor y (own ++ h)) s.0 stands)
+      (λ odd. absurd (both_even_and_odd next even odd))
+      (λ odd a one st. absurd (both_even_and_odd next even odd))
+      (λ a one st. absurd one)
+      (Resting (knowledge (own ++ f.seen) speaks)) refl
+      (λ task has. let e = each task has in
+      (subst (λ (h : History). IsUsed (own ++ h) task) s.0 e.0, subst (λ (h : History). (is_in task f.speaks ≡ true) ⊎ (IsUsed h task → ⊥)) s.0 e.1))
+      (subst (λ (h : History). OthersCame speaks (own ++ f.seen) (own ++ h)) s.0 (OthersCame-refl speaks (own ++ f.seen)), distinct)
+      (λ i n e alone. absurd (no_lane n e))
+
+  module _ (number : ℕ) (f : Knowledge) (claims : List Ask) (said : Outcome) (lane : Option ℕ) (told : ℕ) (words : List ℕ) (views : List View)
+      (k : Kept value limits allows StandsFor None told words views) (at : get_elem? views number ≡ some (Turning f claims said lane))
+      (next : ℕ) (new : History) (w : View) (ends : Ends limits allows next new f lane w) where
+    ends_rest : is_turning w ≡ false
+    ends_rest = ⊎_elim
+        (λ (r : (w ≡ Resting (knowledge new f.speaks)) × LaneIsPast new f lane). ap is_turning r.0)
+        (λ (s : StillAsks limits allows next new f lane w). ap is_turning s.is)
+        ends
+
+    ends_speak : speaks_of w ≡ f.speaks
+    ends_speak = ⊎_elim
+        (λ (r : (w ≡ Resting (knowledge new f.speaks)) × LaneIsPast new f lane). ap speaks_of r.0)
+        (λ (s : StillAsks limits allows next new f lane w). ap speaks_of s.is ∙ s.speaks ∙ sym s.mine)
+        ends
+
+    lane_has : (n : ℕ) → lane ≡ Some n → HasLane words f n
+    lane_has n e = subst (λ (l : Option ℕ). LaneIs words f l) e (k.sound number (Turning f claims said lane) at).6
+
+    -- what the own lane of who asks still has
+    still_lane : (s : StillAsks limits allows next new f lane w) → (s.ask.task < lanes_most) × (posted words s.ask.task ≡ s.ask.phase + 1)
+    still_lane s =
+        let l = lane_has (s.ask.phase + 1) s.posts in
+        let task_is : l.task ≡ s.ask.task = single_is l.task s.ask.task (sym l.speaks ∙ s.mine) in
+        (subst (λ (t : ℕ). t < lanes_most) task_is l.low, subst (λ (t : ℕ). posted words t ≡ s.ask.phase + 1) task_is l.has)
+
+    ends_sound : (y : T) → IsSound value limits allows (Some y) number new next words number w
+    ends_sound y = ⊎_elim
+        (λ (r : (w ≡ Resting (knowledge new f.speaks)) × LaneIsPast new f lane).
+        subst (λ (u : View). IsSound value limits allows (Some y) number new next words number u) (sym r.0)
+        (OthersCame-refl f.speaks new, (k.sound number (Turning f claims said lane) at).1))
+        (λ (s : StillAsks limits allows next new f lane w).
+        let l = still_lane s in
+        let asks : Asks value limits allows new next words s.knows s.ask = record {
+          speaks = s.speaks;
+          low = l.0;
+          stage = inr (inl s.made);
+          waits = λ odd m. s.waits odd;
+          may = s.may;
+          has = λ n. absurd (not_made_and_answered limits s.ask s.knows.seen new s.made n);
+          posts = l.1;
+          sends = λ st. absurd (apart_phases s.ask.phase (sym (signal_is new s.ask.task (s.ask.phase + 1) s.ask.phase s.made.stands) ∙ signal_is new s.ask.task s.ask.phase s.ask.phase st));
+        } in
+        subst (λ (u : View). IsSound value limits allows (Some y) number new next words number u) (sym s.is) asks)
+        ends
+
+    ends_lane : (i n : ℕ) → lane ≡ Some n → f.speaks ≡ i ∷ [] → IsLane new (set views number w) i (posted words i)
+    ends_lane i n e alone = ⊎_elim
+        (λ (r : (w ≡ Resting (knowledge new f.speaks)) × LaneIsPast new f lane).
+        let l = lane_has n e in
+        let past : LaneIsPast new f (Some n) = subst (λ (o : Option ℕ). LaneIsPast new f o) e r.1 in
+        let task_is : l.task ≡ i = single_is l.task i (sym l.speaks ∙ alone) in
+        let there : past.0 ≡ i = single_is past.0 i (sym past.1 ∙ alone) in
+        let is : n ≡ posted words i = sym l.has ∙ ap (λ t. posted words t) task_is in
+        inr (inr (inl (subst (λ (m : ℕ). IsPast new i m) is (subst (λ (t : ℕ). IsPast new t n) there past.2)))))
+        (λ (s : StillAsks limits allows next new f lane w). inr (inl record {
+          seat = number;
+          knows = s.knows;
+          ask = s.ask;
+          at = set_here views number w (within views number (Turning f claims said lane) at) ∙ ap some s.is;
+          is = single_is s.ask.task i (sym s.mine ∙ alone);
+        }))
+        ends
+
+  -- a give with the events of a turn, that tells phases
+  pub gives_asks : (number : ℕ) (f : Knowledge) (claims : List Ask) (said : Outcome) (lane : Option ℕ) (y : T) (later : History) (told next : ℕ) (w : View)
+      → Batch (IsOneOf claims) f.speaks later f.seen → IsGood limits allows (later ++ f.seen) → StandsFor y (later ++ f.seen)
+      → (next % 2 ≡ 1 → next / 2 ≤ done_of (later ++ f.seen))
+      → ((a : Ask) → IsOneOf claims a → Leaves value (later ++ f.seen) next said a)
+      → Ends limits allows next (later ++ f.seen) f lane w
+      → (words : List ℕ) (views : List View) → Kept value limits allows StandsFor None told words views
+      → get_elem? views number ≡ some (Turning f claims said lane)
+      → Kept value limits allows StandsFor (Some y) next words (set views number w)
+  gives_asks number f claims said lane y later told next w batch good stands within' leaves ends words views k at =
+      let s = k.sound number (Turning f claims said lane) at in
+      let good' : IsGood limits allows (later ++ k.log) = subst (λ (h : History). IsGood limits allows (later ++ h)) s.0 good in
+      let leaves' : (a : Ask) → IsOneOf claims a → Leaves value (later ++ k.log) next said a =
+      subst (λ (h : History). (a : Ask) → IsOneOf claims a → Leaves value (later ++ h) next said a) s.0 leaves in
+      let ends' : Ends limits allows next (later ++ k.log) f lane w = subst (λ (h : History). Ends limits allows next (later ++ h) f lane w) s.0 ends in
+      gave value limits allows StandsFor number f claims said lane told words views k at y claims (λ a one. one) later next
+      (subst (λ (h : History). Batch (IsOneOf claims) f.speaks later h) s.0 batch)
+      good'
+      (subst (λ (h : History). StandsFor y (later ++ h)) s.0 stands)
+      (subst (λ (h : History). next % 2 ≡ 1 → next / 2 ≤ done_of (later ++ h)) s.0 within')
+      (λ odd a one st. (leaves' a one).waits odd st)
+      (λ a one st. sym s.5 ∙ (leaves' a one).has st)
+      w (ends_rest number f claims said lane told words views k at next (later ++ k.log) w ends')
+      (λ task has.
+      let mine' : is_in task f.speaks ≡ true = subst (λ (l : List ℕ). is_in task l ≡ true) (ends_speak number f claims said lane told words views k at next (later ++ k.log) w ends') has in
+      (IsUsed-longer limits k.log (later ++ k.log) task good'.legal (record { later = later; is = refl }) (k.owns number (Turning f claims said lane) task at mine').1, inl mine'))
+      (ends_sound number f claims said lane told words views k at next (later ++ k.log) w ends' y)
+      (ends_lane number f claims said lane told words views k at next (later ++ k.log) w ends')
+
+  -- a give with the events of a turn, that tells what was told
+  pub gives_same : (number : ℕ) (f : Knowledge) (claims : List Ask) (said : Outcome) (lane : Option ℕ) (y : T) (later : History) (told : ℕ) (w : View)
+      → Batch (IsOneOf claims) f.speaks later f.seen → IsGood limits allows (later ++ f.seen) → StandsFor y (later ++ f.seen)
+      → ((a : Ask) → IsOneOf claims a → Stands (later ++ f.seen) a.task (a.phase + 1) (a.phase + 1) → said ≡ value_of_phase value (later ++ f.seen) a.phase)
+      → Ends limits allows 0 (later ++ f.seen) f lane w
+      → ((s : StillAsks limits allows 0 (later ++ f.seen) f lane w) → done_of (later ++ f.seen) ≤ s.ask.phase)
+      → (words : List ℕ) (views : List View) → Kept value limits allows StandsFor None told words views
+      → get_elem? views number ≡ some (Turning f claims said lane)
+      → Kept value limits allows StandsFor (Some y) told words (set views number w)
+  gives_same number f claims said lane y later told w batch good stands has ends later_open words views k at =
+      let s = k.sound number (Turning f claims said lane) at in
+      let more : done_of k.log ≤ done_of (later ++ f.seen) = subst (λ (h : History). done_of h ≤ done_of (later ++ f.seen)) s.0
+      (done_grows limits later f.seen (λ none. some_log value limits allows StandsFor number f claims said lane told words views k at (sym s.0 ∙ none)) good.legal) in
+      let within' : told % 2 ≡ 1 → told / 2 ≤ done_of (later ++ f.seen) = λ odd. let low = k.within odd in omega arith in
+      gives_asks number f claims said lane y later told told w batch good stands within'
+      (λ a one. record {
+        waits = λ odd st. told_waits value limits allows StandsFor number f claims said lane told words views k at a one odd;
+        has = has a one;
+      })
+      (⊎_elim
+      (λ (r : (w ≡ Resting (knowledge (later ++ f.seen) f.speaks)) × LaneIsPast (later ++ f.seen) f lane). inl r)
+      (λ (q : StillAsks limits allows 0 (later ++ f.seen) f lane w). inr record {
+        ask = q.ask;
+        knows = q.knows;
+        mine = q.mine;
+        speaks = q.speaks;
+        made = q.made;
+        may = q.may;
+        posts = q.posts;
+        waits = λ odd. let low = within' odd in let high = later_open q in omega arith;
+        is = q.is;
+      })
+      ends)
+      words views k at

@@ -1,24 +1,21 @@
 -- What a longer history leaves: a task's phases only grow.
-use Rattle.std.proofs.Common.{◌≡◌, ℕ, ◌+◌, ◌<◌, ◌≤◌, Bool, true, false, cond, eqb, List, [], ◌∷◌, ◌++◌, ◌⊎◌, length, Some, None, refl, sym, ap, subst, ◌∙◌, inl, inr, ⊎_elim, arith}
+use Rattle.std.proofs.Common.{◌≡◌, ℕ, ◌+◌, ◌≤◌, true, false, cond, eqb, List, [], ◌∷◌, ◌++◌, ◌⊎◌, length, Some, refl, sym, ap, ◌∙◌, inl, ⊎_elim, arith}
 use Rattle.std.proofs.lemmas.Option.{same_Some}
 use Rattle.phase_core.specs.phase_base.Limits.{Limits}
 use Rattle.phase_core.specs.phase_base.Lists.{is_in}
 use Rattle.phase_core.specs.phase_base.declared.entry.Entry.{Entry}
-use Rattle.phase_core.specs.phase_history.declared.event.Event.{Event}
 use Rattle.phase_core.specs.phase_history.declared.event.Event.TheVariants.{Made, Registered, RegisteredNow, Signalled, Waited, Dropped}
 use Rattle.phase_core.specs.phase_history.Histories.{History, start_of, phases_signalled, phases_waited, done_of}
 use Rattle.phase_core.specs.phase_history.Legal.{IsLegal}
 use Rattle.phase_core.specs.phase_history.Laws.{HasCounted}
-use Rattle.phase_core.specs.phase_history.Others.{is_by, events_of, OthersCame}
+use Rattle.phase_core.specs.phase_history.Others.{events_of}
 use Rattle.phase_core.proofs.phase_history_lemmas.LawProofs.{counted_of}
 use Rattle.phase_core.proofs.phase_history_lemmas.Steps.{steps, sound_of}
 use Rattle.phase_core.proofs.phase_history_lemmas.Streams.{legal_rest}
 use Rattle.phase_core.proofs.phase_history_lemmas.Used.{start_of-longer}
-use Rattle.phase_core.proofs.phase_history_lemmas.OthersEvents.{skips, OthersCame-trans}
-use Rattle.ask_laws.specs.Asks.{Ask, Stands, IsUnmade, IsMade, IsAnswered, Stage, IsOwn, Batch}
+use Rattle.phase_core.proofs.phase_history_lemmas.OthersEvents.{skips}
+use Rattle.ask_laws.specs.Asks.{Ask, Stands, IsUnmade, IsMade, IsAnswered, Stage, Batch}
 use Rattle.ask_laws.specs.Desks.{IsPast}
-use Rattle.ask_laws.proofs.Small.{apart_phases}
-use Rattle.ask_laws.proofs.Stages.{signal_is, wait_is}
 
 more_signals : (task : ℕ) (later h : History) → phases_signalled h task ≤ phases_signalled (later ++ h) task
 more_signals task [] h = omega arith

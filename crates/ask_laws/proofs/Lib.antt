@@ -2,6 +2,7 @@ pub mod Answering
 pub mod Boards
 pub mod Giving
 pub mod Growing
+pub mod Joining
 pub mod Moves
 pub mod Places
 pub mod Posting

@@ -1,6 +1,6 @@
 -- What is said of the seats that asked or that have the turn stays while these seats stay.
-use Rattle.std.proofs.Common.{◌≡◌, ◌≢◌, ℕ, zero, suc, Bool, true, false, eqb, List, [], ◌∷◌, ◌⊎◌, Option, Some, None, set, refl, sym, ap, subst, ◌∙◌, inl, inr, ⊎_elim}
-use Rattle.std.proofs.lemmas.Bool.{eq-eqb, eqb-true}
+use Rattle.std.proofs.Common.{◌≡◌, ◌≢◌, ℕ, Bool, true, false, eqb, List, [], ◌⊎◌, Option, Some, None, set, sym, ap, ◌∙◌, inl, inr, ⊎_elim}
+use Rattle.std.proofs.lemmas.Bool.{eq-eqb}
 use mathlib.Core.Option.{some, some-injective}
 use lib.ListN.{get_elem?}
 use Rattle.atomic_table.proofs.Lists.{at_set, set_else}
@@ -10,7 +10,7 @@ use Rattle.phase_core.specs.phase_accum.declared.outcome.Outcome.TheVariants.{Em
 use Rattle.phase_core.specs.phase_history.Histories.{History}
 use Rattle.ask_laws.specs.Base.{Knowledge, knowledge}
 use Rattle.ask_laws.specs.Asks.{Ask}
-use Rattle.ask_laws.specs.Desks.{View, Resting, Turning, Asking, StandsAsked, AskedAt, IsPast, HeldAt, IsLane}
+use Rattle.ask_laws.specs.Desks.{View, Turning, Asking, StandsAsked, AskedAt, IsPast, HeldAt, IsLane}
 use Rattle.ask_laws.proofs.Small.{not_both}
 
 abbrev pub is_asking : View → Bool

@@ -1,5 +1,5 @@
 -- What stays of an ask, and of where a task stands, while a turn has no events of it.
-use Rattle.std.proofs.Common.{◌≡◌, ◌≢◌, ℕ, ℤ, ◌+◌, ◌<◌, ◌≤◌, Bool, true, false, cond, eqb, List, [], ◌∷◌, ◌++◌, ◌⊎◌, Option, Some, None, refl, sym, ap, subst, ◌∙◌, inl, inr, ⊎_elim, arith}
+use Rattle.std.proofs.Common.{◌≡◌, ℕ, ℤ, ◌+◌, ◌<◌, true, false, cond, eqb, List, [], ◌∷◌, ◌++◌, ◌⊎◌, refl, sym, ap, subst, ◌∙◌, inl, inr, ⊎_elim, arith}
 use Rattle.std.specs.Prelude.{◌||◌}
 use Rattle.std.proofs.lemmas.Bool.{eq-eqb, eqb-true}
 use Rattle.phase_core.specs.phase_base.Limits.{Limits}
@@ -18,7 +18,7 @@ use Rattle.phase_core.proofs.phase_history_lemmas.Used.{entry_of-others}
 use Rattle.phase_core.proofs.phase_history_lemmas.OthersEvents.{OthersCame-trans}
 use Rattle.ask_laws.specs.Asks.{Ask, Stands, IsUnmade, IsMade, IsAnswered, Stage, IsOwn, SignalsFor, WaitsFor, Batch, IsOneOf, asks_for}
 use Rattle.ask_laws.proofs.Small.{one_of, not_true_is, not_both, apart_phases}
-use Rattle.ask_laws.proofs.Stages.{signal_is, wait_is}
+use Rattle.ask_laws.proofs.Stages.{wait_is}
 
 -- who asked for one of these is named among them
 pub named : (claims : List Ask) (a : Ask) → IsOneOf claims a → asks_for claims a.task ≡ true
@@ -92,15 +92,18 @@ module _ (limits : Limits) (claims : List Ask) (speaks : List ℕ) (log : Histor
       (λ (u : IsUnmade a seen log). inl (record { others = OthersCame-trans (a.task ∷ []) seen log (later ++ log) u.others came; stands = stands_still a.task a.phase a.phase later legal none u.stands }, u))
       (λ (r : IsMade limits a seen log ⊎ IsAnswered limits a seen log). inr (⊎_elim
       (λ (m : IsMade limits a seen log). inl m)
-      (λ (n : IsAnswered limits a seen log). inr (record {
-        middle = n.middle;
-        made = n.made;
-        accepted = n.accepted;
-        complete = n.complete;
-        below = (same_value (λ sends. Empty) a.phase later legal n.below).0;
-        since = OthersCame-trans (a.task ∷ []) (Waited a.task 1 ∷ n.middle) log (later ++ log) n.since came;
-        stands = stands_still a.task (a.phase + 1) (a.phase + 1) later legal none n.stands;
-      }, n))
+      (λ (n : IsAnswered limits a seen log). inr (
+        record {
+          middle = n.middle;
+          made = n.made;
+          accepted = n.accepted;
+          complete = n.complete;
+          below = (same_value (λ sends. Empty) a.phase later legal n.below).0;
+          since = OthersCame-trans (a.task ∷ []) (Waited a.task 1 ∷ n.middle) log (later ++ log) n.since came;
+          stands = stands_still a.task (a.phase + 1) (a.phase + 1) later legal none n.stands;
+        },
+        n,
+      ))
       r))
       stage
 
@@ -108,4 +111,3 @@ module _ (limits : Limits) (claims : List Ask) (speaks : List ℕ) (log : Histor
 pub not_made_and_answered : (limits : Limits) (a : Ask) (seen h : History) → IsMade limits a seen h → IsAnswered limits a seen h → ⊥
 not_made_and_answered limits a seen h m n =
     apart_phases a.phase (sym (wait_is h a.task (a.phase + 1) (a.phase + 1) n.stands) ∙ wait_is h a.task (a.phase + 1) a.phase m.stands)
-

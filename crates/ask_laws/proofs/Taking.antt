@@ -1,6 +1,5 @@
 -- A take that wins: the taker has then read each ask whose signal is made and whose wait is not.
-use Rattle.std.proofs.Common.{◌≡◌, ◌≢◌, ℕ, zero, suc, ℤ, ◌+◌, ◌<◌, ◌≤◌, Bool, true, false, cond, eqb, List, [], ◌∷◌, ◌++◌, ◌⊎◌, Option, Some, None, set, refl, sym, ap, subst, ◌∙◌, inl, inr, ⊎_elim, arith}
-use Rattle.std.specs.Prelude.{◌&&◌}
+use Rattle.std.proofs.Common.{◌≡◌, ◌≢◌, ℕ, zero, suc, ℤ, ◌+◌, true, false, cond, eqb, List, [], ◌∷◌, ◌⊎◌, Option, Some, None, set, refl, sym, ap, subst, ◌∙◌, inl, inr, ⊎_elim}
 use Rattle.std.proofs.lemmas.Bool.{eq-eqb, eqb-true, and_parts, and_from}
 use mathlib.Core.Option.{some, some-injective, some-ne-none}
 use lib.ListN.{get_elem?}
@@ -10,15 +9,14 @@ use Rattle.phase_core.specs.phase_base.Limits.{Limits}
 use Rattle.phase_core.specs.phase_base.Lists.{is_distinct, is_in}
 use Rattle.phase_core.specs.phase_accum.declared.outcome.Outcome.{Outcome}
 use Rattle.phase_core.specs.phase_history.Histories.{History, signal_phase, wait_phase}
-use Rattle.phase_core.specs.phase_history.Others.{IsUsed}
 use Rattle.ask_laws.specs.Base.{Knowledge, knowledge, Allows}
-use Rattle.ask_laws.specs.Asks.{Ask, Stands, Stage, IsUnmade, IsMade, IsAnswered, IsOneOf}
-use Rattle.ask_laws.specs.Lanes.{lanes_most, board, posted}
+use Rattle.ask_laws.specs.Asks.{Ask, Stage, IsUnmade, IsMade, IsAnswered, IsOneOf}
+use Rattle.ask_laws.specs.Lanes.{board, posted}
 use Rattle.ask_laws.specs.Desks.{View, Resting, Turning, Joining, Posting, Asking, Reading, Spent, speaks_of, IsSound, Asks, LaneIs, StandsAsked, AskedAt, IsPast, HeldAt, IsLane, Kept, is_made, made_asks}
 use Rattle.ask_laws.specs.Tells.{Took, TookAsked}
 use Rattle.ask_laws.proofs.Small.{none_some, apart_phases, is_in_self}
 use Rattle.ask_laws.proofs.Stages.{signal_is, wait_is}
-use Rattle.ask_laws.proofs.Places.{is_asking, is_turning, knows_in, ask_in, claims_in, same_view, two_seats, ne_of, was}
+use Rattle.ask_laws.proofs.Places.{is_asking, ask_in, claims_in, same_view, ne_of, was}
 
 -- what is listed was asked, and is made
 listed : (log : History) (views : List View) (a : Ask) → IsOneOf (made_asks log views) a
@@ -218,8 +216,7 @@ module _ {T : Type 0} (value : List ℤ → Outcome) (limits : Limits) (allows :
       → (w : View) × Kept value limits allows StandsFor None told words (set views number w) × Took limits allows StandsFor (Resting f) x w
   takes number f x told words views k at one =
       let s = k.sound number (Resting f) at in
-      let claims : List Ask = made_asks k.log (set views number Spent) in
-      (
+      let claims : List Ask = made_asks k.log (set views number Spent) in (
         Turning (knowledge k.log f.speaks) claims (board words) None,
         took value limits allows StandsFor number (Resting f) x told words views k at f.speaks refl s.1 one None tt
             (λ g a e. absurd (cc)),
@@ -232,8 +229,7 @@ module _ {T : Type 0} (value : List ℤ → Outcome) (limits : Limits) (allows :
       → (w : View) × Kept value limits allows StandsFor None told words (set views number w) × TookAsked value limits allows StandsFor f a x w
   takes_asked number f a x told words views k at =
       let s : Asks value limits allows k.log told words f a = k.sound number (Asking f a) at in
-      let claims : List Ask = made_asks k.log (set views number Spent) in
-      (
+      let claims : List Ask = made_asks k.log (set views number Spent) in (
         Turning (knowledge k.log (a.task ∷ [])) claims (board words) (Some (a.phase + 1)),
         took value limits allows StandsFor number (Asking f a) x told words views k at (a.task ∷ []) s.speaks refl (a.task, is_in_self a.task [])
             (Some (a.phase + 1)) (record { task = a.task; speaks = refl; low = s.low; has = s.posts })
