@@ -1,13 +1,12 @@
 -- Who asked looks at what the lock tells: it was answered, and has then seen the history up to its own wait; what it learns
 -- is what the contract of `next` says, a signal after others' events and a wait after others' events.
-use Rattle.std.proofs.Common.{◌≡◌, ◌≢◌, ℕ, ℤ, ◌+◌, ◌<◌, ◌≤◌, ◌/◌, ◌%◌, Bool, true, false, cond, eqb, ltb, List, [], ◌∷◌, ◌++◌, ◌⊎◌, Option, Some, None, length, set, refl, sym, ap, subst, ◌∙◌, inl, inr, ⊎_elim, arith}
+use Rattle.std.proofs.Common.{◌≡◌, ◌≢◌, ℕ, ℤ, ◌+◌, ◌<◌, ◌/◌, ◌%◌, Bool, true, false, cond, eqb, ltb, List, [], ◌∷◌, ◌++◌, ◌⊎◌, Option, Some, None, length, set, refl, sym, ap, subst, ◌∙◌, inl, inr, ⊎_elim, arith}
 use Rattle.std.specs.Prelude.{Ok}
 use Rattle.std.proofs.lemmas.Bool.{lt-ltb, eq-eqb, eqb-true, ltb-true}
-use mathlib.Core.Option.{some, some-injective}
+use mathlib.Core.Option.{some}
 use lib.ListN.{get_elem?}
 use Rattle.atomic_table.proofs.Lists.{set_again, set_else}
 use Rattle.phase_core.specs.phase_base.Limits.{Limits}
-use Rattle.phase_core.specs.phase_base.Lists.{is_in}
 use Rattle.phase_core.specs.phase_base.Members.{entry_of, wait_phases, least}
 use Rattle.phase_core.specs.phase_accum.Operations.{Operation}
 use Rattle.phase_core.specs.phase_accum.Parcels.{Parcel, StandsForSends}
@@ -23,15 +22,15 @@ use Rattle.phase_core.specs.phase_history.Refusals.{signal_refusal, refusal_at, 
 use Rattle.phase_core.specs.phase_history.Replies.{refused_or, got_at}
 use Rattle.phase_core.proofs.phase_history_lemmas.Steps.{steps, sound_of}
 use Rattle.phase_core.proofs.phase_history_lemmas.Used.{IsLegal-beginning}
-use Rattle.ask_laws.specs.Base.{Knowledge, knowledge, Allows, Keeps, IsGood, Signals, Waits}
-use Rattle.ask_laws.specs.Asks.{Ask, Stands, Stage, IsUnmade, IsMade, IsAnswered, IsOneOf}
-use Rattle.ask_laws.specs.Lanes.{lanes_most, board, posted, sent, sends_of}
-use Rattle.ask_laws.specs.Desks.{View, Turning, Asking, Reading, speaks_of, IsSound, Asks, Reads, StandsAsked, AskedAt, IsPast, HeldAt, IsLane, Kept}
+use Rattle.ask_laws.specs.Base.{Knowledge, knowledge, Allows, Keeps, Signals, Waits}
+use Rattle.ask_laws.specs.Asks.{Ask, IsUnmade, IsMade, IsAnswered}
+use Rattle.ask_laws.specs.Lanes.{posted}
+use Rattle.ask_laws.specs.Desks.{View, Turning, Asking, Reading, Asks, Reads, StandsAsked, AskedAt, IsPast, HeldAt, IsLane, Kept}
 use Rattle.ask_laws.specs.Tells.{Learnt, Answers, Looked}
 use Rattle.ask_laws.proofs.Small.{apart_phases, not_both}
 use Rattle.ask_laws.proofs.Stages.{signal_is, wait_is, answered}
 use Rattle.ask_laws.proofs.Steadies.{same_value}
-use Rattle.ask_laws.proofs.Places.{is_asking, is_turning, ask_in, same_view, stays, ne_of}
+use Rattle.ask_laws.proofs.Places.{is_turning, ask_in, same_view, stays, ne_of}
 use Rattle.ask_laws.proofs.Moves.{moves}
 use Rattle.ask_laws.proofs.Reading.{answered_past}
 

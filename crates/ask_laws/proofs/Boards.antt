@@ -1,6 +1,6 @@
 -- The board: who has the turn writes it where its turn completes a phase, and who was answered reads it.
-use Rattle.std.proofs.Common.{◌≡◌, ◌≢◌, ℕ, ℤ, ◌+◌, ◌<◌, ◌≤◌, Bool, true, false, eqb, List, [], ◌∷◌, ◌++◌, ◌⊎◌, Option, Some, None, length, set, slice_index, refl, sym, ap, subst, ◌∙◌, inl, inr, ⊎_elim, arith}
-use mathlib.Core.Option.{some, some-injective}
+use Rattle.std.proofs.Common.{◌≡◌, ◌≢◌, ℕ, ℤ, ◌+◌, ◌<◌, true, false, List, [], ◌++◌, ◌⊎◌, Option, Some, None, length, set, slice_index, refl, sym, ap, subst, ◌∙◌, ⊎_elim, arith}
+use mathlib.Core.Option.{some}
 use lib.ListN.{get_elem?}
 use Rattle.atomic_table.proofs.Lists.{set_again}
 use Rattle.phase_core.specs.phase_base.Limits.{Limits}
@@ -9,17 +9,17 @@ use Rattle.phase_core.specs.phase_accum.declared.outcome.Outcome.{Outcome}
 use Rattle.phase_core.specs.phase_history.Histories.{History, done_of}
 use Rattle.phase_core.specs.phase_history.Phases.{value_of_phase}
 use Rattle.phase_core.specs.phase_history.Legal.{IsLegal}
-use Rattle.phase_core.specs.phase_history.Others.{events_of, OthersCame}
-use Rattle.ask_laws.specs.Base.{Knowledge, knowledge, Fits, Allows}
-use Rattle.ask_laws.specs.Asks.{Ask, Stands, Stage, IsUnmade, IsMade, IsAnswered, Batch, IsOneOf, asks_for}
-use Rattle.ask_laws.specs.Lanes.{lanes_most, board, posted, sent, sends_of, KindIs, NumberIs, with_number}
+use Rattle.phase_core.specs.phase_history.Others.{events_of}
+use Rattle.ask_laws.specs.Base.{Knowledge, Allows}
+use Rattle.ask_laws.specs.Asks.{Ask, Stands, IsUnmade, IsMade, IsAnswered, Batch, IsOneOf, asks_for}
+use Rattle.ask_laws.specs.Lanes.{board, posted, sends_of, KindIs, NumberIs, with_number}
 use Rattle.ask_laws.specs.Desks.{View, Resting, Turning, Joining, Posting, Asking, Reading, Spent, speaks_of, IsSound, Asks, Reads, Posts, HasLane, LaneIs, StandsAsked, IsLane, Kept}
-use Rattle.ask_laws.proofs.Small.{not_true_is, used_some, is_in_self, apart_phases}
+use Rattle.ask_laws.proofs.Small.{not_true_is, used_some, apart_phases}
 use Rattle.ask_laws.proofs.Stages.{signal_is, wait_is, done_within}
-use Rattle.ask_laws.proofs.Steadies.{named, found, none_of, stands_still}
-use Rattle.ask_laws.proofs.Places.{is_asking, is_turning, ask_in, knows_in, same_view, stays, asked_stays, lane_stays}
+use Rattle.ask_laws.proofs.Steadies.{found, none_of, stands_still}
+use Rattle.ask_laws.proofs.Places.{is_asking, is_turning, ask_in, same_view, stays, asked_stays, lane_stays}
 use Rattle.ask_laws.proofs.Words.{kind_is, number_is, board_number, board_kind, board_posted, board_sent}
-use Rattle.ask_laws.proofs.Moves.{this_is_in, apart, moves, lane_still, holds, no_other}
+use Rattle.ask_laws.proofs.Moves.{this_is_in, moves, lane_still, holds, no_other}
 
 -- whatever is on the board, its words say it
 pub kind_of : (words : List ℕ) (o : Outcome) → o ≡ board words → KindIs (slice_index words 1) o
@@ -46,8 +46,7 @@ module _ {T : Type 0} (value : List ℤ → Outcome) (limits : Limits) (allows :
       let s : Reads value k.log words f a = k.sound number (Reading f a) at in
       let w : View = Resting f in
       let asking_stays : (j : ℕ) (g : Knowledge) (b : Ask) → get_elem? views j ≡ some (Asking g b) → get_elem? (set views number (Resting f)) j ≡ some (Asking g b) =
-      λ j g b e. stays is_asking views number j (Reading f a) (Resting f) (Asking g b) at refl refl e in
-      (
+      λ j g b e. stays is_asking views number j (Reading f a) (Resting f) (Asking g b) at refl refl e in (
         moves value limits allows StandsFor home told words views k number (Reading f a) at words w refl
             (s.fits, subst (λ (l : List ℕ). is_distinct l ≡ true) (sym s.speaks) refl)
             (λ j u ne e. k.sound j u e)

@@ -1,21 +1,20 @@
 -- A step of one seat, at which one word may change: what it has to show that the rule stays.
-use Rattle.std.proofs.Common.{◌≡◌, ◌≢◌, ℕ, ℤ, ◌+◌, ◌<◌, ◌≤◌, Bool, true, false, List, [], ◌∷◌, ◌++◌, ◌⊎◌, Option, Some, None, set, refl, sym, ap, subst, ◌∙◌, inl, inr, ⊎_elim}
-use mathlib.Core.Option.{some, some-injective}
+use Rattle.std.proofs.Common.{◌≡◌, ◌≢◌, ℕ, ℤ, ◌<◌, true, false, List, [], ◌∷◌, ◌⊎◌, Option, Some, None, set, refl, sym, ap, subst, ◌∙◌, inl, inr, ⊎_elim}
+use mathlib.Core.Option.{some}
 use lib.ListN.{get_elem?}
-use Rattle.atomic_table.proofs.Lists.{at_set, set_here, set_else}
+use Rattle.atomic_table.proofs.Lists.{at_set, set_here}
 use Rattle.turn_lock.proofs.Keeping.{within}
 use Rattle.phase_core.specs.phase_base.Limits.{Limits}
 use Rattle.phase_core.specs.phase_base.Lists.{is_in}
 use Rattle.phase_core.specs.phase_accum.declared.outcome.Outcome.{Outcome}
 use Rattle.phase_core.specs.phase_history.Histories.{History}
-use Rattle.phase_core.specs.phase_history.Phases.{value_of_phase}
 use Rattle.phase_core.specs.phase_history.Others.{IsUsed}
-use Rattle.ask_laws.specs.Base.{Knowledge, knowledge, Allows}
-use Rattle.ask_laws.specs.Asks.{Ask, IsUnmade, IsMade, IsAnswered, Stands, IsOneOf}
-use Rattle.ask_laws.specs.Lanes.{lanes_most, board, posted, sent, sends_of}
+use Rattle.ask_laws.specs.Base.{Knowledge, Allows}
+use Rattle.ask_laws.specs.Asks.{Ask, IsMade, IsOneOf}
+use Rattle.ask_laws.specs.Lanes.{lanes_most, board, posted, sends_of}
 use Rattle.ask_laws.specs.Desks.{View, Resting, Turning, Joining, Posting, Asking, Reading, Spent, speaks_of, IsSound, Asks, Reads, Posts, HasLane, LaneIs, StandsAsked, AskedAt, IsPast, HeldAt, IsLane, Kept}
 use Rattle.ask_laws.proofs.Small.{not_true_is, not_both, none_some, is_in_self}
-use Rattle.ask_laws.proofs.Places.{is_asking, is_turning, knows_in, ask_in, claims_in, said_in, lane_in, same_view, was, stays, asked_stays, lane_stays}
+use Rattle.ask_laws.proofs.Places.{is_asking, is_turning, knows_in, claims_in, lane_in, same_view, was, stays, asked_stays}
 use Rattle.ask_laws.proofs.Words.{SameElse}
 
 -- the one task of a list that a task is not in is another
@@ -41,9 +40,15 @@ pub words_else : {T : Type 0} (value : List ℤ → Outcome) (limits : Limits) (
 words_else value limits allows home holder log told t words after same j (Resting g) out s = s
 words_else value limits allows home holder log told t words after same j (Turning g cs said None) out s = (s.0, s.1, s.2, s.3, s.4, s.5 ∙ sym same.same_board, tt)
 words_else value limits allows home holder log told t words after same j (Turning g cs said (Some n)) out s =
-    let l : HasLane words g n = s.6 in
-    (s.0, s.1, s.2, s.3, s.4, s.5 ∙ sym same.same_board,
-      record { task = l.task; speaks = l.speaks; low = l.low; has = same.same_posted l.task (not_this l.task t g.speaks l.speaks out) ∙ l.has })
+    let l : HasLane words g n = s.6 in (
+      s.0,
+      s.1,
+      s.2,
+      s.3,
+      s.4,
+      s.5 ∙ sym same.same_board,
+      record { task = l.task; speaks = l.speaks; low = l.low; has = same.same_posted l.task (not_this l.task t g.speaks l.speaks out) ∙ l.has },
+    )
 words_else value limits allows home holder log told t words after same j (Joining g h) out s = s
 words_else value limits allows home holder log told t words after same j (Posting g n) out s =
     let l : Posts words g n = s.2 in

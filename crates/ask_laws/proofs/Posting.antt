@@ -1,26 +1,25 @@
 -- What a seat writes in its own lane: its send, and then the phase that it asks for; and a holder what it leaves there.
-use Rattle.std.proofs.Common.{◌≡◌, ◌≢◌, ℕ, ℤ, ◌+◌, ◌<◌, ◌≤◌, Bool, true, false, eqb, List, [], ◌∷◌, ◌++◌, ◌⊎◌, Option, Some, None, length, set, refl, sym, ap, subst, ◌∙◌, inl, inr, ⊎_elim}
+use Rattle.std.proofs.Common.{◌≡◌, ◌≢◌, ℕ, ℤ, ◌+◌, ◌<◌, true, false, eqb, List, [], ◌∷◌, ◌++◌, ◌⊎◌, Option, Some, None, length, set, refl, sym, ap, subst, ◌∙◌, inl, inr, ⊎_elim}
 use Rattle.std.proofs.lemmas.Bool.{eqb-true}
 use mathlib.Core.Option.{some}
 use lib.ListN.{get_elem?}
-use Rattle.atomic_table.proofs.Lists.{at_set, set_here, set_else}
+use Rattle.atomic_table.proofs.Lists.{set_here}
 use Rattle.turn_lock.proofs.Keeping.{within}
 use Rattle.phase_core.specs.phase_base.Limits.{Limits}
-use Rattle.phase_core.specs.phase_base.Lists.{is_in}
 use Rattle.phase_core.specs.phase_accum.declared.outcome.Outcome.{Outcome}
 use Rattle.phase_core.specs.phase_history.Histories.{History}
 use Rattle.phase_core.specs.phase_history.Legal.{IsLegal}
 use Rattle.phase_core.specs.phase_history.Others.{events_of, OthersCame}
 use Rattle.phase_core.proofs.phase_history_lemmas.Used.{entry_of-others}
-use Rattle.ask_laws.specs.Base.{Knowledge, knowledge, Fits, Allows}
-use Rattle.ask_laws.specs.Asks.{Ask, Stands, Stage, IsUnmade, IsMade, IsAnswered, IsOneOf}
-use Rattle.ask_laws.specs.Lanes.{lanes_most, board, phase_place, send_place, posted, sent, sends_of}
-use Rattle.ask_laws.specs.Desks.{View, Resting, Turning, Posting, Asking, speaks_of, MayMake, IsSound, Asks, Posts, HasLane, LaneIs, StandsAsked, AskedAt, IsPast, HeldAt, IsLane, Kept}
+use Rattle.ask_laws.specs.Base.{Knowledge, Allows}
+use Rattle.ask_laws.specs.Asks.{Ask, Stands, IsMade, IsAnswered}
+use Rattle.ask_laws.specs.Lanes.{lanes_most, phase_place, send_place, posted, sent, sends_of}
+use Rattle.ask_laws.specs.Desks.{View, Resting, Turning, Posting, Asking, MayMake, Asks, Posts, AskedAt, IsPast, HeldAt, IsLane, Kept}
 use Rattle.ask_laws.proofs.Small.{apart_phases}
 use Rattle.ask_laws.proofs.Stages.{signal_is}
 use Rattle.ask_laws.proofs.Places.{is_asking, is_turning, ask_in, knows_in, stays, asked_stays, lane_stays, ne_of}
-use Rattle.ask_laws.proofs.Words.{SameElse, send_else, send_posted, send_here, phase_else, phase_sent, phase_here}
-use Rattle.ask_laws.proofs.Moves.{this_is_in, same_task, else_sound, moves, held_speaks, lane_still, holds}
+use Rattle.ask_laws.proofs.Words.{send_else, send_posted, send_here, phase_else, phase_sent, phase_here}
+use Rattle.ask_laws.proofs.Moves.{this_is_in, same_task, else_sound, moves, held_speaks, holds}
 
 -- where a task stood it stands, while others' events alone came
 stands_others : (limits : Limits) (seen log : History) (task s w : ℕ) → IsLegal limits log → OthersCame (task ∷ []) seen log → Stands seen task s w → Stands log task s w

@@ -1,7 +1,7 @@
 -- A holder reads the lane of another's task: there is nothing, or what is past, or what was asked, which it has read then.
-use Rattle.std.proofs.Common.{◌≡◌, ◌≢◌, ℕ, ℤ, ◌+◌, ◌<◌, ◌≤◌, true, false, List, [], ◌∷◌, ◌++◌, ◌⊎◌, Option, Some, None, set, refl, sym, ap, subst, ◌∙◌, inl, inr, ⊎_elim, arith}
+use Rattle.std.proofs.Common.{◌≡◌, ℕ, ℤ, ◌+◌, ◌<◌, ◌≤◌, false, List, [], ◌∷◌, ◌++◌, ◌⊎◌, Option, Some, None, set, refl, sym, ap, subst, ◌∙◌, inl, inr, ⊎_elim, arith}
 use Rattle.std.proofs.lemmas.Option.{same_Some}
-use mathlib.Core.Option.{some, some-injective}
+use mathlib.Core.Option.{some}
 use lib.ListN.{get_elem?}
 use Rattle.atomic_table.proofs.Lists.{set_again}
 use Rattle.phase_core.specs.phase_base.Limits.{Limits}
@@ -9,16 +9,16 @@ use Rattle.phase_core.specs.phase_base.Lists.{is_in}
 use Rattle.phase_core.specs.phase_base.declared.entry.Entry.{Entry}
 use Rattle.phase_core.specs.phase_base.Members.{entry_of}
 use Rattle.phase_core.specs.phase_accum.declared.outcome.Outcome.{Outcome}
-use Rattle.phase_core.specs.phase_history.Histories.{History, members_of, start_of, phases_waited}
+use Rattle.phase_core.specs.phase_history.Histories.{History, members_of, phases_waited}
 use Rattle.phase_core.specs.phase_history.Legal.{IsLegal}
 use Rattle.phase_core.specs.phase_history.Laws.{HasCounted}
 use Rattle.phase_core.specs.phase_history.Others.{OthersCame}
 use Rattle.phase_core.proofs.phase_history_lemmas.LawProofs.{counted_of}
-use Rattle.ask_laws.specs.Base.{Knowledge, knowledge, Allows}
+use Rattle.ask_laws.specs.Base.{Knowledge, Allows}
 use Rattle.ask_laws.specs.Asks.{Ask, Stands, Stage, IsUnmade, IsMade, IsAnswered, IsOneOf}
-use Rattle.ask_laws.specs.Lanes.{lanes_most, board, posted, sent, sends_of}
-use Rattle.ask_laws.specs.Desks.{View, Turning, Asking, speaks_of, IsSound, Asks, StandsAsked, AskedAt, IsPast, HeldAt, IsLane, Kept}
-use Rattle.ask_laws.specs.Tells.{MayBeMade, IsClaim, LaneRead}
+use Rattle.ask_laws.specs.Lanes.{lanes_most, posted, sent, sends_of}
+use Rattle.ask_laws.specs.Desks.{View, Turning, Asking, Asks, StandsAsked, AskedAt, IsPast, HeldAt, Kept}
+use Rattle.ask_laws.specs.Tells.{IsClaim, LaneRead}
 use Rattle.ask_laws.proofs.Small.{not_both}
 use Rattle.ask_laws.proofs.Growing.{past_goes}
 use Rattle.ask_laws.proofs.Places.{ask_in, same_view}

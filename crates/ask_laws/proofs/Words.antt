@@ -1,10 +1,10 @@
 -- What is said of the words beside a phaser's lock: the board, and the lanes of other tasks while one is written.
-use Rattle.std.proofs.Common.{◌≡◌, ◌≢◌, ℕ, ℤ, pos, negsuc, ◌+◌, ◌*◌, ◌/◌, ◌%◌, ◌<◌, Bool, true, false, cond, eqb, List, [], ◌∷◌, Option, Some, None, length, get_or, set, slice_index, refl, sym, ap, subst, ◌∙◌, inl, inr, ⊎_elim, arith}
+use Rattle.std.proofs.Common.{◌≡◌, ◌≢◌, ℕ, ℤ, pos, negsuc, ◌+◌, ◌*◌, ◌/◌, ◌%◌, ◌<◌, Bool, true, false, cond, eqb, List, [], ◌∷◌, length, set, slice_index, refl, sym, ap, subst, ◌∙◌, arith}
 use Rattle.std.proofs.lemmas.Bool.{eq-eqb, eqb-true, ne_eqb}
 use Rattle.std.proofs.lemmas.List.{get_or-set_same, get_or-set_other}
 use Rattle.phase_core.specs.phase_accum.declared.outcome.Outcome.{Outcome}
 use Rattle.phase_core.specs.phase_accum.declared.outcome.Outcome.TheVariants.{Value, Empty, TooBig}
-use Rattle.ask_laws.specs.Lanes.{words_most, lanes_most, word_of, number_of, no_send, sends_of, outcome_of, board, phase_place, send_place, posted, sent, KindIs, NumberIs, with_number}
+use Rattle.ask_laws.specs.Lanes.{lanes_most, word_of, number_of, no_send, sends_of, outcome_of, board, phase_place, send_place, posted, sent, KindIs, NumberIs, with_number}
 
 -- ---- what two words say
 
@@ -46,9 +46,9 @@ number_is number kind v = elim (eqb kind 0) as (λ b. cond b (Value (number_of n
 pub other_number : (number other kind : ℕ) → outcome_of other kind ≡ with_number other (outcome_of number kind)
 other_number number other kind = elim (eqb kind 0) as (λ b. cond b (Value (number_of other)) (cond (eqb kind 1) Empty TooBig)
     ≡ with_number other (cond b (Value (number_of number)) (cond (eqb kind 1) Empty TooBig))) [
-  | true ↦ refl
-  | false ↦ empty_or_big (eqb kind 1)
-]
+      | true ↦ refl
+      | false ↦ empty_or_big (eqb kind 1)
+    ]
   where
     empty_or_big : (b : Bool) → cond b Empty TooBig ≡ with_number other (cond b Empty TooBig)
     empty_or_big true = refl
