@@ -1,8 +1,14 @@
+pub mod Answering
+pub mod Boards
 pub mod Giving
 pub mod Growing
 pub mod Joining
+pub mod Moves
 pub mod Places
+pub mod Posting
+pub mod Reading
 pub mod Small
 pub mod Stages
 pub mod Steadies
 pub mod Taking
+pub mod Words
