@@ -2,7 +2,7 @@
 use Rattle.std.specs.Prelude.{◌≡◌, ℕ, ℤ, ◌+◌, ◌<◌, ◌≤◌, List, [], ◌∷◌, ◌++◌, ◌⊎◌, Bool, true, false, Option, Some, None, Result, Err}
 use Rattle.phase_core.specs.phase_base.Limits.{Limits}
 use Rattle.phase_core.specs.phase_base.Modes.{mode_signals, mode_waits}
-use Rattle.phase_core.specs.phase_base.Members.{entry_of}
+use Rattle.phase_core.specs.phase_base.Members.{Members, entry_of}
 use Rattle.phase_core.specs.phase_base.declared.entry.Entry.{Entry}
 use Rattle.phase_core.specs.phase_accum.Operations.{Operation}
 use Rattle.phase_core.specs.phase_accum.declared.outcome.Outcome.{Outcome}
@@ -43,6 +43,13 @@ pub record MayAsk {K : Type 0} (allows : K → Allows) (terms : Terms K) (ask : 
 -- a seat that asks
 abbrev pub IsAsking : Ask → History → View → Type 0
 IsAsking ask seen v = v ≡ Asking (knowledge seen (ask.task ∷ [])) ask
+
+-- the task is registered, and stands before the phase
+pub record IsBefore (members : Members) (task phase : ℕ) : Type 0 where
+  pub entry : Entry
+  pub member : entry_of members task ≡ Some entry
+  pub signal_at : entry.signal_phase ≡ phase
+  pub wait_at : entry.wait_phase ≡ phase
 
 -- the task is a waiter
 abbrev pub IsWaiterIn : History → ℕ → Type 0

@@ -18,6 +18,19 @@ use Rattle.phase_shared.specs.Rule.{StandsWithin}
 use Rattle.phase_shared.specs.Tells.{TookAsked, Looked, LaneRead, SendRead}
 use Rattle.phase_shared.specs.Views.{known_of, speaks_of, turning, board_of}
 
+-- a view that has the turn, and one that has still to read its value
+pub record IsHolder (v : View) : Type 0 where
+  pub knows : Knowledge
+  pub claims : List Ask
+  pub said : Outcome
+  pub lane : Option ℕ
+  pub is : v ≡ Turning knows claims said lane
+
+pub record IsReading (v : View) : Type 0 where
+  pub knows : Knowledge
+  pub ask : Ask
+  pub is : v ≡ Reading knows ask
+
 -- a holder that does not speak for the task
 pub record IsOther (task : ℕ) (v : View) : Type 0 where
   pub knows : Knowledge

@@ -1,5 +1,6 @@
 //! A phaser under a lock: what the seats of its lock know, and each call as a step of a seat.
 
+pub mod asking;
 pub mod block_steps;
 pub mod ghost_steps;
 pub mod hints;
@@ -8,5 +9,6 @@ pub mod lanes;
 pub mod locked;
 pub mod pauses;
 pub mod request;
+pub mod serving;
 pub mod steps;
 pub mod view;

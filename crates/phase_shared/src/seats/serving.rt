@@ -1,0 +1,142 @@
+//! The turn of a seat that asks: it signals for others, and waits for all where that completes its
+//! phase.
+ghost use Rattle.std.specs.Prelude.{◌≡◌, ◌≢◌, ◌<◌, ◌≤◌, true, false, Some};
+ghost use Rattle.turn_lock.specs.Seats.{IsSeatAt, IsTurnAt, seat_view, turn_view, turn_value};
+ghost use Rattle.phase_core.specs.phase_base.Members.{entry_of};
+ghost use Rattle.phase_core.specs.phase_history.Histories.{History};
+ghost use Rattle.phase_shared.specs.LockedPhasers.{locked_place, locked_terms};
+ghost use Rattle.phase_shared.specs.Servings.{ask_of, IsBefore, GoesOn, IsServing, IsCompleteIn, WasOpen};
+ghost use Rattle.phase_shared.specs.Views.{known_of};
+
+use crate::lane_words::{LANES, sends_of};
+use crate::rule::SignalRule;
+use crate::seats::lanes::{read_lane, read_send};
+use crate::seats::locked::LockedPhaser;
+use crate::seats::request::Request;
+use crate::seats::view::PhaserTurn;
+use phase_core::phase_accum::Accumulate;
+use phase_core::{Got, PhaserCore};
+use std::hint;
+
+// Whether the task stands before the phase, which it has neither signalled nor waited for.
+fn is_before<A: Accumulate>(core: &PhaserCore<A>, task: u64, phase: u64) -> bool
+    ensures { result ≡ true → IsBefore core.now.members task phase }
+{
+    match core.view(task) {
+        Some(entry) => entry.signal_phase == phase && entry.wait_phase == phase,
+        None => false,
+    }
+}
+
+// Makes the signal that another task asks for in this phase, where it does, and tells whether it
+// made one.
+fn signal_for<A: Accumulate, K: SignalRule>(
+    phaser: &LockedPhaser<A, K>,
+    turn: PhaserTurn<A, K>,
+    request: Request,
+    task: u64,
+) -> (PhaserTurn<A, K>, bool)
+    requires low { task < LANES }
+    requires other { task ≢ request.task }
+    requires turn { IsTurnAt (locked_place phaser.now) turn }
+    requires serving { IsServing A.operation K.allows (locked_terms phaser.now) (ask_of request)
+        false 0 (turn_view turn) (turn_value turn) }
+    ensures turn { IsTurnAt (locked_place phaser.now) result.0 }
+    ensures knows { known_of (turn_view result.0) ≡ known_of (turn_view turn) }
+    ensures goes { GoesOn A.operation K.allows (locked_terms phaser.now) (ask_of request)
+        false 0 (turn_view turn) (turn_value turn)
+        false 0 (turn_view result.0) (turn_value result.0) }
+{
+    let (turn, found) = read_lane(phaser, turn, task);
+    if found != request.phase + 1 {
+        return (turn, false);
+    }
+    let (mut turn, send) = read_send(phaser, turn, task);
+    let core = turn.value_in(&phaser.lock);
+    if !is_before(core, task, request.phase) {
+        return (turn, false);
+    }
+    match core.signal(task, sends_of(send), None) {
+        Ok(_phase) => (turn, true),
+        Err(_refused) => (turn, false),
+    }
+}
+
+// Makes the signals that others ask for in this phase, and tells whether it made one.
+fn signal_all<A: Accumulate, K: SignalRule>(
+    phaser: &LockedPhaser<A, K>,
+    turn: PhaserTurn<A, K>,
+    request: Request,
+) -> (PhaserTurn<A, K>, bool)
+    requires turn { IsTurnAt (locked_place phaser.now) turn }
+    requires serving { IsServing A.operation K.allows (locked_terms phaser.now) (ask_of request)
+        false 0 (turn_view turn) (turn_value turn) }
+    ensures turn { IsTurnAt (locked_place phaser.now) result.0 }
+    ensures knows { known_of (turn_view result.0) ≡ known_of (turn_view turn) }
+    ensures goes { GoesOn A.operation K.allows (locked_terms phaser.now) (ask_of request)
+        false 0 (turn_view turn) (turn_value turn)
+        false 0 (turn_view result.0) (turn_value result.0) }
+{
+    let mut turn = turn;
+    let mut has_made = false;
+    for task in 0..LANES {
+        if task != request.task {
+            let (next, is_made) = signal_for(phaser, turn, request, task);
+            turn = next;
+            has_made = has_made || is_made;
+        }
+    }
+    (turn, has_made)
+}
+
+// Whether the phase is complete.
+fn is_complete<A: Accumulate, K: SignalRule>(
+    phaser: &LockedPhaser<A, K>,
+    turn: PhaserTurn<A, K>,
+    phase: u64,
+) -> (PhaserTurn<A, K>, bool)
+    requires turn { IsTurnAt (locked_place phaser.now) turn }
+    ensures turn { IsTurnAt (locked_place phaser.now) result.0 }
+    ensures view { turn_view result.0 ≡ turn_view turn }
+    ensures value { turn_value result.0 ≡ turn_value turn }
+    ensures complete { result.1 ≡ true
+        → IsCompleteIn A.operation (turn_value turn) phase }
+{
+    let mut turn = turn;
+    let is_done = turn.value_in(&phaser.lock).done() > phase;
+    (turn, is_done)
+}
+
+// Makes the signals that others ask for while the phase is not complete, as long as it makes some,
+// and then for so many looks. It tells whether the phase is complete.
+pub fn gather<A: Accumulate, K: SignalRule>(
+    phaser: &LockedPhaser<A, K>,
+    turn: PhaserTurn<A, K>,
+    request: Request,
+    looks: u32,
+) -> (PhaserTurn<A, K>, bool)
+    requires turn { IsTurnAt (locked_place phaser.now) turn }
+    requires serving { IsServing A.operation K.allows (locked_terms phaser.now) (ask_of request)
+        false 0 (turn_view turn) (turn_value turn) }
+    ensures turn { IsTurnAt (locked_place phaser.now) result.0 }
+    ensures knows { known_of (turn_view result.0) ≡ known_of (turn_view turn) }
+    ensures goes { GoesOn A.operation K.allows (locked_terms phaser.now) (ask_of request)
+        false 0 (turn_view turn) (turn_value turn)
+        false 0 (turn_view result.0) (turn_value result.0) }
+    ensures complete { result.1 ≡ true
+        → IsCompleteIn A.operation (turn_value result.0) request.phase }
+{
+    let mut turn = turn;
+    for _ in 0..looks {
+        let (next, is_done) = is_complete(phaser, turn, request.phase);
+        if is_done {
+            return (next, true);
+        }
+        let (next, has_made) = signal_all(phaser, next, request);
+        turn = next;
+        if !has_made {
+            hint::spin_loop();
+        }
+    }
+    is_complete(phaser, turn, request.phase)
+}
