@@ -5,6 +5,8 @@ use Rattle.phase_core.specs.phase_base.Modes.{mode_signals, mode_waits}
 use Rattle.phase_core.specs.phase_base.Members.{Members, entry_of}
 use Rattle.phase_core.specs.phase_base.declared.entry.Entry.{Entry}
 use Rattle.phase_core.specs.phase_accum.Operations.{Operation}
+use Rattle.phase_core.specs.phase_accum.Parcels.{StandsForSends}
+use Rattle.phase_shared.specs.Regs.{RegState}
 use Rattle.phase_core.specs.phase_accum.declared.outcome.Outcome.{Outcome}
 use Rattle.phase_core.specs.phase_history.declared.event.Event.TheVariants.{Waited}
 use Rattle.phase_core.specs.phase_history.declared.refusal.SignalRefusal.{SignalRefusal}
@@ -20,7 +22,7 @@ use Rattle.phase_shared.specs.declared.seats.request.Request.{Request}
 use Rattle.phase_shared.specs.declared.seats.request.Came.{Came}
 use Rattle.phase_shared.specs.declared.seats.request.Came.TheVariants.{Got, Refused, Asked}
 use Rattle.phase_shared.specs.declared.rule.Terms.{Terms}
-use Rattle.phase_shared.specs.Asks.{Ask, Stands, IsUnmade, IsMade, Batch, IsOneOf}
+use Rattle.phase_shared.specs.Asks.{Ask, Stands, IsUnmade, IsMade, IsAnswered, Batch, IsOneOf}
 use Rattle.phase_shared.specs.Desks.{MayMake}
 use Rattle.phase_shared.specs.Goods.{Allows, IsGoodAt}
 use Rattle.phase_shared.specs.Lanes.{lanes_most, sends_of}
@@ -30,6 +32,14 @@ use Rattle.phase_shared.specs.Views.{knowledge, known_of, resting, turning}
 -- what is asked for
 abbrev pub ask_of : Request → Ask
 ask_of r = record { task = r.task; phase = r.phase; sends = sends_of r.send }
+
+-- a request for the next phase of a registration, for what it holds
+pub record IsRequestOf {A K : Type 0} (op : Operation A) (r : Request) (reg : RegState A K)
+    : Type 0 where
+  pub task : r.task ≡ reg.number
+  pub signal_at : reg.entry.signal_phase ≡ r.phase
+  pub wait_at : reg.entry.wait_phase ≡ r.phase
+  pub holds : StandsForSends op reg.held (sends_of r.send)
 
 -- a seat at rest of a task that stands before its next phase and has a lane. Whatever the others do,
 -- the phaser's rule allows its signal
@@ -51,6 +61,13 @@ pub record IsBefore (members : Members) (task phase : ℕ) : Type 0 where
   pub signal_at : entry.signal_phase ≡ phase
   pub wait_at : entry.wait_phase ≡ phase
 
+-- the task is registered, and has signalled the phase and not waited for it
+pub record IsBetween (members : Members) (task phase : ℕ) : Type 0 where
+  pub entry : Entry
+  pub member : entry_of members task ≡ Some entry
+  pub signal_at : entry.signal_phase ≡ phase + 1
+  pub wait_at : entry.wait_phase ≡ phase
+
 -- the task is a waiter
 abbrev pub IsWaiterIn : History → ℕ → Type 0
 IsWaiterIn h task =
@@ -58,7 +75,8 @@ IsWaiterIn h task =
 
 module _ {A K : Type 0} (op : Operation A) (allows : K → Allows) (terms : Terms K) (ask : Ask) where
   -- a turn: what the seat read, and the events of the turn. Where it has not begun to serve, none
-  -- of the asks that it read is answered; and those for its phase, of tasks below k, are
+  -- of the asks that it read is answered; else its phase is complete, and those for it, of tasks
+  -- below k, are
   pub record Turned (serves : Bool) (k : ℕ) (v : View) (x : CoreState A) : Type 0 where
     pub now : History
     pub claims : List Ask
@@ -74,6 +92,7 @@ module _ {A K : Type 0} (op : Operation A) (allows : K → Allows) (terms : Term
     pub own : (lane ≡ None) ⊎ (lane ≡ Some (ask.phase + 1))
     pub quiet : serves ≡ false → (a : Ask) → IsOneOf claims a
         → Stands (later ++ now) a.task (a.phase + 1) (a.phase + 1) → ⊥
+    pub complete : serves ≡ true → ask.phase < done_of (later ++ now)
     pub served : (a : Ask) → IsOneOf claims a → a.task < k → a.phase ≡ ask.phase
         → Stands (later ++ now) a.task (a.phase + 1) (a.phase + 1)
 
@@ -105,6 +124,14 @@ module _ {A K : Type 0} (op : Operation A) (allows : K → Allows) (terms : Term
     pub complete : ask.phase < done_of middle
     pub has : outcome ≡ value_of_phase op.value (Waited ask.task 1 ∷ middle) ask.phase
 
+  -- at the beginning of a turn: others have answered, and the board has the value
+  pub record IsAnsweredIn (v : View) (x : CoreState A) : Type 0 where
+    pub turned : Turned op allows terms ask false 0 v x
+    pub first : turned.later ≡ []
+    pub lane_is : turned.lane ≡ Some (ask.phase + 1)
+    pub answered : IsAnswered terms.limits ask seen turned.now
+    pub has : turned.said ≡ value_of_phase op.value turned.now ask.phase
+
   -- the answer: its signal, others' events, and its wait
   pub record HasAnswer (outcome : Outcome) (w : View) : Type 0 where
     pub middle : History
@@ -128,17 +155,6 @@ module _ {A K : Type 0} (op : Operation A) (allows : K → Allows) (terms : Term
   CameTo (Got outcome) w = HasAnswer outcome w
   CameTo (Refused refusal) w = IsRefused refusal w
   CameTo Asked w = IsAsking ask seen w
-
-module _ {A K : Type 0} (op : Operation A) (allows : K → Allows) (terms : Terms K) (ask : Ask) where
-  -- a turn goes on, for whatever the seat had seen when it asked
-  abbrev pub GoesOn : Bool → ℕ → View → CoreState A → Bool → ℕ → View → CoreState A → Type 0
-  GoesOn serves k v x serves' k' w y =
-      (seen : History) → Serving op allows terms ask seen serves k v x
-      → Serving op allows terms ask seen serves' k' w y
-
-  -- it is in its turn
-  abbrev pub IsServing : Bool → ℕ → View → CoreState A → Type 0
-  IsServing serves k v x = (seen : History) × Serving op allows terms ask seen serves k v x
 
 -- the phase is complete in whatever the core stands for
 abbrev pub IsCompleteIn : {A : Type 0} → Operation A → CoreState A → ℕ → Type 0

@@ -11,6 +11,7 @@ use crate::held::Held;
 use crate::phaser::Phaser;
 use crate::reg::Reg;
 use crate::rule::SignalRule;
+use crate::seats::spins::Spins;
 use crate::seats::{block_steps, join_steps};
 use crate::tried::Tried;
 use phase_core::phase_accum::{Accumulate, Outcome, Pending, Single};
@@ -148,6 +149,7 @@ impl<A: Accumulate, K: SignalRule> Reg<A, K> {
             number: made.0,
             entry: made.2,
             pending: Held::new(),
+            spins: Spins::new(),
         })
     }
 }

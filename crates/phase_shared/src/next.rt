@@ -1,17 +1,25 @@
 //! A registration's next phase, by one call.
-ghost use Rattle.std.specs.Prelude.{◌≡◌, ◌≢◌, true, Some, Ok, Err, is_ok, ◌&&◌};
+ghost use Rattle.std.specs.Prelude.{◌≡◌, ◌≢◌, true, Some, None, Ok, Err, IfSome, is_ok, ◌&&◌};
 ghost use Rattle.phase_core.specs.phase_base.Modes.{mode_signals, mode_waits};
 ghost use Rattle.phase_shared.specs.Rule.{IsGoodAt};
 ghost use Rattle.phase_shared.specs.Regs.{phaser_lock, phaser_terms, phaser_limits};
 ghost use Rattle.phase_shared.specs.Calls.{IsCall, Waits, MaySignal, HeldAfter};
 ghost use Rattle.phase_shared.specs.Entries.{entry_after_wait, entry_after_next};
 ghost use Rattle.phase_shared.specs.Nexts.{GoesOrRefuses};
+ghost use Rattle.phase_shared.specs.Servings.{IsRequestOf};
 
+use crate::held::Held;
+use crate::lane_words::LANES;
+use crate::patience::Patience;
 use crate::phaser::Phaser;
 use crate::reg::Reg;
 use crate::rule::SignalRule;
+use crate::seats::nexts;
+use crate::seats::request::Request;
+use crate::tried::Tried;
 use phase_core::phase_accum::{Accumulate, Single};
 use phase_core::{Got, SignalRefusal};
+use std::marker::Brand;
 use std::sync::Wait;
 
 /// What a registration did in a phase.
@@ -61,11 +69,17 @@ impl<A: Accumulate, K: SignalRule> Reg<A, K> {
             });
         }
         let waits = self.mode().waits();
+        if waits && single.is_none() {
+            if let Some(request) = self.request() {
+                return self.ask_next(rt, phaser, request);
+            }
+        }
         let answer = match self.signal_and_wait(rt, phaser, single, waits) {
             Ok(answer) => answer,
             Err(refusal) => return Err(refusal),
         };
         let (phase, got) = answer;
+        self.spins.set_alone(got.is_some());
         if !waits || got.is_some() {
             return Ok(Next {
                 signalled: Some(phase),
@@ -77,6 +91,102 @@ impl<A: Accumulate, K: SignalRule> Reg<A, K> {
         Ok(Next {
             signalled: Some(phase),
             got: Some(got),
+        })
+    }
+
+    // What it asks others for, where it can: it has a lane, stands before its next phase, and a
+    // word says what it holds. Where it was alone the last time it asks nobody.
+    fn request(&self) -> Option<Request>
+        ensures { IfSome result (λ r. IsRequestOf A.operation r self.now) }
+    {
+        let phase = self.entry.signal_phase;
+        let send = self.pending.word()?;
+        if self.spins.is_alone() || self.number >= LANES || phase == u64::MAX {
+            return None;
+        }
+        if self.entry.wait_phase != phase {
+            return None;
+        }
+        Some(Request {
+            task: self.number,
+            phase,
+            send,
+        })
+    }
+
+    // Goes to its next phase, where it can ask others. It tries again where it is ahead.
+    fn ask_next<W: Wait>(
+        &mut self,
+        rt: &W,
+        phaser: &Phaser<A, K>,
+        request: Request,
+    ) -> Result<Next, SignalRefusal>
+        requires at { self.old.at ≡ phaser_lock phaser.now }
+        requires both { (mode_signals self.old.entry.mode ≡ true)
+            × (mode_waits self.old.entry.mode ≡ true) }
+        requires request { IsRequestOf A.operation request self.old }
+        requires rule { MaySignal A.operation K.allows (phaser_terms phaser.now) self.old None }
+        ensures call { let old = self.old in
+            IsCall K.allows (phaser_terms phaser.now) SignalRefusal.NoTask entry_after_next
+            (GoesOrRefuses A.operation (phaser_limits phaser.now) None old self.new.seen result)
+            old self.new result }
+        ensures waited { result ≢ Err SignalRefusal.Ahead }
+        ensures held { HeldAfter A.operation (is_ok result) self.old.held self.new.held }
+    {
+        let patience = Patience::new();
+        for _ in rt.forever() {
+            match self.ask_once(rt, phaser, request) {
+                Err(SignalRefusal::Ahead) => {
+                    let tried = Tried::Refused(SignalRefusal::Ahead);
+                    self.pause_for_room(rt, phaser, 1, &patience, tried);
+                }
+                answer => return answer,
+            }
+        }
+        unreachable!()
+    }
+
+    // Goes to its next phase, where it can ask others, or is refused as a signal is.
+    fn ask_once<W: Wait>(
+        &mut self,
+        rt: &W,
+        phaser: &Phaser<A, K>,
+        request: Request,
+    ) -> Result<Next, SignalRefusal>
+        requires at { self.old.at ≡ phaser_lock phaser.now }
+        requires both { (mode_signals self.old.entry.mode ≡ true)
+            × (mode_waits self.old.entry.mode ≡ true) }
+        requires request { IsRequestOf A.operation request self.old }
+        requires rule { MaySignal A.operation K.allows (phaser_terms phaser.now) self.old None }
+        ensures call { let old = self.old in
+            IsCall K.allows (phaser_terms phaser.now) SignalRefusal.NoTask entry_after_next
+            (GoesOrRefuses A.operation (phaser_limits phaser.now) None old self.new.seen result)
+            old self.new result }
+        ensures held { HeldAfter A.operation (is_ok result) self.old.held self.new.held }
+    {
+        let Some(seat) = self.seat.take() else {
+            unreachable!()
+        };
+        let (seat, answer) = nexts::next::<A, K, Brand, W>(
+            rt,
+            &phaser.locked,
+            seat,
+            self.entry,
+            request,
+            &mut self.spins,
+        );
+        self.seat = Some(seat);
+        let outcome = match answer {
+            Ok(outcome) => outcome,
+            Err(refusal) => return Err(refusal),
+        };
+        let phase = request.phase;
+        self.entry.signal_phase = phase + 1;
+        self.entry.wait_phase = phase + 1;
+        self.pending = Held::new();
+        Ok(Next {
+            signalled: Some(phase),
+            got: Some(Got::Value { phase, outcome }),
         })
     }
 

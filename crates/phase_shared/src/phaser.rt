@@ -11,6 +11,7 @@ use crate::held::Held;
 use crate::reg::Reg;
 use crate::rule::{SignalRule, Terms};
 use crate::seats::locked::LockedPhaser;
+use crate::seats::spins::Spins;
 use phase_core::phase_accum::Accumulate;
 use phase_core::phase_base::{Entry, Mode, Spec};
 use std::alloc::{AllocError, Global};
@@ -63,6 +64,7 @@ impl<A: Accumulate, K: SignalRule> Phaser<A, K> {
             number: 0,
             entry,
             pending: Held::new(),
+            spins: Spins::new(),
         };
         Ok((Phaser { locked }, founder))
     }

@@ -12,6 +12,7 @@ use crate::held::Held;
 use crate::phaser::Phaser;
 use crate::refusal::SendRefusal;
 use crate::rule::SignalRule;
+use crate::seats::spins::Spins;
 use crate::seats::view::PhaserSeat;
 use phase_core::phase_accum::{Accumulate, Pending, SendFault};
 use phase_core::phase_base::{Entry, Mode};
@@ -38,6 +39,7 @@ pub struct Reg<A: Accumulate, K: SignalRule> {
     pub(crate) number: u64,
     pub(crate) entry: Entry,
     pub(crate) pending: Held<A>,
+    pub(crate) spins: Spins,
 }
 
 impl<A: Accumulate, K: SignalRule> Model for Reg<A, K> {

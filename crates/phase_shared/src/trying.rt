@@ -14,6 +14,7 @@ use crate::held::Held;
 use crate::phaser::Phaser;
 use crate::reg::Reg;
 use crate::rule::SignalRule;
+use crate::seats::spins::Spins;
 use crate::seats::steps;
 use crate::tried::Tried;
 use phase_core::phase_accum::{Accumulate, Single};
@@ -138,6 +139,7 @@ impl<A: Accumulate, K: SignalRule> Reg<A, K> {
             number: made.0,
             entry: made.2,
             pending: Held::new(),
+            spins: Spins::new(),
         })
     }
 
@@ -161,6 +163,7 @@ impl<A: Accumulate, K: SignalRule> Reg<A, K> {
             number,
             entry,
             pending,
+            spins,
         } = self;
         let Some(seat) = seat else { unreachable!() };
         match steps::leave(&phaser.locked, seat, number, entry) {
@@ -170,6 +173,7 @@ impl<A: Accumulate, K: SignalRule> Reg<A, K> {
                 number,
                 entry,
                 pending,
+                spins,
             }),
         }
     }

@@ -182,3 +182,16 @@ impl<K> Reads<Terms<K>, View> for OnBoardNumber {
 
     ghost then = { λ terms v r w. BoardNumber v r w };
 }
+
+// What a seat had seen when its call began.
+pub trait Since {
+    ghost use Rattle.phase_core.specs.phase_history.Histories.{History};
+
+    ghost seen: { History };
+}
+
+impl Since for Brand {
+    ghost use Rattle.std.specs.Prelude.{[]};
+
+    ghost seen = { [] };
+}

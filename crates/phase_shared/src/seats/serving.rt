@@ -1,20 +1,19 @@
 //! The turn of a seat that asks: it signals for others, and waits for all where that completes its
 //! phase.
-ghost use Rattle.std.specs.Prelude.{◌≡◌, ◌≢◌, ◌<◌, ◌≤◌, true, false, Some};
-ghost use Rattle.turn_lock.specs.Seats.{IsSeatAt, IsTurnAt, seat_view, turn_view, turn_value};
-ghost use Rattle.phase_core.specs.phase_base.Members.{entry_of};
-ghost use Rattle.phase_core.specs.phase_history.Histories.{History};
+ghost use Rattle.std.specs.Prelude.{◌≡◌, ◌≢◌, ◌<◌, ◌+◌, ◌^◌, ℕ, Bool, true, false};
+ghost use Rattle.turn_lock.specs.Seats.{IsTurnAt, turn_view, turn_value};
 ghost use Rattle.phase_shared.specs.LockedPhasers.{locked_place, locked_terms};
-ghost use Rattle.phase_shared.specs.Servings.{ask_of, IsBefore, GoesOn, IsServing, IsCompleteIn, WasOpen};
+ghost use Rattle.phase_shared.specs.Servings.{ask_of, IsBefore, IsBetween, Serving, Finished, IsCompleteIn};
 ghost use Rattle.phase_shared.specs.Views.{known_of};
 
 use crate::lane_words::{LANES, sends_of};
 use crate::rule::SignalRule;
+use crate::seats::ghost_steps::Since;
 use crate::seats::lanes::{read_lane, read_send};
 use crate::seats::locked::LockedPhaser;
 use crate::seats::request::Request;
 use crate::seats::view::PhaserTurn;
-use phase_core::phase_accum::Accumulate;
+use phase_core::phase_accum::{Accumulate, Outcome};
 use phase_core::{Got, PhaserCore};
 use std::hint;
 
@@ -28,9 +27,20 @@ fn is_before<A: Accumulate>(core: &PhaserCore<A>, task: u64, phase: u64) -> bool
     }
 }
 
+// Whether the task has signalled the phase, and not waited for it.
+fn is_between<A: Accumulate>(core: &PhaserCore<A>, task: u64, phase: u64) -> bool
+    requires { phase + 1 < 2 ^ 64 }
+    ensures { result ≡ true → IsBetween core.now.members task phase }
+{
+    match core.view(task) {
+        Some(entry) => entry.signal_phase == phase + 1 && entry.wait_phase == phase,
+        None => false,
+    }
+}
+
 // Makes the signal that another task asks for in this phase, where it does, and tells whether it
 // made one.
-fn signal_for<A: Accumulate, K: SignalRule>(
+fn signal_for<A: Accumulate, K: SignalRule, S: Since>(
     phaser: &LockedPhaser<A, K>,
     turn: PhaserTurn<A, K>,
     request: Request,
@@ -39,13 +49,12 @@ fn signal_for<A: Accumulate, K: SignalRule>(
     requires low { task < LANES }
     requires other { task ≢ request.task }
     requires turn { IsTurnAt (locked_place phaser.now) turn }
-    requires serving { IsServing A.operation K.allows (locked_terms phaser.now) (ask_of request)
-        false 0 (turn_view turn) (turn_value turn) }
+    requires serving { Serving A.operation K.allows (locked_terms phaser.now) (ask_of request)
+        S.seen false 0 (turn_view turn) (turn_value turn) }
     ensures turn { IsTurnAt (locked_place phaser.now) result.0 }
     ensures knows { known_of (turn_view result.0) ≡ known_of (turn_view turn) }
-    ensures goes { GoesOn A.operation K.allows (locked_terms phaser.now) (ask_of request)
-        false 0 (turn_view turn) (turn_value turn)
-        false 0 (turn_view result.0) (turn_value result.0) }
+    ensures serving { Serving A.operation K.allows (locked_terms phaser.now) (ask_of request)
+        S.seen false 0 (turn_view result.0) (turn_value result.0) }
 {
     let (turn, found) = read_lane(phaser, turn, task);
     if found != request.phase + 1 {
@@ -63,25 +72,24 @@ fn signal_for<A: Accumulate, K: SignalRule>(
 }
 
 // Makes the signals that others ask for in this phase, and tells whether it made one.
-fn signal_all<A: Accumulate, K: SignalRule>(
+fn signal_all<A: Accumulate, K: SignalRule, S: Since>(
     phaser: &LockedPhaser<A, K>,
     turn: PhaserTurn<A, K>,
     request: Request,
 ) -> (PhaserTurn<A, K>, bool)
     requires turn { IsTurnAt (locked_place phaser.now) turn }
-    requires serving { IsServing A.operation K.allows (locked_terms phaser.now) (ask_of request)
-        false 0 (turn_view turn) (turn_value turn) }
+    requires serving { Serving A.operation K.allows (locked_terms phaser.now) (ask_of request)
+        S.seen false 0 (turn_view turn) (turn_value turn) }
     ensures turn { IsTurnAt (locked_place phaser.now) result.0 }
     ensures knows { known_of (turn_view result.0) ≡ known_of (turn_view turn) }
-    ensures goes { GoesOn A.operation K.allows (locked_terms phaser.now) (ask_of request)
-        false 0 (turn_view turn) (turn_value turn)
-        false 0 (turn_view result.0) (turn_value result.0) }
+    ensures serving { Serving A.operation K.allows (locked_terms phaser.now) (ask_of request)
+        S.seen false 0 (turn_view result.0) (turn_value result.0) }
 {
     let mut turn = turn;
     let mut has_made = false;
     for task in 0..LANES {
         if task != request.task {
-            let (next, is_made) = signal_for(phaser, turn, request, task);
+            let (next, is_made) = signal_for::<A, K, S>(phaser, turn, request, task);
             turn = next;
             has_made = has_made || is_made;
         }
@@ -100,29 +108,28 @@ fn is_complete<A: Accumulate, K: SignalRule>(
     ensures view { turn_view result.0 ≡ turn_view turn }
     ensures value { turn_value result.0 ≡ turn_value turn }
     ensures complete { result.1 ≡ true
-        → IsCompleteIn A.operation (turn_value turn) phase }
+        → IsCompleteIn A.operation (turn_value result.0) phase }
 {
     let mut turn = turn;
     let is_done = turn.value_in(&phaser.lock).done() > phase;
     (turn, is_done)
 }
 
-// Makes the signals that others ask for while the phase is not complete, as long as it makes some,
-// and then for so many looks. It tells whether the phase is complete.
-pub fn gather<A: Accumulate, K: SignalRule>(
+// Makes the signals that others ask for while the phase is not complete, for so many looks. It
+// tells whether the phase is complete.
+pub fn gather<A: Accumulate, K: SignalRule, S: Since>(
     phaser: &LockedPhaser<A, K>,
     turn: PhaserTurn<A, K>,
     request: Request,
     looks: u32,
 ) -> (PhaserTurn<A, K>, bool)
     requires turn { IsTurnAt (locked_place phaser.now) turn }
-    requires serving { IsServing A.operation K.allows (locked_terms phaser.now) (ask_of request)
-        false 0 (turn_view turn) (turn_value turn) }
+    requires serving { Serving A.operation K.allows (locked_terms phaser.now) (ask_of request)
+        S.seen false 0 (turn_view turn) (turn_value turn) }
     ensures turn { IsTurnAt (locked_place phaser.now) result.0 }
     ensures knows { known_of (turn_view result.0) ≡ known_of (turn_view turn) }
-    ensures goes { GoesOn A.operation K.allows (locked_terms phaser.now) (ask_of request)
-        false 0 (turn_view turn) (turn_value turn)
-        false 0 (turn_view result.0) (turn_value result.0) }
+    ensures serving { Serving A.operation K.allows (locked_terms phaser.now) (ask_of request)
+        S.seen false 0 (turn_view result.0) (turn_value result.0) }
     ensures complete { result.1 ≡ true
         → IsCompleteIn A.operation (turn_value result.0) request.phase }
 {
@@ -132,11 +139,104 @@ pub fn gather<A: Accumulate, K: SignalRule>(
         if is_done {
             return (next, true);
         }
-        let (next, has_made) = signal_all(phaser, next, request);
+        let (next, has_made) = signal_all::<A, K, S>(phaser, next, request);
         turn = next;
         if !has_made {
             hint::spin_loop();
         }
     }
     is_complete(phaser, turn, request.phase)
+}
+
+// Makes the wait of another task that asked for this phase, where its signal was made. It tells
+// whether no ask of this task for the phase is left.
+fn wait_for<A: Accumulate, K: SignalRule, S: Since>(
+    phaser: &LockedPhaser<A, K>,
+    turn: PhaserTurn<A, K>,
+    request: Request,
+    task: u64,
+) -> (PhaserTurn<A, K>, bool)
+    requires low { task < LANES }
+    requires other { task ≢ request.task }
+    requires turn { IsTurnAt (locked_place phaser.now) turn }
+    requires serving { Serving A.operation K.allows (locked_terms phaser.now) (ask_of request)
+        S.seen true 0 (turn_view turn) (turn_value turn) }
+    ensures turn { IsTurnAt (locked_place phaser.now) result.0 }
+    ensures knows { known_of (turn_view result.0) ≡ known_of (turn_view turn) }
+    ensures serving { Serving A.operation K.allows (locked_terms phaser.now) (ask_of request)
+        S.seen true 0 (turn_view result.0) (turn_value result.0) }
+    ensures served { result.1 ≡ true
+        → Serving A.operation K.allows (locked_terms phaser.now) (ask_of request)
+        S.seen true task (turn_view turn) (turn_value turn)
+        → Serving A.operation K.allows (locked_terms phaser.now) (ask_of request)
+        S.seen true (task + 1) (turn_view result.0) (turn_value result.0) }
+{
+    let (mut turn, found) = read_lane(phaser, turn, task);
+    if found != request.phase + 1 {
+        return (turn, true);
+    }
+    let core = turn.value_in(&phaser.lock);
+    if !is_between(core, task, request.phase) {
+        return (turn, false);
+    }
+    match core.wait(task) {
+        Ok(Got::Value { .. }) => (turn, true),
+        _ => (turn, false),
+    }
+}
+
+// Makes the waits of all others that asked for this phase, and tells whether none of them is left.
+pub fn wait_all<A: Accumulate, K: SignalRule, S: Since>(
+    phaser: &LockedPhaser<A, K>,
+    turn: PhaserTurn<A, K>,
+    request: Request,
+) -> (PhaserTurn<A, K>, bool)
+    requires turn { IsTurnAt (locked_place phaser.now) turn }
+    requires serving { Serving A.operation K.allows (locked_terms phaser.now) (ask_of request)
+        S.seen true 0 (turn_view turn) (turn_value turn) }
+    ensures turn { IsTurnAt (locked_place phaser.now) result.0 }
+    ensures knows { known_of (turn_view result.0) ≡ known_of (turn_view turn) }
+    ensures serving { Serving A.operation K.allows (locked_terms phaser.now) (ask_of request)
+        S.seen true 0 (turn_view result.0) (turn_value result.0) }
+    ensures all { result.1 ≡ true
+        → Serving A.operation K.allows (locked_terms phaser.now) (ask_of request)
+        S.seen true LANES (turn_view result.0) (turn_value result.0) }
+{
+    let mut turn = turn;
+    let mut is_all = true;
+    for task in 0..LANES {
+        if task != request.task {
+            let (next, is_made) = wait_for::<A, K, S>(phaser, turn, request, task);
+            turn = next;
+            is_all = is_all && is_made;
+        }
+    }
+    (turn, is_all)
+}
+
+// Makes its own wait, for its phase, which is complete, and answers the value.
+pub fn wait_own<A: Accumulate, K: SignalRule, S: Since>(
+    phaser: &LockedPhaser<A, K>,
+    turn: PhaserTurn<A, K>,
+    request: Request,
+) -> (PhaserTurn<A, K>, Outcome)
+    requires turn { IsTurnAt (locked_place phaser.now) turn }
+    requires serving { (serves : Bool) × (k : ℕ)
+        × Serving A.operation K.allows (locked_terms phaser.now) (ask_of request)
+        S.seen serves k (turn_view turn) (turn_value turn) }
+    requires complete { IsCompleteIn A.operation (turn_value turn) request.phase }
+    ensures turn { IsTurnAt (locked_place phaser.now) result.0 }
+    ensures knows { known_of (turn_view result.0) ≡ known_of (turn_view turn) }
+    ensures finished { (serves : Bool) (k : ℕ)
+        → Serving A.operation K.allows (locked_terms phaser.now) (ask_of request)
+        S.seen serves k (turn_view turn) (turn_value turn)
+        → Finished A.operation K.allows (locked_terms phaser.now) (ask_of request)
+        S.seen serves k result.1 (turn_view result.0) (turn_value result.0) }
+{
+    let mut turn = turn;
+    let answer = turn.value_in(&phaser.lock).wait(request.task);
+    let Ok(Got::Value { outcome, .. }) = answer else {
+        unreachable!()
+    };
+    (turn, outcome)
 }
