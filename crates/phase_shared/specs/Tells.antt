@@ -78,12 +78,13 @@ pub record IsClaim (limits : Limits) (allows : Allows) (f : Knowledge) (claims :
   pub stands : (Stands f.seen a.task a.phase a.phase × MayBeMade limits allows f.seen a)
       ⊎ Stands f.seen a.task (a.phase + 1) a.phase
 
--- the holder read r in the lane of task i: what was asked there it has read
+-- the holder read r in the lane of task i: what was asked there it has read, and each ask that was
+-- newly read is a claim
 pub record LaneRead (limits : Limits) (allows : Allows) (i : ℕ) (f : Knowledge) (claims : List Ask)
     (said : Outcome) (lane : Option ℕ) (r : ℕ) (w : View) : Type 0 where
   pub new : List Ask
   pub is : w ≡ Turning f (new ++ claims) said lane
-  pub fresh : (a : Ask) → IsOneOf new a → a.task ≡ i
+  pub fresh : (a : Ask) → IsOneOf new a → (a.task ≡ i) × IsClaim limits allows f (new ++ claims) a
   pub read : (a : Ask) → IsOneOf (new ++ claims) a → a.task ≡ i → r ≡ a.phase + 1
   pub found : ((r ≡ 0) ⊎ IsPast f.seen i r)
       ⊎ ((a : Ask) × (a.task ≡ i) × IsClaim limits allows f (new ++ claims) a)
