@@ -20,6 +20,7 @@ pub mod AskBoards
 pub mod LaneReading
 pub mod AskAnswering
 pub mod WordCalls
+pub mod AskCalls
 pub mod Giving
 pub mod Answering
 pub mod Stepping
