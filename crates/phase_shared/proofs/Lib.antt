@@ -6,13 +6,14 @@ pub mod OneLists
 pub mod PartSteps
 pub mod LaterBlocks
 pub mod BlockPartSteps
-pub mod Keeping
 pub mod Small
 pub mod Stages
 pub mod Steadies
 pub mod Places
 pub mod Growing
 pub mod Taking
+pub mod GivingAsks
+pub mod Joining
 pub mod LaneWords
 pub mod AskMoves
 pub mod AskPosting
