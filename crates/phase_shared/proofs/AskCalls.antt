@@ -27,19 +27,6 @@ use Rattle.phase_shared.proofs.Taking.{takes_asked}
 use Rattle.phase_shared.proofs.AskBoards.{reads_kind, reads_number, board_read}
 use Rattle.phase_shared.proofs.AskAnswering.{looks_asked}
 
--- a kind and a number say one outcome
-pub said_by : (number kind : ℕ) (o : Outcome) → KindIs kind o → NumberIs number o → outcome_of number kind ≡ o
-said_by number kind o k n = elim (eqb kind 0) as (λ b. (eqb kind 0 ≡ b) → cond b (Value (number_of number)) (cond (eqb kind 1) Empty TooBig) ≡ o) [
-  | true ↦ λ t. let v = k.value (eqb-true kind 0 t) in ap Value (sym (n v.0 v.1)) ∙ sym v.1
-  | false ↦ λ f. elim (eqb kind 1) as (λ b. (eqb kind 1 ≡ b) → cond b Empty TooBig ≡ o) [
-    | true ↦ λ t. sym (k.empty (eqb-true kind 1 t))
-    | false ↦ λ e. sym (k.big (apart kind 0 f) (apart kind 1 e))
-  ] refl
-] refl
-  where
-    apart : (m p : ℕ) → eqb m p ≡ false → m ≡ p → ⊥
-    apart m p f same = let t : eqb m p ≡ true = eq-eqb m p same in cc
-
 module _ {A K : Type 0} (op : Operation A) (allows : K → Allows) (terms : Terms K) where
   abbrev StandsFor : CoreState A → History → Type 0
   StandsFor = StandsWithin op terms.limits

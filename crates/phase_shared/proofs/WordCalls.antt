@@ -125,32 +125,3 @@ module _ {A K : Type 0} (op : Operation A) (allows : K → Allows) (terms : Term
       let q = writes_number op.value terms.limits (allows terms.rule) StandsFor number f c.claims c.said c.lane c.later c.batch c.legal c.more told words views long k (at ∙ ap some c.is) n in
       let new : Outcome = board (set words 0 n) in
       (Turning f c.claims new c.lane, q.0, ap (λ (o : Outcome). Turning f c.claims o c.lane) q.1 ∙ ap (λ (u : View). with_board (with_number n (board_of u)) u) (sym c.is))
-
--- another board leaves what the turn completes
-pub completes_still : {K : Type 0} (terms : Terms K) (o : Outcome) (v w : View) → Completes terms v → w ≡ with_board o v → Completes terms w
-completes_still terms o v w c e = record {
-  now = c.now;
-  speaks = c.speaks;
-  claims = c.claims;
-  said = o;
-  lane = c.lane;
-  later = c.later;
-  is = e ∙ ap (with_board o) c.is;
-  batch = c.batch;
-  legal = c.legal;
-  some = c.some;
-  more = c.more;
-}
-
--- a turn has written the kind of an outcome that has no number
-pub board_is : (o : Outcome) (n : ℕ) (v w : View) → HasKind n v w → (KindIs n (board_of w) → board_of w ≡ o) → w ≡ with_board o v
-board_is o n v w kind is = kind.0 ∙ ap (λ (x : Outcome). with_board x v) (is kind.1)
-
--- or that of a value, and then its number
-pub board_has : {K : Type 0} (terms : Terms K) (n : ℤ) (v w x : View) → Completes terms v → HasKind 0 v w → HasNumber (word_of n) w x → x ≡ with_board (Value n) v
-board_has terms n v w x c kind number =
-    let old = kind.1.value refl in
-    let new : with_number (word_of n) (board_of w) ≡ Value n =
-    ap (with_number (word_of n)) old.1 ∙ ap Value (number_of_word n) in
-    number ∙ ap (λ (o : Outcome). with_board o w) new ∙ ap (with_board (Value n)) (kind.0 ∙ ap (with_board (board_of w)) c.is)
-    ∙ ap (with_board (Value n)) (sym c.is)
