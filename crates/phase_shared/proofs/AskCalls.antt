@@ -1,12 +1,9 @@
 -- What each step of a seat that asks owes the rule, and what it tells; and how the board is read.
-use Rattle.std.proofs.Common.{◌≡◌, ℕ, ℤ, ◌+◌, ◌<◌, ◌≤◌, ◌/◌, ◌%◌, cond, eqb, true, false, List, [], ◌∷◌, Option, Some, None, set, slice_index, refl, sym, ap, subst, ◌∙◌}
-use Rattle.std.proofs.lemmas.Bool.{eqb-true, eq-eqb}
+use Rattle.std.proofs.Common.{◌≡◌, ℕ, List, [], ◌∷◌, None, set, slice_index, refl, sym, ap, subst, ◌∙◌}
 use mathlib.Core.Option.{some}
-use lib.ListN.{get_elem?}
 use Rattle.turn_lock.specs.WordSteps.{TakesOf, LooksOf, ReadsOf, ReadsIn}
 use Rattle.phase_core.specs.phase_accum.Operations.{Operation}
 use Rattle.phase_core.specs.phase_accum.declared.outcome.Outcome.{Outcome}
-use Rattle.phase_core.specs.phase_accum.declared.outcome.Outcome.TheVariants.{Value, Empty, TooBig}
 use Rattle.phase_core.specs.phase_history.declared.event.Event.TheVariants.{Waited}
 use Rattle.phase_core.specs.phase_history.Histories.{History}
 use Rattle.phase_core.specs.phase_history.Phases.{value_of_phase}
@@ -14,9 +11,9 @@ use Rattle.phase_core.specs.Cores.{CoreState}
 use Rattle.phase_shared.specs.declared.rule.Terms.{Terms}
 use Rattle.phase_shared.specs.declared.seats.view.Knowledge.{Knowledge}
 use Rattle.phase_shared.specs.Asks.{Ask}
-use Rattle.phase_shared.specs.Desks.{View, Resting, Turning, Asking, Reading}
+use Rattle.phase_shared.specs.Desks.{View, Resting, Turning, Reading}
 use Rattle.phase_shared.specs.Goods.{Allows}
-use Rattle.phase_shared.specs.Lanes.{number_of, outcome_of, KindIs, NumberIs}
+use Rattle.phase_shared.specs.Lanes.{KindIs, NumberIs}
 use Rattle.phase_shared.specs.Rule.{HasOneHistory, StandsWithin}
 use Rattle.phase_shared.specs.Servings.{IsAsking, HasAnswer}
 use Rattle.phase_shared.specs.Tells.{TookAsked, Looked, Learnt, Answers}

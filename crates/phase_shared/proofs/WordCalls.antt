@@ -1,26 +1,22 @@
 -- What each step on a word owes the rule, and what it tells.
-use Rattle.std.proofs.Common.{◌≡◌, ℕ, ℤ, ◌+◌, ◌<◌, List, [], ◌∷◌, ◌++◌, false, Option, Some, None, set, slice_index, refl, sym, ap, subst, ◌∙◌}
+use Rattle.std.proofs.Common.{◌≡◌, ℕ, ◌+◌, ◌<◌, List, [], ◌∷◌, Option, Some, None, set, slice_index, refl, sym, ap, subst, ◌∙◌}
 use mathlib.Core.Option.{some}
-use lib.ListN.{get_elem?}
 use Rattle.turn_lock.specs.WordSteps.{WritesOf, ReadsIn, WritesIn}
 use Rattle.phase_core.specs.phase_accum.Operations.{Operation}
 use Rattle.phase_core.specs.phase_accum.declared.outcome.Outcome.{Outcome}
-use Rattle.phase_core.specs.phase_accum.declared.outcome.Outcome.TheVariants.{Value}
-use Rattle.phase_core.specs.phase_history.Histories.{History, signal_phase}
+use Rattle.phase_core.specs.phase_history.Histories.{History}
 use Rattle.phase_core.specs.Cores.{CoreState}
 use Rattle.phase_shared.specs.declared.rule.Terms.{Terms}
 use Rattle.phase_shared.specs.declared.seats.request.Request.{Request}
 use Rattle.phase_shared.specs.declared.seats.view.Knowledge.{Knowledge}
-use Rattle.phase_shared.specs.Asks.{Ask}
-use Rattle.phase_shared.specs.Desks.{View, Resting, Turning, Posting, Asking, Kept}
+use Rattle.phase_shared.specs.Desks.{View, Turning, Posting, Asking}
 use Rattle.phase_shared.specs.Goods.{Allows}
-use Rattle.phase_shared.specs.Lanes.{lanes_most, board, word_of, number_of, send_place, phase_place, sends_of, KindIs, with_number}
+use Rattle.phase_shared.specs.Lanes.{lanes_most, board, send_place, phase_place, sends_of, with_number}
 use Rattle.phase_shared.specs.Rule.{HasOneHistory, StandsWithin}
 use Rattle.phase_shared.specs.Servings.{ask_of, MayAsk, IsAsking}
 use Rattle.phase_shared.specs.Tells.{LaneRead, SendRead}
 use Rattle.phase_shared.specs.Views.{knowledge, known_of, board_of, claims_of, lane_of}
 use Rattle.phase_shared.specs.WordTells.{IsOther, IsOwnLane, LaneReadAt, SendReadAt, asking_of, with_board, with_lane, Completes, HasKind, HasNumber}
-use Rattle.phase_shared.proofs.LaneWords.{number_of_word}
 use Rattle.phase_shared.proofs.Stages.{signal_is}
 use Rattle.phase_shared.proofs.AskPosting.{posts_send, posts_phase, posts_in, clears_in}
 use Rattle.phase_shared.proofs.AskBoards.{writes_number, writes_kind}

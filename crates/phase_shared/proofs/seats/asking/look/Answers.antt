@@ -1,8 +1,7 @@
-use Rattle.std.proofs.Common.{◌≡◌, ◌∷◌, [], ◌%◌, ◌/◌, ◌<◌, ℕ, arith}
+use Rattle.std.proofs.Common.{◌∷◌, [], arith}
 use Rattle.turn_lock.specs.Seats.{seat_number, seat_view}
 use Rattle.phase_shared.specs.LockedPhasers.{locked_terms}
 use Rattle.phase_shared.specs.Servings.{ask_of}
-use Rattle.phase_shared.specs.Tells.{Answers, Learnt}
 use Rattle.phase_shared.specs.Views.{knowledge}
 use Rattle.phase_shared.proofs.AskCalls.{looks_ask, asks_still, was_answered, is_read, has_answer}
 use Rattle.phase_shared.proofs.seats.asking.look.Goals.{then-told-eq0-via-then-told-eq0, then-told-eq0-via-else-told-eq0+then-told-request}

@@ -1,5 +1,4 @@
 use Rattle.turn_lock.specs.Seats.{seat_number, seat_view}
-use Rattle.phase_core.specs.phase_history.Histories.{History}
 use Rattle.phase_shared.specs.LockedPhasers.{locked_terms}
 use Rattle.phase_shared.specs.Servings.{ask_of}
 use Rattle.phase_shared.proofs.AskCalls.{takes_ask}
