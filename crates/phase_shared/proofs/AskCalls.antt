@@ -33,16 +33,22 @@ module _ {A K : Type 0} (op : Operation A) (allows : K → Allows) (terms : Term
   pub takes_ask : (number : ℕ) (a : Ask) (seen : History) (v : View) → IsAsking a seen v
       → TakesOf (HasOneHistory op allows) terms number v (λ v x w. TookAskedAt allows terms op v x w)
   takes_ask number a seen v is = λ x told words views long k at.
-      let q = takes_asked op.value terms.limits (allows terms.rule) StandsFor number (knowledge seen (a.task ∷ [])) a x told words views k (at ∙ ap some is) in
-      (q.0, q.1, λ f b e.
-        subst (λ (u : View). TookAsked op.value terms.limits (allows terms.rule) StandsFor (known_of u) (ask_in a u) x q.0) (sym is ∙ e) q.2)
+      let q = takes_asked op.value terms.limits (allows terms.rule) StandsFor number (knowledge seen (a.task ∷ [])) a x told words views k (at ∙ ap some is) in (
+        q.0,
+        q.1,
+        λ f b e.
+            subst (λ (u : View). TookAsked op.value terms.limits (allows terms.rule) StandsFor (known_of u) (ask_in a u) x q.0) (sym is ∙ e) q.2,
+      )
 
   pub looks_ask : (number : ℕ) (a : Ask) (seen : History) (v : View) → IsAsking a seen v
       → LooksOf (HasOneHistory op allows) terms number v (λ v told w. LookedAt allows terms v told w)
   looks_ask number a seen v is = λ home told words views long k at.
-      let q = looks_asked op.value terms.limits (allows terms.rule) StandsFor number (knowledge seen (a.task ∷ [])) a home told words views k (at ∙ ap some is) in
-      (q.0, q.1, λ f b e.
-        subst (λ (u : View). Looked terms.limits (allows terms.rule) (ask_in a u) (known_of u) told q.0) (sym is ∙ e) q.2)
+      let q = looks_asked op.value terms.limits (allows terms.rule) StandsFor number (knowledge seen (a.task ∷ [])) a home told words views k (at ∙ ap some is) in (
+        q.0,
+        q.1,
+        λ f b e.
+            subst (λ (u : View). Looked terms.limits (allows terms.rule) (ask_in a u) (known_of u) told q.0) (sym is ∙ e) q.2,
+      )
 
   -- ---- a look, and what is read then
 
@@ -69,9 +75,15 @@ module _ {A K : Type 0} (op : Operation A) (allows : K → Allows) (terms : Term
   pub answer_kind : (number : ℕ) (v : View) → IsReading v → ReadsOf (HasOneHistory op allows) terms number v 1 (λ v r w. ReadsKind op v r w)
   answer_kind number v r = λ home told words views long k at.
       let q = reads_kind op.value terms.limits (allows terms.rule) StandsFor number r.knows r.ask home told words views k (at ∙ ap some r.is) in
-      let same : set views number v ≡ views = ap (λ (u : View). set views number u) r.is ∙ q.0 in
-      (v, subst (λ (l : List View). HasOneHistory op allows terms home told words l) (sym same) k, (refl, λ f a e.
-        subst (λ (u : View). KindIs (slice_index words 1) (value_of_phase op.value (known_of u).seen (asked r.ask u).phase)) (sym r.is ∙ e) q.1))
+      let same : set views number v ≡ views = ap (λ (u : View). set views number u) r.is ∙ q.0 in (
+        v,
+        subst (λ (l : List View). HasOneHistory op allows terms home told words l) (sym same) k,
+        (
+          refl,
+          λ f a e.
+              subst (λ (u : View). KindIs (slice_index words 1) (value_of_phase op.value (known_of u).seen (asked r.ask u).phase)) (sym r.is ∙ e) q.1,
+        ),
+      )
     where
       asked : Ask → View → Ask
       asked d (Reading g a) = a
@@ -80,9 +92,12 @@ module _ {A K : Type 0} (op : Operation A) (allows : K → Allows) (terms : Term
   pub answer_number : (number : ℕ) (v w : View) → IsReading v → w ≡ v → ReadsOf (HasOneHistory op allows) terms number w 0 (λ v r w. ReadsNumber op v r w)
   answer_number number v w r stays = λ home told words views long k at.
       let is : w ≡ Reading r.knows r.ask = stays ∙ r.is in
-      let q = reads_number op.value terms.limits (allows terms.rule) StandsFor number r.knows r.ask home told words views k (at ∙ ap some is) in
-      (Resting r.knows, q.0, λ f a e.
-        subst (λ (u : View). (Resting r.knows ≡ Resting (known_of u)) × NumberIs (slice_index words 0) (value_of_phase op.value (known_of u).seen (asked r.ask u).phase)) (sym is ∙ e) (refl, q.1))
+      let q = reads_number op.value terms.limits (allows terms.rule) StandsFor number r.knows r.ask home told words views k (at ∙ ap some is) in (
+        Resting r.knows,
+        q.0,
+        λ f a e.
+            subst (λ (u : View). (Resting r.knows ≡ Resting (known_of u)) × NumberIs (slice_index words 0) (value_of_phase op.value (known_of u).seen (asked r.ask u).phase)) (sym is ∙ e) (refl, q.1),
+      )
     where
       asked : Ask → View → Ask
       asked d (Reading g a) = a
@@ -93,14 +108,18 @@ module _ {A K : Type 0} (op : Operation A) (allows : K → Allows) (terms : Term
   pub holder_kind : (number told : ℕ) (v : View) → IsHolder v → ReadsIn (HasOneHistory op allows) terms number v told 1 (λ v r w. BoardKind v r w)
   holder_kind number told v h = λ words views long k at.
       let q = board_read op.value terms.limits (allows terms.rule) StandsFor number h.knows h.claims h.said h.lane told words views k (at ∙ ap some h.is) in
-      let same : set views number v ≡ views = ap (λ (u : View). set views number u) h.is ∙ q.0 in
-      (v, subst (λ (l : List View). HasOneHistory op allows terms None told words l) (sym same) k,
-        (refl, subst (λ (u : View). KindIs (slice_index words 1) (board_of u)) (sym h.is) q.1))
+      let same : set views number v ≡ views = ap (λ (u : View). set views number u) h.is ∙ q.0 in (
+        v,
+        subst (λ (l : List View). HasOneHistory op allows terms None told words l) (sym same) k,
+        (refl, subst (λ (u : View). KindIs (slice_index words 1) (board_of u)) (sym h.is) q.1),
+      )
 
   pub holder_number : (number told : ℕ) (v w : View) → IsHolder v → w ≡ v → ReadsIn (HasOneHistory op allows) terms number w told 0 (λ v r w. BoardNumber v r w)
   holder_number number told v w h stays = λ words views long k at.
       let is : w ≡ Turning h.knows h.claims h.said h.lane = stays ∙ h.is in
       let q = board_read op.value terms.limits (allows terms.rule) StandsFor number h.knows h.claims h.said h.lane told words views k (at ∙ ap some is) in
-      let same : set views number w ≡ views = ap (λ (u : View). set views number u) is ∙ q.0 in
-      (w, subst (λ (l : List View). HasOneHistory op allows terms None told words l) (sym same) k,
-        (refl, subst (λ (u : View). NumberIs (slice_index words 0) (board_of u)) (sym is) q.2))
+      let same : set views number w ≡ views = ap (λ (u : View). set views number u) is ∙ q.0 in (
+        w,
+        subst (λ (l : List View). HasOneHistory op allows terms None told words l) (sym same) k,
+        (refl, subst (λ (u : View). NumberIs (slice_index words 0) (board_of u)) (sym is) q.2),
+      )

@@ -70,19 +70,25 @@ module _ {A K : Type 0} (op : Operation A) (allows : K → Allows) (terms : Term
       → ReadsIn (HasOneHistory op allows) terms number v told place (λ v r w. LaneReadAt allows terms task v r w)
   reads_lane number told task place v o few is = λ words views long k at.
       let q = lane_read op.value terms.limits (allows terms.rule) StandsFor number o.knows o.claims o.said o.lane task told words views k (at ∙ ap some o.is) few o.theirs in
-      let r : ℕ = slice_index words place in
-      (q.0, q.1, λ f claims said lane e.
-        subst (λ (u : View). LaneRead terms.limits (allows terms.rule) task (known_of u) (claims_of u) (board_of u) (lane_of u) (slice_index words place) q.0) (sym o.is ∙ e)
-        (subst (λ (p : ℕ). LaneRead terms.limits (allows terms.rule) task o.knows o.claims o.said o.lane (slice_index words p) q.0) (sym is) q.2))
+      let r : ℕ = slice_index words place in (
+        q.0,
+        q.1,
+        λ f claims said lane e.
+            subst (λ (u : View). LaneRead terms.limits (allows terms.rule) task (known_of u) (claims_of u) (board_of u) (lane_of u) (slice_index words place) q.0) (sym o.is ∙ e)
+            (subst (λ (p : ℕ). LaneRead terms.limits (allows terms.rule) task o.knows o.claims o.said o.lane (slice_index words p) q.0) (sym is) q.2),
+      )
 
   pub reads_send : (number told task place : ℕ) (v : View) → IsOther task v → place ≡ send_place task
       → ReadsIn (HasOneHistory op allows) terms number v told place (λ v r w. SendReadAt task v r w)
   reads_send number told task place v o is = λ words views long k at.
       let q = send_read op.value terms.limits (allows terms.rule) StandsFor number o.knows o.claims o.said o.lane task told words views k (at ∙ ap some o.is) in
-      let same : set views number v ≡ views = ap (λ (u : View). set views number u) o.is ∙ q.0 in
-      (v, subst (λ (l : List View). Rule None told words l) (sym same) k, λ f claims said lane e.
-        subst (λ (u : View). SendRead task (known_of u) (claims_of u) v (slice_index words place) v) (sym o.is ∙ e)
-        (subst (λ (p : ℕ). SendRead task o.knows o.claims v (slice_index words p) v) (sym is) (refl, q.1)))
+      let same : set views number v ≡ views = ap (λ (u : View). set views number u) o.is ∙ q.0 in (
+        v,
+        subst (λ (l : List View). Rule None told words l) (sym same) k,
+        λ f claims said lane e.
+            subst (λ (u : View). SendRead task (known_of u) (claims_of u) v (slice_index words place) v) (sym o.is ∙ e)
+            (subst (λ (p : ℕ). SendRead task o.knows o.claims v (slice_index words p) v) (sym is) (refl, q.1)),
+      )
 
   -- ---- the own lane
 
