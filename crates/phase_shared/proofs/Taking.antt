@@ -139,8 +139,8 @@ module _ {T : Type 0} (value : List ℤ → Outcome) (limits : Limits) (allows :
       let own : is_in a.task r.1.speaks ≡ true = subst (λ (l : List ℕ). is_in a.task l ≡ true) (sym s.speaks) (is_in_self a.task []) in (
         (made_stands limits a r.1.seen k.log r.3 s.stage).stands,
         not_true_is (is_in a.task speaks) (λ yes'.
-        let mine = k.owns number v a.task at (subst (λ (l : List ℕ). is_in a.task l ≡ true) (sym speaks_is) yes') in
-        q.0 (sym (k.owns r.0 (Asking r.1 a) a.task q.1 own).0 ∙ mine.0)),
+            let mine = k.owns number v a.task at (subst (λ (l : List ℕ). is_in a.task l ≡ true) (sym speaks_is) yes') in
+            q.0 (sym (k.owns r.0 (Asking r.1 a) a.task q.1 own).0 ∙ mine.0)),
       )
 
   made_read : (i : ℕ) (h : Knowledge) (a : Ask) → get_elem? (set views number taken) i ≡ some (Asking h a) → IsMade limits a h.seen k.log
@@ -235,8 +235,16 @@ module _ {T : Type 0} (value : List ℤ → Outcome) (limits : Limits) (allows :
         Turning (knowledge k.log f.speaks) claims (board words) None,
         took value limits allows StandsFor number (Resting f) x told words views k at f.speaks refl s.1 one None tt
             (λ g a e. absurd (cc)),
-        record { now = k.log; claims = claims; said = board words; others = s.0; good = k.good; stands = k.stands x refl;
-          read = read_is value limits allows StandsFor number (Resting f) x told words views k at f.speaks refl s.1 one None tt (λ g a e. absurd (cc)); is = refl },
+        record {
+          now = k.log;
+          claims = claims;
+          said = board words;
+          others = s.0;
+          good = k.good;
+          stands = k.stands x refl;
+          read = read_is value limits allows StandsFor number (Resting f) x told words views k at f.speaks refl s.1 one None tt (λ g a e. absurd (cc));
+          is = refl;
+        },
       )
 
   -- a seat that asked takes

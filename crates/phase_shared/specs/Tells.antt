@@ -15,7 +15,8 @@ use Rattle.phase_shared.specs.Asks.{Ask, Stage, IsMade, IsAnswered, Stands, IsOn
 use Rattle.phase_shared.specs.Lanes.{sends_of, KindIs, NumberIs}
 use Rattle.phase_shared.specs.Desks.{View, Resting, Turning, Asking, Reading, MayMake, IsPast}
 
--- a take that won, of a seat at rest: the history goes on from what it had seen, by events of others
+-- a take that won, of a seat at rest: the history goes on from what it had seen, by events of
+-- others
 pub record Took {T : Type 0} (limits : Limits) (allows : Allows) (StandsFor : T → History → Type 0)
     (v : View) (x : T) (w : View) : Type 0 where
   pub now : History
@@ -121,8 +122,8 @@ Ends limits allows told new f lane w =
     × LaneIsPast new f lane)
     ⊎ StillAsks limits allows told new f lane w
 
--- what the giver knows of each ask that it read, after its turn: where its wait is still to be made,
--- its phase is not told; where it was made, the board has its value
+-- what the giver knows of each ask that it read, after its turn: where its wait is still to be
+-- made, its phase is not told; where it was made, the board has its value
 pub record Leaves (value : List ℤ → Outcome) (new : History) (told : ℕ) (said : Outcome) (a : Ask)
     : Type 0 where
   pub waits : told % 2 ≡ 1 → Stands new a.task (a.phase + 1) a.phase → told / 2 ≤ a.phase
