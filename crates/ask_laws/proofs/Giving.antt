@@ -71,6 +71,11 @@ module _ {T : Type 0} (value : List ℤ → Outcome) (limits : Limits) (allows :
       (λ (m : IsMade limits a c.knows.seen k.log). s.waits odd m)
       c.waits_on
 
+  -- who asked has a lane
+  low_of : (a : Ask) → IsOneOf claims a → a.task < lanes_most
+  low_of a one =
+      let c = k.claimed number f claims said lane at a one in (asks_at c.seat c.knows a c.at).low
+
   module _ (y : T) (used : List Ask) (inside : (a : Ask) → IsOneOf used a → IsOneOf claims a) (later : History) (next : ℕ)
       (batch : Batch (IsOneOf used) f.speaks later k.log) (good : IsGood limits allows (later ++ k.log)) (stands : StandsFor y (later ++ k.log))
       (within' : next % 2 ≡ 1 → next / 2 ≤ done_of (later ++ k.log))
@@ -294,13 +299,13 @@ module _ {T : Type 0} (value : List ℤ → Outcome) (limits : Limits) (allows :
       (next : ℕ) (new : History) (w : View) (ends : Ends limits allows next new f lane w) where
     ends_rest : is_turning w ≡ false
     ends_rest = ⊎_elim
-        (λ (r : (w ≡ Resting (knowledge new f.speaks)) × LaneIsPast new f lane). ap is_turning r.0)
+        (λ (r : (h : History) × (w ≡ Resting (knowledge h f.speaks)) × OthersCame f.speaks h new × LaneIsPast new f lane). ap is_turning r.1)
         (λ (s : StillAsks limits allows next new f lane w). ap is_turning s.is)
         ends
 
     ends_speak : speaks_of w ≡ f.speaks
     ends_speak = ⊎_elim
-        (λ (r : (w ≡ Resting (knowledge new f.speaks)) × LaneIsPast new f lane). ap speaks_of r.0)
+        (λ (r : (h : History) × (w ≡ Resting (knowledge h f.speaks)) × OthersCame f.speaks h new × LaneIsPast new f lane). ap speaks_of r.1)
         (λ (s : StillAsks limits allows next new f lane w). ap speaks_of s.is ∙ s.speaks ∙ sym s.mine)
         ends
 
@@ -316,9 +321,9 @@ module _ {T : Type 0} (value : List ℤ → Outcome) (limits : Limits) (allows :
 
     ends_sound : (y : T) → IsSound value limits allows (Some y) number new next words number w
     ends_sound y = ⊎_elim
-        (λ (r : (w ≡ Resting (knowledge new f.speaks)) × LaneIsPast new f lane).
-        subst (λ (u : View). IsSound value limits allows (Some y) number new next words number u) (sym r.0)
-        (OthersCame-refl f.speaks new, (k.sound number (Turning f claims said lane) at).1))
+        (λ (r : (h : History) × (w ≡ Resting (knowledge h f.speaks)) × OthersCame f.speaks h new × LaneIsPast new f lane).
+        subst (λ (u : View). IsSound value limits allows (Some y) number new next words number u) (sym r.1)
+        (r.2, (k.sound number (Turning f claims said lane) at).1))
         (λ (s : StillAsks limits allows next new f lane w).
         let l = still_lane s in
         let asks : Asks value limits allows new next words s.knows s.ask = record {
@@ -336,9 +341,9 @@ module _ {T : Type 0} (value : List ℤ → Outcome) (limits : Limits) (allows :
 
     ends_lane : (i n : ℕ) → lane ≡ Some n → f.speaks ≡ i ∷ [] → IsLane new (set views number w) i (posted words i)
     ends_lane i n e alone = ⊎_elim
-        (λ (r : (w ≡ Resting (knowledge new f.speaks)) × LaneIsPast new f lane).
+        (λ (r : (h : History) × (w ≡ Resting (knowledge h f.speaks)) × OthersCame f.speaks h new × LaneIsPast new f lane).
         let l = lane_has n e in
-        let past : LaneIsPast new f (Some n) = subst (λ (o : Option ℕ). LaneIsPast new f o) e r.1 in
+        let past : LaneIsPast new f (Some n) = subst (λ (o : Option ℕ). LaneIsPast new f o) e r.3 in
         let task_is : l.task ≡ i = single_is l.task i (sym l.speaks ∙ alone) in
         let there : past.0 ≡ i = single_is past.0 i (sym past.1 ∙ alone) in
         let is : n ≡ posted words i = sym l.has ∙ ap (λ t. posted words t) task_is in
@@ -356,7 +361,7 @@ module _ {T : Type 0} (value : List ℤ → Outcome) (limits : Limits) (allows :
   pub gives_asks : (number : ℕ) (f : Knowledge) (claims : List Ask) (said : Outcome) (lane : Option ℕ) (y : T) (later : History) (told next : ℕ) (w : View)
       → Batch (IsOneOf claims) f.speaks later f.seen → IsGood limits allows (later ++ f.seen) → StandsFor y (later ++ f.seen)
       → (next % 2 ≡ 1 → next / 2 ≤ done_of (later ++ f.seen))
-      → ((a : Ask) → IsOneOf claims a → Leaves value (later ++ f.seen) next said a)
+      → ((a : Ask) → IsOneOf claims a → a.task < lanes_most → Leaves value (later ++ f.seen) next said a)
       → Ends limits allows next (later ++ f.seen) f lane w
       → (words : List ℕ) (views : List View) → Kept value limits allows StandsFor None told words views
       → get_elem? views number ≡ some (Turning f claims said lane)
@@ -365,7 +370,8 @@ module _ {T : Type 0} (value : List ℤ → Outcome) (limits : Limits) (allows :
       let s = k.sound number (Turning f claims said lane) at in
       let good' : IsGood limits allows (later ++ k.log) = subst (λ (h : History). IsGood limits allows (later ++ h)) s.0 good in
       let leaves' : (a : Ask) → IsOneOf claims a → Leaves value (later ++ k.log) next said a =
-      subst (λ (h : History). (a : Ask) → IsOneOf claims a → Leaves value (later ++ h) next said a) s.0 leaves in
+      λ a one. subst (λ (h : History). Leaves value (later ++ h) next said a) s.0
+      (leaves a one (low_of value limits allows StandsFor number f claims said lane told words views k at a one)) in
       let ends' : Ends limits allows next (later ++ k.log) f lane w = subst (λ (h : History). Ends limits allows next (later ++ h) f lane w) s.0 ends in
       gave value limits allows StandsFor number f claims said lane told words views k at y claims (λ a one. one) later next
       (subst (λ (h : History). Batch (IsOneOf claims) f.speaks later h) s.0 batch)
@@ -384,9 +390,9 @@ module _ {T : Type 0} (value : List ℤ → Outcome) (limits : Limits) (allows :
   -- a give with the events of a turn, that tells what was told
   pub gives_same : (number : ℕ) (f : Knowledge) (claims : List Ask) (said : Outcome) (lane : Option ℕ) (y : T) (later : History) (told : ℕ) (w : View)
       → Batch (IsOneOf claims) f.speaks later f.seen → IsGood limits allows (later ++ f.seen) → StandsFor y (later ++ f.seen)
-      → ((a : Ask) → IsOneOf claims a → Stands (later ++ f.seen) a.task (a.phase + 1) (a.phase + 1) → said ≡ value_of_phase value (later ++ f.seen) a.phase)
+      → ((a : Ask) → IsOneOf claims a → a.task < lanes_most → Stands (later ++ f.seen) a.task (a.phase + 1) (a.phase + 1) → said ≡ value_of_phase value (later ++ f.seen) a.phase)
       → Ends limits allows 0 (later ++ f.seen) f lane w
-      → ((s : StillAsks limits allows 0 (later ++ f.seen) f lane w) → done_of (later ++ f.seen) ≤ s.ask.phase)
+      → ((s : StillAsks limits allows 0 (later ++ f.seen) f lane w) → done_of f.seen ≤ s.ask.phase)
       → (words : List ℕ) (views : List View) → Kept value limits allows StandsFor None told words views
       → get_elem? views number ≡ some (Turning f claims said lane)
       → Kept value limits allows StandsFor (Some y) told words (set views number w)
@@ -396,12 +402,12 @@ module _ {T : Type 0} (value : List ℤ → Outcome) (limits : Limits) (allows :
       (done_grows limits later f.seen (λ none. some_log value limits allows StandsFor number f claims said lane told words views k at (sym s.0 ∙ none)) good.legal) in
       let within' : told % 2 ≡ 1 → told / 2 ≤ done_of (later ++ f.seen) = λ odd. let low = k.within odd in omega arith in
       gives_asks number f claims said lane y later told told w batch good stands within'
-      (λ a one. record {
+      (λ a one low. record {
         waits = λ odd st. told_waits value limits allows StandsFor number f claims said lane told words views k at a one odd;
-        has = has a one;
+        has = has a one low;
       })
       (⊎_elim
-      (λ (r : (w ≡ Resting (knowledge (later ++ f.seen) f.speaks)) × LaneIsPast (later ++ f.seen) f lane). inl r)
+      (λ (r : (h : History) × (w ≡ Resting (knowledge h f.speaks)) × OthersCame f.speaks h (later ++ f.seen) × LaneIsPast (later ++ f.seen) f lane). inl r)
       (λ (q : StillAsks limits allows 0 (later ++ f.seen) f lane w). inr record {
         ask = q.ask;
         knows = q.knows;
@@ -410,7 +416,7 @@ module _ {T : Type 0} (value : List ℤ → Outcome) (limits : Limits) (allows :
         made = q.made;
         may = q.may;
         posts = q.posts;
-        waits = λ odd. let low = within' odd in let high = later_open q in omega arith;
+        waits = λ odd. let low : told / 2 ≤ done_of f.seen = subst (λ (h : History). told / 2 ≤ done_of h) (sym s.0) (k.within odd) in let high = later_open q in omega arith;
         is = q.is;
       })
       ends)

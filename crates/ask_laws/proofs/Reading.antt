@@ -126,7 +126,7 @@ module _ {T : Type 0} (value : List ℤ → Outcome) (limits : Limits) (allows :
       record {
         new = a ∷ [];
         is = refl;
-        fresh = λ b one. ⊎_elim (λ (same : a ≡ b). ap (λ (x : Ask). x.task) (sym same) ∙ is) (λ none. absurd none) one;
+        fresh = λ b one. ⊎_elim (λ (same : a ≡ b). subst (λ (x : Ask). (x.task ≡ i) × IsClaim limits allows f (a ∷ claims) x) same (is, claim)) (λ none. absurd none) one;
         read = λ b one same. let c = each b one in posted_is c.seat c.knows b c.at same;
         found = inr (a, is, claim);
       },

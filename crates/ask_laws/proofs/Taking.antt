@@ -10,11 +10,11 @@ use Rattle.phase_core.specs.phase_base.Lists.{is_distinct, is_in}
 use Rattle.phase_core.specs.phase_accum.declared.outcome.Outcome.{Outcome}
 use Rattle.phase_core.specs.phase_history.Histories.{History, signal_phase, wait_phase}
 use Rattle.ask_laws.specs.Base.{Knowledge, knowledge, Allows}
-use Rattle.ask_laws.specs.Asks.{Ask, Stage, IsUnmade, IsMade, IsAnswered, IsOneOf}
+use Rattle.ask_laws.specs.Asks.{Ask, Stands, Stage, IsUnmade, IsMade, IsAnswered, IsOneOf}
 use Rattle.ask_laws.specs.Lanes.{board, posted}
 use Rattle.ask_laws.specs.Desks.{View, Resting, Turning, Joining, Posting, Asking, Reading, Spent, speaks_of, IsSound, Asks, LaneIs, StandsAsked, AskedAt, IsPast, HeldAt, IsLane, Kept, is_made, made_asks}
 use Rattle.ask_laws.specs.Tells.{Took, TookAsked}
-use Rattle.ask_laws.proofs.Small.{none_some, apart_phases, is_in_self}
+use Rattle.ask_laws.proofs.Small.{none_some, not_true_is, apart_phases, is_in_self}
 use Rattle.ask_laws.proofs.Stages.{signal_is, wait_is}
 use Rattle.ask_laws.proofs.Places.{is_asking, ask_in, claims_in, same_view, ne_of, was}
 
@@ -128,6 +128,19 @@ module _ {T : Type 0} (value : List ℤ → Outcome) (limits : Limits) (allows :
         waits_on = inr (made_stands limits a r.1.seen k.log r.3 s.stage);
       }
 
+  -- and it is another's, and made
+  read_is : (a : Ask) → IsOneOf (made_asks k.log (set views number Spent)) a → Stands k.log a.task (a.phase + 1) a.phase × (is_in a.task speaks ≡ false)
+  read_is a one' =
+      let r = listed k.log (set views number Spent) a one' in
+      let q = was is_asking views number r.0 Spent (Asking r.1 a) refl refl r.2 in
+      let s : Asks value limits allows k.log told words r.1 a = k.sound r.0 (Asking r.1 a) q.1 in
+      let own : is_in a.task r.1.speaks ≡ true = subst (λ (l : List ℕ). is_in a.task l ≡ true) (sym s.speaks) (is_in_self a.task []) in (
+        (made_stands limits a r.1.seen k.log r.3 s.stage).stands,
+        not_true_is (is_in a.task speaks) (λ yes'.
+        let mine = k.owns number v a.task at (subst (λ (l : List ℕ). is_in a.task l ≡ true) (sym speaks_is) yes') in
+        q.0 (sym (k.owns r.0 (Asking r.1 a) a.task q.1 own).0 ∙ mine.0)),
+      )
+
   made_read : (i : ℕ) (h : Knowledge) (a : Ask) → get_elem? (set views number taken) i ≡ some (Asking h a) → IsMade limits a h.seen k.log
       → IsOneOf (made_asks k.log (set views number Spent)) a
   made_read i h a e m =
@@ -220,7 +233,8 @@ module _ {T : Type 0} (value : List ℤ → Outcome) (limits : Limits) (allows :
         Turning (knowledge k.log f.speaks) claims (board words) None,
         took value limits allows StandsFor number (Resting f) x told words views k at f.speaks refl s.1 one None tt
             (λ g a e. absurd (cc)),
-        record { now = k.log; claims = claims; said = board words; others = s.0; good = k.good; stands = k.stands x refl; is = refl },
+        record { now = k.log; claims = claims; said = board words; others = s.0; good = k.good; stands = k.stands x refl;
+          read = read_is value limits allows StandsFor number (Resting f) x told words views k at f.speaks refl s.1 one None tt (λ g a e. absurd (cc)); is = refl },
       )
 
   -- a seat that asked takes
@@ -242,6 +256,9 @@ module _ {T : Type 0} (value : List ℤ → Outcome) (limits : Limits) (allows :
           has = s.has;
           good = k.good;
           stands = k.stands x refl;
+          read = read_is value limits allows StandsFor number (Asking f a) x told words views k at (a.task ∷ []) s.speaks refl (a.task, is_in_self a.task [])
+              (Some (a.phase + 1)) (record { task = a.task; speaks = refl; low = s.low; has = s.posts })
+              (λ g b e. (a.phase + 1, refl, ap (λ (v : View). (ask_in a v).task ∷ []) e));
           is = refl;
         },
       )

@@ -32,6 +32,8 @@ pub record Took {T : Type 0} (limits : Limits) (allows : Allows) (StandsFor : T 
   pub others : OthersCame (speaks_of v) (known_of v).seen now
   pub good : IsGood limits allows now
   pub stands : StandsFor x now
+  pub read : (a : Ask) → IsOneOf claims a → Stands now a.task (a.phase + 1) a.phase
+      × (is_in a.task (speaks_of v) ≡ false)
   pub is : w ≡ Turning (knowledge now (speaks_of v)) claims said None
 
 -- a take of a seat that asked
@@ -44,6 +46,8 @@ pub record TookAsked {T : Type 0} (value : List ℤ → Outcome) (limits : Limit
   pub has : IsAnswered limits a f.seen now → said ≡ value_of_phase value now a.phase
   pub good : IsGood limits allows now
   pub stands : StandsFor x now
+  pub read : (b : Ask) → IsOneOf claims b → Stands now b.task (b.phase + 1) b.phase
+      × (is_in b.task (a.task ∷ []) ≡ false)
   pub is : w ≡ Turning (knowledge now (a.task ∷ [])) claims said (Some (a.phase + 1))
 
 -- what who asked learns: the history up to its own wait
@@ -82,12 +86,13 @@ pub record IsClaim (limits : Limits) (allows : Allows) (f : Knowledge) (claims :
   pub stands : (Stands f.seen a.task a.phase a.phase × MayBeMade limits allows f.seen a)
       ⊎ Stands f.seen a.task (a.phase + 1) a.phase
 
--- the holder read r in the lane of task i: what was asked there it has read
+-- the holder read r in the lane of task i: what was asked there it has read, and each ask that was
+-- newly read is a claim
 pub record LaneRead (limits : Limits) (allows : Allows) (i : ℕ) (f : Knowledge) (claims : List Ask)
     (said : Outcome) (lane : Option ℕ) (r : ℕ) (w : View) : Type 0 where
   pub new : List Ask
   pub is : w ≡ Turning f (new ++ claims) said lane
-  pub fresh : (a : Ask) → IsOneOf new a → a.task ≡ i
+  pub fresh : (a : Ask) → IsOneOf new a → (a.task ≡ i) × IsClaim limits allows f (new ++ claims) a
   pub read : (a : Ask) → IsOneOf (new ++ claims) a → a.task ≡ i → r ≡ a.phase + 1
   pub found : ((r ≡ 0) ⊎ IsPast f.seen i r)
       ⊎ ((a : Ask) × (a.task ≡ i) × IsClaim limits allows f (new ++ claims) a)
@@ -116,10 +121,12 @@ abbrev pub LaneIsPast : History → Knowledge → Option ℕ → Type 0
 LaneIsPast new f None = Unit {0}
 LaneIsPast new f (Some n) = (task : ℕ) × (f.speaks ≡ task ∷ []) × IsPast new task n
 
--- the view that a turn ends with: at rest, or asking still
+-- the view that a turn ends with: at rest, at this history or an earlier one that has all of the
+-- giver's own events, or asking still
 abbrev pub Ends : Limits → Allows → ℕ → History → Knowledge → Option ℕ → View → Type 0
 Ends limits allows told new f lane w =
-    ((w ≡ Resting (knowledge new f.speaks)) × LaneIsPast new f lane)
+    ((h : History) × (w ≡ Resting (knowledge h f.speaks)) × OthersCame f.speaks h new
+    × LaneIsPast new f lane)
     ⊎ StillAsks limits allows told new f lane w
 
 -- what the giver knows of each ask that it read, after its turn: where its wait is still to be made,

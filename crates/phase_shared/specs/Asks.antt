@@ -1,4 +1,4 @@
--- What a registration leaves with whoever has the turn: a signal of its phase, and then a wait for it.
+-- What a registration leaves with whoever has the turn: a signal of its phase, and then a wait.
 use Rattle.std.specs.Prelude.{◌≡◌, ℕ, ℤ, ◌+◌, ◌<◌, List, [], ◌∷◌, ◌++◌, ◌⊎◌, None, Some, Bool, true, false, ◌==◌, ◌||◌}
 use Rattle.phase_core.specs.phase_base.Limits.{Limits}
 use Rattle.phase_core.specs.phase_base.Lists.{is_in}
@@ -75,7 +75,8 @@ Came Claimed speaks h e = IsOwn speaks e ⊎ (SignalsFor Claimed h e ⊎ WaitsFo
 -- the events of one turn, which take effect at its give
 abbrev pub Batch : (Ask → Type 0) → List ℕ → History → History → Type 0
 Batch Claimed speaks [] log = Unit {0}
-Batch Claimed speaks (e ∷ later) log = Batch Claimed speaks later log × Came Claimed speaks (later ++ log) e
+Batch Claimed speaks (e ∷ later) log =
+    Batch Claimed speaks later log × Came Claimed speaks (later ++ log) e
 
 -- the ask is one of these
 abbrev pub IsOneOf : List Ask → Ask → Type 0

@@ -1,7 +1,7 @@
 -- The rule of a phaser's lock on which calls can be asked for: beside the value at home, the lock
 -- tells a number of phases, and its words have what is asked for and the value of the last of them.
--- What is told is twice the number of complete phases, and one more where each ask for a phase below
--- that number was answered.
+-- What is told is twice the number of complete phases, and one more where each ask for a phase
+-- below that number was answered.
 use Rattle.std.specs.Prelude.{◌≡◌, ℕ, ℤ, ◌+◌, ◌<◌, ◌≤◌, ◌/◌, ◌%◌, List, [], ◌∷◌, ◌++◌, ◌⊎◌, Option, None, Some, Bool, true, ◌==◌, ◌&&◌, if◌then◌else◌, length}
 use mathlib.Core.Option.{some}
 use lib.ListN.{get_elem?}
@@ -84,7 +84,8 @@ IsSound value limits allows home holder log told words j (Reading f a) =
 IsSound value limits allows home holder log told words j Spent = Unit {0}
 
 -- an ask stands at some seat, and is not answered
-pub record StandsAsked (limits : Limits) (log : History) (views : List View) (a : Ask) : Type 0 where
+pub record StandsAsked (limits : Limits) (log : History) (views : List View) (a : Ask)
+    : Type 0 where
   pub seat : ℕ
   pub knows : Knowledge
   pub at : get_elem? views seat ≡ some (Asking knows a)

@@ -1,5 +1,5 @@
 -- The rule of a shared phaser: there is one legal history, which keeps the phaser's rule.
-use Rattle.std.specs.Prelude.{◌≡◌, ℕ, ℤ, List, [], ◌∷◌, ◌++◌, Option, Some, None, true}
+use Rattle.std.specs.Prelude.{◌≡◌, ℕ, ℤ, ◌+◌, List, [], ◌∷◌, ◌++◌, Option, Some, None, true, false}
 use mathlib.Core.Option.{some}
 use lib.ListN.{get_elem?}
 use Rattle.phase_core.specs.phase_base.Limits.{Limits}
@@ -20,6 +20,7 @@ use Rattle.phase_core.specs.phase_base.Lists.{is_distinct, is_in}
 use Rattle.phase_shared.specs.Views.{resting, turning, speaks_of, known_of, second_of, Fits}
 use Rattle.phase_core.specs.phase_accum.declared.outcome.Outcome.{Outcome}
 use Rattle.phase_shared.specs.declared.seats.view.Ask.{Ask}
+use Rattle.phase_shared.specs.Asks.{Stands, IsOneOf}
 pub use Rattle.phase_shared.specs.Goods.{Allows, Keeps, IsGood, IsGoodAt}
 pub use Rattle.phase_shared.specs.Desks.{Kept}
 pub use Rattle.phase_shared.specs.Tells.{Took}
@@ -72,6 +73,8 @@ pub record AfterTake {A K : Type 0} (op : Operation A) (allows : K → Allows) (
   pub others : OthersCame (me ∷ []) (known_of v).seen now
   pub good : IsGoodAt allows terms now
   pub stands : StandsWithin op terms.limits x now
+  pub read : (a : Ask) → IsOneOf claims a → Stands now a.task (a.phase + 1) a.phase
+      × (is_in a.task (me ∷ []) ≡ false)
   pub is : w ≡ turning now (me ∷ []) claims said None
   pub member : entry_of (members_of now) me ≡ Some entry
   pub used : IsUsed now me

@@ -32,8 +32,8 @@ pub record IsStep {K X R : Type 0} (allows : K → Allows) (terms : Terms K) (me
   pub alone : OnlyUsed (me ∷ []) (known_of old).seen → result ≢ Err Busy
 
 -- a give that tells any even number
-abbrev pub GivesEven : {N T V : Type 0} → (N → Option T → ℕ → List ℕ → List V → Type 0) → N → ℕ → V → T
-    → ℕ → (V → T → V → Type 0) → Type 0
+abbrev pub GivesEven : {N T V : Type 0} → (N → Option T → ℕ → List ℕ → List V → Type 0) → N → ℕ
+    → V → T → ℕ → (V → T → V → Type 0) → Type 0
 GivesEven holds name number v y told then =
     (done : ℕ) → GivesOf holds name number v y told (done * 2) then
 

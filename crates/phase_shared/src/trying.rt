@@ -9,8 +9,8 @@ ghost use Rattle.phase_shared.specs.Calls.{IsTry, Tries, Signals, Waits, Registe
 ghost use Rattle.phase_shared.specs.Entries.{entry_stays, entry_after_signal, entry_after_wait, entry_after_both};
 ghost use Rattle.phase_shared.specs.Nexts.{SignalsAndMayWait};
 
-use crate::past::Past;
 use crate::held::Held;
+use crate::past::Past;
 use crate::phaser::Phaser;
 use crate::reg::Reg;
 use crate::rule::SignalRule;

@@ -15,8 +15,9 @@ ghost use Rattle.phase_shared.specs.WordTells.{IsReading, IsHolder};
 
 use crate::lane_words::{KIND, NUMBER, outcome_of};
 use crate::rule::SignalRule;
-use crate::seats::ghost_steps::{OnAsked, OnBoardKind, OnBoardNumber, OnKind, OnNumber};
-use crate::seats::ghost_steps::OnTakeAsked;
+use crate::seats::ghost_steps::{
+    OnAsked, OnBoardKind, OnBoardNumber, OnKind, OnNumber, OnTakeAsked,
+};
 use crate::seats::locked::LockedPhaser;
 use crate::seats::request::Request;
 use crate::seats::view::{PhaserSeat, PhaserTurn};

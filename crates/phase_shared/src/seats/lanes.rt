@@ -8,8 +8,9 @@ ghost use Rattle.phase_shared.specs.Servings.{ask_of, MayAsk, IsAsking};
 ghost use Rattle.phase_shared.specs.Views.{known_of};
 ghost use Rattle.phase_shared.specs.WordTells.{IsOther, LaneReadAt, SendReadAt, IsOwnLane, with_board, with_lane, Completes, HasKind, HasNumber};
 
-use crate::lane_words::{IS_EMPTY, IS_TOO_BIG, IS_VALUE, KIND, LANES, NUMBER};
-use crate::lane_words::{phase_place, send_place, word_of};
+use crate::lane_words::{
+    IS_EMPTY, IS_TOO_BIG, IS_VALUE, KIND, LANES, NUMBER, phase_place, send_place, word_of,
+};
 use crate::rule::SignalRule;
 use crate::seats::ghost_steps::{OnPost, OnReport, OnStep, Plan, Report};
 use crate::seats::locked::LockedPhaser;

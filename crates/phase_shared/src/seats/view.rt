@@ -12,8 +12,8 @@ pub struct Knowledge {
     pub speaks: LinkedList<u64>,
 }
 
-// What a task asks for: its signal of this phase, with these sends, and its wait for it. No value of
-// it is made.
+// What a task asks for: its signal of this phase, with these sends, and its wait for it. No value
+// of it is made.
 pub struct Ask {
     pub task: u64,
     pub phase: u64,
@@ -24,8 +24,8 @@ pub struct Ask {
 pub enum View {
     // At rest: others may have gone on.
     Resting(Knowledge),
-    // With the turn: it has seen all, read these asks, and knows what the board says and, where that
-    // is not past, what its own lane has.
+    // With the turn: it has seen all, read these asks, and knows what the board says and, where
+    // that is not past, what its own lane has.
     Turning(Knowledge, LinkedList<Ask>, Outcome, Option<u64>),
     // From a join to its look: what both had seen.
     Joining(Knowledge, Knowledge),

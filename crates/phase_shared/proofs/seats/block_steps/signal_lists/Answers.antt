@@ -1,7 +1,7 @@
-use Rattle.std.proofs.Common.{◌≡◌, ℕ, ℤ, List, [], ◌∷◌, length, true, false, refl, sym, ap, ◌∙◌}
+use Rattle.std.proofs.Common.{◌≡◌, ℕ, ℤ, List, [], ◌∷◌, None, length, true, false, refl, sym, ap, ◌∙◌}
 use Rattle.std.specs.Prelude.{is_some, Result}
 use Rattle.std.specs.Result.{result_ok}
-use Rattle.turn_lock.specs.Seats.{seat_view, turn_view, turn_value, turn_number, IsSameSeat}
+use Rattle.turn_lock.specs.Seats.{seat_view, turn_view, turn_value, turn_number, turn_told, IsSameSeat}
 use Rattle.phase_core.specs.phase_history.declared.refusal.SignalRefusal.{SignalRefusal}
 use Rattle.phase_core.specs.phase_history.declared.refusal.SignalRefusal.TheVariants as signal
 use Rattle.phase_core.specs.phase_history.Histories.{History, signal_phase}
@@ -78,7 +78,7 @@ put_back-seat-requires-clause-rule g c =
     gives_called op g.K.SignalRule.allows (locked_terms c.args.phaser.now) c.args.me
     (λ v w. (sends : List (List ℤ)) × StandForLists op c.args.lists.now sends
     × (w ≡ resting (after_signal answer c.args.me sends c.args.single (known_of v).seen) (speaks_of v)))
-    (turn_number c.in-Ok.turn) c.args.entry (seat_view c.args.seat) (turn_view c.in-Ok.turn) (turn_value c.in-Ok.turn) c.signal_lists-answer.new.self
+    (turn_number c.in-Ok.turn) (turn_told c.in-Ok.turn) c.args.entry (seat_view c.args.seat) (turn_view c.in-Ok.turn) (turn_value c.in-Ok.turn) c.signal_lists-answer.new.self
     (after_signal answer c.args.me held.0 c.args.single e.now) (entry_after_block (length c.args.lists.now) (result_ok answer) c.args.entry) e
     (left g (goal.at.put_back-seat-requires-clause-rule g c).After-signal_lists-answer held.0 held.1) (held.0, held.1, refl)
 
@@ -98,7 +98,7 @@ returns-clause-step g c =
     let new = after_signal answer me told.0 single e.now in
     let rests : seat_view seat ≡ resting new (me ∷ []) =
     told_at (λ v. resting (after_signal answer me told.0 single (known_of v).seen) (speaks_of v)) (seat_view seat) (turn_view c.in-Ok.turn)
-    (turning e.now (me ∷ [])) told.2 e.is in
+    (turning e.now (me ∷ []) e.claims e.said None) told.2 e.is in
     let call : Result ℕ SignalRefusal → Type 0 =
     SignalsBlock op terms.limits me c.args.lists.now single (known_of (seat_view c.args.seat)).seen (known_of (seat_view seat)).seen in
     stepped op g.K.SignalRule.allows terms me signal.NoTask (entry_after_block (length c.args.lists.now))

@@ -1,7 +1,7 @@
 use Rattle.std.proofs.Common.{◌≡◌, ◌∷◌, Ok, Err, true, ap, refl, ◌∙◌}
 use Rattle.std.specs.Prelude.{Result, IsOk, is_some}
 use Rattle.phase_shared.specs.LockedPhasers.{locked_terms}
-use Rattle.turn_lock.specs.Seats.{turn_view, turn_value, turn_number}
+use Rattle.turn_lock.specs.Seats.{turn_view, turn_value, turn_number, turn_told}
 use Rattle.phase_core.specs.phase_base.Members.{entry_of}
 use Rattle.phase_core.specs.phase_history.declared.event.Event.TheVariants.{Dropped}
 use Rattle.phase_shared.specs.Views.{resting, known_of, speaks_of}
@@ -40,7 +40,7 @@ put_back-requires-clause-rule g c =
     after_call op allows terms c.args.me e.now (Dropped c.args.me ∷ e.now) old c.drop_task-answer.new.self before c.in-Ok-answer.ensures.limits
     (c.in-Ok-answer.ensures.after e.now before.stands) e.good.keeps in
     gives_own op allows terms c.args.me (λ v w. w ≡ resting (Dropped c.args.me ∷ (known_of v).seen) (speaks_of v))
-    (turn_number turn) c.drop_task-answer.new.self (turn_view turn) e.now (Dropped c.args.me ∷ e.now) e.is e.used
+    (turn_number turn) (turn_told turn) c.drop_task-answer.new.self (turn_view turn) e.now (Dropped c.args.me ∷ e.now) e.claims e.said e.is e.used
     (own_event c.args.me e.now e.now (Dropped c.args.me) (λ t. refl) (own_none c.args.me e.now)) s.good s.stands refl
 
 pub returns-clause-ok : goal.returns-clause-ok

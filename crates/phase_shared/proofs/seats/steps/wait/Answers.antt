@@ -1,7 +1,7 @@
-use Rattle.std.proofs.Common.{◌≡◌, [], ◌∷◌, true, false, refl, sym, ap, ◌∙◌}
+use Rattle.std.proofs.Common.{◌≡◌, [], ◌∷◌, None, true, false, refl, sym, ap, ◌∙◌}
 use Rattle.std.specs.Prelude.{Result, is_some}
 use Rattle.std.specs.Result.{result_ok}
-use Rattle.turn_lock.specs.Seats.{seat_view, turn_view, turn_value, turn_number, IsSameSeat}
+use Rattle.turn_lock.specs.Seats.{seat_view, turn_view, turn_value, turn_number, turn_told, IsSameSeat}
 use Rattle.phase_core.specs.phase_history.declared.got.Got.{Got}
 use Rattle.phase_core.specs.phase_history.declared.refusal.WaitRefusal.{WaitRefusal}
 use Rattle.phase_core.specs.phase_history.declared.refusal.WaitRefusal.TheVariants as wait
@@ -57,7 +57,7 @@ put_back-seat-requires-clause-rule g c =
     let e = c.in-Ok.ensures.took in
     let answer = c.wait-answer.result in
     gives_called g.A.Accumulate.operation g.K.SignalRule.allows (locked_terms c.args.phaser.now) c.args.me
-    (λ v w. w ≡ resting (after_wait answer c.args.me (known_of v).seen) (speaks_of v)) (turn_number c.in-Ok.turn) c.args.entry (seat_view c.args.seat)
+    (λ v w. w ≡ resting (after_wait answer c.args.me (known_of v).seen) (speaks_of v)) (turn_number c.in-Ok.turn) (turn_told c.in-Ok.turn) c.args.entry (seat_view c.args.seat)
     (turn_view c.in-Ok.turn) (turn_value c.in-Ok.turn) c.wait-answer.new.self (after_wait answer c.args.me e.now)
     (entry_after_wait (result_ok answer) c.args.entry) e (left g (goal.at.put_back-seat-requires-clause-rule g c).After-wait-answer) refl
 
@@ -73,7 +73,7 @@ returns-clause-step g c =
     let seat = c.put_back-seat.result in
     let new = after_wait answer me e.now in
     let rests : seat_view seat ≡ resting new (me ∷ []) =
-    told_at (λ v. resting (after_wait answer me (known_of v).seen) (speaks_of v)) (seat_view seat) (turn_view c.in-Ok.turn) (turning e.now (me ∷ []))
+    told_at (λ v. resting (after_wait answer me (known_of v).seen) (speaks_of v)) (seat_view seat) (turn_view c.in-Ok.turn) (turning e.now (me ∷ []) e.claims e.said None)
     c.put_back-seat.ensures.rule e.is in
     let reply = c.wait-answer.ensures.reply e.now before.stands in
     let call : Result Got WaitRefusal → Type 0 = Waits op.value terms.limits me (known_of (seat_view c.args.seat)).seen (known_of (seat_view seat)).seen in
