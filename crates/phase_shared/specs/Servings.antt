@@ -156,6 +156,12 @@ module _ {A K : Type 0} (op : Operation A) (allows : K → Allows) (terms : Term
   CameTo (Refused refusal) w = IsRefused refusal w
   CameTo Asked w = IsAsking ask seen w
 
+-- its phase is complete
+abbrev pub IsDone : {A K : Type 0} {op : Operation A} {allows : K → Allows} {terms : Terms K}
+    {ask : Ask} {seen : History} {serves : Bool} {k : ℕ} {v : View} {x : CoreState A}
+    → Serving op allows terms ask seen serves k v x → Type 0
+IsDone {ask = ask} s = ask.phase < done_of (s.turned.later ++ s.turned.now)
+
 -- the phase is complete in whatever the core stands for
 abbrev pub IsCompleteIn : {A : Type 0} → Operation A → CoreState A → ℕ → Type 0
 IsCompleteIn op x phase = (h : History) → StandsFor op x h → phase < done_of h

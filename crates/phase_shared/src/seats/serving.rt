@@ -3,7 +3,7 @@
 ghost use Rattle.std.specs.Prelude.{◌≡◌, ◌≢◌, ◌<◌, ◌+◌, ◌^◌, ℕ, Bool, true, false};
 ghost use Rattle.turn_lock.specs.Seats.{IsTurnAt, turn_view, turn_value};
 ghost use Rattle.phase_shared.specs.LockedPhasers.{locked_place, locked_terms};
-ghost use Rattle.phase_shared.specs.Servings.{ask_of, IsBefore, IsBetween, Serving, Finished, IsCompleteIn};
+ghost use Rattle.phase_shared.specs.Servings.{ask_of, IsBefore, IsBetween, Serving, Finished, IsCompleteIn, IsDone};
 ghost use Rattle.phase_shared.specs.Views.{known_of};
 
 use crate::lane_words::{LANES, sends_of};
@@ -222,14 +222,13 @@ pub fn wait_own<A: Accumulate, K: SignalRule, S: Since>(
 ) -> (PhaserTurn<A, K>, Outcome)
     requires turn { IsTurnAt (locked_place phaser.now) turn }
     requires serving { (serves : Bool) × (k : ℕ)
-        × Serving A.operation K.allows (locked_terms phaser.now) (ask_of request)
-        S.seen serves k (turn_view turn) (turn_value turn) }
-    requires complete { IsCompleteIn A.operation (turn_value turn) request.phase }
+        × (s : Serving A.operation K.allows (locked_terms phaser.now) (ask_of request)
+        S.seen serves k (turn_view turn) (turn_value turn)) × IsDone s }
     ensures turn { IsTurnAt (locked_place phaser.now) result.0 }
     ensures knows { known_of (turn_view result.0) ≡ known_of (turn_view turn) }
     ensures finished { (serves : Bool) (k : ℕ)
-        → Serving A.operation K.allows (locked_terms phaser.now) (ask_of request)
-        S.seen serves k (turn_view turn) (turn_value turn)
+        (s : Serving A.operation K.allows (locked_terms phaser.now) (ask_of request)
+        S.seen serves k (turn_view turn) (turn_value turn)) → IsDone s
         → Finished A.operation K.allows (locked_terms phaser.now) (ask_of request)
         S.seen serves k result.1 (turn_view result.0) (turn_value result.0) }
 {
