@@ -32,7 +32,7 @@ use Rattle.phase_shared.specs.Views.{knowledge, known_of, turning}
 use Rattle.phase_shared.specs.WordTells.{IsOther, LaneReadAt, SendReadAt}
 use Rattle.phase_shared.proofs.Growing.{done_grows, signals_grow}
 use Rattle.phase_shared.proofs.LaneReading.{not_past}
-use Rattle.phase_shared.proofs.Small.{one_of, is_in_self, not_both, apart_phases}
+use Rattle.phase_shared.proofs.Small.{one_of, is_in_self, not_both, not_true_is, apart_phases}
 use Rattle.phase_shared.proofs.Stages.{signal_is, wait_is, stage_goes, stands_other, stands_signalled, stands_waited, further}
 use Rattle.phase_shared.proofs.Steadies.{found, none_of, stands_still}
 
@@ -177,7 +177,7 @@ module _ {A K : Type 0} (op : Operation A) (allows : K → Allows) (terms : Term
       let there : entry_of (members_of (t.later ++ t.now)) task ≡ Some entry = ap (λ ms. entry_of ms task) (sym t.stands.stands.members_are) ∙ member in
       ⊎_elim
       (λ (none : (r ≡ 0) ⊎ IsPast t.now task r). absurd (⊎_elim
-      (λ (zero' : r ≡ 0). apart_zero r zero')
+      (λ (zero' : r ≡ 0). apart_zero zero')
       (λ (past : IsPast t.now task r). apart_past (not_past terms.limits t.later t.now task r entry past t.good.legal there))
       none))
       (λ (a : (a : Ask) × (a.task ≡ task) × IsClaim terms.limits (allows terms.rule) (knowledge t.now (ask.task ∷ [])) t.claims a).
@@ -185,8 +185,8 @@ module _ {A K : Type 0} (op : Operation A) (allows : K → Allows) (terms : Term
       (a.0, a.1, (omega arith), a.2))
       h.found
     where
-      apart_zero : (r : ℕ) → r ≡ 0 → ⊥
-      apart_zero n zero' = (let i = is in let z = zero' in omega arith)
+      apart_zero : r ≡ 0 → ⊥
+      apart_zero none = omega arith
 
       apart_past : r ≤ entry.wait_phase → ⊥
       apart_past low = omega arith
@@ -381,3 +381,36 @@ module _ {A K : Type 0} (op : Operation A) (allows : K → Allows) (terms : Term
             (λ (here : b.task ≡ task). absurd (not_both (eqb a.task b.task) (eq-eqb a.task b.task (a_is ∙ sym here)) n))
             where'
       ] refl
+
+  -- ---- at a turn
+
+  -- the same turn, seen in another way
+  pub same_turn : (serves : Bool) (k : ℕ) (v w : View) (x y : CoreState A) → w ≡ v → y ≡ x → Serving op allows terms ask seen serves k v x
+      → Serving op allows terms ask seen serves k w y
+  same_turn serves k v w x y same_view same_value s =
+      subst (λ (z : CoreState A). Serving op allows terms ask seen serves k w z) (sym same_value)
+      (subst (λ (u : View). Serving op allows terms ask seen serves k u x) (sym same_view) s)
+
+  -- what it knows stays where it reads a lane
+  pub reads_knows : (serves : Bool) (k task r : ℕ) (v w : View) (x : CoreState A) → Serving op allows terms ask seen serves k v x
+      → LaneReadAt allows terms task v r w → known_of w ≡ known_of v
+  reads_knows serves k task r v w x s read =
+      let t = s.turned in
+      let l = read (knowledge t.now (ask.task ∷ [])) t.claims t.said t.lane t.is in
+      ap known_of l.is ∙ sym (ap known_of t.is)
+
+  -- another's lane
+  pub is_other : (serves : Bool) (k task : ℕ) (v : View) (x : CoreState A) → task ≢ ask.task → Serving op allows terms ask seen serves k v x → IsOther task v
+  is_other serves k task v x apart s = record {
+    knows = knowledge s.turned.now (ask.task ∷ []);
+    claims = s.turned.claims;
+    said = s.turned.said;
+    lane = s.turned.lane;
+    is = s.turned.is;
+    theirs = not_true_is (is_in task (ask.task ∷ [])) (λ yes'. apart (sym (one_of ask.task task yes')));
+  }
+
+  -- where it read what is sent
+  pub send_knows : (serves : Bool) (k task n : ℕ) (w v : View) (x : CoreState A) → Serving op allows terms ask seen serves k w x → SendReadAt task w n v → v ≡ w
+  send_knows serves k task n w v x s sent =
+      (sent (knowledge s.turned.now (ask.task ∷ [])) s.turned.claims s.turned.said s.turned.lane s.turned.is).0
