@@ -1,6 +1,6 @@
 -- What a seat that serves reads of others' asks, and the signals and waits that it makes for them.
-use Rattle.std.proofs.Common.{◌≡◌, ◌≢◌, ℕ, ℤ, ◌+◌, ◌<◌, ◌≤◌, Bool, true, false, cond, eqb, ltb, List, [], ◌∷◌, ◌++◌, ◌⊎◌, Option, None, Some, refl, sym, ap, subst, ◌∙◌, inl, inr, ⊎_elim, arith}
-use Rattle.std.proofs.lemmas.Bool.{eqb-true, eq-eqb, ne_eqb, ltb-true, ltb-false}
+use Rattle.std.proofs.Common.{◌≡◌, ◌≢◌, ℕ, ℤ, ◌+◌, ◌<◌, ◌≤◌, Bool, true, false, cond, eqb, ltb, leb, List, [], ◌∷◌, ◌++◌, ◌⊎◌, Option, None, Some, refl, sym, ap, subst, ◌∙◌, inl, inr, ⊎_elim, arith}
+use Rattle.std.proofs.lemmas.Bool.{eqb-true, eq-eqb, ne_eqb, ltb-true, ltb-false, lt-ltb, le-ltb, leb-true}
 use Rattle.std.proofs.lemmas.Option.{same_Some}
 use Rattle.phase_core.specs.phase_base.Limits.{Limits}
 use Rattle.phase_core.specs.phase_base.Lists.{is_in}
@@ -10,9 +10,21 @@ use Rattle.phase_core.specs.phase_base.declared.entry.Entry.{Entry}
 use Rattle.phase_core.specs.phase_accum.Operations.{Operation}
 use Rattle.phase_core.specs.phase_accum.declared.outcome.Outcome.{Outcome}
 use Rattle.phase_core.specs.phase_history.declared.event.Event.{Event}
-use Rattle.phase_core.specs.phase_history.declared.event.Event.TheVariants.{Signalled, Waited}
+use Rattle.phase_core.specs.phase_history.declared.event.Event.TheVariants.{Made, Registered, RegisteredNow, Signalled, Waited, Dropped}
 use Rattle.phase_core.specs.phase_history.Histories.{History, members_of, done_of, signal_phase, wait_phase}
+use Rattle.std.specs.Prelude.{Ok, Result, is_some, not, ◌&&◌}
+use Rattle.phase_core.specs.phase_base.Limits.{AreLimits}
+use Rattle.phase_core.specs.phase_base.Members.{least, signal_phases}
+use Rattle.phase_core.specs.phase_history.Histories.{positions_of}
+use Rattle.phase_core.specs.phase_history.Phases.{value_of_phase}
+use Rattle.phase_core.specs.phase_history.Refusals.{refusal_at, wait_rows, wait_refusal}
+use Rattle.phase_core.specs.phase_history.Replies.{wait_reply, refused_or, got_at}
+use Rattle.phase_core.specs.phase_history.declared.got.Got.{Got}
+use Rattle.phase_core.specs.phase_history.declared.got.Got.TheVariants as got
+use Rattle.phase_core.specs.phase_history.declared.refusal.WaitRefusal.{WaitRefusal}
+use Rattle.phase_core.specs.phase_history.declared.refusal.WaitRefusal.TheVariants as wait
 use Rattle.phase_core.specs.phase_history.Legal.{IsLegal}
+use Rattle.phase_core.proofs.phase_history_lemmas.Refused.{first_row_none}
 use Rattle.phase_core.specs.phase_history.Others.{is_by, events_of, OthersCame}
 use Rattle.phase_core.specs.Cores.{CoreState, StandsFor}
 use Rattle.phase_core.proofs.phase_history_lemmas.MemberLemmas.{entry_of-changed_other}
@@ -26,7 +38,7 @@ use Rattle.phase_shared.specs.Desks.{IsPast, MayMake}
 use Rattle.phase_shared.specs.Goods.{Allows, IsGood, IsGoodAt}
 use Rattle.phase_shared.specs.Lanes.{sends_of}
 use Rattle.phase_shared.specs.Rule.{StandsWithin}
-use Rattle.phase_shared.specs.Servings.{Turned, Serving, IsBefore, IsBetween, IsWaiterIn}
+use Rattle.phase_shared.specs.Servings.{Turned, Serving, Finished, IsBefore, IsBetween, IsDone, IsWaiterIn}
 use Rattle.phase_shared.specs.Tells.{IsClaim, LaneRead, MayBeMade}
 use Rattle.phase_shared.specs.Views.{knowledge, known_of, turning}
 use Rattle.phase_shared.specs.WordTells.{IsOther, LaneReadAt, SendReadAt}
@@ -34,7 +46,7 @@ use Rattle.phase_shared.proofs.Growing.{done_grows, signals_grow}
 use Rattle.phase_shared.proofs.LaneReading.{not_past}
 use Rattle.phase_shared.proofs.Small.{one_of, is_in_self, not_both, not_true_is, apart_phases}
 use Rattle.phase_shared.proofs.Stages.{signal_is, wait_is, stage_goes, stands_other, stands_signalled, stands_waited, further}
-use Rattle.phase_shared.proofs.Steadies.{found, none_of, stands_still}
+use Rattle.phase_shared.proofs.Steadies.{found, none_of, same_value, stands_still}
 
 -- ---- lists of asks
 
@@ -97,6 +109,16 @@ waiter_other limits h e task s w legal other st waits entry member =
         → (st : Stands h task s w) → entry_of (members_of (e ∷ h)) task ≡ Some st.entry
     stays limits h e task s w legal other st =
         entry_of-others limits (e ∷ []) h task st.entry legal (ap (λ b. cond b (e ∷ []) []) other) st.member
+
+-- the limits of a legal history are within theirs
+limits_of : (limits : Limits) (h : History) → IsLegal limits h → AreLimits limits
+limits_of limits [] legal = absurd legal
+limits_of limits (Made task ∷ before) legal = legal.0
+limits_of limits (Registered parent child mode ∷ before) legal = limits_of limits before legal.0
+limits_of limits (RegisteredNow parent child ∷ before) legal = limits_of limits before legal.0
+limits_of limits (Signalled task lists single ∷ before) legal = limits_of limits before legal.0
+limits_of limits (Waited task n ∷ before) legal = limits_of limits before legal.0
+limits_of limits (Dropped task ∷ before) legal = limits_of limits before legal.0
 
 -- ---- a lane is read
 
@@ -475,6 +497,22 @@ module _ {A K : Type 0} (op : Operation A) (allows : K → Allows) (terms : Term
     may = s.may;
   }
 
+  -- it has served those below j, where it has served those below k
+  pub as_far : (k j : ℕ) (v : View) (x : CoreState A) → j ≤ k → Serving op allows terms ask seen true k v x → Serving op allows terms ask seen true j v x
+  as_far k j v x low s = serves_to true k j v x s (λ a one below same. s.turned.served a one (below_all a.task below) same)
+    where
+      below_all : (m : ℕ) → m < j → m < k
+      below_all m here = omega arith
+
+  -- no ask is its own task's
+  pub none_own : (k : ℕ) (v : View) (x : CoreState A) → k ≡ ask.task → Serving op allows terms ask seen true k v x
+      → Serving op allows terms ask seen true (k + 1) v x
+  none_own k v x own s = serves_to true k (k + 1) v x s (λ a one below same. ⊎_elim
+      (λ (low : a.task < k). s.turned.served a one low same)
+      (λ (here : a.task ≡ k). absurd (not_both (is_in a.task (ask.task ∷ []))
+      (subst (λ (m : ℕ). is_in m (ask.task ∷ []) ≡ true) (sym (here ∙ own)) (is_in_self ask.task [])) (s.turned.theirs a one)))
+      (below_or a.task k below))
+
   -- where the lane has no ask for the phase
   pub none_asked : (k r : ℕ) (v : View) (x : CoreState A) (h : HasRead true k k r v x) → (r ≡ ask.phase + 1 → ⊥)
       → Serving op allows terms ask seen true (k + 1) v x
@@ -483,3 +521,97 @@ module _ {A K : Type 0} (op : Operation A) (allows : K → Allows) (terms : Term
       (λ (here : a.task ≡ k). absurd (other (h.read a one here ∙ ap (λ (n : ℕ). n + 1) same)))
       (below_or a.task k below))
 
+
+  -- ---- its own wait
+
+  -- it is accepted, and gets the value
+  pub own_reply : (serves : Bool) (k : ℕ) (v : View) (x : CoreState A) (s : Serving op allows terms ask seen serves k v x) → IsDone s
+      → wait_reply op.value terms.limits (s.turned.later ++ s.turned.now) ask.task
+      ≡ Ok (got.Value ask.phase (value_of_phase op.value (s.turned.later ++ s.turned.now) ask.phase))
+  own_reply serves k v x s done =
+      let h = s.turned.later ++ s.turned.now in
+      let st = s.made.stands in
+      let e = st.entry in
+      let bound : 1 ≤ terms.limits.bound = (limits_of terms.limits h s.turned.good.legal).bound_least in
+      let first : (mode_signals e.mode && eqb e.signal_phase e.wait_phase) ≡ false =
+      ap (λ b. b && eqb e.signal_phase e.wait_phase) st.signals ∙ ne_eqb e.signal_phase e.wait_phase (later_than e.signal_phase e.wait_phase st.signal_at st.wait_at) in
+      let yet : (leb (done_of h) e.wait_phase && is_some (least (signal_phases (members_of h)))) ≡ false =
+      ap (λ b. b && is_some (least (signal_phases (members_of h)))) (not_leb (done_of h) e.wait_phase (let at : e.wait_phase ≡ ask.phase = st.wait_at in let d : ask.phase < done_of h = done in omega arith)) in
+      let none : wait_refusal terms.limits h ask.task 1 ≡ None =
+      ap (λ o. refusal_at o wait.NoTask (wait_rows terms.limits (positions_of h) 1)) st.member
+      ∙ first_row_none (wait_rows terms.limits (positions_of h) 1 e) (ap not (s.waits e st.member), (le-ltb terms.limits.bound 1 bound, (first, (yet, tt)))) in
+      ap (λ o. refused_or o (got_at op.value h (wait_phase h ask.task))) none
+      ∙ ap (λ (n : ℕ). refused_or None (got_at op.value h n)) (wait_is h ask.task (ask.phase + 1) ask.phase st)
+      ∙ ap (λ (b : Bool). Ok (cond b (got.Value ask.phase (value_of_phase op.value h ask.phase)) got.Ended)) (lt-ltb ask.phase (done_of h) done)
+    where
+      later_than : (m n : ℕ) → m ≡ ask.phase + 1 → n ≡ ask.phase → m ≢ n
+      later_than m n a b same = omega arith
+
+      not_leb : (m n : ℕ) → n < m → leb m n ≡ false
+      not_leb m n low = elim (leb m n) as (λ b. (leb m n ≡ b) → b ≡ false) [
+        | true ↦ λ t. absurd (let high = leb-true m n t in omega arith)
+        | false ↦ λ f. refl
+      ] refl
+
+  -- the turn with it
+  pub own_waited : (serves : Bool) (k : ℕ) (outcome : Outcome) (phase : ℕ) (v : View) (x y : CoreState A) (s : Serving op allows terms ask seen serves k v x)
+      → IsDone s → Ok (got.Value phase outcome) ≡ wait_reply op.value terms.limits (s.turned.later ++ s.turned.now) ask.task → y.limits ≡ x.limits
+      → StandsFor op y (Waited ask.task 1 ∷ s.turned.later ++ s.turned.now)
+      → Finished op allows terms ask seen serves k outcome v y
+  own_waited serves k outcome phase v x y s done reply same_limits stands' =
+      let t = s.turned in
+      let h : History = t.later ++ t.now in
+      let e : Event = Waited ask.task 1 in
+      let limits_are : y.limits ≡ terms.limits = same_limits ∙ t.stands.limits_are in
+      let legal' : IsLegal terms.limits (e ∷ h) = subst (λ (l : Limits). IsLegal l (e ∷ h)) limits_are stands'.legal in
+      let others : (a : Ask) → IsOneOf t.claims a → is_by a.task e ≡ false = λ a one. not_mine a (t.theirs a one) in
+      record {
+        turned = record {
+          now = t.now;
+          claims = t.claims;
+          said = t.said;
+          lane = t.lane;
+          later = e ∷ t.later;
+          is = t.is;
+          some = t.some;
+          batch = (t.batch, inl (λ task out. not_in task out));
+          good = record { legal = legal'; keeps = t.good.keeps };
+          stands = record { stands = stands'; limits_are = limits_are };
+          theirs = t.theirs;
+          own = t.own;
+          quiet = λ not a one st. t.quiet not a one (record {
+            entry = st.entry;
+            member = sym (entry_of-changed_other ask.task a.task (waited 1) (members_of h) (others a one)) ∙ st.member;
+            signals = st.signals;
+            signal_at = st.signal_at;
+            wait_at = st.wait_at;
+          });
+          complete = λ _. further h e legal' (some_later t.later t.now t.some) done;
+          served = λ a one below same. stands_other terms.limits h e a.task (a.phase + 1) (a.phase + 1) legal' (others a one) (t.served a one below same);
+        };
+        middle = h;
+        last = refl;
+        made = s.made;
+        accepted = legal'.1.0;
+        complete = done;
+        has = same_value_of (reply ∙ own_reply serves k v x s done)
+            ∙ sym (same_value terms.limits t.claims (ask.task ∷ []) h (some_later t.later t.now t.some) op.value ask.phase (e ∷ []) legal' done).1;
+      }
+    where
+      not_mine : (a : Ask) → is_in a.task (ask.task ∷ []) ≡ false → eqb ask.task a.task ≡ false
+      not_mine a out = ne_eqb ask.task a.task (λ same. not_both (is_in a.task (ask.task ∷ []))
+          (subst (λ (m : ℕ). is_in m (ask.task ∷ []) ≡ true) same (is_in_self ask.task [])) out)
+
+      not_in : (task : ℕ) → is_in task (ask.task ∷ []) ≡ false → eqb ask.task task ≡ false
+      not_in task out = ne_eqb ask.task task (λ same. not_both (is_in task (ask.task ∷ []))
+          (subst (λ (m : ℕ). is_in m (ask.task ∷ []) ≡ true) same (is_in_self ask.task [])) out)
+
+      some_later : (later now : History) → (now ≡ [] → ⊥) → later ++ now ≡ [] → ⊥
+      some_later [] now some none = some none
+      some_later (e ∷ later) now some none = cc
+
+      further : (h : History) (e : Event) → IsLegal terms.limits (e ∷ h) → (h ≡ [] → ⊥) → ask.phase < done_of h → ask.phase < done_of (e ∷ h)
+      further h e legal some low = let more = done_grows terms.limits (e ∷ []) h some legal in omega arith
+
+      same_value_of : {p : ℕ} {o q : Outcome} → ◌≡◌ {A = Result Got WaitRefusal} (Ok (got.Value p o)) (Ok (got.Value ask.phase q)) → o ≡ q
+      same_value_of e = cc

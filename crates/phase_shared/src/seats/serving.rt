@@ -1,6 +1,6 @@
 //! The turn of a seat that asks: it signals for others, and waits for all where that completes its
 //! phase.
-ghost use Rattle.std.specs.Prelude.{◌≡◌, ◌≢◌, ◌<◌, ◌+◌, ◌^◌, ℕ, Bool, true, false};
+ghost use Rattle.std.specs.Prelude.{◌≡◌, ◌<◌, ◌+◌, ◌^◌, ℕ, Bool, true, false};
 ghost use Rattle.turn_lock.specs.Seats.{IsTurnAt, turn_view, turn_value};
 ghost use Rattle.phase_shared.specs.LockedPhasers.{locked_place, locked_terms};
 ghost use Rattle.phase_shared.specs.Servings.{ask_of, IsBefore, IsBetween, Serving, Finished, IsCompleteIn, IsDone};
@@ -51,7 +51,6 @@ fn signal_for<A: Accumulate, K: SignalRule, S: Since>(
     task: u64,
 ) -> (PhaserTurn<A, K>, bool)
     requires low { task < LANES }
-    requires other { task ≢ request.task }
     requires turn { IsTurnAt (locked_place phaser.now) turn }
     requires serving { Serving A.operation K.allows (locked_terms phaser.now) (ask_of request)
         S.seen false 0 (turn_view turn) (turn_value turn) }
@@ -60,6 +59,9 @@ fn signal_for<A: Accumulate, K: SignalRule, S: Since>(
     ensures serving { Serving A.operation K.allows (locked_terms phaser.now) (ask_of request)
         S.seen false 0 (turn_view result.0) (turn_value result.0) }
 {
+    if task == request.task {
+        return (turn, false);
+    }
     let (turn, found) = read_lane(phaser, turn, task);
     if found != request.phase + 1 {
         return (turn, false);
@@ -92,11 +94,9 @@ fn signal_all<A: Accumulate, K: SignalRule, S: Since>(
     let mut turn = turn;
     let mut has_made = false;
     for task in 0..LANES {
-        if task != request.task {
-            let (next, is_made) = signal_for::<A, K, S>(phaser, turn, request, task);
-            turn = next;
-            has_made = has_made || is_made;
-        }
+        let (next, is_made) = signal_for::<A, K, S>(phaser, turn, request, task);
+        turn = next;
+        has_made |= is_made;
     }
     (turn, has_made)
 }
@@ -161,7 +161,6 @@ fn wait_for<A: Accumulate, K: SignalRule, S: Since>(
     task: u64,
 ) -> (PhaserTurn<A, K>, bool)
     requires low { task < LANES }
-    requires other { task ≢ request.task }
     requires turn { IsTurnAt (locked_place phaser.now) turn }
     requires serving { Serving A.operation K.allows (locked_terms phaser.now) (ask_of request)
         S.seen true 0 (turn_view turn) (turn_value turn) }
@@ -175,6 +174,9 @@ fn wait_for<A: Accumulate, K: SignalRule, S: Since>(
         → Serving A.operation K.allows (locked_terms phaser.now) (ask_of request)
         S.seen true (task + 1) (turn_view result.0) (turn_value result.0) }
 {
+    if task == request.task {
+        return (turn, true);
+    }
     let (mut turn, found) = read_lane(phaser, turn, task);
     if found != request.phase + 1 {
         return (turn, true);
@@ -210,11 +212,9 @@ pub fn wait_all<A: Accumulate, K: SignalRule, S: Since>(
     let mut turn = turn;
     let mut is_all = true;
     for task in 0..LANES {
-        if task != request.task {
-            let (next, is_made) = wait_for::<A, K, S>(phaser, turn, request, task);
-            turn = next;
-            is_all = is_all && is_made;
-        }
+        let (next, is_made) = wait_for::<A, K, S>(phaser, turn, request, task);
+        turn = next;
+        is_all &= is_made;
     }
     (turn, is_all)
 }
@@ -238,9 +238,10 @@ pub fn wait_own<A: Accumulate, K: SignalRule, S: Since>(
         S.seen serves k result.1 (turn_view result.0) (turn_value result.0) }
 {
     let mut turn = turn;
-    let answer = turn.value_in(&phaser.lock).wait(request.task);
-    let Ok(Got::Value { outcome, .. }) = answer else {
-        unreachable!()
-    };
-    (turn, outcome)
+    let core = turn.value_in(&phaser.lock);
+    match core.wait(request.task) {
+        Ok(Got::Value { outcome, .. }) => (turn, outcome),
+        Ok(Got::Ended) => unreachable!(),
+        Err(_refusal) => unreachable!(),
+    }
 }

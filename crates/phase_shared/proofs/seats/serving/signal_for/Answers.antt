@@ -36,7 +36,7 @@ returns-then-found-request-clause-serving g c =
 pub read_send-turn-requires-clause-other : goal.read_send-turn-requires-clause-other
 read_send-turn-requires-clause-other g c =
     is_other g.A.Accumulate.operation g.K.SignalRule.allows (locked_terms c.args.phaser.now) (ask_of c.args.request) g.S.Since.seen
-    (false) 0 c.args.task (turn_view c.read_lane-turn.result.0) (turn_value c.args.turn) c.requires.other
+    (false) 0 c.args.task (turn_view c.read_lane-turn.result.0) (turn_value c.args.turn) c.if-task-request.false
     (has_read g (goal.at.read_send-turn-requires-clause-other g c).After-read_lane-turn).serving
 
 -- what is sent was read: nothing changed by that

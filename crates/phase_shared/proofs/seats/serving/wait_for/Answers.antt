@@ -8,7 +8,7 @@ use Rattle.phase_core.specs.Cores.{CoreState, StandsFor}
 use Rattle.phase_shared.specs.LockedPhasers.{locked_terms}
 use Rattle.phase_shared.specs.Servings.{ask_of, Serving, IsBetween}
 use Rattle.phase_shared.specs.Views.{known_of}
-use Rattle.phase_shared.proofs.ServingSteps.{HasRead, reads_more, reads_knows, waits_more, same_turn, core_stays, none_asked, below_or}
+use Rattle.phase_shared.proofs.ServingSteps.{HasRead, reads_more, reads_knows, waits_more, same_turn, core_stays, none_asked, none_own, below_or}
 use Rattle.phase_shared.proofs.seats.serving.wait_for.Given.{Over}
 use Rattle.phase_shared.proofs.seats.serving.wait_for.Goals.{After-read_lane-turn}
 use Rattle.phase_shared.proofs.seats.serving.wait_for.Goals as goal
@@ -118,3 +118,9 @@ pub returns-in-Err-clause-serving : goal.returns-in-Err-clause-serving
 returns-in-Err-clause-serving g c =
     as_read g (goal.at.returns-in-Err-clause-serving g c).After-read_lane-turn c.wait.new.self
     (c.in-Err.ensures.err ∙ c.value_in-core.ensures.value ∙ c.read_lane-turn.ensures.value)
+
+-- it asks for itself by no lane
+pub returns-then-task-request-clause-served : goal.returns-then-task-request-clause-served
+returns-then-task-request-clause-served g c _ s =
+    none_own g.A.Accumulate.operation g.K.SignalRule.allows (locked_terms c.args.phaser.now) (ask_of c.args.request) g.S.Since.seen c.args.task
+    (turn_view c.args.turn) (turn_value c.args.turn) c.if-task-request.true s
