@@ -27,6 +27,7 @@ pub mod Giving
 pub mod Answering
 pub mod TurnParts
 pub mod TurnEnds
+pub mod TurnGoes
 pub mod Stepping
 pub mod SignalSteps
 pub mod WaitSteps

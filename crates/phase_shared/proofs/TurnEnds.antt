@@ -1,5 +1,5 @@
 -- What a turn of a seat that asks owes at its give.
-use Rattle.std.proofs.Common.{◌≡◌, ◌≢◌, ℕ, ℤ, ◌+◌, ◌<◌, ◌≤◌, Bool, true, false, List, [], ◌∷◌, ◌++◌, ◌⊎◌, Option, Some, None, length, refl, sym, ap, subst, ◌∙◌, inl, inr, ⊎_elim, arith}
+use Rattle.std.proofs.Common.{◌≡◌, ◌≢◌, ℕ, ℤ, ◌+◌, ◌*◌, ◌<◌, ◌≤◌, Bool, true, false, List, [], ◌∷◌, ◌++◌, ◌⊎◌, Option, Some, None, length, refl, sym, ap, subst, ◌∙◌, inl, inr, ⊎_elim, arith}
 use Rattle.std.specs.Prelude.{◌/◌, ◌%◌}
 use mathlib.Core.Option.{some}
 use Rattle.turn_lock.specs.WordSteps.{GivesOf}
@@ -14,6 +14,7 @@ use Rattle.phase_core.specs.phase_history.Legal.{IsLegal}
 use Rattle.phase_core.specs.phase_history.Refusals.{signal_refusal}
 use Rattle.phase_core.specs.phase_history.Others.{OthersCame}
 use Rattle.phase_core.specs.Cores.{CoreState}
+use Rattle.phase_core.specs.Cores as core
 use Rattle.phase_core.proofs.phase_history_lemmas.OthersEvents.{OthersCame-refl}
 use Rattle.phase_core.proofs.phase_history_lemmas.Used.{IsLegal-beginning}
 use Rattle.phase_shared.specs.declared.rule.Terms.{Terms}
@@ -228,6 +229,20 @@ module _ {A K : Type 0} (op : Operation A) (allows : K → Allows) (terms : Term
               (leaves k next outcome v x f tells) (ends_last true k outcome v x f next) words views kept at,
           has_last true k outcome v x f,
         ))
+
+    -- what is told then: each ask for the phase was answered, or only how many phases are complete
+    pub tells_odd : (k : ℕ) (outcome : Outcome) (v : View) (x y : CoreState A) (f : Finished op allows terms ask seen true k outcome v x) (done next : ℕ)
+        → y ≡ x → ((h : History) → core.StandsFor op y h → done ≡ done_of h) → next ≡ done * 2 + 1
+        → next % 2 ≡ 1 → (k ≡ k) × (next / 2 ≡ done_of (f.turned.later ++ f.turned.now))
+    tells_odd k outcome v x y f done next same says is odd =
+        let all : done ≡ done_of (f.turned.later ++ f.turned.now) = says (f.turned.later ++ f.turned.now)
+        (subst (λ (z : CoreState A). core.StandsFor op z (f.turned.later ++ f.turned.now)) (sym same) f.turned.stands.stands) in
+        let half : next / 2 ≡ done = omega arith in
+        (refl, half ∙ all)
+
+    pub tells_even : (k : ℕ) (outcome : Outcome) (v : View) (x : CoreState A) (f : Finished op allows terms ask seen true k outcome v x) (done next : ℕ)
+        → next ≡ done * 2 → next % 2 ≡ 1 → (k ≡ 16) × (next / 2 ≡ done_of (f.turned.later ++ f.turned.now))
+    tells_even k outcome v x f done next is odd = absurd (omega arith)
 
     -- ---- others have answered
 
