@@ -37,3 +37,4 @@ pub mod BlockSteps
 pub mod JoinSteps
 pub use Rattle.phase_core.proofs.phase_history_lemmas as phase_history_lemmas
 pub use Rattle.turn_lock.proofs as turn_lock_lemmas
+pub mod ServingSteps

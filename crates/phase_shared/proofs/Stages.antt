@@ -31,7 +31,7 @@ stands_other limits h e task s w legal other st = record {
   wait_at = st.wait_at;
 }
 
-stands_signalled : (h : History) (task s w : ℕ) (sends : List ℤ) → Stands h task s w → Stands (Signalled task (sends ∷ []) None ∷ h) task (s + 1) w
+pub stands_signalled : (h : History) (task s w : ℕ) (sends : List ℤ) → Stands h task s w → Stands (Signalled task (sends ∷ []) None ∷ h) task (s + 1) w
 stands_signalled h task s w sends st = record {
   entry = signalled 1 st.entry;
   member = entry_of-changed_same task (signalled 1) st.entry (members_of h) st.member;
@@ -40,7 +40,7 @@ stands_signalled h task s w sends st = record {
   wait_at = st.wait_at;
 }
 
-stands_waited : (h : History) (task s w : ℕ) → Stands h task s w → Stands (Waited task 1 ∷ h) task s (w + 1)
+pub stands_waited : (h : History) (task s w : ℕ) → Stands h task s w → Stands (Waited task 1 ∷ h) task s (w + 1)
 stands_waited h task s w st = record {
   entry = waited 1 st.entry;
   member = entry_of-changed_same task (waited 1) st.entry (members_of h) st.member;
@@ -75,7 +75,7 @@ grows limits h e some legal =
 alone : (task : ℕ) (e : Event) → is_by task e ≡ false → (t : ℕ) → is_in t (task ∷ []) ≡ true → is_by t e ≡ false
 alone task e other t has = subst (λ (n : ℕ). is_by n e ≡ false) (one_of task t has) other
 
-further : (task : ℕ) (old h : History) (e : Event) → is_by task e ≡ false → OthersCame (task ∷ []) old h → OthersCame (task ∷ []) old (e ∷ h)
+pub further : (task : ℕ) (old h : History) (e : Event) → is_by task e ≡ false → OthersCame (task ∷ []) old h → OthersCame (task ∷ []) old (e ∷ h)
 further task old h e other came = OthersCame-trans (task ∷ []) old h (e ∷ h) came (OthersCame-event (task ∷ []) h e (alone task e other))
 
 pub stage_other : (limits : Limits) (ask : Ask) (seen h : History) (e : Event) → IsLegal limits (e ∷ h) → is_by ask.task e ≡ false

@@ -2,7 +2,7 @@
 -- tells a number of phases, and its words have what is asked for and the value of the last of them.
 -- What is told is twice the number of complete phases, and one more where each ask for a phase
 -- below that number was answered.
-use Rattle.std.specs.Prelude.{◌≡◌, ℕ, ℤ, ◌+◌, ◌<◌, ◌≤◌, ◌/◌, ◌%◌, List, [], ◌∷◌, ◌++◌, ◌⊎◌, Option, None, Some, Bool, true, ◌==◌, ◌&&◌, if◌then◌else◌, length}
+use Rattle.std.specs.Prelude.{◌≡◌, ℕ, ℤ, ◌+◌, ◌<◌, ◌≤◌, ◌/◌, ◌%◌, List, [], ◌∷◌, ◌++◌, ◌⊎◌, Option, None, Some, Bool, true, ◌==◌, ◌&&◌, if◌then◌else◌}
 use mathlib.Core.Option.{some}
 use lib.ListN.{get_elem?}
 use Rattle.phase_core.specs.phase_base.Limits.{Limits}
@@ -18,7 +18,7 @@ use Rattle.phase_shared.specs.Views.{Fits, speaks_of}
 pub use Rattle.phase_shared.specs.declared.seats.view.View.{View}
 pub use Rattle.phase_shared.specs.declared.seats.view.View.TheVariants.{Resting, Turning, Joining, Posting, Asking, Reading, Spent}
 use Rattle.phase_shared.specs.Asks.{Ask, Stage, IsUnmade, IsMade, IsAnswered, Stands, IsOneOf}
-use Rattle.phase_shared.specs.Lanes.{words_most, lanes_most, board, posted, sent, sends_of}
+use Rattle.phase_shared.specs.Lanes.{lanes_most, board, posted, sent, sends_of}
 
 -- the rule allows the ask's signal, whatever the others do
 abbrev pub MayMake : Limits → Allows → History → Ask → Type 0

@@ -54,17 +54,19 @@ pub record MayAsk {K : Type 0} (allows : K → Allows) (terms : Terms K) (ask : 
 abbrev pub IsAsking : Ask → History → View → Type 0
 IsAsking ask seen v = v ≡ Asking (knowledge seen (ask.task ∷ [])) ask
 
--- the task is registered, and stands before the phase
+-- the task is registered as one that signals, and stands before the phase
 pub record IsBefore (members : Members) (task phase : ℕ) : Type 0 where
   pub entry : Entry
   pub member : entry_of members task ≡ Some entry
+  pub signals : mode_signals entry.mode ≡ true
   pub signal_at : entry.signal_phase ≡ phase
   pub wait_at : entry.wait_phase ≡ phase
 
--- the task is registered, and has signalled the phase and not waited for it
+-- the same task has signalled the phase and not waited for it
 pub record IsBetween (members : Members) (task phase : ℕ) : Type 0 where
   pub entry : Entry
   pub member : entry_of members task ≡ Some entry
+  pub signals : mode_signals entry.mode ≡ true
   pub signal_at : entry.signal_phase ≡ phase + 1
   pub wait_at : entry.wait_phase ≡ phase
 

@@ -1,5 +1,5 @@
 -- What the steps of a seat tell it.
-use Rattle.std.specs.Prelude.{◌≡◌, ◌≢◌, ℕ, ℤ, ◌+◌, ◌<◌, ◌≤◌, ◌/◌, ◌%◌, List, [], ◌∷◌, ◌++◌, ◌⊎◌, Option, None, Some, true, false}
+use Rattle.std.specs.Prelude.{◌≡◌, ℕ, ℤ, ◌+◌, ◌<◌, ◌≤◌, ◌/◌, ◌%◌, List, [], ◌∷◌, ◌++◌, ◌⊎◌, Option, None, Some, false}
 use Rattle.phase_core.specs.phase_base.Limits.{Limits}
 use Rattle.phase_core.specs.phase_base.Lists.{is_in}
 use Rattle.phase_core.specs.phase_accum.declared.outcome.Outcome.{Outcome}
@@ -12,7 +12,7 @@ use Rattle.phase_shared.specs.Goods.{Allows, IsGood}
 use Rattle.phase_shared.specs.declared.seats.view.Knowledge.{Knowledge}
 use Rattle.phase_shared.specs.Views.{knowledge, speaks_of, known_of}
 use Rattle.phase_shared.specs.Asks.{Ask, Stage, IsMade, IsAnswered, Stands, IsOneOf}
-use Rattle.phase_shared.specs.Lanes.{sends_of, KindIs, NumberIs}
+use Rattle.phase_shared.specs.Lanes.{sends_of}
 use Rattle.phase_shared.specs.Desks.{View, Resting, Turning, Asking, Reading, MayMake, IsPast}
 
 -- a take that won, of a seat at rest: the history goes on from what it had seen, by events of

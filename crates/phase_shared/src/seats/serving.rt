@@ -22,7 +22,9 @@ fn is_before<A: Accumulate>(core: &PhaserCore<A>, task: u64, phase: u64) -> bool
     ensures { result ≡ true → IsBefore core.now.members task phase }
 {
     match core.view(task) {
-        Some(entry) => entry.signal_phase == phase && entry.wait_phase == phase,
+        Some(entry) => {
+            entry.mode.signals() && entry.signal_phase == phase && entry.wait_phase == phase
+        }
         None => false,
     }
 }
@@ -33,7 +35,9 @@ fn is_between<A: Accumulate>(core: &PhaserCore<A>, task: u64, phase: u64) -> boo
     ensures { result ≡ true → IsBetween core.now.members task phase }
 {
     match core.view(task) {
-        Some(entry) => entry.signal_phase == phase + 1 && entry.wait_phase == phase,
+        Some(entry) => {
+            entry.mode.signals() && entry.signal_phase == phase + 1 && entry.wait_phase == phase
+        }
         None => false,
     }
 }
