@@ -119,6 +119,15 @@ module _ {A K : Type 0} (op : Operation A) (allows : K → Allows) (terms : Term
   pub open_still : (v u : View) → known_of u ≡ known_of v → WasOpen v ask.phase → WasOpen u ask.phase
   open_still v u same open' = subst (λ f. done_of f.seen ≤ ask.phase) (sym same) open'
 
+  abbrev Took : View → CoreState A → Type 0
+  Took v x = TookAsked op.value terms.limits (allows terms.rule) (StandsWithin op terms.limits) (knowledge seen (ask.task ∷ [])) ask x v
+
+  -- the core that was lent is the turn's
+  pub took_still : (v : View) (x y : CoreState A) → y ≡ x
+      → TookAsked op.value terms.limits (allows terms.rule) (StandsWithin op terms.limits) (knowledge seen (ask.task ∷ [])) ask x v
+      → TookAsked op.value terms.limits (allows terms.rule) (StandsWithin op terms.limits) (knowledge seen (ask.task ∷ [])) ask y v
+  took_still v x y same k = subst (λ (z : CoreState A). Took v z) (sym same) k
+
   module _ (v : View) (x : CoreState A)
       (k : TookAsked op.value terms.limits (allows terms.rule) (StandsWithin op terms.limits) (knowledge seen (ask.task ∷ [])) ask x v) where
     -- ---- the turn that it took
@@ -146,14 +155,12 @@ module _ {A K : Type 0} (op : Operation A) (allows : K → Allows) (terms : Term
     }
 
     -- the entry that the core told
-    pub told_member : (y : CoreState A) (o : Option Entry) (e : Entry) → y ≡ x → o ≡ entry_of y.members ask.task → o ≡ Some e
-        → entry_of (members_of k.now) ask.task ≡ Some e
-    told_member y o e same viewed some =
-        ap (λ ms. entry_of ms ask.task) (sym k.stands.stands.members_are) ∙ ap (λ (z : CoreState A). entry_of z.members ask.task) (sym same) ∙ sym viewed ∙ some
+    pub told_member : (o : Option Entry) (e : Entry) → o ≡ entry_of x.members ask.task → o ≡ Some e → entry_of (members_of k.now) ask.task ≡ Some e
+    told_member o e viewed some = ap (λ ms. entry_of ms ask.task) (sym k.stands.stands.members_are) ∙ sym viewed ∙ some
 
     -- the task is registered
-    pub stage_found : (y : CoreState A) (o : Option Entry) → y ≡ x → o ≡ entry_of y.members ask.task → o ≡ None → ⊥
-    stage_found y o same viewed none = ⊎_elim
+    pub stage_found : (o : Option Entry) → o ≡ entry_of x.members ask.task → o ≡ None → ⊥
+    stage_found o viewed none = ⊎_elim
         (λ (u : IsUnmade ask seen k.now). no u.stands.entry u.stands.member)
         (λ (r : IsMade terms.limits ask seen k.now ⊎ IsAnswered terms.limits ask seen k.now). ⊎_elim
         (λ (m : IsMade terms.limits ask seen k.now). no m.stands.entry m.stands.member)
@@ -163,25 +170,23 @@ module _ {A K : Type 0} (op : Operation A) (allows : K → Allows) (terms : Term
       where
         no : (e : Entry) → entry_of (members_of k.now) ask.task ≡ Some e → ⊥
         no e member =
-            let z : Some e ≡ None = sym member ∙ ap (λ ms. entry_of ms ask.task) (sym k.stands.stands.members_are)
-            ∙ ap (λ (c : CoreState A). entry_of c.members ask.task) (sym same) ∙ sym viewed ∙ none in
+            let z : Some e ≡ None = sym member ∙ ap (λ ms. entry_of ms ask.task) (sym k.stands.stands.members_are) ∙ sym viewed ∙ none in
             cc
 
     -- the core tells how many phases are complete
-    pub told_done : (y : CoreState A) (n : ℕ) → y ≡ x → ((h : History) → StandsFor op y h → n ≡ done_of h) → n ≡ done_of k.now
-    told_done y n same done = done k.now (subst (λ (z : CoreState A). StandsFor op z k.now) (sym same) k.stands.stands)
-
-    pub open_now : (n : ℕ) → n ≡ done_of k.now → n ≤ ask.phase → WasOpen v ask.phase
-    open_now n is low = subst (λ (u : View). done_of (known_of u).seen ≤ ask.phase) (sym k.is) (subst (λ (m : ℕ). m ≤ ask.phase) is low)
+    pub open_now : (n : ℕ) → ((h : History) → StandsFor op x h → n ≡ done_of h) → n ≤ ask.phase → WasOpen v ask.phase
+    open_now n done low = subst (λ (u : View). done_of (known_of u).seen ≤ ask.phase) (sym k.is) (subst (λ (m : ℕ). m ≤ ask.phase) (done k.now k.stands.stands) low)
 
     module _ (e : Entry) (member : entry_of (members_of k.now) ask.task ≡ Some e) where
       pub answered_in : ask.phase < e.wait_phase → IsAnsweredIn op allows terms ask seen v x
+      unfolding took_turn
       answered_in more =
           let n : IsAnswered terms.limits ask seen k.now = is_answered terms.limits ask seen k.now e member k.stage more in
           record { turned = took_turn; first = refl; lane_is = refl; answered = n; has = k.has n }
 
       module _ (alive : IsAlive seen ask.task) (waits : IsWaiterIn seen ask.task) (may : MayMake terms.limits (allows terms.rule) seen ask) where
         pub starting : e.signal_phase ≡ ask.phase → Starting op allows terms ask seen v x
+        unfolding took_turn
         starting at = record {
           turned = took_turn;
           first = refl;
@@ -191,6 +196,7 @@ module _ {A K : Type 0} (op : Operation A) (allows : K → Allows) (terms : Term
         }
 
         pub serving : e.wait_phase ≤ ask.phase → (e.signal_phase ≡ ask.phase → ⊥) → Serving op allows terms ask seen false 0 v x
+        unfolding took_turn
         serving low apart = record {
           turned = took_turn;
           made = is_made terms.limits ask seen k.now e member k.stage low apart;

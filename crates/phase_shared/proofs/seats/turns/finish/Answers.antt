@@ -51,3 +51,6 @@ end_as-seat-requires-clause-rule g c =
           (turn_value turn) c.value_in-core.result.now f c.write_board-turn.ensures.board same
           (tells_even op allows terms ask seen 0 c.wait_own-turn.result.1 (turn_view turn) (turn_value turn) f c.news-news.result.done c.if-is_all.told w.told-is)
     ]
+
+pub returns-clause-answer : goal.returns-clause-answer
+returns-clause-answer g c = c.end_as-seat.ensures.rule

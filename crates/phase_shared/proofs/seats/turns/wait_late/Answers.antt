@@ -24,3 +24,6 @@ end_same_as-seat-requires-clause-rule g c =
     (is_done g.A.Accumulate.operation g.K.SignalRule.allows (locked_terms c.args.phaser.now) (ask_of c.args.request) g.S.Since.seen (turn_view c.args.turn)
     (turn_value c.args.turn) c.requires.serving c.requires.complete))
     c.value_in.ensures.value
+
+pub returns-clause-answer : goal.returns-clause-answer
+returns-clause-answer g c = c.end_same_as-seat.ensures.rule
