@@ -1,6 +1,6 @@
 -- What a seat that serves reads of others' asks, and the signals and waits that it makes for them.
-use Rattle.std.proofs.Common.{◌≡◌, ◌≢◌, ℕ, ℤ, ◌+◌, ◌<◌, ◌≤◌, Bool, true, false, cond, eqb, List, [], ◌∷◌, ◌++◌, ◌⊎◌, Option, None, Some, refl, sym, ap, subst, ◌∙◌, inl, inr, ⊎_elim, arith}
-use Rattle.std.proofs.lemmas.Bool.{eqb-true, eq-eqb, ne_eqb}
+use Rattle.std.proofs.Common.{◌≡◌, ◌≢◌, ℕ, ℤ, ◌+◌, ◌<◌, ◌≤◌, Bool, true, false, cond, eqb, ltb, List, [], ◌∷◌, ◌++◌, ◌⊎◌, Option, None, Some, refl, sym, ap, subst, ◌∙◌, inl, inr, ⊎_elim, arith}
+use Rattle.std.proofs.lemmas.Bool.{eqb-true, eq-eqb, ne_eqb, ltb-true, ltb-false}
 use Rattle.std.proofs.lemmas.Option.{same_Some}
 use Rattle.phase_core.specs.phase_base.Limits.{Limits}
 use Rattle.phase_core.specs.phase_base.Lists.{is_in}
@@ -66,6 +66,12 @@ batch_more C D more speaks (e ∷ later) log batch = (
       c))
       batch.1,
 )
+
+pub below_or : (m k : ℕ) → m < k + 1 → (m < k) ⊎ (m ≡ k)
+below_or m k low = elim (ltb m k) as (λ b. (ltb m k ≡ b) → (m < k) ⊎ (m ≡ k)) [
+  | true ↦ λ t. inl (ltb-true m k t)
+  | false ↦ λ f. inr (let high = ltb-false m k f in omega arith)
+] refl
 
 -- ---- an event of another task
 
@@ -414,3 +420,66 @@ module _ {A K : Type 0} (op : Operation A) (allows : K → Allows) (terms : Term
   pub send_knows : (serves : Bool) (k task n : ℕ) (w v : View) (x : CoreState A) → Serving op allows terms ask seen serves k w x → SendReadAt task w n v → v ≡ w
   send_knows serves k task n w v x s sent =
       (sent (knowledge s.turned.now (ask.task ∷ [])) s.turned.claims s.turned.said s.turned.lane s.turned.is).0
+
+  -- the core stands for what it stood for
+  pub core_stays : (serves : Bool) (k : ℕ) (v : View) (x y : CoreState A) (s : Serving op allows terms ask seen serves k v x) → y.limits ≡ x.limits
+      → StandsFor op y (s.turned.later ++ s.turned.now) → Serving op allows terms ask seen serves k v y
+  core_stays serves k v x y s same_limits stands' = record {
+    turned = record {
+      now = s.turned.now;
+      claims = s.turned.claims;
+      said = s.turned.said;
+      lane = s.turned.lane;
+      later = s.turned.later;
+      is = s.turned.is;
+      some = s.turned.some;
+      batch = s.turned.batch;
+      good = s.turned.good;
+      stands = record { stands = stands'; limits_are = same_limits ∙ s.turned.stands.limits_are };
+      theirs = s.turned.theirs;
+      own = s.turned.own;
+      quiet = s.turned.quiet;
+      complete = s.turned.complete;
+      served = s.turned.served;
+    };
+    made = s.made;
+    waits = s.waits;
+    may = s.may;
+  }
+
+  -- it has come as far as task k
+  pub serves_to : (serves : Bool) (k j : ℕ) (v : View) (x : CoreState A) (s : Serving op allows terms ask seen serves k v x)
+      → ((a : Ask) → IsOneOf s.turned.claims a → a.task < j → a.phase ≡ ask.phase
+      → Stands (s.turned.later ++ s.turned.now) a.task (a.phase + 1) (a.phase + 1))
+      → Serving op allows terms ask seen serves j v x
+  serves_to serves k j v x s served = record {
+    turned = record {
+      now = s.turned.now;
+      claims = s.turned.claims;
+      said = s.turned.said;
+      lane = s.turned.lane;
+      later = s.turned.later;
+      is = s.turned.is;
+      some = s.turned.some;
+      batch = s.turned.batch;
+      good = s.turned.good;
+      stands = s.turned.stands;
+      theirs = s.turned.theirs;
+      own = s.turned.own;
+      quiet = s.turned.quiet;
+      complete = s.turned.complete;
+      served = served;
+    };
+    made = s.made;
+    waits = s.waits;
+    may = s.may;
+  }
+
+  -- where the lane has no ask for the phase
+  pub none_asked : (k r : ℕ) (v : View) (x : CoreState A) (h : HasRead true k k r v x) → (r ≡ ask.phase + 1 → ⊥)
+      → Serving op allows terms ask seen true (k + 1) v x
+  none_asked k r v x h other = serves_to true k (k + 1) v x h.serving (λ a one below same. ⊎_elim
+      (λ (low : a.task < k). h.serving.turned.served a one low same)
+      (λ (here : a.task ≡ k). absurd (other (h.read a one here ∙ ap (λ (n : ℕ). n + 1) same)))
+      (below_or a.task k below))
+

@@ -185,7 +185,8 @@ fn wait_for<A: Accumulate, K: SignalRule, S: Since>(
     }
     match core.wait(task) {
         Ok(Got::Value { .. }) => (turn, true),
-        _ => (turn, false),
+        Ok(Got::Ended) => (turn, false),
+        Err(_refusal) => (turn, false),
     }
 }
 
