@@ -1,9 +1,7 @@
 -- What a turn of a seat that asks owes at its give.
-use Rattle.std.proofs.Common.{◌≡◌, ◌≢◌, ℕ, ℤ, ◌+◌, ◌*◌, ◌<◌, ◌≤◌, Bool, true, false, List, [], ◌∷◌, ◌++◌, ◌⊎◌, Option, Some, None, length, refl, sym, ap, subst, ◌∙◌, inl, inr, ⊎_elim, arith}
+use Rattle.std.proofs.Common.{◌≡◌, ℕ, ◌+◌, ◌*◌, ◌<◌, ◌≤◌, Bool, true, false, [], ◌∷◌, ◌++◌, ◌⊎◌, Option, Some, None, refl, sym, ap, subst, ◌∙◌, inl, inr, ⊎_elim, arith}
 use Rattle.std.specs.Prelude.{◌/◌, ◌%◌}
-use mathlib.Core.Option.{some}
 use Rattle.turn_lock.specs.WordSteps.{GivesOf}
-use Rattle.phase_core.specs.phase_base.Limits.{Limits}
 use Rattle.phase_core.specs.phase_accum.Operations.{Operation}
 use Rattle.phase_core.specs.phase_accum.declared.outcome.Outcome.{Outcome}
 use Rattle.phase_core.specs.phase_history.declared.event.Event.TheVariants.{Waited}
@@ -19,7 +17,7 @@ use Rattle.phase_core.proofs.phase_history_lemmas.OthersEvents.{OthersCame-refl}
 use Rattle.phase_core.proofs.phase_history_lemmas.Used.{IsLegal-beginning}
 use Rattle.phase_shared.specs.declared.rule.Terms.{Terms}
 use Rattle.phase_shared.specs.declared.seats.view.Knowledge.{Knowledge}
-use Rattle.phase_shared.specs.Asks.{Ask, Stands, IsMade, IsAnswered, IsOneOf}
+use Rattle.phase_shared.specs.Asks.{Ask, Stands, IsAnswered, IsOneOf}
 use Rattle.phase_shared.specs.Desks.{View, Resting, Asking, IsPast}
 use Rattle.phase_shared.specs.Goods.{Allows, IsGoodAt, Keeps}
 use Rattle.phase_shared.specs.Lanes.{lanes_most}
@@ -33,7 +31,7 @@ use Rattle.phase_shared.proofs.Stages.{signal_is, wait_is, done_within, stage_wa
 use Rattle.phase_shared.proofs.LaneReading.{answered_past}
 use Rattle.phase_shared.proofs.AskAnswering.{keeps_before, later_value}
 use Rattle.phase_shared.proofs.GivingAsks as asks
-use Rattle.phase_shared.proofs.TurnParts.{seen_is, good_first, quiet_first}
+use Rattle.phase_shared.proofs.TurnParts.{seen_is, good_first}
 use Rattle.phase_shared.proofs.WaitsLow.{waits_low}
 
 odd_nought : 0 % 2 ≡ 1 → ⊥

@@ -1,5 +1,5 @@
 -- A seat that asked goes on under its turn, from where its ask stands.
-use Rattle.std.proofs.Common.{◌≡◌, ◌≢◌, ℕ, ◌+◌, ◌<◌, ◌≤◌, true, false, List, [], ◌∷◌, ◌++◌, ◌⊎◌, Option, Some, None, refl, sym, ap, subst, ◌∙◌, inl, inr, ⊎_elim, arith}
+use Rattle.std.proofs.Common.{◌≡◌, ℕ, ◌+◌, ◌<◌, ◌≤◌, true, false, [], ◌∷◌, ◌⊎◌, Option, Some, None, refl, sym, ap, subst, ◌∙◌, inr, ⊎_elim, arith}
 use Rattle.std.specs.Prelude.{is_some}
 use Rattle.phase_core.specs.phase_base.Limits.{Limits}
 use Rattle.phase_core.specs.phase_base.Modes.{mode_waits}
@@ -11,19 +11,19 @@ use Rattle.phase_core.specs.phase_history.Histories.{History, members_of, signal
 use Rattle.phase_core.specs.phase_history.Legal.{IsLegal}
 use Rattle.phase_core.specs.Cores.{CoreState, StandsFor}
 use Rattle.phase_core.proofs.phase_history_lemmas.MemberLemmas.{entry_of-changed_same}
-use Rattle.phase_core.proofs.phase_history_lemmas.Steps.{member_entry_is}
 use Rattle.phase_core.proofs.phase_history_lemmas.Used.{IsLegal-beginning}
 use Rattle.phase_shared.specs.declared.rule.Terms.{Terms}
 use Rattle.phase_shared.specs.Asks.{Ask, Stands, IsUnmade, IsMade, IsAnswered, Stage}
 use Rattle.phase_shared.specs.Desks.{View, MayMake}
 use Rattle.phase_shared.specs.Goods.{Allows}
 use Rattle.phase_shared.specs.Rule.{StandsWithin}
-use Rattle.phase_shared.specs.Servings.{Turned, Starting, Serving, IsAnsweredIn, IsWaiterIn, IsCompleteIn, WasOpen}
+use Rattle.phase_shared.specs.Servings.{Turned, Starting, Serving, IsAnsweredIn, IsWaiterIn, WasOpen}
 use Rattle.phase_shared.specs.Tells.{TookAsked}
 use Rattle.phase_shared.specs.Views.{knowledge, known_of}
 use Rattle.phase_shared.proofs.Small.{same_some, apart_phases}
-use Rattle.phase_shared.proofs.Stages.{signal_is, wait_is}
+use Rattle.phase_shared.proofs.Stages.{wait_is}
 use Rattle.phase_shared.proofs.Giving.{member_after}
+use Rattle.phase_shared.proofs.TurnParts.{none_below, false_true}
 
 -- ---- a task's mode stays
 
@@ -103,18 +103,8 @@ module _ (limits : Limits) (a : Ask) (seen h : History) (e : Entry) (member : en
       r)
       stage
 
-none_below : (n : ℕ) → n < 0 → ⊥
-none_below n low = omega arith
-
-false_true : false ≡ true → ⊥
-false_true e = cc
-
 module _ {A K : Type 0} (op : Operation A) (allows : K → Allows) (terms : Terms K) (ask : Ask) (seen : History) where
   -- ---- in other words
-
-  pub starts_still : (v u : View) (x y : CoreState A) → u ≡ v → y ≡ x → Starting op allows terms ask seen v x → Starting op allows terms ask seen u y
-  starts_still v u x y is same s =
-      subst (λ (w : View). Starting op allows terms ask seen w y) (sym is) (subst (λ (z : CoreState A). Starting op allows terms ask seen v z) (sym same) s)
 
   pub open_still : (v u : View) → known_of u ≡ known_of v → WasOpen v ask.phase → WasOpen u ask.phase
   open_still v u same open' = subst (λ f. done_of f.seen ≤ ask.phase) (sym same) open'

@@ -1,12 +1,10 @@
 -- The parts of a turn of a seat that asks: how it begins, its own signal, and what it ends with.
-use Rattle.std.proofs.Common.{◌≡◌, ℕ, ◌+◌, ◌<◌, ◌≤◌, Bool, true, false, eqb, List, [], ◌∷◌, ◌++◌, ◌⊎◌, Option, Some, None, refl, sym, ap, subst, ◌∙◌, inl, inr, ⊎_elim, arith}
-use Rattle.phase_core.specs.phase_base.Limits.{Limits}
+use Rattle.std.proofs.Common.{◌≡◌, ℕ, ◌+◌, ◌<◌, ◌≤◌, Bool, true, false, eqb, [], ◌∷◌, ◌++◌, None, refl, sym, ap, subst, ◌∙◌, inl, arith}
 use Rattle.phase_core.specs.phase_base.Lists.{is_in}
 use Rattle.phase_core.specs.phase_base.Modes.{mode_waits}
-use Rattle.phase_core.specs.phase_base.Members.{entry_of, signalled}
+use Rattle.phase_core.specs.phase_base.Members.{signalled}
 use Rattle.phase_core.specs.phase_base.declared.entry.Entry.{Entry}
 use Rattle.phase_core.specs.phase_accum.Operations.{Operation}
-use Rattle.phase_core.specs.phase_history.declared.event.Event.{Event}
 use Rattle.phase_core.specs.phase_history.declared.event.Event.TheVariants.{Signalled}
 use Rattle.phase_core.specs.phase_history.Histories.{History, members_of, done_of}
 use Rattle.phase_core.specs.phase_history.Legal.{IsLegal}
@@ -17,7 +15,7 @@ use Rattle.phase_shared.specs.Asks.{Ask, Stands, IsMade, IsOneOf}
 use Rattle.phase_shared.specs.Desks.{View}
 use Rattle.phase_shared.specs.Goods.{Allows, IsGoodAt}
 use Rattle.phase_shared.specs.Rule.{StandsWithin}
-use Rattle.phase_shared.specs.Servings.{Turned, Starting, Serving, Finished, IsWaiterIn, IsDone, IsCompleteIn, WasOpen}
+use Rattle.phase_shared.specs.Servings.{Turned, Starting, Serving, IsDone, IsCompleteIn, WasOpen}
 use Rattle.phase_shared.specs.Views.{knowledge, known_of}
 use Rattle.phase_shared.specs.WordTells.{IsOwnLane, IsHolder, Completes}
 use Rattle.phase_shared.proofs.Small.{same_some, or_false}
@@ -25,8 +23,9 @@ use Rattle.phase_shared.proofs.Stages.{signal_is, done_within, stage_signalled}
 use Rattle.phase_shared.proofs.Giving.{legal_at}
 
 -- another task stood before the signal where it stands after it
-stood : (h : History) (me task s w : ℕ) (ask : Ask) → is_in task (ask.task ∷ []) ≡ false → Stands (Signalled ask.task (ask.sends ∷ []) None ∷ h) task s w → Stands h task s w
-stood h me task s w ask other st = record {
+stood : (h : History) (task s w : ℕ) (ask : Ask) → is_in task (ask.task ∷ []) ≡ false → Stands (Signalled ask.task (ask.sends ∷ []) None ∷ h) task s w
+    → Stands h task s w
+stood h task s w ask other st = record {
   entry = st.entry;
   member = sym (entry_of-changed_other ask.task task (signalled 1) (members_of h) (or_false (eqb ask.task task) other)) ∙ st.member;
   signals = st.signals;
@@ -34,10 +33,10 @@ stood h me task s w ask other st = record {
   wait_at = st.wait_at;
 }
 
-none_below : (n : ℕ) → n < 0 → ⊥
+pub none_below : (n : ℕ) → n < 0 → ⊥
 none_below n low = omega arith
 
-false_true : false ≡ true → ⊥
+pub false_true : false ≡ true → ⊥
 false_true e = cc
 
 true_false : true ≡ false → ⊥
@@ -105,7 +104,7 @@ module _ {A K : Type 0} (op : Operation A) (allows : K → Allows) (terms : Term
               stands = stands';
               theirs = t.theirs;
               own = t.own;
-              quiet = λ no a one st. quiet_first a one (stood now ask.task a.task (a.phase + 1) (a.phase + 1) ask (t.theirs a one) st);
+              quiet = λ no a one st. quiet_first a one (stood now a.task (a.phase + 1) (a.phase + 1) ask (t.theirs a one) st);
               complete = λ yes'. absurd (false_true yes');
               served = λ a one low at. absurd (none_below a.task low);
             };

@@ -1,7 +1,6 @@
 -- No task has waited for a phase that is not complete.
 use Rattle.std.proofs.Common.{◌≡◌, ℕ, ◌+◌, ◌≤◌, not, eqb, [], ◌∷◌, Some, length, sym, ap, subst, arith}
 use Rattle.phase_core.specs.phase_base.Limits.{Limits}
-use Rattle.phase_core.specs.phase_base.declared.mode.Mode.TheVariants.{Wait}
 use Rattle.phase_core.specs.phase_base.declared.entry.Entry.{Entry}
 use Rattle.phase_core.specs.phase_base.declared.member.Member.{Member}
 use Rattle.phase_core.specs.phase_base.Members.{member, entry_of, signalled, waited}

@@ -1,6 +1,5 @@
-use Rattle.std.proofs.Common.{true, ◌≡◌, ◌+◌, ◌*◌, ℕ, refl, ◌∙◌, arith}
+use Rattle.std.proofs.Common.{true, refl, ◌∙◌}
 use Rattle.turn_lock.specs.Seats.{turn_number, turn_view, turn_value, turn_told}
-use Rattle.phase_core.specs.phase_history.Histories.{done_of}
 use Rattle.phase_shared.specs.LockedPhasers.{locked_terms}
 use Rattle.phase_shared.specs.Servings.{ask_of}
 use Rattle.phase_shared.proofs.TurnParts.{serves_now, completes}

@@ -1,4 +1,4 @@
-use Rattle.std.proofs.Common.{false, ◌∙◌}
+use Rattle.std.proofs.Common.{false}
 use Rattle.turn_lock.specs.Seats.{turn_number, turn_view, turn_value, turn_told}
 use Rattle.phase_shared.specs.LockedPhasers.{locked_terms}
 use Rattle.phase_shared.specs.Servings.{ask_of}
