@@ -38,7 +38,7 @@ use Rattle.phase_shared.proofs.AskMoves.{moves}
 use Rattle.phase_shared.proofs.LaneReading.{answered_past}
 
 -- a beginning of a history that keeps the signal rule keeps it
-keeps_before : (allows : Allows) (later h : History) → Keeps allows (later ++ h) → Keeps allows h
+pub keeps_before : (allows : Allows) (later h : History) → Keeps allows (later ++ h) → Keeps allows h
 keeps_before allows [] h keeps = keeps
 keeps_before allows (Made founding ∷ later) h keeps = keeps_before allows later h keeps
 keeps_before allows (Registered parent child mode ∷ later) h keeps = keeps_before allows later h keeps
@@ -48,7 +48,7 @@ keeps_before allows (Waited waiter phases ∷ later) h keeps = keeps_before allo
 keeps_before allows (Dropped gone ∷ later) h keeps = keeps_before allows later h keeps
 
 -- the phase's value was the same when its wait was made
-later_value : (value : List ℤ → Outcome) (limits : Limits) (a : Ask) (more middle log : History) → log ≡ more ++ Waited a.task 1 ∷ middle
+pub later_value : (value : List ℤ → Outcome) (limits : Limits) (a : Ask) (more middle log : History) → log ≡ more ++ Waited a.task 1 ∷ middle
     → IsLegal limits log → IsLegal limits (Waited a.task 1 ∷ middle) → a.phase < done_of middle
     → value_of_phase value log a.phase ≡ value_of_phase value (Waited a.task 1 ∷ middle) a.phase
 later_value value limits a more middle log is legal first low =

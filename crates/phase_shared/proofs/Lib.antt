@@ -22,8 +22,12 @@ pub mod LaneReading
 pub mod AskAnswering
 pub mod WordCalls
 pub mod AskCalls
+pub mod WaitsLow
 pub mod Giving
 pub mod Answering
+pub mod TurnParts
+pub mod TurnEnds
+pub mod TurnGoes
 pub mod Stepping
 pub mod SignalSteps
 pub mod WaitSteps

@@ -2,6 +2,7 @@
 ghost use Rattle.std.specs.Prelude.{◌≡◌, ◌<◌, ◌≤◌, ◌∷◌, [], ◌^◌, ◌*◌, Some, None, true, false, IfErr, OnOk};
 ghost use Rattle.turn_lock.specs.Seats.{IsSeatAt, IsTurnAt, seat_view, turn_number, turn_view, turn_value, turn_told};
 ghost use Rattle.turn_lock.specs.WordSteps.{GivesOf};
+ghost use Rattle.phase_core.specs.phase_history.Histories.{IsAlive};
 ghost use Rattle.phase_core.specs.phase_history.Refusals.{signal_refusal};
 ghost use Rattle.phase_shared.specs.Desks.{MayMake};
 ghost use Rattle.phase_shared.specs.LockedPhasers.{locked_place, locked_terms};
@@ -261,7 +262,7 @@ pub fn go_on<A: Accumulate, K: SignalRule, S: Since>(
         TookAsked A.operation.value terms.limits (K.allows terms.rule)
         (StandsWithin A.operation terms.limits) (knowledge S.seen (request.task ∷ []))
         (ask_of request) (turn_value turn) (turn_view turn) }
-    requires waits { IsWaiterIn S.seen request.task }
+    requires waits { IsAlive S.seen request.task × IsWaiterIn S.seen request.task }
     requires may { MayMake (locked_terms phaser.now).limits
         (K.allows (locked_terms phaser.now).rule) S.seen (ask_of request) }
     ensures seat { IsSeatAt (locked_place phaser.now) result.0 }
