@@ -22,6 +22,7 @@ pub mod LaneReading
 pub mod AskAnswering
 pub mod WordCalls
 pub mod AskCalls
+pub mod AskNexts
 pub mod Giving
 pub mod Answering
 pub mod Stepping
