@@ -23,6 +23,7 @@ pub mod AskAnswering
 pub mod WordCalls
 pub mod AskCalls
 pub mod AskNexts
+pub mod LaterNexts
 pub mod Giving
 pub mod Answering
 pub mod Stepping

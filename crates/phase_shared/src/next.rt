@@ -135,13 +135,15 @@ impl<A: Accumulate, K: SignalRule> Reg<A, K> {
     {
         let patience = Patience::new();
         for _ in rt.forever() {
-            match self.ask_once(rt, phaser, request) {
-                Err(SignalRefusal::Ahead) => {
-                    let tried = Tried::Refused(SignalRefusal::Ahead);
-                    self.pause_for_room(rt, phaser, 1, &patience, tried);
-                }
-                answer => return answer,
-            }
+            let refusal = match self.ask_once(rt, phaser, request) {
+                Ok(next) => return Ok(next),
+                Err(refusal) => refusal,
+            };
+            let SignalRefusal::Ahead = refusal else {
+                return Err(refusal);
+            };
+            let tried = Tried::Refused(refusal);
+            self.pause_for_room(rt, phaser, 1, &patience, tried);
         }
         unreachable!()
     }
