@@ -79,7 +79,7 @@ impl<A: Accumulate, K: SignalRule> Reg<A, K> {
             Err(refusal) => return Err(refusal),
         };
         let (phase, got) = answer;
-        self.spins.set_alone(got.is_some());
+        self.note_alone(got.is_some());
         if !waits || got.is_some() {
             return Ok(Next {
                 signalled: Some(phase),
@@ -92,6 +92,13 @@ impl<A: Accumulate, K: SignalRule> Reg<A, K> {
             signalled: Some(phase),
             got: Some(got),
         })
+    }
+
+    // Whether others came while it had the turn, or whether none did.
+    fn note_alone(&mut self, is_alone: bool)
+        ensures { self.new ≡ self.old }
+    {
+        self.spins.set_alone(is_alone);
     }
 
     // What it asks others for, where it can: it has a lane, stands before its next phase, and a
