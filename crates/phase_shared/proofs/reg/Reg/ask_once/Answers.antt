@@ -61,10 +61,10 @@ invariant_of-self g c =
     let both : (mode_signals old.entry.mode ≡ true) × (mode_waits old.entry.mode ≡ true) =
     subst (λ (r : RegState g.row.A.Denot g.row.K.Denot). (mode_signals r.entry.mode ≡ true) × (mode_waits r.entry.mode ≡ true)) (sym is) c.requires.both in
     let w = seat_view c.next-seat.result.0 in
-    let f : IsRefused op allows terms (ask_of request) old.seen c.in-Err.refusal w =
+    let f : IsRefused op allows terms (ask_of request) old.seen c.in-Err.refused w =
     subst (λ r. IfErr r (λ refusal. IsRefused op allows terms (ask_of request) old.seen refusal w)) c.in-Err.is c.next-seat.ensures.refused in
     closed allows p.0 terms inside.number inside.entry c.next-seat.result.0 c.next-seat.ensures.seat
-    (refused_seat op allows terms old request q both.0 both.1 o.station.member c.in-Err.refusal w f)
+    (refused_seat op allows terms old request q both.0 both.1 o.station.member c.in-Err.refused w f)
 
 pub returns-in-Err-clause-call : goal.returns-in-Err-clause-call
 returns-in-Err-clause-call g c =
@@ -84,12 +84,12 @@ returns-in-Err-clause-call g c =
     let both : (mode_signals old.entry.mode ≡ true) × (mode_waits old.entry.mode ≡ true) =
     subst (λ (r : RegState g.row.A.Denot g.row.K.Denot). (mode_signals r.entry.mode ≡ true) × (mode_waits r.entry.mode ≡ true)) (sym is) c.requires.both in
     let w = seat_view c.next-seat.result.0 in
-    let f : IsRefused op allows terms (ask_of request) old.seen c.in-Err.refusal w =
+    let f : IsRefused op allows terms (ask_of request) old.seen c.in-Err.refused w =
     subst (λ r. IfErr r (λ refusal. IsRefused op allows terms (ask_of request) old.seen refusal w)) c.in-Err.is c.next-seat.ensures.refused in
     let new : RegState g.row.A.Denot g.row.K.Denot = reg_state (Some c.next-seat.result.0) inside.number inside.entry inside.pending in
     subst (λ (r : RegState g.row.A.Denot g.row.K.Denot). IsCall {X = Next} allows terms NoTask entry_after_next
-    (GoesOrRefuses op terms.limits None r new.seen (Err c.in-Err.refusal)) r new (Err c.in-Err.refusal)) is
-    (refused_call op allows terms old request q both.0 both.1 o.station.member c.in-Err.refusal w f new (c.next-seat.ensures.seat ∙ sym o.at) refl refl refl)
+    (GoesOrRefuses op terms.limits None r new.seen (Err c.in-Err.refused)) r new (Err c.in-Err.refused)) is
+    (refused_call op allows terms old request q both.0 both.1 o.station.member c.in-Err.refused w f new (c.next-seat.ensures.seat ∙ sym o.at) refl refl refl)
 
 -- its signal and its wait are made
 pub invariant_of-self-2 : goal.invariant_of-self-2
