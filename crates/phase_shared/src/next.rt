@@ -72,11 +72,10 @@ impl<A: Accumulate, K: SignalRule> Reg<A, K> {
             return self.ask_next(rt, phaser, request);
         }
         let waits = self.mode().waits();
-        let answer = match self.signal_and_wait(rt, phaser, single, waits) {
+        let (phase, got) = match self.signal_and_wait(rt, phaser, single, waits) {
             Ok(answer) => answer,
             Err(refusal) => return Err(refusal),
         };
-        let (phase, got) = answer;
         self.note_alone(got.is_some());
         if !waits || got.is_some() {
             return Ok(Next {
