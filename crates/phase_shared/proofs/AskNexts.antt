@@ -1,13 +1,11 @@
 -- A next phase that others may make: how it begins, and what its answer is, as the contracts of
 -- calls say it.
-use Rattle.std.proofs.Common.{◌≡◌, ◌≢◌, ℕ, ℤ, ◌+◌, ◌<◌, Bool, true, false, List, [], ◌∷◌, ◌++◌, Option, Some, None, refl, sym, ap, subst, ◌∙◌, inl, arith}
-use Rattle.std.specs.Prelude.{Ok, Err, Result, is_some}
-use Rattle.phase_core.specs.phase_base.Limits.{Limits}
+use Rattle.std.proofs.Common.{◌≡◌, ℕ, ◌+◌, ◌<◌, Bool, true, false, [], ◌∷◌, Some, None, refl, sym, ap, subst, ◌∙◌, inl, arith}
+use Rattle.std.specs.Prelude.{Ok, Err, is_some}
 use Rattle.phase_core.specs.phase_base.declared.entry.Entry.{Entry}
 use Rattle.phase_core.specs.phase_base.Modes.{mode_signals, mode_waits}
 use Rattle.phase_core.specs.phase_base.Members.{entry_of, signalled, waited}
 use Rattle.phase_core.specs.phase_accum.Operations.{Operation}
-use Rattle.phase_core.specs.phase_accum.Parcels.{StandsForSends}
 use Rattle.phase_core.specs.phase_accum.declared.outcome.Outcome.{Outcome}
 use Rattle.phase_core.specs.phase_history.declared.event.Event.{Event}
 use Rattle.phase_core.specs.phase_history.declared.event.Event.TheVariants.{Signalled, Waited}
@@ -18,7 +16,6 @@ use Rattle.phase_core.specs.phase_history.declared.refusal.SignalRefusal.TheVari
 use Rattle.phase_core.specs.phase_history.Histories.{History, IsAlive, members_of, signal_phase}
 use Rattle.phase_core.specs.phase_history.Legal.{IsLegal}
 use Rattle.phase_core.specs.phase_history.Others.{OthersCame}
-use Rattle.phase_core.specs.phase_history.Refusals.{signal_refusal}
 use Rattle.phase_core.specs.phase_history.Replies.{refused_or}
 use Rattle.phase_core.specs.Cores.{CoreState}
 use Rattle.phase_core.proofs.phase_history_lemmas.Answered.{signal_refusal-never}
@@ -28,7 +25,7 @@ use Rattle.phase_shared.specs.declared.next.Next.{Next}
 use Rattle.phase_shared.specs.declared.rule.Terms.{Terms}
 use Rattle.phase_shared.specs.declared.seats.request.Request.{Request}
 use Rattle.phase_shared.specs.declared.seats.view.View.{View}
-use Rattle.phase_shared.specs.Asks.{Ask, IsOneOf, Stands}
+use Rattle.phase_shared.specs.Asks.{Stands}
 use Rattle.phase_shared.specs.Calls.{IsCall, MaySignal, Signals, Waits}
 use Rattle.phase_shared.specs.Desks.{Reading}
 use Rattle.phase_shared.specs.Entries.{entry_after_next}

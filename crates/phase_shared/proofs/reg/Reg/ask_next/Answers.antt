@@ -1,6 +1,6 @@
-use Rattle.std.proofs.Common.{◌≡◌, Err, None, sym, subst, ap, ◌∙◌}
+use Rattle.std.proofs.Common.{None, subst}
 use Rattle.std.specs.Prelude.{is_ok}
-use Rattle.phase_core.specs.phase_history.declared.refusal.SignalRefusal.TheVariants.{Ahead, NoTask}
+use Rattle.phase_core.specs.phase_history.declared.refusal.SignalRefusal.TheVariants.{NoTask}
 use Rattle.phase_shared.specs.Calls.{IsCall, HeldAfter}
 use Rattle.phase_shared.specs.Entries.{entry_after_next}
 use Rattle.phase_shared.specs.Nexts.{GoesOrRefuses}

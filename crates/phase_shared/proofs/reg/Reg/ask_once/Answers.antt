@@ -1,4 +1,4 @@
-use Rattle.std.proofs.Common.{◌≡◌, [], ◌∷◌, ◌+◌, true, None, Some, Ok, Err, refl, sym, subst, ap, ◌∙◌}
+use Rattle.std.proofs.Common.{◌≡◌, ◌+◌, true, None, Some, Ok, Err, refl, sym, subst, ap, ◌∙◌}
 use Rattle.std.specs.Prelude.{IfOk, IfErr}
 use Rattle.turn_lock.specs.Seats.{seat_view}
 use Rattle.phase_core.specs.phase_base.Modes.{mode_signals, mode_waits}
@@ -10,6 +10,7 @@ use Rattle.phase_shared.specs.Nexts.{GoesOrRefuses}
 use Rattle.phase_shared.specs.Regs.{RegState, reg_state, phaser_lock, phaser_terms}
 use Rattle.phase_shared.specs.Rule.{IsSeatOfTask}
 use Rattle.phase_shared.specs.Servings.{ask_of, HasAnswer, IsRefused, IsRequestOf}
+use Rattle.phase_shared.specs.Views.{known_of}
 use Rattle.phase_shared.specs.declared.next.Next.{Next}
 use Rattle.phase_shared.proofs.AskNexts.{alive, may_ask, answered_seat, answered_call, refused_seat, refused_call}
 use Rattle.phase_shared.proofs.Opening.{opened, closed, reg_is}
@@ -38,7 +39,7 @@ next-seat-requires g c =
       seat = o.at;
       at = subst (λ n. IsSeatOfTask allows terms n inside.entry (seat_view seat)) (sym q.task) o.station;
       may = may_ask op allows terms old request q both.0 both.1 o.station.member (seat_view seat) o.station.rests refl request.low may;
-      since = refl;
+      since = refl {a = (known_of (seat_view seat)).seen};
       waits = alive op allows terms old request q both.0 both.1 o.station.member;
     }
 
