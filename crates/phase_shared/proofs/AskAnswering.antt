@@ -186,7 +186,7 @@ module _ {T : Type 0} (value : List ℤ → Outcome) (limits : Limits) (allows :
 -- ---- what it learns, as the contracts of calls say it
 
 -- a signal is refused by how many its sends are, whichever they are
-same_refusal : (limits : Limits) (h : History) (task : ℕ) (xs ys : List ℤ) → length xs ≡ length ys
+pub same_refusal : (limits : Limits) (h : History) (task : ℕ) (xs ys : List ℤ) → length xs ≡ length ys
     → signal_refusal limits h task (xs ∷ []) None ≡ signal_refusal limits h task (ys ∷ []) None
 same_refusal limits h task xs ys e = ap (λ (n : ℕ). refusal_by n) e
   where

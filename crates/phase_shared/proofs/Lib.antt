@@ -23,6 +23,8 @@ pub mod AskAnswering
 pub mod WordCalls
 pub mod AskCalls
 pub mod WaitsLow
+pub mod AskNexts
+pub mod LaterNexts
 pub mod Giving
 pub mod Answering
 pub mod TurnParts

@@ -68,18 +68,15 @@ impl<A: Accumulate, K: SignalRule> Reg<A, K> {
                 got: Some(got),
             });
         }
-        let waits = self.mode().waits();
-        if waits && single.is_none() {
-            if let Some(request) = self.request() {
-                return self.ask_next(rt, phaser, request);
-            }
+        if let Some(request) = self.request(single) {
+            return self.ask_next(rt, phaser, request);
         }
-        let answer = match self.signal_and_wait(rt, phaser, single, waits) {
+        let waits = self.mode().waits();
+        let (phase, got) = match self.signal_and_wait(rt, phaser, single, waits) {
             Ok(answer) => answer,
             Err(refusal) => return Err(refusal),
         };
-        let (phase, got) = answer;
-        self.spins.set_alone(got.is_some());
+        self.note_alone(got.is_some());
         if !waits || got.is_some() {
             return Ok(Next {
                 signalled: Some(phase),
@@ -94,11 +91,24 @@ impl<A: Accumulate, K: SignalRule> Reg<A, K> {
         })
     }
 
-    // What it asks others for, where it can: it has a lane, stands before its next phase, and a
-    // word says what it holds. Where it was alone the last time it asks nobody.
-    fn request(&self) -> Option<Request>
-        ensures { IfSome result (λ r. IsRequestOf A.operation r self.now) }
+    // Whether others came while it had the turn, or whether none did.
+    fn note_alone(&mut self, is_alone: bool)
+        ensures { self.new ≡ self.old }
     {
+        self.spins.set_alone(is_alone);
+    }
+
+    // What it asks others for, where it can: it waits too, and names no single; it has a lane, and
+    // stands before its next phase; and a word says what it holds. Where it was alone the last time
+    // it asks nobody.
+    fn request(&self, single: Option<Single>) -> Option<Request>
+        ensures request { IfSome result (λ r. IsRequestOf A.operation r self.now) }
+        ensures waits { IfSome result (λ r. mode_waits self.now.entry.mode ≡ true) }
+        ensures single { IfSome result (λ r. single ≡ None) }
+    {
+        if single.is_some() || !self.mode().waits() {
+            return None;
+        }
         let phase = self.entry.signal_phase;
         let send = self.pending.word()?;
         if self.spins.is_alone() || self.number >= LANES || phase == u64::MAX {
@@ -135,13 +145,15 @@ impl<A: Accumulate, K: SignalRule> Reg<A, K> {
     {
         let patience = Patience::new();
         for _ in rt.forever() {
-            match self.ask_once(rt, phaser, request) {
-                Err(SignalRefusal::Ahead) => {
-                    let tried = Tried::Refused(SignalRefusal::Ahead);
-                    self.pause_for_room(rt, phaser, 1, &patience, tried);
-                }
-                answer => return answer,
-            }
+            let refusal = match self.ask_once(rt, phaser, request) {
+                Ok(next) => return Ok(next),
+                Err(refusal) => refusal,
+            };
+            let SignalRefusal::Ahead = refusal else {
+                return Err(refusal);
+            };
+            let tried = Tried::Refused(refusal);
+            self.pause_for_room(rt, phaser, 1, &patience, tried);
         }
         unreachable!()
     }
@@ -178,7 +190,7 @@ impl<A: Accumulate, K: SignalRule> Reg<A, K> {
         self.seat = Some(seat);
         let outcome = match answer {
             Ok(outcome) => outcome,
-            Err(refusal) => return Err(refusal),
+            Err(refused) => return Err(refused),
         };
         let phase = request.phase;
         self.entry.signal_phase = phase + 1;

@@ -1,6 +1,7 @@
 //! A next phase of a task, which others may take it to.
-ghost use Rattle.std.specs.Prelude.{◌≡◌, IfOk, IfErr};
+ghost use Rattle.std.specs.Prelude.{◌≡◌, false, IfOk, IfErr};
 ghost use Rattle.turn_lock.specs.Seats.{IsSeatAt, seat_view};
+ghost use Rattle.phase_core.specs.phase_history.Histories.{IsAlive};
 ghost use Rattle.phase_shared.specs.Desks.{MayMake};
 ghost use Rattle.phase_shared.specs.LockedPhasers.{locked_place, locked_terms};
 ghost use Rattle.phase_shared.specs.Rule.{IsSeatOfTask};
@@ -96,12 +97,14 @@ fn try_turn<A: Accumulate, K: SignalRule, S: Since>(
 ) -> (PhaserSeat<A, K>, Came, bool)
     requires seat { IsSeatAt (locked_place phaser.now) seat }
     requires asks { IsAsking (ask_of request) S.seen (seat_view seat) }
-    requires waits { IsWaiterIn S.seen request.task }
+    requires waits { IsAlive S.seen request.task × IsWaiterIn S.seen request.task }
     requires may { MayMake (locked_terms phaser.now).limits
         (K.allows (locked_terms phaser.now).rule) S.seen (ask_of request) }
     ensures seat { IsSeatAt (locked_place phaser.now) result.0 }
     ensures came { CameTo A.operation K.allows (locked_terms phaser.now) (ask_of request)
         S.seen result.1 (seat_view result.0) }
+    ensures free { result.2 ≡ false
+        → IsAsking (ask_of request) S.seen (seat_view result.0) }
 {
     match take_asked(phaser, seat, request) {
         Ok(turn) => {
@@ -143,7 +146,7 @@ fn yield_for<A: Accumulate, K: SignalRule, S: Since>(
 ) -> (PhaserSeat<A, K>, Came, bool)
     requires seat { IsSeatAt (locked_place phaser.now) seat }
     requires asks { IsAsking (ask_of request) S.seen (seat_view seat) }
-    requires waits { IsWaiterIn S.seen request.task }
+    requires waits { IsAlive S.seen request.task × IsWaiterIn S.seen request.task }
     requires may { MayMake (locked_terms phaser.now).limits
         (K.allows (locked_terms phaser.now).rule) S.seen (ask_of request) }
     ensures seat { IsSeatAt (locked_place phaser.now) result.0 }
@@ -182,7 +185,7 @@ fn wait_for<A: Accumulate, K: SignalRule, S: Since, W: Wait>(
 ) -> (PhaserSeat<A, K>, Result<Outcome, SignalRefusal>)
     requires seat { IsSeatAt (locked_place phaser.now) seat }
     requires asks { IsAsking (ask_of request) S.seen (seat_view seat) }
-    requires waits { IsWaiterIn S.seen request.task }
+    requires waits { IsAlive S.seen request.task × IsWaiterIn S.seen request.task }
     requires may { MayMake (locked_terms phaser.now).limits
         (K.allows (locked_terms phaser.now).rule) S.seen (ask_of request) }
     ensures seat { IsSeatAt (locked_place phaser.now) result.0 }
@@ -222,7 +225,7 @@ fn after_turn<A: Accumulate, K: SignalRule, S: Since, W: Wait>(
     requires seat { IsSeatAt (locked_place phaser.now) seat }
     requires came { CameTo A.operation K.allows (locked_terms phaser.now) (ask_of request)
         S.seen came (seat_view seat) }
-    requires waits { IsWaiterIn S.seen request.task }
+    requires waits { IsAlive S.seen request.task × IsWaiterIn S.seen request.task }
     requires may { MayMake (locked_terms phaser.now).limits
         (K.allows (locked_terms phaser.now).rule) S.seen (ask_of request) }
     ensures seat { IsSeatAt (locked_place phaser.now) result.0 }
@@ -252,7 +255,7 @@ fn wait_longer<A: Accumulate, K: SignalRule, S: Since, W: Wait>(
 ) -> (PhaserSeat<A, K>, Result<Outcome, SignalRefusal>)
     requires seat { IsSeatAt (locked_place phaser.now) seat }
     requires asks { IsAsking (ask_of request) S.seen (seat_view seat) }
-    requires waits { IsWaiterIn S.seen request.task }
+    requires waits { IsAlive S.seen request.task × IsWaiterIn S.seen request.task }
     requires may { MayMake (locked_terms phaser.now).limits
         (K.allows (locked_terms phaser.now).rule) S.seen (ask_of request) }
     ensures seat { IsSeatAt (locked_place phaser.now) result.0 }
@@ -288,7 +291,7 @@ fn ask<A: Accumulate, K: SignalRule, S: Since, W: Wait>(
     requires seat { IsSeatAt (locked_place phaser.now) seat }
     requires may { MayAsk K.allows (locked_terms phaser.now) (ask_of request) (seat_view seat) }
     requires since { S.seen ≡ (known_of (seat_view seat)).seen }
-    requires waits { IsWaiterIn S.seen request.task }
+    requires waits { IsAlive S.seen request.task × IsWaiterIn S.seen request.task }
     ensures seat { IsSeatAt (locked_place phaser.now) result.0 }
     ensures answer { IfOk result.1 (λ outcome. HasAnswer A.operation K.allows
         (locked_terms phaser.now) (ask_of request) S.seen outcome (seat_view result.0)) }
@@ -329,7 +332,7 @@ pub fn next<A: Accumulate, K: SignalRule, S: Since, W: Wait>(
         (seat_view seat) }
     requires may { MayAsk K.allows (locked_terms phaser.now) (ask_of request) (seat_view seat) }
     requires since { S.seen ≡ (known_of (seat_view seat)).seen }
-    requires waits { IsWaiterIn S.seen request.task }
+    requires waits { IsAlive S.seen request.task × IsWaiterIn S.seen request.task }
     ensures seat { IsSeatAt (locked_place phaser.now) result.0 }
     ensures answer { IfOk result.1 (λ outcome. HasAnswer A.operation K.allows
         (locked_terms phaser.now) (ask_of request) S.seen outcome (seat_view result.0)) }

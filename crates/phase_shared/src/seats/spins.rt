@@ -1,8 +1,8 @@
-//! How long a registration looks for its answer. No contract speaks of it: a wrong number costs time
-//! alone.
+//! How long a registration looks for its answer. No contract speaks of it: a wrong number costs
+//! time alone.
 
-// How often to look, at most: for an answer after a post, and for others' posts under the turn. From
-// one phase in so many on, who does not look tries to again.
+// How often to look, at most: for an answer after a post, and for others' posts under the turn.
+// From one phase in so many on, who does not look tries to again.
 const FIRST: u32 = 40;
 
 const SERVE: u32 = 60;
@@ -25,7 +25,11 @@ pub struct Spins {
 }
 
 fn doubled(number: u32, most: u32) -> u32 {
-    if number >= most / 2 { most } else { number * 2 + 2 }
+    if number >= most / 2 {
+        most
+    } else {
+        number * 2 + 2
+    }
 }
 
 impl Spins {
