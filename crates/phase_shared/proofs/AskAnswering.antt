@@ -26,10 +26,10 @@ use Rattle.phase_shared.specs.declared.seats.view.Knowledge.{Knowledge}
 use Rattle.phase_shared.specs.Goods.{Allows, Keeps}
 use Rattle.phase_shared.specs.Views.{knowledge, is_turning}
 use Rattle.phase_shared.specs.Calls.{Signals, Waits}
-use Rattle.phase_shared.specs.Asks.{Ask, IsUnmade, IsMade, IsAnswered}
+use Rattle.phase_shared.specs.Asks.{Ask, IsUnmade, IsMade, IsAnsweredAsk}
 use Rattle.phase_shared.specs.Lanes.{posted}
-use Rattle.phase_shared.specs.Desks.{View, Turning, Asking, Reading, Asks, Reads, StandsAsked, AskedAt, IsPast, HeldAt, IsLane, Kept}
-use Rattle.phase_shared.specs.Tells.{Learnt, Answers, Looked}
+use Rattle.phase_shared.specs.Desks.{View, Turning, Asking, Reading, AskStands, HasToRead, StandsAsked, AskedAt, IsPast, HeldAt, IsLane, Kept}
+use Rattle.phase_shared.specs.Tells.{Learnt, TellsAnswer, Looked}
 use Rattle.phase_shared.proofs.Small.{apart_phases, not_both}
 use Rattle.phase_shared.proofs.Stages.{signal_is, wait_is, answered}
 use Rattle.phase_shared.proofs.Steadies.{same_value}
@@ -59,7 +59,7 @@ later_value value limits a more middle log is legal first low =
     ∙ (same_value limits [] [] (Waited a.task 1 ∷ middle) (λ none. cc) value a.phase more all below).1
 
 -- an ask that was answered does not stand as one that waits
-not_waiting : (limits : Limits) (a : Ask) (seen seen' log : History) → IsAnswered limits a seen log → IsUnmade a seen' log ⊎ IsMade limits a seen' log → ⊥
+not_waiting : (limits : Limits) (a : Ask) (seen seen' log : History) → IsAnsweredAsk limits a seen log → IsUnmade a seen' log ⊎ IsMade limits a seen' log → ⊥
 not_waiting limits a seen seen' log n q = ⊎_elim
     (λ (u : IsUnmade a seen' log).
     apart_phases a.phase (sym (signal_is log a.task (a.phase + 1) (a.phase + 1) n.stands) ∙ signal_is log a.task a.phase a.phase u.stands))
@@ -70,15 +70,15 @@ not_waiting limits a seen seen' log n q = ⊎_elim
 module _ {T : Type 0} (value : List ℤ → Outcome) (limits : Limits) (allows : Allows) (StandsFor : T → History → Type 0)
     (number : ℕ) (f : Knowledge) (a : Ask) (home : Option T) (told : ℕ) (words : List ℕ) (views : List View)
     (k : Kept value limits allows StandsFor home told words views) (at : get_elem? views number ≡ some (Asking f a)) where
-  its : Asks value limits allows k.log told words f a
+  its : AskStands value limits allows k.log told words f a
   its = k.sound number (Asking f a) at
 
   -- it was answered
-  module _ (n : IsAnswered limits a f.seen k.log) where
+  module _ (n : IsAnsweredAsk limits a f.seen k.log) where
     first_legal : IsLegal limits (Waited a.task 1 ∷ n.middle)
     first_legal = IsLegal-beginning limits (Waited a.task 1 ∷ n.middle) k.log (λ none. cc) k.good.legal (record { later = n.since.later; is = n.since.is })
 
-    reading_sound : Reads value k.log words (knowledge (Waited a.task 1 ∷ n.middle) (a.task ∷ [])) a
+    reading_sound : HasToRead value k.log words (knowledge (Waited a.task 1 ∷ n.middle) (a.task ∷ [])) a
     reading_sound = record {
       speaks = refl;
       fits = n.since;
@@ -171,12 +171,12 @@ module _ {T : Type 0} (value : List ℤ → Outcome) (limits : Limits) (allows :
         | false ↦ λ even. stays_so (λ q. not_both (eqb (told % 2) 1) (eq-eqb (told % 2) 1 q.0) even)
       ] refl
     where
-      found : Answers told a.phase → (w : View) × Kept value limits allows StandsFor home told words (set views number w) × Looked limits allows a f told w
+      found : TellsAnswer told a.phase → (w : View) × Kept value limits allows StandsFor home told words (set views number w) × Looked limits allows a f told w
       found q =
-          let n : IsAnswered limits a f.seen k.log = answered limits a f.seen k.log (told / 2) (k.within q.0) q.1 (λ m. its.waits q.0 m) its.stage in
+          let n : IsAnsweredAsk limits a f.seen k.log = answered limits a f.seen k.log (told / 2) (k.within q.0) q.1 (λ m. its.waits q.0 m) its.stage in
           (Reading (knowledge (Waited a.task 1 ∷ n.middle) (a.task ∷ [])) a, kept_then n, record { answered = λ q'. learnt n; stays = λ none. absurd (none q) })
 
-      stays_so : (Answers told a.phase → ⊥) → (w : View) × Kept value limits allows StandsFor home told words (set views number w) × Looked limits allows a f told w
+      stays_so : (TellsAnswer told a.phase → ⊥) → (w : View) × Kept value limits allows StandsFor home told words (set views number w) × Looked limits allows a f told w
       stays_so none = (
         Asking f a,
         subst (λ (l : List View). Kept value limits allows StandsFor home told words l) (sym (set_again views number (Asking f a) at)) k,

@@ -13,9 +13,9 @@ use Rattle.phase_core.specs.phase_history.Others.{events_of}
 use Rattle.phase_shared.specs.declared.seats.view.Knowledge.{Knowledge}
 use Rattle.phase_shared.specs.Goods.{Allows}
 use Rattle.phase_shared.specs.Views.{speaks_of, is_turning}
-use Rattle.phase_shared.specs.Asks.{Ask, Stands, IsUnmade, IsMade, IsAnswered, Batch, IsOneOf, asks_for}
+use Rattle.phase_shared.specs.Asks.{Ask, IsAtPhases, IsUnmade, IsMade, IsAnsweredAsk, Batch, IsOneOf, asks_for}
 use Rattle.phase_shared.specs.Lanes.{board, posted, sends_of, KindIs, NumberIs, with_number}
-use Rattle.phase_shared.specs.Desks.{View, Resting, Turning, Joining, Posting, Asking, Reading, Spent, IsSound, Asks, Reads, Posts, HasLane, LaneIs, StandsAsked, IsLane, Kept}
+use Rattle.phase_shared.specs.Desks.{View, Resting, Turning, Joining, Posting, Asking, Reading, Spent, IsSound, AskStands, HasToRead, Posts, HasLane, LaneIs, StandsAsked, IsLane, Kept}
 use Rattle.phase_shared.proofs.Small.{not_true_is, used_some, apart_phases}
 use Rattle.phase_shared.proofs.Stages.{signal_is, wait_is, done_within}
 use Rattle.phase_shared.proofs.Steadies.{found, none_of, stands_still}
@@ -36,7 +36,7 @@ module _ {T : Type 0} (value : List ℤ → Outcome) (limits : Limits) (allows :
       → Kept value limits allows StandsFor home told words views → get_elem? views number ≡ some (Reading f a)
       → (set views number (Reading f a) ≡ views) × KindIs (slice_index words 1) (value_of_phase value f.seen a.phase)
   reads_kind number f a home told words views k at =
-      let s : Reads value k.log words f a = k.sound number (Reading f a) at in
+      let s : HasToRead value k.log words f a = k.sound number (Reading f a) at in
       (set_again views number (Reading f a) at, kind_of words (value_of_phase value f.seen a.phase) (sym s.has))
 
   -- and then its number
@@ -45,7 +45,7 @@ module _ {T : Type 0} (value : List ℤ → Outcome) (limits : Limits) (allows :
       → Kept value limits allows StandsFor home told words (set views number (Resting f))
       × NumberIs (slice_index words 0) (value_of_phase value f.seen a.phase)
   reads_number number f a home told words views k at =
-      let s : Reads value k.log words f a = k.sound number (Reading f a) at in
+      let s : HasToRead value k.log words f a = k.sound number (Reading f a) at in
       let w : View = Resting f in
       let asking_stays : (j : ℕ) (g : Knowledge) (b : Ask) → get_elem? views j ≡ some (Asking g b) → get_elem? (set views number (Resting f)) j ≡ some (Asking g b) =
       λ j g b e. stays is_asking views number j (Reading f a) (Resting f) (Asking g b) at refl refl e in (
@@ -86,7 +86,7 @@ module _ {T : Type 0} (value : List ℤ → Outcome) (limits : Limits) (allows :
       used_some k.log one.0 (k.owns number (Turning f claims said lane) one.0 at one.1).1 (sym s.0 ∙ none)
 
   -- a task that stands behind a complete phase, and has no events in the turn, holds the next one open
-  holds_open : (task phase : ℕ) → phase < done_of f.seen → events_of task later ≡ [] → Stands f.seen task (phase + 1) (phase + 1) → ⊥
+  holds_open : (task phase : ℕ) → phase < done_of f.seen → events_of task later ≡ [] → IsAtPhases f.seen task (phase + 1) (phase + 1) → ⊥
   holds_open task phase below none st =
       let most = done_within (later ++ f.seen) task (phase + 1) (phase + 1)
       (stands_still limits claims f.speaks f.seen some_log task (phase + 1) (phase + 1) later legal none st) in
@@ -101,14 +101,14 @@ module _ {T : Type 0} (value : List ℤ → Outcome) (limits : Limits) (allows :
       → (g : Knowledge) × (u ≡ Asking g a) × (IsUnmade a g.seen k.log ⊎ IsMade limits a g.seen k.log)
   seat_is j u task e has a one same =
       let c = k.claimed number f claims said lane at a one in
-      let s : Asks value limits allows k.log told words c.knows a = k.sound c.seat (Asking c.knows a) c.at in
+      let s : AskStands value limits allows k.log told words c.knows a = k.sound c.seat (Asking c.knows a) c.at in
       let its = (k.owns c.seat (Asking c.knows a) a.task c.at (this_is_in a.task c.knows.speaks s.speaks)).0 in
       let here : c.seat ≡ j = sym its ∙ ap k.owner same ∙ (k.owns j u task e has).0 in
       (c.knows, same_view views j c.seat u (Asking c.knows a) e c.at (sym here), c.waits_on)
 
-  none_answered : (j : ℕ) (g : Knowledge) (a : Ask) → j ≢ number → get_elem? views j ≡ some (Asking g a) → IsAnswered limits a g.seen k.log → ⊥
+  none_answered : (j : ℕ) (g : Knowledge) (a : Ask) → j ≢ number → get_elem? views j ≡ some (Asking g a) → IsAnsweredAsk limits a g.seen k.log → ⊥
   none_answered j g a ne e n =
-      let s : Asks value limits allows k.log told words g a = k.sound j (Asking g a) e in
+      let s : AskStands value limits allows k.log told words g a = k.sound j (Asking g a) e in
       let mine : is_in a.task g.speaks ≡ true = this_is_in a.task g.speaks s.speaks in
       elim (asks_for claims a.task) as (λ b. (asks_for claims a.task ≡ b) → ⊥) [
         | true ↦ λ t.
@@ -119,7 +119,7 @@ module _ {T : Type 0} (value : List ℤ → Outcome) (limits : Limits) (allows :
         | false ↦ λ t.
             holds_open a.task a.phase (subst (λ (h : History). a.phase < done_of h) (sym log_is) n.below)
             (none_of limits claims f.speaks f.seen some_log a.task (theirs j (Asking g a) a.task ne e mine) t later batch)
-            (subst (λ (h : History). Stands h a.task (a.phase + 1) (a.phase + 1)) (sym log_is) n.stands)
+            (subst (λ (h : History). IsAtPhases h a.task (a.phase + 1) (a.phase + 1)) (sym log_is) n.stands)
       ] refl
     where
       waits_on_not : (h : Knowledge) (b : Ask) → b ≡ a → IsUnmade b h.seen k.log ⊎ IsMade limits b h.seen k.log → ⊥
@@ -134,13 +134,13 @@ module _ {T : Type 0} (value : List ℤ → Outcome) (limits : Limits) (allows :
 
   none_reading : (j : ℕ) (g : Knowledge) (a : Ask) → j ≢ number → get_elem? views j ≡ some (Reading g a) → ⊥
   none_reading j g a ne e =
-      let s : Reads value k.log words g a = k.sound j (Reading g a) e in
+      let s : HasToRead value k.log words g a = k.sound j (Reading g a) e in
       let mine : is_in a.task g.speaks ≡ true = this_is_in a.task g.speaks s.speaks in
       let unread : asks_for claims a.task ≡ false = not_true_is (asks_for claims a.task)
       (λ t. let r = found claims a.task t in let q = seat_is j (Reading g a) a.task e mine r.0 r.1 r.2 in not_asking q.0 r.0 q.1) in
       holds_open a.task a.phase (subst (λ (h : History). a.phase < done_of h) (sym log_is) s.below)
       (none_of limits claims f.speaks f.seen some_log a.task (theirs j (Reading g a) a.task ne e mine) unread later batch)
-      (subst (λ (h : History). Stands h a.task (a.phase + 1) (a.phase + 1)) (sym log_is) s.stands)
+      (subst (λ (h : History). IsAtPhases h a.task (a.phase + 1) (a.phase + 1)) (sym log_is) s.stands)
     where
       not_asking : (h : Knowledge) (b : Ask) → Reading g a ≡ Asking h b → ⊥
       not_asking h b is = cc
@@ -155,7 +155,7 @@ module _ {T : Type 0} (value : List ℤ → Outcome) (limits : Limits) (allows :
         let p : Posts words g m = s.2 in
         (s.0, s.1, record { task = p.task; speaks = p.speaks; low = p.low; has = board_sent words place n p.task low ∙ p.has })
     still j (Asking g a) ne e =
-        let s : Asks value limits allows k.log told words g a = k.sound j (Asking g a) e in
+        let s : AskStands value limits allows k.log told words g a = k.sound j (Asking g a) e in
         record {
           speaks = s.speaks;
           low = s.low;

@@ -16,7 +16,7 @@ use Rattle.phase_shared.specs.Goods.{Allows}
 use Rattle.phase_shared.specs.Lanes.{KindIs, NumberIs}
 use Rattle.phase_shared.specs.Rule.{HasOneHistory, StandsWithin}
 use Rattle.phase_shared.specs.Servings.{IsAsking, HasAnswer}
-use Rattle.phase_shared.specs.Tells.{TookAsked, Looked, Learnt, Answers}
+use Rattle.phase_shared.specs.Tells.{TookAsked, Looked, Learnt, TellsAnswer}
 use Rattle.phase_shared.specs.Views.{knowledge, known_of, board_of}
 use Rattle.phase_shared.specs.WordTells.{IsHolder, IsReading, TookAskedAt, LookedAt, ReadsKind, ReadsNumber, BoardKind, BoardNumber}
 use Rattle.phase_shared.proofs.Places.{ask_in}
@@ -53,11 +53,11 @@ module _ {A K : Type 0} (op : Operation A) (allows : K → Allows) (terms : Term
   -- ---- a look, and what is read then
 
   pub asks_still : (a : Ask) (seen : History) (v : View) (told : ℕ) (w : View) → IsAsking a seen v → LookedAt allows terms v told w
-      → (Answers told a.phase → ⊥) → w ≡ v
+      → (TellsAnswer told a.phase → ⊥) → w ≡ v
   asks_still a seen v told w is look none = (look (knowledge seen (a.task ∷ [])) a is).stays none ∙ sym is
 
   pub was_answered : (a : Ask) (seen : History) (v : View) (told : ℕ) (w : View) → IsAsking a seen v → LookedAt allows terms v told w
-      → Answers told a.phase → Learnt terms.limits (allows terms.rule) a (knowledge seen (a.task ∷ [])) w
+      → TellsAnswer told a.phase → Learnt terms.limits (allows terms.rule) a (knowledge seen (a.task ∷ [])) w
   was_answered a seen v told w is look told_so = (look (knowledge seen (a.task ∷ [])) a is).answered told_so
 
   pub is_read : (a : Ask) (f : Knowledge) (w : View) → Learnt terms.limits (allows terms.rule) a f w → IsReading w

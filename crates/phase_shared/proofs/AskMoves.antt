@@ -14,7 +14,7 @@ use Rattle.phase_shared.specs.Goods.{Allows}
 use Rattle.phase_shared.specs.Views.{speaks_of, known_of, claims_of, lane_of, is_turning}
 use Rattle.phase_shared.specs.Asks.{Ask, IsMade, IsOneOf}
 use Rattle.phase_shared.specs.Lanes.{lanes_most, board, posted, sends_of}
-use Rattle.phase_shared.specs.Desks.{View, Resting, Turning, Joining, Posting, Asking, Reading, Spent, IsSound, Asks, Reads, Posts, HasLane, LaneIs, StandsAsked, AskedAt, IsPast, HeldAt, IsLane, Kept}
+use Rattle.phase_shared.specs.Desks.{View, Resting, Turning, Joining, Posting, Asking, Reading, Spent, IsSound, AskStands, HasToRead, Posts, HasLane, LaneIs, StandsAsked, AskedAt, IsPast, HeldAt, IsLane, Kept}
 use Rattle.phase_shared.proofs.Small.{not_true_is, not_both, none_some, is_in_self}
 use Rattle.phase_shared.proofs.Places.{is_asking, same_view, was, stays, asked_stays}
 use Rattle.phase_shared.proofs.LaneWords.{SameElse}
@@ -56,7 +56,7 @@ words_else value limits allows home holder log told t words after same j (Postin
     let l : Posts words g n = s.2 in
     (s.0, s.1, record { task = l.task; speaks = l.speaks; low = l.low; has = same.same_sent l.task (not_this l.task t g.speaks l.speaks out) ∙ l.has })
 words_else value limits allows home holder log told t words after same j (Asking g a) out s =
-    let q : Asks value limits allows log told words g a = s in
+    let q : AskStands value limits allows log told words g a = s in
     let ne : a.task ≢ t = not_this a.task t g.speaks q.speaks out in
     record {
       speaks = q.speaks;
@@ -69,7 +69,7 @@ words_else value limits allows home holder log told t words after same j (Asking
       sends = λ st. ap (λ (n : ℕ). sends_of n) (same.same_sent a.task ne) ∙ q.sends st;
     }
 words_else value limits allows home holder log told t words after same j (Reading g a) out s =
-    let q : Reads value log words g a = s in
+    let q : HasToRead value log words g a = s in
     record { speaks = q.speaks; fits = q.fits; stands = q.stands; below = q.below; has = same.same_board ∙ q.has }
 words_else value limits allows home holder log told t words after same j Spent out s = tt
 

@@ -25,7 +25,7 @@ use Rattle.phase_shared.specs.declared.next.Next.{Next}
 use Rattle.phase_shared.specs.declared.rule.Terms.{Terms}
 use Rattle.phase_shared.specs.declared.seats.request.Request.{Request}
 use Rattle.phase_shared.specs.declared.seats.view.View.{View}
-use Rattle.phase_shared.specs.Asks.{Stands}
+use Rattle.phase_shared.specs.Asks.{IsAtPhases}
 use Rattle.phase_shared.specs.Calls.{IsCall, MaySignal, Signals, Waits}
 use Rattle.phase_shared.specs.Desks.{Reading}
 use Rattle.phase_shared.specs.Entries.{entry_after_next}
@@ -56,7 +56,7 @@ module _ {A K : Type 0} (op : Operation A) (allows : K → Allows) (terms : Term
     where
       begun : IsWaiterIn (known_of v).seen r.task → Starting op allows terms (ask_of r) (known_of v).seen w x
       begun waiter =
-          let st : Stands (known_of v).seen r.task r.phase r.phase = may.stands in
+          let st : IsAtPhases (known_of v).seen r.task r.phase r.phase = may.stands in
           let there : entry_of (members_of e.now) r.task ≡ Some st.entry =
           member_after terms.limits r.task st.entry (known_of v).seen e.now e.others e.good.legal st.member in
           record {

@@ -14,9 +14,9 @@ use Rattle.phase_core.proofs.phase_history_lemmas.Used.{entry_of-others}
 use Rattle.phase_shared.specs.declared.seats.view.Knowledge.{Knowledge}
 use Rattle.phase_shared.specs.Goods.{Allows}
 use Rattle.phase_shared.specs.Views.{known_of, is_turning}
-use Rattle.phase_shared.specs.Asks.{Ask, Stands, IsMade, IsAnswered}
-use Rattle.phase_shared.specs.Lanes.{lanes_most, phase_place, send_place, posted, sent, sends_of}
-use Rattle.phase_shared.specs.Desks.{View, Resting, Turning, Posting, Asking, MayMake, Asks, Posts, AskedAt, IsPast, HeldAt, IsLane, Kept}
+use Rattle.phase_shared.specs.Asks.{Ask, IsAtPhases, IsMade, IsAnsweredAsk}
+use Rattle.phase_shared.specs.Lanes.{lanes_most, phase_place, send_place, posted, send_word, sends_of}
+use Rattle.phase_shared.specs.Desks.{View, Resting, Turning, Posting, Asking, MayMakeAsk, AskStands, Posts, AskedAt, IsPast, HeldAt, IsLane, Kept}
 use Rattle.phase_shared.proofs.Small.{apart_phases}
 use Rattle.phase_shared.proofs.Stages.{signal_is}
 use Rattle.phase_shared.proofs.Places.{is_asking, ask_in, stays, asked_stays, lane_stays, ne_of}
@@ -24,11 +24,11 @@ use Rattle.phase_shared.proofs.LaneWords.{send_else, send_posted, send_here, pha
 use Rattle.phase_shared.proofs.AskMoves.{this_is_in, same_task, else_sound, moves, held_speaks, holds}
 
 -- where a task stood it stands, while others' events alone came
-stands_others : (limits : Limits) (seen log : History) (task s w : ℕ) → IsLegal limits log → OthersCame (task ∷ []) seen log → Stands seen task s w → Stands log task s w
+stands_others : (limits : Limits) (seen log : History) (task s w : ℕ) → IsLegal limits log → OthersCame (task ∷ []) seen log → IsAtPhases seen task s w → IsAtPhases log task s w
 stands_others limits seen log task s w legal came st =
     let legal' : IsLegal limits (came.later ++ seen) = subst (λ (h : History). IsLegal limits h) came.is legal in
     let none : events_of task came.later ≡ [] = came.others task (this_is_in task (task ∷ []) refl) in
-    subst (λ (h : History). Stands h task s w) (sym came.is) (record {
+    subst (λ (h : History). IsAtPhases h task s w) (sym came.is) (record {
       entry = st.entry;
       member = entry_of-others limits came.later seen task st.entry legal' none st.member;
       signals = st.signals;
@@ -61,7 +61,7 @@ module _ {T : Type 0} (value : List ℤ → Outcome) (limits : Limits) (allows :
 
   -- then the phase: it asks
   pub posts_phase : (number : ℕ) (f : Knowledge) (n : ℕ) (a : Ask) → f.speaks ≡ a.task ∷ [] → sends_of n ≡ a.sends
-      → Stands f.seen a.task a.phase a.phase → MayMake limits allows f.seen a
+      → IsAtPhases f.seen a.task a.phase a.phase → MayMakeAsk limits allows f.seen a
       → (home : Option T) (told : ℕ) (words : List ℕ) (views : List View) → length words ≡ 287
       → Kept value limits allows StandsFor home told words views → get_elem? views number ≡ some (Posting f n)
       → Kept value limits allows StandsFor home told (set words (phase_place a.task) (a.phase + 1)) (set views number (Asking f a))
@@ -72,14 +72,14 @@ module _ {T : Type 0} (value : List ℤ → Outcome) (limits : Limits) (allows :
       let p : Posts words f n = s.2 in
       let is : p.task ≡ a.task = same_task f.speaks p.task a.task p.speaks speaks in
       let low : a.task < lanes_most = subst (λ (t : ℕ). t < lanes_most) is p.low in
-      let sent_is : sent words a.task ≡ n = subst (λ (t : ℕ). sent words t ≡ n) is p.has in
+      let sent_is : send_word words a.task ≡ n = subst (λ (t : ℕ). send_word words t ≡ n) is p.has in
       let came : OthersCame (a.task ∷ []) f.seen k.log = subst (λ (l : List ℕ). OthersCame l f.seen k.log) speaks s.0 in
-      let stands' : Stands k.log a.task a.phase a.phase = stands_others limits f.seen k.log a.task a.phase a.phase k.good.legal came stands in
+      let stands' : IsAtPhases k.log a.task a.phase a.phase = stands_others limits f.seen k.log a.task a.phase a.phase k.good.legal came stands in
       let not_made : IsMade limits a f.seen k.log → ⊥ =
       λ m. apart_phases a.phase (sym (signal_is k.log a.task (a.phase + 1) a.phase m.stands) ∙ signal_is k.log a.task a.phase a.phase stands') in
-      let not_answered : IsAnswered limits a f.seen k.log → ⊥ =
+      let not_answered : IsAnsweredAsk limits a f.seen k.log → ⊥ =
       λ m. apart_phases a.phase (sym (signal_is k.log a.task (a.phase + 1) (a.phase + 1) m.stands) ∙ signal_is k.log a.task a.phase a.phase stands') in
-      let here : Asks value limits allows k.log told after f a = record {
+      let here : AskStands value limits allows k.log told after f a = record {
         speaks = speaks;
         low = low;
         stage = inl record { others = came; stands = stands' };

@@ -16,10 +16,10 @@ use Rattle.phase_core.proofs.phase_history_lemmas.OthersEvents.{OthersCame-refl,
 use Rattle.phase_shared.specs.declared.seats.view.Knowledge.{Knowledge}
 use Rattle.phase_shared.specs.Views.{knowledge, speaks_of, is_turning, known_of, lane_of}
 use Rattle.phase_shared.specs.Goods.{Allows, IsGood}
-use Rattle.phase_shared.specs.Asks.{Ask, Stands, IsUnmade, IsMade, IsAnswered, Stage, Batch, IsOneOf, asks_for}
+use Rattle.phase_shared.specs.Asks.{Ask, IsAtPhases, IsUnmade, IsMade, IsAnsweredAsk, Stage, Batch, IsOneOf, asks_for}
 use Rattle.phase_shared.specs.Lanes.{lanes_most, board, posted}
-use Rattle.phase_shared.specs.Desks.{View, Resting, Turning, Joining, Posting, Asking, Reading, Spent, IsSound, Asks, Reads, HasLane, LaneIs, AskedAt, IsPast, HeldAt, IsLane, Kept}
-use Rattle.phase_shared.specs.Tells.{StillAsks, LaneIsPast, Ends, Leaves}
+use Rattle.phase_shared.specs.Desks.{View, Resting, Turning, Joining, Posting, Asking, Reading, Spent, IsSound, AskStands, HasToRead, HasLane, LaneIs, AskedAt, IsPast, HeldAt, IsLane, Kept}
+use Rattle.phase_shared.specs.Tells.{StillAsks, LaneIsPast, EndsTurn, Leaves}
 use Rattle.phase_shared.proofs.Small.{same_some, none_some, not_true_is, not_both, apart_phases, is_in_self, in_left, in_right, used_some}
 use Rattle.phase_shared.proofs.Stages.{stage_goes, signal_is, wait_is, done_within}
 use Rattle.phase_shared.proofs.Steadies.{found, none_of, same_value, stands_still, stage_still, not_made_and_answered}
@@ -39,7 +39,7 @@ module _ {T : Type 0} (value : List ℤ → Outcome) (limits : Limits) (allows :
   mine j v task ne e has = not_true_is (is_in task f.speaks)
       (λ yes'. ne (sym (k.owns j v task e has).0 ∙ (k.owns number (Turning f claims said lane) task at yes').0))
 
-  asks_at : (j : ℕ) (g : Knowledge) (a : Ask) → get_elem? views j ≡ some (Asking g a) → Asks value limits allows k.log told words g a
+  asks_at : (j : ℕ) (g : Knowledge) (a : Ask) → get_elem? views j ≡ some (Asking g a) → AskStands value limits allows k.log told words g a
   asks_at j g a e = k.sound j (Asking g a) e
 
   -- who asked speaks for its task
@@ -66,7 +66,7 @@ module _ {T : Type 0} (value : List ℤ → Outcome) (limits : Limits) (allows :
   told_waits : (a : Ask) → IsOneOf claims a → told % 2 ≡ 1 → told / 2 ≤ a.phase
   told_waits a one odd =
       let c = k.claimed number f claims said lane at a one in
-      let s : Asks value limits allows k.log told words c.knows a = k.sound c.seat (Asking c.knows a) c.at in
+      let s : AskStands value limits allows k.log told words c.knows a = k.sound c.seat (Asking c.knows a) c.at in
       ⊎_elim
       (λ (u : IsUnmade a c.knows.seen k.log).
       let low = k.within odd in let high = done_within k.log a.task a.phase a.phase u.stands in omega arith)
@@ -81,8 +81,8 @@ module _ {T : Type 0} (value : List ℤ → Outcome) (limits : Limits) (allows :
   module _ (y : T) (used : List Ask) (inside : (a : Ask) → IsOneOf used a → IsOneOf claims a) (later : History) (next : ℕ)
       (batch : Batch (IsOneOf used) f.speaks later k.log) (good : IsGood limits allows (later ++ k.log)) (stands : StandsFor y (later ++ k.log))
       (within' : next % 2 ≡ 1 → next / 2 ≤ done_of (later ++ k.log))
-      (waits : next % 2 ≡ 1 → (a : Ask) → IsOneOf claims a → Stands (later ++ k.log) a.task (a.phase + 1) a.phase → next / 2 ≤ a.phase)
-      (has : (a : Ask) → IsOneOf used a → Stands (later ++ k.log) a.task (a.phase + 1) (a.phase + 1) → board words ≡ value_of_phase value (later ++ k.log) a.phase)
+      (waits : next % 2 ≡ 1 → (a : Ask) → IsOneOf claims a → IsAtPhases (later ++ k.log) a.task (a.phase + 1) a.phase → next / 2 ≤ a.phase)
+      (has : (a : Ask) → IsOneOf used a → IsAtPhases (later ++ k.log) a.task (a.phase + 1) (a.phase + 1) → board words ≡ value_of_phase value (later ++ k.log) a.phase)
       (w : View) (rests : is_turning w ≡ false)
       (each : (task : ℕ) → is_in task (speaks_of w) ≡ true → IsUsed (later ++ k.log) task × ((is_in task f.speaks ≡ true) ⊎ (IsUsed k.log task → ⊥)))
       (sound' : IsSound value limits allows (Some y) number (later ++ k.log) next words number w)
@@ -114,7 +114,7 @@ module _ {T : Type 0} (value : List ℤ → Outcome) (limits : Limits) (allows :
 
     still : (j : ℕ) (g : Knowledge) (a : Ask) → j ≢ number → get_elem? views j ≡ some (Asking g a) → asks_for used a.task ≡ false
         → (IsUnmade a g.seen (later ++ k.log) × IsUnmade a g.seen k.log)
-        ⊎ (IsMade limits a g.seen k.log ⊎ (IsAnswered limits a g.seen (later ++ k.log) × IsAnswered limits a g.seen k.log))
+        ⊎ (IsMade limits a g.seen k.log ⊎ (IsAnsweredAsk limits a g.seen (later ++ k.log) × IsAnsweredAsk limits a g.seen k.log))
     still j g a ne e t = stage_still limits used f.speaks k.log some_log a g.seen later (mine j (Asking g a) a.task ne e (own_task j g a e)) t batch good.legal (asks_at j g a e).stage
 
     -- where it is made and not answered then, it was read
@@ -124,23 +124,23 @@ module _ {T : Type 0} (value : List ℤ → Outcome) (limits : Limits) (allows :
       | false ↦ λ t. ⊎_elim
           (λ (u : IsUnmade a g.seen (later ++ k.log) × IsUnmade a g.seen k.log).
           absurd (apart_phases a.phase (sym (signal_is (later ++ k.log) a.task (a.phase + 1) a.phase m.stands) ∙ signal_is (later ++ k.log) a.task a.phase a.phase u.0.stands)))
-          (λ (r : IsMade limits a g.seen k.log ⊎ (IsAnswered limits a g.seen (later ++ k.log) × IsAnswered limits a g.seen k.log)). ⊎_elim
+          (λ (r : IsMade limits a g.seen k.log ⊎ (IsAnsweredAsk limits a g.seen (later ++ k.log) × IsAnsweredAsk limits a g.seen k.log)). ⊎_elim
           (λ (here : IsMade limits a g.seen k.log). k.all number f claims said lane at j g a e here)
-          (λ (n : IsAnswered limits a g.seen (later ++ k.log) × IsAnswered limits a g.seen k.log). absurd (not_made_and_answered limits a g.seen (later ++ k.log) m n.0))
+          (λ (n : IsAnsweredAsk limits a g.seen (later ++ k.log) × IsAnsweredAsk limits a g.seen k.log). absurd (not_made_and_answered limits a g.seen (later ++ k.log) m n.0))
           r)
           (still j g a ne e t)
     ] refl
 
     -- what was made and not read is not answered by the turn
     made_unread : (j : ℕ) (g : Knowledge) (a : Ask) → j ≢ number → get_elem? views j ≡ some (Asking g a) → asks_for used a.task ≡ false
-        → IsMade limits a g.seen k.log → IsAnswered limits a g.seen (later ++ k.log) → ⊥
+        → IsMade limits a g.seen k.log → IsAnsweredAsk limits a g.seen (later ++ k.log) → ⊥
     made_unread j g a ne e t m n =
         let nothing : events_of a.task later ≡ [] = none_of limits used f.speaks k.log some_log a.task (mine j (Asking g a) a.task ne e (own_task j g a e)) t later batch in
         let st = stands_still limits used f.speaks k.log some_log a.task (a.phase + 1) a.phase later good.legal nothing m.stands in
         apart_phases a.phase (sym (wait_is (later ++ k.log) a.task (a.phase + 1) (a.phase + 1) n.stands) ∙ wait_is (later ++ k.log) a.task (a.phase + 1) a.phase st)
 
     -- where it is answered then, the board has its value
-    answered_has : (j : ℕ) (g : Knowledge) (a : Ask) → j ≢ number → get_elem? views j ≡ some (Asking g a) → IsAnswered limits a g.seen (later ++ k.log)
+    answered_has : (j : ℕ) (g : Knowledge) (a : Ask) → j ≢ number → get_elem? views j ≡ some (Asking g a) → IsAnsweredAsk limits a g.seen (later ++ k.log)
         → board words ≡ value_of_phase value (later ++ k.log) a.phase
     answered_has j g a ne e n = elim (asks_for used a.task) as (λ b. (asks_for used a.task ≡ b) → board words ≡ value_of_phase value (later ++ k.log) a.phase) [
       | true ↦ λ t.
@@ -150,9 +150,9 @@ module _ {T : Type 0} (value : List ℤ → Outcome) (limits : Limits) (allows :
       | false ↦ λ t. ⊎_elim
           (λ (u : IsUnmade a g.seen (later ++ k.log) × IsUnmade a g.seen k.log).
           absurd (apart_phases a.phase (sym (signal_is (later ++ k.log) a.task (a.phase + 1) (a.phase + 1) n.stands) ∙ signal_is (later ++ k.log) a.task a.phase a.phase u.0.stands)))
-          (λ (r : IsMade limits a g.seen k.log ⊎ (IsAnswered limits a g.seen (later ++ k.log) × IsAnswered limits a g.seen k.log)). ⊎_elim
+          (λ (r : IsMade limits a g.seen k.log ⊎ (IsAnsweredAsk limits a g.seen (later ++ k.log) × IsAnsweredAsk limits a g.seen k.log)). ⊎_elim
           (λ (here : IsMade limits a g.seen k.log). absurd (made_unread j g a ne e t here n))
-          (λ (q : IsAnswered limits a g.seen (later ++ k.log) × IsAnswered limits a g.seen k.log).
+          (λ (q : IsAnsweredAsk limits a g.seen (later ++ k.log) × IsAnsweredAsk limits a g.seen k.log).
           (asks_at j g a e).has q.1 ∙ sym (same_value limits used f.speaks k.log some_log value a.phase later good.legal q.1.below).1)
           r)
           (still j g a ne e t)
@@ -183,7 +183,7 @@ module _ {T : Type 0} (value : List ℤ → Outcome) (limits : Limits) (allows :
           sends = λ st. s.sends (unmade_before limits a g.seen later k.log k.good.legal good.legal s.stage st);
         }
     other_sound j (Reading g a) ne e =
-        let s : Reads value k.log words g a = k.sound j (Reading g a) e in
+        let s : HasToRead value k.log words g a = k.sound j (Reading g a) e in
         let here : is_in a.task g.speaks ≡ true = subst (λ (l : List ℕ). is_in a.task l ≡ true) (sym s.speaks) (is_in_self a.task []) in
         let same = same_value limits used f.speaks k.log some_log value a.phase later good.legal s.below in
         record {
@@ -298,7 +298,7 @@ module _ {T : Type 0} (value : List ℤ → Outcome) (limits : Limits) (allows :
 
   module _ (number : ℕ) (f : Knowledge) (claims : List Ask) (said : Outcome) (lane : Option ℕ) (told : ℕ) (words : List ℕ) (views : List View)
       (k : Kept value limits allows StandsFor None told words views) (at : get_elem? views number ≡ some (Turning f claims said lane))
-      (next : ℕ) (new : History) (w : View) (ends : Ends limits allows next new f lane w) where
+      (next : ℕ) (new : History) (w : View) (ends : EndsTurn limits allows next new f lane w) where
     ends_rest : is_turning w ≡ false
     ends_rest = ⊎_elim
         (λ (r : (h : History) × (w ≡ Resting (knowledge h f.speaks)) × OthersCame f.speaks h new × LaneIsPast new f lane). ap is_turning r.1)
@@ -328,7 +328,7 @@ module _ {T : Type 0} (value : List ℤ → Outcome) (limits : Limits) (allows :
         (r.2, (k.sound number (Turning f claims said lane) at).1))
         (λ (s : StillAsks limits allows next new f lane w).
         let l = still_lane s in
-        let asks : Asks value limits allows new next words s.knows s.ask = record {
+        let asks : AskStands value limits allows new next words s.knows s.ask = record {
           speaks = s.speaks;
           low = l.0;
           stage = inr (inl s.made);
@@ -364,7 +364,7 @@ module _ {T : Type 0} (value : List ℤ → Outcome) (limits : Limits) (allows :
       → Batch (IsOneOf claims) f.speaks later f.seen → IsGood limits allows (later ++ f.seen) → StandsFor y (later ++ f.seen)
       → (next % 2 ≡ 1 → next / 2 ≤ done_of (later ++ f.seen))
       → ((a : Ask) → IsOneOf claims a → a.task < lanes_most → Leaves value (later ++ f.seen) next said a)
-      → Ends limits allows next (later ++ f.seen) f lane w
+      → EndsTurn limits allows next (later ++ f.seen) f lane w
       → (words : List ℕ) (views : List View) → Kept value limits allows StandsFor None told words views
       → get_elem? views number ≡ some (Turning f claims said lane)
       → Kept value limits allows StandsFor (Some y) next words (set views number w)
@@ -374,7 +374,7 @@ module _ {T : Type 0} (value : List ℤ → Outcome) (limits : Limits) (allows :
       let leaves' : (a : Ask) → IsOneOf claims a → Leaves value (later ++ k.log) next said a =
       λ a one. subst (λ (h : History). Leaves value (later ++ h) next said a) s.0
       (leaves a one (low_of value limits allows StandsFor number f claims said lane told words views k at a one)) in
-      let ends' : Ends limits allows next (later ++ k.log) f lane w = subst (λ (h : History). Ends limits allows next (later ++ h) f lane w) s.0 ends in
+      let ends' : EndsTurn limits allows next (later ++ k.log) f lane w = subst (λ (h : History). EndsTurn limits allows next (later ++ h) f lane w) s.0 ends in
       gave value limits allows StandsFor number f claims said lane told words views k at y claims (λ a one. one) later next
       (subst (λ (h : History). Batch (IsOneOf claims) f.speaks later h) s.0 batch)
       good'
@@ -392,8 +392,8 @@ module _ {T : Type 0} (value : List ℤ → Outcome) (limits : Limits) (allows :
   -- a give with the events of a turn, that tells what was told
   pub gives_same : (number : ℕ) (f : Knowledge) (claims : List Ask) (said : Outcome) (lane : Option ℕ) (y : T) (later : History) (told : ℕ) (w : View)
       → Batch (IsOneOf claims) f.speaks later f.seen → IsGood limits allows (later ++ f.seen) → StandsFor y (later ++ f.seen)
-      → ((a : Ask) → IsOneOf claims a → a.task < lanes_most → Stands (later ++ f.seen) a.task (a.phase + 1) (a.phase + 1) → said ≡ value_of_phase value (later ++ f.seen) a.phase)
-      → Ends limits allows 0 (later ++ f.seen) f lane w
+      → ((a : Ask) → IsOneOf claims a → a.task < lanes_most → IsAtPhases (later ++ f.seen) a.task (a.phase + 1) (a.phase + 1) → said ≡ value_of_phase value (later ++ f.seen) a.phase)
+      → EndsTurn limits allows 0 (later ++ f.seen) f lane w
       → ((s : StillAsks limits allows 0 (later ++ f.seen) f lane w) → done_of f.seen ≤ s.ask.phase)
       → (words : List ℕ) (views : List View) → Kept value limits allows StandsFor None told words views
       → get_elem? views number ≡ some (Turning f claims said lane)

@@ -14,7 +14,7 @@ use Rattle.phase_core.proofs.phase_history_lemmas.Steps.{steps, sound_of}
 use Rattle.phase_core.proofs.phase_history_lemmas.Streams.{legal_rest}
 use Rattle.phase_core.proofs.phase_history_lemmas.Used.{start_of-longer}
 use Rattle.phase_core.proofs.phase_history_lemmas.OthersEvents.{skips}
-use Rattle.phase_shared.specs.Asks.{Ask, Stands, IsUnmade, IsMade, IsAnswered, Stage, Batch}
+use Rattle.phase_shared.specs.Asks.{Ask, IsAtPhases, IsUnmade, IsMade, IsAnsweredAsk, Stage, Batch}
 use Rattle.phase_shared.specs.Desks.{IsPast}
 
 more_signals : (task : ℕ) (later h : History) → phases_signalled h task ≤ phases_signalled (later ++ h) task
@@ -57,7 +57,7 @@ past_goes limits later h task n legal p = record {
 
 -- a task's next signal is not for a lower phase later
 pub signals_grow : (limits : Limits) (later h : History) (task s w s' w' : ℕ) → IsLegal limits h → IsLegal limits (later ++ h)
-    → Stands h task s w → Stands (later ++ h) task s' w' → s ≤ s'
+    → IsAtPhases h task s w → IsAtPhases (later ++ h) task s' w' → s ≤ s'
 signals_grow limits later h task s w s' w' legal legal' st st' =
     let c : HasCounted h task st.entry = counted_of limits h task st.entry legal st.member in
     let d : HasCounted (later ++ h) task st'.entry = counted_of limits (later ++ h) task st'.entry legal' st'.member in
@@ -74,13 +74,13 @@ signals_grow limits later h task s w s' w' legal legal' st st' =
 
 -- an ask that is unmade later was unmade
 pub unmade_before : (limits : Limits) (a : Ask) (seen later h : History) → IsLegal limits h → IsLegal limits (later ++ h)
-    → Stage limits a seen h → Stands (later ++ h) a.task a.phase a.phase → Stands h a.task a.phase a.phase
+    → Stage limits a seen h → IsAtPhases (later ++ h) a.task a.phase a.phase → IsAtPhases h a.task a.phase a.phase
 unmade_before limits a seen later h legal legal' stage st = ⊎_elim
     (λ (u : IsUnmade a seen h). u.stands)
-    (λ (r : IsMade limits a seen h ⊎ IsAnswered limits a seen h). absurd (⊎_elim
+    (λ (r : IsMade limits a seen h ⊎ IsAnsweredAsk limits a seen h). absurd (⊎_elim
     (λ (m : IsMade limits a seen h).
     let low = signals_grow limits later h a.task (a.phase + 1) a.phase a.phase a.phase legal legal' m.stands st in omega arith)
-    (λ (n : IsAnswered limits a seen h).
+    (λ (n : IsAnsweredAsk limits a seen h).
     let low = signals_grow limits later h a.task (a.phase + 1) (a.phase + 1) a.phase a.phase legal legal' n.stands st in omega arith)
     r))
     stage

@@ -16,9 +16,9 @@ use Rattle.phase_core.specs.phase_history.Others.{OthersCame}
 use Rattle.phase_core.proofs.phase_history_lemmas.LawProofs.{counted_of}
 use Rattle.phase_shared.specs.declared.seats.view.Knowledge.{Knowledge}
 use Rattle.phase_shared.specs.Goods.{Allows}
-use Rattle.phase_shared.specs.Asks.{Ask, Stands, Stage, IsUnmade, IsMade, IsAnswered, IsOneOf}
-use Rattle.phase_shared.specs.Lanes.{lanes_most, posted, sent, sends_of}
-use Rattle.phase_shared.specs.Desks.{View, Turning, Asking, Asks, StandsAsked, AskedAt, IsPast, HeldAt, Kept}
+use Rattle.phase_shared.specs.Asks.{Ask, IsAtPhases, Stage, IsUnmade, IsMade, IsAnsweredAsk, IsOneOf}
+use Rattle.phase_shared.specs.Lanes.{lanes_most, posted, send_word, sends_of}
+use Rattle.phase_shared.specs.Desks.{View, Turning, Asking, AskStands, StandsAsked, AskedAt, IsPast, HeldAt, Kept}
 use Rattle.phase_shared.specs.Tells.{IsClaim, LaneRead}
 use Rattle.phase_shared.proofs.Small.{not_both}
 use Rattle.phase_shared.proofs.Growing.{past_goes}
@@ -46,7 +46,7 @@ not_past limits later h task n entry p legal member =
     let low = now.past in omega arith
 
 -- what an ask that was answered has posted
-pub answered_past : (limits : Limits) (a : Ask) (seen log : History) → IsLegal limits log → IsAnswered limits a seen log → IsPast log a.task (a.phase + 1)
+pub answered_past : (limits : Limits) (a : Ask) (seen log : History) → IsLegal limits log → IsAnsweredAsk limits a seen log → IsPast log a.task (a.phase + 1)
 answered_past limits a seen log legal n =
     past_of limits log a.task (a.phase + 1) n.stands.entry legal n.stands.member (let at : n.stands.entry.wait_phase ≡ a.phase + 1 = n.stands.wait_at in omega arith)
 
@@ -59,7 +59,7 @@ module _ {T : Type 0} (value : List ℤ → Outcome) (limits : Limits) (allows :
   log_is : f.seen ≡ k.log
   log_is = (k.sound number (Turning f claims said lane) at).0
 
-  asks_at : (j : ℕ) (g : Knowledge) (a : Ask) → get_elem? views j ≡ some (Asking g a) → Asks value limits allows k.log told words g a
+  asks_at : (j : ℕ) (g : Knowledge) (a : Ask) → get_elem? views j ≡ some (Asking g a) → AskStands value limits allows k.log told words g a
   asks_at j g a e = k.sound j (Asking g a) e
 
   posted_is : (j : ℕ) (g : Knowledge) (a : Ask) → get_elem? views j ≡ some (Asking g a) → a.task ≡ i → posted words i ≡ a.phase + 1
@@ -109,14 +109,14 @@ module _ {T : Type 0} (value : List ℤ → Outcome) (limits : Limits) (allows :
       only = λ b one same. let c = each b one in one_ask j c.seat g c.knows a b there c.at same;
       stands = ⊎_elim
           (λ (u : IsUnmade a g.seen k.log). inl (
-            subst (λ (h : History). Stands h a.task a.phase a.phase) (sym log_is) u.stands,
+            subst (λ (h : History). IsAtPhases h a.task a.phase a.phase) (sym log_is) u.stands,
             record {
               seen = g.seen;
               others = subst (λ (h : History). OthersCame (a.task ∷ []) g.seen h) (sym log_is) u.others;
               may = (asks_at j g a there).may;
             },
           ))
-          (λ (m : IsMade limits a g.seen k.log). inr (subst (λ (h : History). Stands h a.task (a.phase + 1) a.phase) (sym log_is) m.stands))
+          (λ (m : IsMade limits a g.seen k.log). inr (subst (λ (h : History). IsAtPhases h a.task (a.phase + 1) a.phase) (sym log_is) m.stands))
           waits_on;
     }
 
@@ -154,9 +154,9 @@ module _ {T : Type 0} (value : List ℤ → Outcome) (limits : Limits) (allows :
           → (w : View) × Kept value limits allows StandsFor None told words (set views number w) × LaneRead limits allows i f claims said lane (posted words i) w
       asked q stage = ⊎_elim
           (λ (u : IsUnmade q.ask q.knows.seen k.log). reads_ask q.seat q.knows q.ask q.at q.is out (inl u))
-          (λ (r : IsMade limits q.ask q.knows.seen k.log ⊎ IsAnswered limits q.ask q.knows.seen k.log). ⊎_elim
+          (λ (r : IsMade limits q.ask q.knows.seen k.log ⊎ IsAnsweredAsk limits q.ask q.knows.seen k.log). ⊎_elim
           (λ (m : IsMade limits q.ask q.knows.seen k.log). reads_ask q.seat q.knows q.ask q.at q.is out (inr m))
-          (λ (n : IsAnswered limits q.ask q.knows.seen k.log).
+          (λ (n : IsAnsweredAsk limits q.ask q.knows.seen k.log).
           let p : IsPast k.log q.ask.task (q.ask.phase + 1) = answered_past limits q.ask q.knows.seen k.log k.good.legal n in
           let p' : IsPast k.log i (q.ask.phase + 1) = subst (λ (t : ℕ). IsPast k.log t (q.ask.phase + 1)) q.is p in
           let p'' : IsPast k.log i (posted words i) = subst (λ (m : ℕ). IsPast k.log i m) (sym (posted_is q.seat q.knows q.ask q.at q.is)) p' in
@@ -166,11 +166,11 @@ module _ {T : Type 0} (value : List ℤ → Outcome) (limits : Limits) (allows :
 
   -- the second word has what is sent, where the signal is still to be made
   pub send_read : (set views number (Turning f claims said lane) ≡ views)
-      × ((a : Ask) → IsOneOf claims a → a.task ≡ i → Stands f.seen a.task a.phase a.phase → sends_of (sent words i) ≡ a.sends)
+      × ((a : Ask) → IsOneOf claims a → a.task ≡ i → IsAtPhases f.seen a.task a.phase a.phase → sends_of (send_word words i) ≡ a.sends)
   send_read = (
     set_again views number (Turning f claims said lane) at,
     λ a one same st.
         let c = k.claimed number f claims said lane at a one in
         let q = asks_at c.seat c.knows a c.at in
-        ap (λ (t : ℕ). sends_of (sent words t)) (sym same) ∙ q.sends (subst (λ (h : History). Stands h a.task a.phase a.phase) log_is st),
+        ap (λ (t : ℕ). sends_of (send_word words t)) (sym same) ∙ q.sends (subst (λ (h : History). IsAtPhases h a.task a.phase a.phase) log_is st),
   )

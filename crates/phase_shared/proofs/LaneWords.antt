@@ -4,7 +4,7 @@ use Rattle.std.proofs.lemmas.Bool.{eq-eqb, eqb-true, ne_eqb}
 use Rattle.std.proofs.lemmas.List.{get_or-set_same, get_or-set_other}
 use Rattle.phase_core.specs.phase_accum.declared.outcome.Outcome.{Outcome}
 use Rattle.phase_core.specs.phase_accum.declared.outcome.Outcome.TheVariants.{Value, Empty, TooBig}
-use Rattle.phase_shared.specs.Lanes.{lanes_most, word_of, number_of, no_send, sends_of, outcome_of, board, phase_place, send_place, posted, sent, KindIs, NumberIs, with_number}
+use Rattle.phase_shared.specs.Lanes.{lanes_most, word_for, number_of, no_send, sends_of, outcome_of, board, phase_place, send_place, posted, send_word, KindIs, NumberIs, with_number}
 
 -- ---- what two words say
 
@@ -59,7 +59,7 @@ other_number number other kind = elim (eqb kind 0) as (λ b. cond b (Value (numb
 pub record SameElse (t : ℕ) (words after : List ℕ) : Type 0 where
   pub same_board : board after ≡ board words
   pub same_posted : (i : ℕ) → i ≢ t → posted after i ≡ posted words i
-  pub same_sent : (i : ℕ) → i ≢ t → sent after i ≡ sent words i
+  pub same_sent : (i : ℕ) → i ≢ t → send_word after i ≡ send_word words i
 
 pub else : (words : List ℕ) (place n i : ℕ) → i ≢ place → slice_index (set words place n) i ≡ slice_index words i
 else words place n i ne = get_or-set_other words place i n 0 ne
@@ -84,14 +84,14 @@ phase_else words t n = record {
   same_sent = λ i ne. else words (phase_place t) n (send_place i) (λ e. omega arith);
 }
 
-pub phase_sent : (words : List ℕ) (t n i : ℕ) → sent (set words (phase_place t) n) i ≡ sent words i
+pub phase_sent : (words : List ℕ) (t n i : ℕ) → send_word (set words (phase_place t) n) i ≡ send_word words i
 phase_sent words t n i = else words (phase_place t) n (send_place i) (λ e. omega arith)
 
 -- the word that was written says what was written
 pub here : (words : List ℕ) (place n : ℕ) → length words ≡ 287 → place < 287 → slice_index (set words place n) place ≡ n
 here words place n long low = get_or-set_same words place n 0 (omega arith)
 
-pub send_here : (words : List ℕ) (t n : ℕ) → length words ≡ 287 → t < lanes_most → sent (set words (send_place t) n) t ≡ n
+pub send_here : (words : List ℕ) (t n : ℕ) → length words ≡ 287 → t < lanes_most → send_word (set words (send_place t) n) t ≡ n
 send_here words t n long low = here words (send_place t) n long (let few : t < 16 = low in omega arith)
 
 pub phase_here : (words : List ℕ) (t n : ℕ) → length words ≡ 287 → t < lanes_most → posted (set words (phase_place t) n) t ≡ n
@@ -114,7 +114,7 @@ board_kind words n long =
 pub board_posted : (words : List ℕ) (place n i : ℕ) → place < 2 → posted (set words place n) i ≡ posted words i
 board_posted words place n i low = else words place n (phase_place i) (λ e. omega arith)
 
-pub board_sent : (words : List ℕ) (place n i : ℕ) → place < 2 → sent (set words place n) i ≡ sent words i
+pub board_sent : (words : List ℕ) (place n i : ℕ) → place < 2 → send_word (set words place n) i ≡ send_word words i
 board_sent words place n i low = else words place n (send_place i) (λ e. omega arith)
 
 -- ---- numbers as words
@@ -132,13 +132,13 @@ odd_half : (n : ℕ) → (n * 2 + 1) / 2 ≡ n
 odd_half n = omega arith
 
 -- a number's word says the number
-pub number_of_word : (v : ℤ) → number_of (word_of v) ≡ v
+pub number_of_word : (v : ℤ) → number_of (word_for v) ≡ v
 number_of_word (pos n) = ap (λ b. cond b (pos (n * 2 / 2)) (negsuc (n * 2 / 2))) (even_is n) ∙ ap (λ (m : ℕ). pos m) (even_half n)
 number_of_word (negsuc n) = ap (λ b. cond b (pos ((n * 2 + 1) / 2)) (negsuc ((n * 2 + 1) / 2))) (odd_is n) ∙ ap (λ (m : ℕ). negsuc m) (odd_half n)
 
 -- and a word is that of its number
-pub word_of_number : (n : ℕ) → word_of (number_of n) ≡ n
-word_of_number n = elim (eqb (n % 2) 0) as (λ b. (eqb (n % 2) 0 ≡ b) → word_of (cond b (pos (n / 2)) (negsuc (n / 2))) ≡ n) [
+pub word_of_number : (n : ℕ) → word_for (number_of n) ≡ n
+word_of_number n = elim (eqb (n % 2) 0) as (λ b. (eqb (n % 2) 0 ≡ b) → word_for (cond b (pos (n / 2)) (negsuc (n / 2))) ≡ n) [
   | true ↦ λ t. let even : n % 2 ≡ 0 = eqb-true (n % 2) 0 t in omega arith
   | false ↦ λ f. let odd : n % 2 ≢ 0 = (λ (z : n % 2 ≡ 0). no_both (eqb (n % 2) 0) (eq-eqb (n % 2) 0 z) f) in omega arith
 ] refl
@@ -151,7 +151,7 @@ pub sends_none : sends_of no_send ≡ []
 sends_none = ap (λ b. cond b [] (number_of no_send ∷ [])) (eq-eqb no_send no_send refl)
 
 -- every other number is sent by its word
-pub sends_one : (v : ℤ) → v ≢ number_of no_send → sends_of (word_of v) ≡ v ∷ []
+pub sends_one : (v : ℤ) → v ≢ number_of no_send → sends_of (word_for v) ≡ v ∷ []
 sends_one v ne =
-    ap (λ b. cond b [] (number_of (word_of v) ∷ [])) (ne_eqb (word_of v) no_send (λ same. ne (sym (number_of_word v) ∙ ap (λ (n : ℕ). number_of n) same)))
+    ap (λ b. cond b [] (number_of (word_for v) ∷ [])) (ne_eqb (word_for v) no_send (λ same. ne (sym (number_of_word v) ∙ ap (λ (n : ℕ). number_of n) same)))
     ∙ ap (λ (w : ℤ). w ∷ []) (number_of_word v)

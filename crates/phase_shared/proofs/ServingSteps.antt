@@ -1,5 +1,5 @@
 -- What a seat that serves reads of others' asks, and the signals and waits that it makes for them.
-use Rattle.std.proofs.Common.{◌≡◌, ◌≢◌, ℕ, ℤ, ◌+◌, ◌<◌, ◌≤◌, Bool, true, false, cond, eqb, ltb, leb, List, [], ◌∷◌, ◌++◌, ◌⊎◌, Option, None, Some, refl, sym, ap, subst, ◌∙◌, inl, inr, ⊎_elim, arith}
+use Rattle.std.proofs.Common.{◌≡◌, ◌≢◌, ℕ, ◌+◌, ◌<◌, ◌≤◌, Bool, true, false, cond, eqb, ltb, leb, List, [], ◌∷◌, ◌++◌, ◌⊎◌, None, Some, refl, sym, ap, subst, ◌∙◌, inl, inr, ⊎_elim, arith}
 use Rattle.std.proofs.lemmas.Bool.{eqb-true, eq-eqb, ne_eqb, ltb-true, ltb-false, lt-ltb, le-ltb, leb-true}
 use Rattle.std.proofs.lemmas.Option.{same_Some}
 use Rattle.phase_core.specs.phase_base.Limits.{Limits}
@@ -11,7 +11,7 @@ use Rattle.phase_core.specs.phase_accum.Operations.{Operation}
 use Rattle.phase_core.specs.phase_accum.declared.outcome.Outcome.{Outcome}
 use Rattle.phase_core.specs.phase_history.declared.event.Event.{Event}
 use Rattle.phase_core.specs.phase_history.declared.event.Event.TheVariants.{Made, Registered, RegisteredNow, Signalled, Waited, Dropped}
-use Rattle.phase_core.specs.phase_history.Histories.{History, members_of, done_of, signal_phase, wait_phase}
+use Rattle.phase_core.specs.phase_history.Histories.{History, members_of, done_of, wait_phase}
 use Rattle.std.specs.Prelude.{Ok, Result, is_some, not, ◌&&◌}
 use Rattle.phase_core.specs.phase_base.Limits.{AreLimits}
 use Rattle.phase_core.specs.phase_base.Members.{least, signal_phases}
@@ -30,17 +30,14 @@ use Rattle.phase_core.specs.Cores.{CoreState, StandsFor}
 use Rattle.phase_core.proofs.phase_history_lemmas.MemberLemmas.{entry_of-changed_other}
 use Rattle.phase_core.proofs.phase_history_lemmas.Used.{entry_of-others, IsLegal-beginning}
 use Rattle.phase_shared.specs.declared.rule.Terms.{Terms}
-use Rattle.phase_shared.specs.declared.seats.view.Knowledge.{Knowledge}
 use Rattle.phase_shared.specs.declared.seats.view.View.{View}
-use Rattle.phase_shared.specs.declared.seats.view.View.TheVariants.{Turning}
-use Rattle.phase_shared.specs.Asks.{Ask, Stands, IsUnmade, IsMade, IsAnswered, Stage, IsOwn, SignalsFor, WaitsFor, Batch, IsOneOf, asks_for}
-use Rattle.phase_shared.specs.Desks.{IsPast, MayMake}
-use Rattle.phase_shared.specs.Goods.{Allows, IsGood, IsGoodAt}
+use Rattle.phase_shared.specs.Asks.{Ask, IsAtPhases, IsUnmade, IsMade, IsAnsweredAsk, Stage, IsOwn, SignalsFor, WaitsFor, Batch, IsOneOf, asks_for}
+use Rattle.phase_shared.specs.Desks.{IsPast}
+use Rattle.phase_shared.specs.Goods.{Allows}
 use Rattle.phase_shared.specs.Lanes.{sends_of}
-use Rattle.phase_shared.specs.Rule.{StandsWithin}
-use Rattle.phase_shared.specs.Servings.{Turned, Serving, Finished, IsBefore, IsBetween, IsDone, IsWaiterIn}
-use Rattle.phase_shared.specs.Tells.{IsClaim, LaneRead, MayBeMade}
-use Rattle.phase_shared.specs.Views.{knowledge, known_of, turning}
+use Rattle.phase_shared.specs.Servings.{Serving, Finished, IsBefore, IsBetween, IsPhaseDone, IsWaiterIn}
+use Rattle.phase_shared.specs.Tells.{IsClaim, MayBeMade}
+use Rattle.phase_shared.specs.Views.{knowledge, known_of}
 use Rattle.phase_shared.specs.WordTells.{IsOther, LaneReadAt, SendReadAt}
 use Rattle.phase_shared.proofs.Growing.{done_grows, signals_grow}
 use Rattle.phase_shared.proofs.LaneReading.{not_past}
@@ -100,13 +97,13 @@ made_other limits ask seen h e legal other m = record {
 
 -- a waiter stays one
 pub waiter_other : (limits : Limits) (h : History) (e : Event) (task s w : ℕ) → IsLegal limits (e ∷ h) → is_by task e ≡ false
-    → Stands h task s w → IsWaiterIn h task → IsWaiterIn (e ∷ h) task
+    → IsAtPhases h task s w → IsWaiterIn h task → IsWaiterIn (e ∷ h) task
 waiter_other limits h e task s w legal other st waits entry member =
     let same : st.entry ≡ entry = same_Some st.entry entry (sym (stays limits h e task s w legal other st) ∙ member) in
     subst (λ (x : Entry). mode_waits x.mode ≡ true) same (waits st.entry st.member)
   where
     stays : (limits : Limits) (h : History) (e : Event) (task s w : ℕ) → IsLegal limits (e ∷ h) → is_by task e ≡ false
-        → (st : Stands h task s w) → entry_of (members_of (e ∷ h)) task ≡ Some st.entry
+        → (st : IsAtPhases h task s w) → entry_of (members_of (e ∷ h)) task ≡ Some st.entry
     stays limits h e task s w legal other st =
         entry_of-others limits (e ∷ []) h task st.entry legal (ap (λ b. cond b (e ∷ []) []) other) st.member
 
@@ -134,21 +131,21 @@ module _ {A K : Type 0} (op : Operation A) (allows : K → Allows) (terms : Term
   quiet_claim : (now later : History) (claims new : List Ask) → (now ≡ [] → ⊥) → Batch (IsOneOf claims) (ask.task ∷ []) later now
       → IsLegal terms.limits (later ++ now) → (a : Ask)
       → IsClaim terms.limits (allows terms.rule) (knowledge now (ask.task ∷ [])) (new ++ claims) a
-      → ((b : Ask) → IsOneOf claims b → Stands (later ++ now) b.task (b.phase + 1) (b.phase + 1) → ⊥)
-      → Stands (later ++ now) a.task (a.phase + 1) (a.phase + 1) → ⊥
+      → ((b : Ask) → IsOneOf claims b → IsAtPhases (later ++ now) b.task (b.phase + 1) (b.phase + 1) → ⊥)
+      → IsAtPhases (later ++ now) a.task (a.phase + 1) (a.phase + 1) → ⊥
   quiet_claim now later claims new some batch legal a c quiet st = elim (asks_for claims a.task) as (λ b. (asks_for claims a.task ≡ b) → ⊥) [
     | true ↦ λ t.
         let f = found claims a.task t in
         let same : f.0 ≡ a = c.only f.0 (in_more new claims f.0 f.1) f.2 in
-        quiet f.0 f.1 (subst (λ (x : Ask). Stands (later ++ now) x.task (x.phase + 1) (x.phase + 1)) (sym same) st)
+        quiet f.0 f.1 (subst (λ (x : Ask). IsAtPhases (later ++ now) x.task (x.phase + 1) (x.phase + 1)) (sym same) st)
     | false ↦ λ n.
         let none : events_of a.task later ≡ [] = none_of terms.limits claims (ask.task ∷ []) now some a.task c.theirs n later batch in
-        let waits : (s : ℕ) → Stands now a.task s a.phase → ⊥ = λ s here.
+        let waits : (s : ℕ) → IsAtPhases now a.task s a.phase → ⊥ = λ s here.
         apart_phases a.phase (sym (wait_is (later ++ now) a.task (a.phase + 1) (a.phase + 1) st)
         ∙ wait_is (later ++ now) a.task s a.phase (stands_still terms.limits claims (ask.task ∷ []) now some a.task s a.phase later legal none here)) in
         ⊎_elim
-        (λ (u : Stands now a.task a.phase a.phase × MayBeMade terms.limits (allows terms.rule) now a). waits a.phase u.0)
-        (λ (m : Stands now a.task (a.phase + 1) a.phase). waits (a.phase + 1) m)
+        (λ (u : IsAtPhases now a.task a.phase a.phase × MayBeMade terms.limits (allows terms.rule) now a). waits a.phase u.0)
+        (λ (m : IsAtPhases now a.task (a.phase + 1) a.phase). waits (a.phase + 1) m)
         c.stands
   ] refl
 
@@ -238,11 +235,11 @@ module _ {A K : Type 0} (op : Operation A) (allows : K → Allows) (terms : Term
       let q = asked_there false 0 task r w x h before.entry is before.member before.wait_at in
       let a : Ask = q.0 in
       let c = q.3 in
-      let at_old : Stands old a.task a.phase a.phase = stands_at a before.entry q.1 q.2 there before.signals before.signal_at before.wait_at in
+      let at_old : IsAtPhases old a.task a.phase a.phase = stands_at a before.entry q.1 q.2 there before.signals before.signal_at before.wait_at in
       let legal_now : IsLegal terms.limits t.now = IsLegal-beginning terms.limits t.now old t.some t.good.legal (record { later = t.later; is = refl }) in
-      let claim : Stands t.now a.task a.phase a.phase × MayBeMade terms.limits (allows terms.rule) t.now a = ⊎_elim
-      (λ (u : Stands t.now a.task a.phase a.phase × MayBeMade terms.limits (allows terms.rule) t.now a). u)
-      (λ (m : Stands t.now a.task (a.phase + 1) a.phase).
+      let claim : IsAtPhases t.now a.task a.phase a.phase × MayBeMade terms.limits (allows terms.rule) t.now a = ⊎_elim
+      (λ (u : IsAtPhases t.now a.task a.phase a.phase × MayBeMade terms.limits (allows terms.rule) t.now a). u)
+      (λ (m : IsAtPhases t.now a.task (a.phase + 1) a.phase).
       absurd (let low = signals_grow terms.limits t.later t.now a.task (a.phase + 1) a.phase a.phase a.phase legal_now t.good.legal m at_old in omega arith))
       c.stands in
       let sends_are : sends_of n ≡ a.sends = (sent (knowledge t.now (ask.task ∷ [])) t.claims t.said t.lane t.is).1 a c.one q.1 claim.0 in
@@ -284,7 +281,7 @@ module _ {A K : Type 0} (op : Operation A) (allows : K → Allows) (terms : Term
       none_below m low = omega arith
 
       stands_at : (a : Ask) (entry : Entry) → a.task ≡ task → a.phase ≡ ask.phase → {old : History} → entry_of (members_of old) task ≡ Some entry
-          → mode_signals entry.mode ≡ true → entry.signal_phase ≡ ask.phase → entry.wait_phase ≡ ask.phase → Stands old a.task a.phase a.phase
+          → mode_signals entry.mode ≡ true → entry.signal_phase ≡ ask.phase → entry.wait_phase ≡ ask.phase → IsAtPhases old a.task a.phase a.phase
       stands_at a entry same_task same_phase {old} member signals signal_at wait_at = record {
         entry = entry;
         member = ap (λ (m : ℕ). entry_of (members_of old) m) same_task ∙ member;
@@ -293,36 +290,36 @@ module _ {A K : Type 0} (op : Operation A) (allows : K → Allows) (terms : Term
         wait_at = wait_at ∙ sym same_phase;
       }
 
-      unmade_others : (a : Ask) (g old : History) → Stands old a.task a.phase a.phase → Stage terms.limits a g old → OthersCame (a.task ∷ []) g old
+      unmade_others : (a : Ask) (g old : History) → IsAtPhases old a.task a.phase a.phase → Stage terms.limits a g old → OthersCame (a.task ∷ []) g old
       unmade_others a g old st stage = ⊎_elim
           (λ (u : IsUnmade a g old). u.others)
-          (λ (r : IsMade terms.limits a g old ⊎ IsAnswered terms.limits a g old). absurd (⊎_elim
+          (λ (r : IsMade terms.limits a g old ⊎ IsAnsweredAsk terms.limits a g old). absurd (⊎_elim
           (λ (m : IsMade terms.limits a g old).
           apart_phases a.phase (sym (signal_is old a.task (a.phase + 1) a.phase m.stands) ∙ signal_is old a.task a.phase a.phase st))
-          (λ (n : IsAnswered terms.limits a g old).
+          (λ (n : IsAnsweredAsk terms.limits a g old).
           apart_phases a.phase (sym (signal_is old a.task (a.phase + 1) (a.phase + 1) n.stands) ∙ signal_is old a.task a.phase a.phase st))
           r))
           stage
 
-      still_quiet : (claims : List Ask) (old : History) (a b : Ask) → Stands old a.task a.phase a.phase
+      still_quiet : (claims : List Ask) (old : History) (a b : Ask) → IsAtPhases old a.task a.phase a.phase
           → ((d : Ask) → IsOneOf claims d → d.task ≡ a.task → d ≡ a) → IsOneOf claims b → IsLegal terms.limits (Signalled a.task (a.sends ∷ []) None ∷ old)
-          → (Stands old b.task (b.phase + 1) (b.phase + 1) → ⊥)
-          → Stands (Signalled a.task (a.sends ∷ []) None ∷ old) b.task (b.phase + 1) (b.phase + 1) → ⊥
+          → (IsAtPhases old b.task (b.phase + 1) (b.phase + 1) → ⊥)
+          → IsAtPhases (Signalled a.task (a.sends ∷ []) None ∷ old) b.task (b.phase + 1) (b.phase + 1) → ⊥
       still_quiet claims old a b at_old only one legal quiet st = elim (eqb a.task b.task) as (λ c. (eqb a.task b.task ≡ c) → ⊥) [
         | true ↦ λ t.
             let same : b ≡ a = only b one (sym (eqb-true a.task b.task t)) in
-            let st' : Stands (Signalled a.task (a.sends ∷ []) None ∷ old) a.task (a.phase + 1) (a.phase + 1) =
-            subst (λ (z : Ask). Stands (Signalled a.task (a.sends ∷ []) None ∷ old) z.task (z.phase + 1) (z.phase + 1)) same st in
+            let st' : IsAtPhases (Signalled a.task (a.sends ∷ []) None ∷ old) a.task (a.phase + 1) (a.phase + 1) =
+            subst (λ (z : Ask). IsAtPhases (Signalled a.task (a.sends ∷ []) None ∷ old) z.task (z.phase + 1) (z.phase + 1)) same st in
             let here = stands_signalled old a.task a.phase a.phase a.sends at_old in
             apart_phases a.phase (sym (wait_is (Signalled a.task (a.sends ∷ []) None ∷ old) a.task (a.phase + 1) (a.phase + 1) st')
             ∙ wait_is (Signalled a.task (a.sends ∷ []) None ∷ old) a.task (a.phase + 1) a.phase here)
         | false ↦ λ n. quiet (record {
-            entry = st.entry;
-            member = sym (entry_of-changed_other a.task b.task (signalled 1) (members_of old) n) ∙ st.member;
-            signals = st.signals;
-            signal_at = st.signal_at;
-            wait_at = st.wait_at;
-          })
+          entry = st.entry;
+          member = sym (entry_of-changed_other a.task b.task (signalled 1) (members_of old) n) ∙ st.member;
+          signals = st.signals;
+          signal_at = st.signal_at;
+          wait_at = st.wait_at;
+        })
       ] refl
 
   -- ---- a wait for another task
@@ -341,7 +338,7 @@ module _ {A K : Type 0} (op : Operation A) (allows : K → Allows) (terms : Term
       let q = asked_there true k task r w x h between.entry is between.member between.wait_at in
       let a : Ask = q.0 in
       let c = q.3 in
-      let at_old : Stands old a.task (a.phase + 1) a.phase = record {
+      let at_old : IsAtPhases old a.task (a.phase + 1) a.phase = record {
         entry = between.entry;
         member = ap (λ (m : ℕ). entry_of (members_of old) m) q.1 ∙ there;
         signals = between.signals;
@@ -393,22 +390,22 @@ module _ {A K : Type 0} (op : Operation A) (allows : K → Allows) (terms : Term
       further_done : (old : History) (e : Event) → IsLegal terms.limits (e ∷ old) → (old ≡ [] → ⊥) → ask.phase < done_of old → ask.phase < done_of (e ∷ old)
       further_done old e legal some low = let more = done_grows terms.limits (e ∷ []) old some legal in omega arith
 
-      served_more : (claims : List Ask) (old : History) (a b : Ask) → Stands old a.task (a.phase + 1) a.phase
+      served_more : (claims : List Ask) (old : History) (a b : Ask) → IsAtPhases old a.task (a.phase + 1) a.phase
           → ((d : Ask) → IsOneOf claims d → d.task ≡ a.task → d ≡ a) → IsOneOf claims b → IsLegal terms.limits (Waited a.task 1 ∷ old)
-          → (b.task < k → b.phase ≡ ask.phase → Stands old b.task (b.phase + 1) (b.phase + 1))
+          → (b.task < k → b.phase ≡ ask.phase → IsAtPhases old b.task (b.phase + 1) (b.phase + 1))
           → ((b.task < k) ⊎ (b.task ≡ task)) → a.task ≡ task → b.phase ≡ ask.phase
-          → Stands (Waited a.task 1 ∷ old) b.task (b.phase + 1) (b.phase + 1)
+          → IsAtPhases (Waited a.task 1 ∷ old) b.task (b.phase + 1) (b.phase + 1)
       served_more claims old a b at_old only one legal served where' a_is same = elim (eqb a.task b.task)
-          as (λ c. (eqb a.task b.task ≡ c) → Stands (Waited a.task 1 ∷ old) b.task (b.phase + 1) (b.phase + 1)) [
-        | true ↦ λ t.
-            let is_a : b ≡ a = only b one (sym (eqb-true a.task b.task t)) in
-            subst (λ (z : Ask). Stands (Waited a.task 1 ∷ old) z.task (z.phase + 1) (z.phase + 1)) (sym is_a)
-            (stands_waited old a.task (a.phase + 1) a.phase at_old)
-        | false ↦ λ n. ⊎_elim
-            (λ (below : b.task < k). stands_other terms.limits old (Waited a.task 1) b.task (b.phase + 1) (b.phase + 1) legal n (served below same))
-            (λ (here : b.task ≡ task). absurd (not_both (eqb a.task b.task) (eq-eqb a.task b.task (a_is ∙ sym here)) n))
-            where'
-      ] refl
+          as (λ c. (eqb a.task b.task ≡ c) → IsAtPhases (Waited a.task 1 ∷ old) b.task (b.phase + 1) (b.phase + 1)) [
+            | true ↦ λ t.
+                let is_a : b ≡ a = only b one (sym (eqb-true a.task b.task t)) in
+                subst (λ (z : Ask). IsAtPhases (Waited a.task 1 ∷ old) z.task (z.phase + 1) (z.phase + 1)) (sym is_a)
+                (stands_waited old a.task (a.phase + 1) a.phase at_old)
+            | false ↦ λ n. ⊎_elim
+                (λ (below : b.task < k). stands_other terms.limits old (Waited a.task 1) b.task (b.phase + 1) (b.phase + 1) legal n (served below same))
+                (λ (here : b.task ≡ task). absurd (not_both (eqb a.task b.task) (eq-eqb a.task b.task (a_is ∙ sym here)) n))
+                where'
+          ] refl
 
   -- ---- at a turn
 
@@ -472,7 +469,7 @@ module _ {A K : Type 0} (op : Operation A) (allows : K → Allows) (terms : Term
   -- it has come as far as task k
   pub serves_to : (serves : Bool) (k j : ℕ) (v : View) (x : CoreState A) (s : Serving op allows terms ask seen serves k v x)
       → ((a : Ask) → IsOneOf s.turned.claims a → a.task < j → a.phase ≡ ask.phase
-      → Stands (s.turned.later ++ s.turned.now) a.task (a.phase + 1) (a.phase + 1))
+      → IsAtPhases (s.turned.later ++ s.turned.now) a.task (a.phase + 1) (a.phase + 1))
       → Serving op allows terms ask seen serves j v x
   serves_to serves k j v x s served = record {
     turned = record {
@@ -521,11 +518,10 @@ module _ {A K : Type 0} (op : Operation A) (allows : K → Allows) (terms : Term
       (λ (here : a.task ≡ k). absurd (other (h.read a one here ∙ ap (λ (n : ℕ). n + 1) same)))
       (below_or a.task k below))
 
-
   -- ---- its own wait
 
   -- it is accepted, and gets the value
-  pub own_reply : (serves : Bool) (k : ℕ) (v : View) (x : CoreState A) (s : Serving op allows terms ask seen serves k v x) → IsDone s
+  pub own_reply : (serves : Bool) (k : ℕ) (v : View) (x : CoreState A) (s : Serving op allows terms ask seen serves k v x) → IsPhaseDone s
       → wait_reply op.value terms.limits (s.turned.later ++ s.turned.now) ask.task
       ≡ Ok (got.Value ask.phase (value_of_phase op.value (s.turned.later ++ s.turned.now) ask.phase))
   own_reply serves k v x s done =
@@ -555,7 +551,7 @@ module _ {A K : Type 0} (op : Operation A) (allows : K → Allows) (terms : Term
 
   -- the turn with it
   pub own_waited : (serves : Bool) (k : ℕ) (outcome : Outcome) (phase : ℕ) (v : View) (x y : CoreState A) (s : Serving op allows terms ask seen serves k v x)
-      → IsDone s → Ok (got.Value phase outcome) ≡ wait_reply op.value terms.limits (s.turned.later ++ s.turned.now) ask.task → y.limits ≡ x.limits
+      → IsPhaseDone s → Ok (got.Value phase outcome) ≡ wait_reply op.value terms.limits (s.turned.later ++ s.turned.now) ask.task → y.limits ≡ x.limits
       → StandsFor op y (Waited ask.task 1 ∷ s.turned.later ++ s.turned.now)
       → Finished op allows terms ask seen serves k outcome v y
   own_waited serves k outcome phase v x y s done reply same_limits stands' =

@@ -17,12 +17,12 @@ use Rattle.phase_core.proofs.phase_history_lemmas.Streams.{legal_rest}
 use Rattle.phase_core.proofs.phase_history_lemmas.Used.{entry_of-others}
 use Rattle.phase_core.proofs.phase_history_lemmas.OthersEvents.{OthersCame-refl, OthersCame-event, OthersCame-trans}
 use Rattle.phase_shared.proofs.Small.{one_of}
-use Rattle.phase_shared.specs.Asks.{Ask, Stands, IsUnmade, IsMade, IsAnswered, Stage, IsOwn, SignalsFor, WaitsFor, Batch}
+use Rattle.phase_shared.specs.Asks.{Ask, IsAtPhases, IsUnmade, IsMade, IsAnsweredAsk, Stage, IsOwn, SignalsFor, WaitsFor, Batch}
 
 -- ---- where a task stands
 
 pub stands_other : (limits : Limits) (h : History) (e : Event) (task s w : ℕ) → IsLegal limits (e ∷ h) → is_by task e ≡ false
-    → Stands h task s w → Stands (e ∷ h) task s w
+    → IsAtPhases h task s w → IsAtPhases (e ∷ h) task s w
 stands_other limits h e task s w legal other st = record {
   entry = st.entry;
   member = entry_of-others limits (e ∷ []) h task st.entry legal (ap (λ b. cond b (e ∷ []) []) other) st.member;
@@ -31,7 +31,7 @@ stands_other limits h e task s w legal other st = record {
   wait_at = st.wait_at;
 }
 
-pub stands_signalled : (h : History) (task s w : ℕ) (sends : List ℤ) → Stands h task s w → Stands (Signalled task (sends ∷ []) None ∷ h) task (s + 1) w
+pub stands_signalled : (h : History) (task s w : ℕ) (sends : List ℤ) → IsAtPhases h task s w → IsAtPhases (Signalled task (sends ∷ []) None ∷ h) task (s + 1) w
 stands_signalled h task s w sends st = record {
   entry = signalled 1 st.entry;
   member = entry_of-changed_same task (signalled 1) st.entry (members_of h) st.member;
@@ -40,7 +40,7 @@ stands_signalled h task s w sends st = record {
   wait_at = st.wait_at;
 }
 
-pub stands_waited : (h : History) (task s w : ℕ) → Stands h task s w → Stands (Waited task 1 ∷ h) task s (w + 1)
+pub stands_waited : (h : History) (task s w : ℕ) → IsAtPhases h task s w → IsAtPhases (Waited task 1 ∷ h) task s (w + 1)
 stands_waited h task s w st = record {
   entry = waited 1 st.entry;
   member = entry_of-changed_same task (waited 1) st.entry (members_of h) st.member;
@@ -49,20 +49,20 @@ stands_waited h task s w st = record {
   wait_at = ap (λ n. n + 1) st.wait_at;
 }
 
-pub signal_is : (h : History) (task s w : ℕ) → Stands h task s w → signal_phase h task ≡ s
+pub signal_is : (h : History) (task s w : ℕ) → IsAtPhases h task s w → signal_phase h task ≡ s
 signal_is h task s w st = ap (λ (e : Entry). e.signal_phase) (member_entry_is (members_of h) task st.entry st.member) ∙ st.signal_at
 
-pub wait_is : (h : History) (task s w : ℕ) → Stands h task s w → wait_phase h task ≡ w
+pub wait_is : (h : History) (task s w : ℕ) → IsAtPhases h task s w → wait_phase h task ≡ w
 wait_is h task s w st = ap (λ (e : Entry). e.wait_phase) (member_entry_is (members_of h) task st.entry st.member) ∙ st.wait_at
 
 -- no phase is complete that it has yet to signal
-pub done_within : (h : History) (task s w : ℕ) → Stands h task s w → done_of h ≤ s
+pub done_within : (h : History) (task s w : ℕ) → IsAtPhases h task s w → done_of h ≤ s
 done_within h task s w st =
     let low : mode_signals st.entry.mode ≡ true → done_of h ≤ st.entry.signal_phase = Each-entry _ (members_of h) task st.entry st.member (done_low (positions_of h)) in
     let here : done_of h ≤ st.entry.signal_phase = low st.signals in
     let at = st.signal_at in omega arith
 
-some_of : (h : History) (task s w : ℕ) → Stands h task s w → h ≡ [] → ⊥
+some_of : (h : History) (task s w : ℕ) → IsAtPhases h task s w → h ≡ [] → ⊥
 some_of [] task s w st none = let m = st.member in cc
 some_of (e ∷ h) task s w st none = cc
 
@@ -85,7 +85,7 @@ stage_other limits ask seen h e legal other stage = ⊎_elim
       others = further ask.task seen h e other u.others;
       stands = stands_other limits h e ask.task ask.phase ask.phase legal other u.stands;
     })
-    (λ (r : IsMade limits ask seen h ⊎ IsAnswered limits ask seen h). inr (⊎_elim
+    (λ (r : IsMade limits ask seen h ⊎ IsAnsweredAsk limits ask seen h). inr (⊎_elim
     (λ (m : IsMade limits ask seen h). inl record {
       before = m.before;
       others = m.others;
@@ -94,7 +94,7 @@ stage_other limits ask seen h e legal other stage = ⊎_elim
       since = further ask.task (Signalled ask.task (ask.sends ∷ []) None ∷ m.before) h e other m.since;
       stands = stands_other limits h e ask.task (ask.phase + 1) ask.phase legal other m.stands;
     })
-    (λ (a : IsAnswered limits ask seen h). inr record {
+    (λ (a : IsAnsweredAsk limits ask seen h). inr record {
       middle = a.middle;
       made = a.made;
       accepted = a.accepted;
@@ -122,19 +122,19 @@ stage_signalled limits ask seen h legal accepted at stage = ⊎_elim
       since = OthersCame-refl (ask.task ∷ []) (Signalled ask.task (ask.sends ∷ []) None ∷ h);
       stands = stands_signalled h ask.task ask.phase ask.phase ask.sends u.stands;
     })
-    (λ (r : IsMade limits ask seen h ⊎ IsAnswered limits ask seen h). absurd (⊎_elim
+    (λ (r : IsMade limits ask seen h ⊎ IsAnsweredAsk limits ask seen h). absurd (⊎_elim
     (λ (m : IsMade limits ask seen h). apart ask.phase (sym (signal_is h ask.task (ask.phase + 1) ask.phase m.stands) ∙ at))
-    (λ (a : IsAnswered limits ask seen h). apart ask.phase (sym (signal_is h ask.task (ask.phase + 1) (ask.phase + 1) a.stands) ∙ at))
+    (λ (a : IsAnsweredAsk limits ask seen h). apart ask.phase (sym (signal_is h ask.task (ask.phase + 1) (ask.phase + 1) a.stands) ∙ at))
     r))
     stage
 
 -- its own wait: only where its signal was made, and the phase is complete
 pub stage_waited : (limits : Limits) (ask : Ask) (seen h : History) → IsLegal limits h → IsAccepted limits h (Waited ask.task 1)
     → signal_phase h ask.task ≡ ask.phase + 1 → wait_phase h ask.task ≡ ask.phase
-    → Stage limits ask seen h → IsAnswered limits ask seen (Waited ask.task 1 ∷ h)
+    → Stage limits ask seen h → IsAnsweredAsk limits ask seen (Waited ask.task 1 ∷ h)
 stage_waited limits ask seen h legal accepted signalled at stage = ⊎_elim
     (λ (u : IsUnmade ask seen h). absurd (apart ask.phase (sym signalled ∙ signal_is h ask.task ask.phase ask.phase u.stands)))
-    (λ (r : IsMade limits ask seen h ⊎ IsAnswered limits ask seen h). ⊎_elim
+    (λ (r : IsMade limits ask seen h ⊎ IsAnsweredAsk limits ask seen h). ⊎_elim
     (λ (m : IsMade limits ask seen h). record {
       middle = h;
       made = m;
@@ -144,7 +144,7 @@ stage_waited limits ask seen h legal accepted signalled at stage = ⊎_elim
       since = OthersCame-refl (ask.task ∷ []) (Waited ask.task 1 ∷ h);
       stands = stands_waited h ask.task (ask.phase + 1) ask.phase m.stands;
     })
-    (λ (a : IsAnswered limits ask seen h). absurd (apart ask.phase (sym (wait_is h ask.task (ask.phase + 1) (ask.phase + 1) a.stands) ∙ at)))
+    (λ (a : IsAnsweredAsk limits ask seen h). absurd (apart ask.phase (sym (wait_is h ask.task (ask.phase + 1) (ask.phase + 1) a.stands) ∙ at)))
     r)
     stage
 
@@ -198,11 +198,11 @@ module _ (limits : Limits) (Claimed : Ask → Type 0) (speaks : List ℕ) (log :
 -- ---- what the asker learns when it finds that more phases are told than its own
 
 pub answered : (limits : Limits) (ask : Ask) (seen h : History) (told : ℕ) → told ≤ done_of h → ask.phase < told
-    → (IsMade limits ask seen h → told ≤ ask.phase) → Stage limits ask seen h → IsAnswered limits ask seen h
+    → (IsMade limits ask seen h → told ≤ ask.phase) → Stage limits ask seen h → IsAnsweredAsk limits ask seen h
 answered limits ask seen h told within found waits stage = ⊎_elim
     (λ (u : IsUnmade ask seen h). let low = done_within h ask.task ask.phase ask.phase u.stands in absurd (omega arith))
-    (λ (r : IsMade limits ask seen h ⊎ IsAnswered limits ask seen h). ⊎_elim
+    (λ (r : IsMade limits ask seen h ⊎ IsAnsweredAsk limits ask seen h). ⊎_elim
     (λ (m : IsMade limits ask seen h). let low = waits m in absurd (omega arith))
-    (λ (a : IsAnswered limits ask seen h). a)
+    (λ (a : IsAnsweredAsk limits ask seen h). a)
     r)
     stage

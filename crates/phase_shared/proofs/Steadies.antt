@@ -16,7 +16,7 @@ use Rattle.phase_core.proofs.phase_history_lemmas.Steps.{steps, sound_of}
 use Rattle.phase_core.proofs.phase_history_lemmas.Streams.{legal_rest}
 use Rattle.phase_core.proofs.phase_history_lemmas.Used.{entry_of-others}
 use Rattle.phase_core.proofs.phase_history_lemmas.OthersEvents.{OthersCame-trans}
-use Rattle.phase_shared.specs.Asks.{Ask, Stands, IsUnmade, IsMade, IsAnswered, Stage, IsOwn, SignalsFor, WaitsFor, Batch, IsOneOf, asks_for}
+use Rattle.phase_shared.specs.Asks.{Ask, IsAtPhases, IsUnmade, IsMade, IsAnsweredAsk, Stage, IsOwn, SignalsFor, WaitsFor, Batch, IsOneOf, asks_for}
 use Rattle.phase_shared.proofs.Small.{one_of, not_true_is, not_both, apart_phases}
 use Rattle.phase_shared.proofs.Stages.{wait_is}
 
@@ -72,7 +72,7 @@ module _ (limits : Limits) (claims : List Ask) (speaks : List ℕ) (log : Histor
       let low = so_far.0 in
       ((omega arith), step.same value p so_far.0 ∙ so_far.1)
 
-  pub stands_still : (task s w : ℕ) (later : History) → IsLegal limits (later ++ log) → events_of task later ≡ [] → Stands log task s w → Stands (later ++ log) task s w
+  pub stands_still : (task s w : ℕ) (later : History) → IsLegal limits (later ++ log) → events_of task later ≡ [] → IsAtPhases log task s w → IsAtPhases (later ++ log) task s w
   stands_still task s w later legal none st = record {
     entry = st.entry;
     member = entry_of-others limits later log task st.entry legal none st.member;
@@ -84,15 +84,15 @@ module _ (limits : Limits) (claims : List Ask) (speaks : List ℕ) (log : Histor
   -- an ask that was not read stays where it is
   pub stage_still : (a : Ask) (seen : History) (later : History) → is_in a.task speaks ≡ false → asks_for claims a.task ≡ false → Batch (IsOneOf claims) speaks later log
       → IsLegal limits (later ++ log) → Stage limits a seen log
-      → (IsUnmade a seen (later ++ log) × IsUnmade a seen log) ⊎ ((IsMade limits a seen log) ⊎ (IsAnswered limits a seen (later ++ log) × IsAnswered limits a seen log))
+      → (IsUnmade a seen (later ++ log) × IsUnmade a seen log) ⊎ ((IsMade limits a seen log) ⊎ (IsAnsweredAsk limits a seen (later ++ log) × IsAnsweredAsk limits a seen log))
   stage_still a seen later mine asks batch legal stage =
       let none : events_of a.task later ≡ [] = none_of a.task mine asks later batch in
       let came : OthersCame (a.task ∷ []) log (later ++ log) = record { later = later; is = refl; others = λ t has. subst (λ (n : ℕ). events_of n later ≡ []) (one_of a.task t has) none } in
       ⊎_elim
       (λ (u : IsUnmade a seen log). inl (record { others = OthersCame-trans (a.task ∷ []) seen log (later ++ log) u.others came; stands = stands_still a.task a.phase a.phase later legal none u.stands }, u))
-      (λ (r : IsMade limits a seen log ⊎ IsAnswered limits a seen log). inr (⊎_elim
+      (λ (r : IsMade limits a seen log ⊎ IsAnsweredAsk limits a seen log). inr (⊎_elim
       (λ (m : IsMade limits a seen log). inl m)
-      (λ (n : IsAnswered limits a seen log). inr (
+      (λ (n : IsAnsweredAsk limits a seen log). inr (
         record {
           middle = n.middle;
           made = n.made;
@@ -108,6 +108,6 @@ module _ (limits : Limits) (claims : List Ask) (speaks : List ℕ) (log : Histor
       stage
 
 -- two stages are told apart by where the task stands
-pub not_made_and_answered : (limits : Limits) (a : Ask) (seen h : History) → IsMade limits a seen h → IsAnswered limits a seen h → ⊥
+pub not_made_and_answered : (limits : Limits) (a : Ask) (seen h : History) → IsMade limits a seen h → IsAnsweredAsk limits a seen h → ⊥
 not_made_and_answered limits a seen h m n =
     apart_phases a.phase (sym (wait_is h a.task (a.phase + 1) (a.phase + 1) n.stands) ∙ wait_is h a.task (a.phase + 1) a.phase m.stands)

@@ -12,9 +12,9 @@ use Rattle.phase_core.specs.phase_history.Histories.{History, signal_phase, wait
 use Rattle.phase_shared.specs.declared.seats.view.Knowledge.{Knowledge}
 use Rattle.phase_shared.specs.Views.{knowledge, speaks_of, claims_of}
 use Rattle.phase_shared.specs.Goods.{Allows}
-use Rattle.phase_shared.specs.Asks.{Ask, Stands, Stage, IsUnmade, IsMade, IsAnswered, IsOneOf}
+use Rattle.phase_shared.specs.Asks.{Ask, IsAtPhases, Stage, IsUnmade, IsMade, IsAnsweredAsk, IsOneOf}
 use Rattle.phase_shared.specs.Lanes.{board, posted}
-use Rattle.phase_shared.specs.Desks.{View, Resting, Turning, Joining, Posting, Asking, Reading, Spent, IsSound, Asks, LaneIs, StandsAsked, AskedAt, IsPast, HeldAt, IsLane, Kept, is_made, made_asks}
+use Rattle.phase_shared.specs.Desks.{View, Resting, Turning, Joining, Posting, Asking, Reading, Spent, IsSound, AskStands, LaneIs, StandsAsked, AskedAt, IsPast, HeldAt, IsLane, Kept, is_made, made_asks}
 use Rattle.phase_shared.specs.Tells.{Took, TookAsked}
 use Rattle.phase_shared.proofs.Small.{none_some, not_true_is, apart_phases, is_in_self}
 use Rattle.phase_shared.proofs.Stages.{signal_is, wait_is}
@@ -79,9 +79,9 @@ made_stands limits a seen log t stage =
     let w : wait_phase log a.task ≡ a.phase = eqb-true (wait_phase log a.task) a.phase p.1 in
     ⊎_elim
     (λ (u : IsUnmade a seen log). absurd (apart_phases a.phase (sym s ∙ signal_is log a.task a.phase a.phase u.stands)))
-    (λ (r : IsMade limits a seen log ⊎ IsAnswered limits a seen log). ⊎_elim
+    (λ (r : IsMade limits a seen log ⊎ IsAnsweredAsk limits a seen log). ⊎_elim
     (λ (m : IsMade limits a seen log). m)
-    (λ (n : IsAnswered limits a seen log). absurd (apart_phases a.phase (sym (wait_is log a.task (a.phase + 1) (a.phase + 1) n.stands) ∙ w)))
+    (λ (n : IsAnsweredAsk limits a seen log). absurd (apart_phases a.phase (sym (wait_is log a.task (a.phase + 1) (a.phase + 1) n.stands) ∙ w)))
     r)
     stage
 
@@ -122,7 +122,7 @@ module _ {T : Type 0} (value : List ℤ → Outcome) (limits : Limits) (allows :
   read_stands a one' =
       let r = listed k.log (set views number Spent) a one' in
       let q = was is_asking views number r.0 Spent (Asking r.1 a) refl refl r.2 in
-      let s : Asks value limits allows k.log told words r.1 a = k.sound r.0 (Asking r.1 a) q.1 in
+      let s : AskStands value limits allows k.log told words r.1 a = k.sound r.0 (Asking r.1 a) q.1 in
       record {
         seat = r.0;
         knows = r.1;
@@ -131,11 +131,11 @@ module _ {T : Type 0} (value : List ℤ → Outcome) (limits : Limits) (allows :
       }
 
   -- and it is another's, and made
-  read_is : (a : Ask) → IsOneOf (made_asks k.log (set views number Spent)) a → Stands k.log a.task (a.phase + 1) a.phase × (is_in a.task speaks ≡ false)
+  read_is : (a : Ask) → IsOneOf (made_asks k.log (set views number Spent)) a → IsAtPhases k.log a.task (a.phase + 1) a.phase × (is_in a.task speaks ≡ false)
   read_is a one' =
       let r = listed k.log (set views number Spent) a one' in
       let q = was is_asking views number r.0 Spent (Asking r.1 a) refl refl r.2 in
-      let s : Asks value limits allows k.log told words r.1 a = k.sound r.0 (Asking r.1 a) q.1 in
+      let s : AskStands value limits allows k.log told words r.1 a = k.sound r.0 (Asking r.1 a) q.1 in
       let own : is_in a.task r.1.speaks ≡ true = subst (λ (l : List ℕ). is_in a.task l ≡ true) (sym s.speaks) (is_in_self a.task []) in (
         (made_stands limits a r.1.seen k.log r.3 s.stage).stands,
         not_true_is (is_in a.task speaks) (λ yes'.
@@ -252,7 +252,7 @@ module _ {T : Type 0} (value : List ℤ → Outcome) (limits : Limits) (allows :
       → Kept value limits allows StandsFor (Some x) told words views → get_elem? views number ≡ some (Asking f a)
       → (w : View) × Kept value limits allows StandsFor None told words (set views number w) × TookAsked value limits allows StandsFor f a x w
   takes_asked number f a x told words views k at =
-      let s : Asks value limits allows k.log told words f a = k.sound number (Asking f a) at in
+      let s : AskStands value limits allows k.log told words f a = k.sound number (Asking f a) at in
       let claims : List Ask = made_asks k.log (set views number Spent) in (
         Turning (knowledge k.log (a.task ∷ [])) claims (board words) (Some (a.phase + 1)),
         took value limits allows StandsFor number (Asking f a) x told words views k at (a.task ∷ []) s.speaks refl (a.task, is_in_self a.task [])

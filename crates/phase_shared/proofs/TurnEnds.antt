@@ -17,13 +17,13 @@ use Rattle.phase_core.proofs.phase_history_lemmas.OthersEvents.{OthersCame-refl}
 use Rattle.phase_core.proofs.phase_history_lemmas.Used.{IsLegal-beginning}
 use Rattle.phase_shared.specs.declared.rule.Terms.{Terms}
 use Rattle.phase_shared.specs.declared.seats.view.Knowledge.{Knowledge}
-use Rattle.phase_shared.specs.Asks.{Ask, Stands, IsAnswered, IsOneOf}
+use Rattle.phase_shared.specs.Asks.{Ask, IsAtPhases, IsAnsweredAsk, IsOneOf}
 use Rattle.phase_shared.specs.Desks.{View, Resting, Asking, IsPast}
 use Rattle.phase_shared.specs.Goods.{Allows, IsGoodAt, Keeps}
 use Rattle.phase_shared.specs.Lanes.{lanes_most}
 use Rattle.phase_shared.specs.Rule.{HasOneHistory, StandsWithin}
 use Rattle.phase_shared.specs.Servings.{Turned, Starting, Serving, Finished, IsAnsweredIn, HasAnswer, IsRefused, WasOpen}
-use Rattle.phase_shared.specs.Tells.{Ends, StillAsks, LaneIsPast, Leaves}
+use Rattle.phase_shared.specs.Tells.{EndsTurn, StillAsks, LaneIsPast, Leaves}
 use Rattle.phase_shared.specs.Views.{knowledge, known_of, resting, turning, board_of}
 use Rattle.phase_shared.specs.WordTells.{with_lane, with_board}
 use Rattle.phase_shared.proofs.Small.{same_some, apart_phases}
@@ -65,7 +65,7 @@ module _ {A K : Type 0} (op : Operation A) (allows : K → Allows) (terms : Term
   -- a give that tells what was told, where no ask that was read was answered
   gives_same : (then : View → Type 0) (number told k : ℕ) (v u : View) (x y : CoreState A) (lane : Option ℕ) (w : View)
       → (t : Turned op allows terms ask false k v x) → u ≡ turning t.now (ask.task ∷ []) t.claims t.said lane → y ≡ x
-      → Ends terms.limits (allows terms.rule) 0 (t.later ++ t.now) (mine t.now) lane w
+      → EndsTurn terms.limits (allows terms.rule) 0 (t.later ++ t.now) (mine t.now) lane w
       → ((s : StillAsks terms.limits (allows terms.rule) 0 (t.later ++ t.now) (mine t.now) lane w) → done_of t.now ≤ s.ask.phase)
       → then w → GivesOf (HasOneHistory op allows) terms number u y told told (λ p q r. then r)
   gives_same then number told k v u x y lane w t is same ends open' goes =
@@ -140,13 +140,13 @@ module _ {A K : Type 0} (op : Operation A) (allows : K → Allows) (terms : Term
       good_last : IsGoodAt allows terms (Waited ask.task 1 ∷ f.middle)
       good_last = subst (λ (h : History). IsGoodAt allows terms h) f.last f.turned.good
 
-      answered_last : IsAnswered terms.limits ask seen (Waited ask.task 1 ∷ f.middle)
+      answered_last : IsAnsweredAsk terms.limits ask seen (Waited ask.task 1 ∷ f.middle)
       answered_last = stage_waited terms.limits ask seen f.middle good_last.legal.0 good_last.legal.1
           (signal_is f.middle ask.task (ask.phase + 1) ask.phase f.made.stands) (wait_is f.middle ask.task (ask.phase + 1) ask.phase f.made.stands) (inr (inl f.made))
 
       -- the view that the turn ends with
-      ends_last : (told : ℕ) → Ends terms.limits (allows terms.rule) told (f.turned.later ++ f.turned.now) (mine f.turned.now) f.turned.lane (resting (Waited ask.task 1 ∷ f.middle) (ask.task ∷ []))
-      ends_last told = subst (λ (h : History). Ends terms.limits (allows terms.rule) told h (mine f.turned.now) f.turned.lane (resting (Waited ask.task 1 ∷ f.middle) (ask.task ∷ []))) (sym f.last)
+      ends_last : (told : ℕ) → EndsTurn terms.limits (allows terms.rule) told (f.turned.later ++ f.turned.now) (mine f.turned.now) f.turned.lane (resting (Waited ask.task 1 ∷ f.middle) (ask.task ∷ []))
+      ends_last told = subst (λ (h : History). EndsTurn terms.limits (allows terms.rule) told h (mine f.turned.now) f.turned.lane (resting (Waited ask.task 1 ∷ f.middle) (ask.task ∷ []))) (sym f.last)
           (inl (
             Waited ask.task 1 ∷ f.middle,
             refl,
@@ -196,7 +196,7 @@ module _ {A K : Type 0} (op : Operation A) (allows : K → Allows) (terms : Term
               let most : done_of (t.later ++ t.now) ≤ a.phase + 1 = done_within (t.later ++ t.now) a.task (a.phase + 1) a.phase st in
               let apart : a.phase ≡ ask.phase → ⊥ = λ same.
               let few : a.task < k = subst (λ (n : ℕ). a.task < n) (sym p.0) low in
-              let answered : Stands (t.later ++ t.now) a.task (a.phase + 1) (a.phase + 1) = t.served a one few same in
+              let answered : IsAtPhases (t.later ++ t.now) a.task (a.phase + 1) (a.phase + 1) = t.served a one few same in
               apart_phases a.phase (sym (wait_is (t.later ++ t.now) a.task (a.phase + 1) (a.phase + 1) answered) ∙ wait_is (t.later ++ t.now) a.task (a.phase + 1) a.phase st) in
               let is : next / 2 ≡ done_of (t.later ++ t.now) = p.1 in
               let low' = d.0 in let high = d.1 in
@@ -256,7 +256,7 @@ module _ {A K : Type 0} (op : Operation A) (allows : K → Allows) (terms : Term
         let past : IsPast t.now ask.task (ask.phase + 1) = answered_past terms.limits ask seen t.now good_now.legal n.answered in
         gives_same (λ r. HasAnswer op allows terms ask seen outcome r) number told 0 v u x y t.lane (resting (Waited ask.task 1 ∷ m) (ask.task ∷ [])) t
         (is ∙ t.is) same
-        (subst (λ (l : History). Ends terms.limits (allows terms.rule) 0 (l ++ t.now) (mine t.now) t.lane (resting (Waited ask.task 1 ∷ m) (ask.task ∷ []))) (sym n.first)
+        (subst (λ (l : History). EndsTurn terms.limits (allows terms.rule) 0 (l ++ t.now) (mine t.now) t.lane (resting (Waited ask.task 1 ∷ m) (ask.task ∷ []))) (sym n.first)
         (inl (Waited ask.task 1 ∷ m, refl, n.answered.since, lane_past t.lane t.now t.now t.own past)))
         (λ q. absurd (rests (knowledge (Waited ask.task 1 ∷ m) (ask.task ∷ [])) q.knows q.ask q.is))
         (record {

@@ -7,14 +7,14 @@ use Rattle.phase_core.specs.phase_base.Members.{entry_of, signalled, waited}
 use Rattle.phase_core.specs.phase_base.declared.entry.Entry.{Entry}
 use Rattle.phase_core.specs.phase_accum.Operations.{Operation}
 use Rattle.phase_core.specs.phase_history.declared.event.Event.TheVariants.{Signalled, Waited}
-use Rattle.phase_core.specs.phase_history.Histories.{History, members_of, signal_phase, wait_phase, done_of, IsAlive}
+use Rattle.phase_core.specs.phase_history.Histories.{History, members_of, done_of, IsAlive}
 use Rattle.phase_core.specs.phase_history.Legal.{IsLegal}
 use Rattle.phase_core.specs.Cores.{CoreState, StandsFor}
 use Rattle.phase_core.proofs.phase_history_lemmas.MemberLemmas.{entry_of-changed_same}
 use Rattle.phase_core.proofs.phase_history_lemmas.Used.{IsLegal-beginning}
 use Rattle.phase_shared.specs.declared.rule.Terms.{Terms}
-use Rattle.phase_shared.specs.Asks.{Ask, Stands, IsUnmade, IsMade, IsAnswered, Stage}
-use Rattle.phase_shared.specs.Desks.{View, MayMake}
+use Rattle.phase_shared.specs.Asks.{Ask, IsAtPhases, IsUnmade, IsMade, IsAnsweredAsk, Stage}
+use Rattle.phase_shared.specs.Desks.{View, MayMakeAsk}
 use Rattle.phase_shared.specs.Goods.{Allows}
 use Rattle.phase_shared.specs.Rule.{StandsWithin}
 use Rattle.phase_shared.specs.Servings.{Turned, Starting, Serving, IsAnsweredIn, IsWaiterIn, WasOpen}
@@ -46,9 +46,9 @@ stage_member : (limits : Limits) (a : Ask) (seen h : History) (e : Entry) → Is
     → entry_of (members_of seen) a.task ≡ Some e → Goes h a.task e
 stage_member limits a seen h e legal stage member = ⊎_elim
     (λ (u : IsUnmade a seen h). record { entry = e; member = member_after limits a.task e seen h u.others legal member; mode_is = refl })
-    (λ (r : IsMade limits a seen h ⊎ IsAnswered limits a seen h). ⊎_elim
+    (λ (r : IsMade limits a seen h ⊎ IsAnsweredAsk limits a seen h). ⊎_elim
     (λ (m : IsMade limits a seen h). made_goes limits a seen h e legal m member)
-    (λ (n : IsAnswered limits a seen h).
+    (λ (n : IsAnsweredAsk limits a seen h).
     let wait : IsLegal limits (Waited a.task 1 ∷ n.middle) = IsLegal-beginning limits (Waited a.task 1 ∷ n.middle) h (λ none. cc) legal
     (record { later = n.since.later; is = n.since.is }) in
     let g = made_goes limits a seen n.middle e wait.0 n.made member in
@@ -70,36 +70,36 @@ still_waits limits a seen h legal stage alive waits e member =
 -- ---- where it stands tells how far it is
 
 module _ (limits : Limits) (a : Ask) (seen h : History) (e : Entry) (member : entry_of (members_of h) a.task ≡ Some e) where
-  signals_at : (s w : ℕ) → Stands h a.task s w → e.signal_phase ≡ s
+  signals_at : (s w : ℕ) → IsAtPhases h a.task s w → e.signal_phase ≡ s
   signals_at s w st = ap (λ (d : Entry). d.signal_phase) (same_some e st.entry (sym member ∙ st.member)) ∙ st.signal_at
 
-  waits_at : (s w : ℕ) → Stands h a.task s w → e.wait_phase ≡ w
+  waits_at : (s w : ℕ) → IsAtPhases h a.task s w → e.wait_phase ≡ w
   waits_at s w st = ap (λ (d : Entry). d.wait_phase) (same_some e st.entry (sym member ∙ st.member)) ∙ st.wait_at
 
-  pub is_answered : Stage limits a seen h → a.phase < e.wait_phase → IsAnswered limits a seen h
+  pub is_answered : Stage limits a seen h → a.phase < e.wait_phase → IsAnsweredAsk limits a seen h
   is_answered stage more = ⊎_elim
       (λ (u : IsUnmade a seen h). let w = waits_at a.phase a.phase u.stands in absurd (omega arith))
-      (λ (r : IsMade limits a seen h ⊎ IsAnswered limits a seen h). ⊎_elim
+      (λ (r : IsMade limits a seen h ⊎ IsAnsweredAsk limits a seen h). ⊎_elim
       (λ (m : IsMade limits a seen h). let w = waits_at (a.phase + 1) a.phase m.stands in absurd (omega arith))
-      (λ (n : IsAnswered limits a seen h). n)
+      (λ (n : IsAnsweredAsk limits a seen h). n)
       r)
       stage
 
   pub is_unmade : Stage limits a seen h → e.signal_phase ≡ a.phase → IsUnmade a seen h
   is_unmade stage at = ⊎_elim
       (λ (u : IsUnmade a seen h). u)
-      (λ (r : IsMade limits a seen h ⊎ IsAnswered limits a seen h). absurd (⊎_elim
+      (λ (r : IsMade limits a seen h ⊎ IsAnsweredAsk limits a seen h). absurd (⊎_elim
       (λ (m : IsMade limits a seen h). apart_phases a.phase (sym (signals_at (a.phase + 1) a.phase m.stands) ∙ at))
-      (λ (n : IsAnswered limits a seen h). apart_phases a.phase (sym (signals_at (a.phase + 1) (a.phase + 1) n.stands) ∙ at))
+      (λ (n : IsAnsweredAsk limits a seen h). apart_phases a.phase (sym (signals_at (a.phase + 1) (a.phase + 1) n.stands) ∙ at))
       r))
       stage
 
   pub is_made : Stage limits a seen h → e.wait_phase ≤ a.phase → (e.signal_phase ≡ a.phase → ⊥) → IsMade limits a seen h
   is_made stage low apart = ⊎_elim
       (λ (u : IsUnmade a seen h). absurd (apart (signals_at a.phase a.phase u.stands)))
-      (λ (r : IsMade limits a seen h ⊎ IsAnswered limits a seen h). ⊎_elim
+      (λ (r : IsMade limits a seen h ⊎ IsAnsweredAsk limits a seen h). ⊎_elim
       (λ (m : IsMade limits a seen h). m)
-      (λ (n : IsAnswered limits a seen h). let w = waits_at (a.phase + 1) (a.phase + 1) n.stands in absurd (omega arith))
+      (λ (n : IsAnsweredAsk limits a seen h). let w = waits_at (a.phase + 1) (a.phase + 1) n.stands in absurd (omega arith))
       r)
       stage
 
@@ -152,9 +152,9 @@ module _ {A K : Type 0} (op : Operation A) (allows : K → Allows) (terms : Term
     pub stage_found : (o : Option Entry) → o ≡ entry_of x.members ask.task → o ≡ None → ⊥
     stage_found o viewed none = ⊎_elim
         (λ (u : IsUnmade ask seen k.now). no u.stands.entry u.stands.member)
-        (λ (r : IsMade terms.limits ask seen k.now ⊎ IsAnswered terms.limits ask seen k.now). ⊎_elim
+        (λ (r : IsMade terms.limits ask seen k.now ⊎ IsAnsweredAsk terms.limits ask seen k.now). ⊎_elim
         (λ (m : IsMade terms.limits ask seen k.now). no m.stands.entry m.stands.member)
-        (λ (n : IsAnswered terms.limits ask seen k.now). no n.stands.entry n.stands.member)
+        (λ (n : IsAnsweredAsk terms.limits ask seen k.now). no n.stands.entry n.stands.member)
         r)
         k.stage
       where
@@ -171,10 +171,10 @@ module _ {A K : Type 0} (op : Operation A) (allows : K → Allows) (terms : Term
       pub answered_in : ask.phase < e.wait_phase → IsAnsweredIn op allows terms ask seen v x
       unfolding took_turn
       answered_in more =
-          let n : IsAnswered terms.limits ask seen k.now = is_answered terms.limits ask seen k.now e member k.stage more in
+          let n : IsAnsweredAsk terms.limits ask seen k.now = is_answered terms.limits ask seen k.now e member k.stage more in
           record { turned = took_turn; first = refl; lane_is = refl; answered = n; has = k.has n }
 
-      module _ (alive : IsAlive seen ask.task) (waits : IsWaiterIn seen ask.task) (may : MayMake terms.limits (allows terms.rule) seen ask) where
+      module _ (alive : IsAlive seen ask.task) (waits : IsWaiterIn seen ask.task) (may : MayMakeAsk terms.limits (allows terms.rule) seen ask) where
         pub starting : e.signal_phase ≡ ask.phase → Starting op allows terms ask seen v x
         unfolding took_turn
         starting at = record {

@@ -11,11 +11,11 @@ use Rattle.phase_core.specs.phase_history.Legal.{IsLegal}
 use Rattle.phase_core.specs.Cores.{CoreState, StandsFor}
 use Rattle.phase_core.proofs.phase_history_lemmas.MemberLemmas.{entry_of-changed_same, entry_of-changed_other}
 use Rattle.phase_shared.specs.declared.rule.Terms.{Terms}
-use Rattle.phase_shared.specs.Asks.{Ask, Stands, IsMade, IsOneOf}
+use Rattle.phase_shared.specs.Asks.{Ask, IsAtPhases, IsMade, IsOneOf}
 use Rattle.phase_shared.specs.Desks.{View}
 use Rattle.phase_shared.specs.Goods.{Allows, IsGoodAt}
 use Rattle.phase_shared.specs.Rule.{StandsWithin}
-use Rattle.phase_shared.specs.Servings.{Turned, Starting, Serving, IsDone, IsCompleteIn, WasOpen}
+use Rattle.phase_shared.specs.Servings.{Turned, Starting, Serving, IsPhaseDone, IsCompleteIn, WasOpen}
 use Rattle.phase_shared.specs.Views.{knowledge, known_of}
 use Rattle.phase_shared.specs.WordTells.{IsOwnLane, IsHolder, Completes}
 use Rattle.phase_shared.proofs.Small.{same_some, or_false}
@@ -23,8 +23,8 @@ use Rattle.phase_shared.proofs.Stages.{signal_is, done_within, stage_signalled}
 use Rattle.phase_shared.proofs.Giving.{legal_at}
 
 -- another task stood before the signal where it stands after it
-stood : (h : History) (task s w : ℕ) (ask : Ask) → is_in task (ask.task ∷ []) ≡ false → Stands (Signalled ask.task (ask.sends ∷ []) None ∷ h) task s w
-    → Stands h task s w
+stood : (h : History) (task s w : ℕ) (ask : Ask) → is_in task (ask.task ∷ []) ≡ false → IsAtPhases (Signalled ask.task (ask.sends ∷ []) None ∷ h) task s w
+    → IsAtPhases h task s w
 stood h task s w ask other st = record {
   entry = st.entry;
   member = sym (entry_of-changed_other ask.task task (signalled 1) (members_of h) (or_false (eqb ask.task task) other)) ∙ st.member;
@@ -71,8 +71,8 @@ module _ {A K : Type 0} (op : Operation A) (allows : K → Allows) (terms : Term
       stands_first = subst (λ (l : History). StandsWithin op terms.limits x (l ++ s.turned.now)) s.first s.turned.stands
 
       -- no other's ask is answered then
-      pub quiet_first : (a : Ask) → IsOneOf s.turned.claims a → Stands s.turned.now a.task (a.phase + 1) (a.phase + 1) → ⊥
-      quiet_first a one st = s.turned.quiet refl a one (subst (λ (l : History). Stands (l ++ s.turned.now) a.task (a.phase + 1) (a.phase + 1)) (sym s.first) st)
+      pub quiet_first : (a : Ask) → IsOneOf s.turned.claims a → IsAtPhases s.turned.now a.task (a.phase + 1) (a.phase + 1) → ⊥
+      quiet_first a one st = s.turned.quiet refl a one (subst (λ (l : History). IsAtPhases (l ++ s.turned.now) a.task (a.phase + 1) (a.phase + 1)) (sym s.first) st)
 
       -- its phase is open
       pub open_first : WasOpen v ask.phase
@@ -145,7 +145,7 @@ module _ {A K : Type 0} (op : Operation A) (allows : K → Allows) (terms : Term
           may = s.may;
         }
 
-    pub is_done : (v : View) (x : CoreState A) (s : Serving op allows terms ask seen false 0 v x) → IsCompleteIn op x ask.phase → IsDone s
+    pub is_done : (v : View) (x : CoreState A) (s : Serving op allows terms ask seen false 0 v x) → IsCompleteIn op x ask.phase → IsPhaseDone s
     is_done v x s done = done (s.turned.later ++ s.turned.now) s.turned.stands.stands
 
     pub completes : (k : ℕ) (u v : View) (x : CoreState A) (t : Turned op allows terms ask true k v x)

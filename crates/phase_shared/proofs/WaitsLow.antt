@@ -3,7 +3,7 @@ use Rattle.std.proofs.Common.{◌≡◌, ℕ, ◌+◌, ◌≤◌, not, eqb, [], 
 use Rattle.phase_core.specs.phase_base.Limits.{Limits}
 use Rattle.phase_core.specs.phase_base.declared.entry.Entry.{Entry}
 use Rattle.phase_core.specs.phase_base.declared.member.Member.{Member}
-use Rattle.phase_core.specs.phase_base.Members.{member, entry_of, signalled, waited}
+use Rattle.phase_core.specs.phase_base.Members.{entry_of, signalled, waited}
 use Rattle.phase_core.specs.phase_history.declared.event.Event.{Event}
 use Rattle.phase_core.specs.phase_history.declared.event.Event.TheVariants.{Made, Registered, RegisteredNow, Signalled, Waited, Dropped}
 use Rattle.phase_core.specs.phase_history.Histories.{History, members_of, member_entry, wait_phase, done_of}

@@ -13,7 +13,7 @@ use Rattle.phase_core.specs.phase_history.Others.{is_by, OthersCame}
 pub use Rattle.phase_shared.specs.declared.seats.view.Ask.{Ask}
 
 -- the task is registered as one that signals, at these phases
-pub record Stands (h : History) (task s w : ℕ) : Type 0 where
+pub record IsAtPhases (h : History) (task s w : ℕ) : Type 0 where
   pub entry : Entry
   pub member : entry_of (members_of h) task ≡ Some entry
   pub signals : mode_signals entry.mode ≡ true
@@ -23,7 +23,7 @@ pub record Stands (h : History) (task s w : ℕ) : Type 0 where
 -- nothing of it is in the history
 pub record IsUnmade (ask : Ask) (seen h : History) : Type 0 where
   pub others : OthersCame (ask.task ∷ []) seen h
-  pub stands : Stands h ask.task ask.phase ask.phase
+  pub stands : IsAtPhases h ask.task ask.phase ask.phase
 
 -- its signal is, made by whoever had the turn
 pub record IsMade (limits : Limits) (ask : Ask) (seen h : History) : Type 0 where
@@ -32,22 +32,22 @@ pub record IsMade (limits : Limits) (ask : Ask) (seen h : History) : Type 0 wher
   pub accepted : signal_refusal limits before ask.task (ask.sends ∷ []) None ≡ None
   pub signalled_in : signal_phase before ask.task ≡ ask.phase
   pub since : OthersCame (ask.task ∷ []) (Signalled ask.task (ask.sends ∷ []) None ∷ before) h
-  pub stands : Stands h ask.task (ask.phase + 1) ask.phase
+  pub stands : IsAtPhases h ask.task (ask.phase + 1) ask.phase
 
 -- its signal and its wait are
-pub record IsAnswered (limits : Limits) (ask : Ask) (seen h : History) : Type 0 where
+pub record IsAnsweredAsk (limits : Limits) (ask : Ask) (seen h : History) : Type 0 where
   pub middle : History
   pub made : IsMade limits ask seen middle
   pub accepted : wait_refusal limits middle ask.task 1 ≡ None
   pub complete : ask.phase < done_of middle
   pub below : ask.phase < done_of h
   pub since : OthersCame (ask.task ∷ []) (Waited ask.task 1 ∷ middle) h
-  pub stands : Stands h ask.task (ask.phase + 1) (ask.phase + 1)
+  pub stands : IsAtPhases h ask.task (ask.phase + 1) (ask.phase + 1)
 
 -- how far it is
 abbrev pub Stage : Limits → Ask → History → History → Type 0
 Stage limits ask seen h =
-    IsUnmade ask seen h ⊎ (IsMade limits ask seen h ⊎ IsAnswered limits ask seen h)
+    IsUnmade ask seen h ⊎ (IsMade limits ask seen h ⊎ IsAnsweredAsk limits ask seen h)
 
 -- an event of those that the holder speaks for
 abbrev pub IsOwn : List ℕ → Event → Type 0

@@ -17,34 +17,34 @@ use Rattle.phase_shared.specs.declared.seats.view.Knowledge.{Knowledge}
 use Rattle.phase_shared.specs.Views.{Fits, speaks_of}
 pub use Rattle.phase_shared.specs.declared.seats.view.View.{View}
 pub use Rattle.phase_shared.specs.declared.seats.view.View.TheVariants.{Resting, Turning, Joining, Posting, Asking, Reading, Spent}
-use Rattle.phase_shared.specs.Asks.{Ask, Stage, IsUnmade, IsMade, IsAnswered, Stands, IsOneOf}
-use Rattle.phase_shared.specs.Lanes.{lanes_most, board, posted, sent, sends_of}
+use Rattle.phase_shared.specs.Asks.{Ask, Stage, IsUnmade, IsMade, IsAnsweredAsk, IsAtPhases, IsOneOf}
+use Rattle.phase_shared.specs.Lanes.{lanes_most, board, posted, send_word, sends_of}
 
 -- the rule allows the ask's signal, whatever the others do
-abbrev pub MayMake : Limits → Allows → History → Ask → Type 0
-MayMake limits allows seen a =
+abbrev pub MayMakeAsk : Limits → Allows → History → Ask → Type 0
+MayMakeAsk limits allows seen a =
     (h : History) → IsGood limits allows h → OthersCame (a.task ∷ []) seen h
     → allows h a.task (a.sends ∷ []) None
 
 -- an ask that stands: how far it is; where all below a number were answered, it is not below it
 -- unless it was; its lane has it; and where it was answered, the board has its value
-pub record Asks (value : List ℤ → Outcome) (limits : Limits) (allows : Allows) (log : History)
+pub record AskStands (value : List ℤ → Outcome) (limits : Limits) (allows : Allows) (log : History)
     (told : ℕ) (words : List ℕ) (f : Knowledge) (a : Ask) : Type 0 where
   pub speaks : f.speaks ≡ a.task ∷ []
   pub low : a.task < lanes_most
   pub stage : Stage limits a f.seen log
   pub waits : told % 2 ≡ 1 → IsMade limits a f.seen log → told / 2 ≤ a.phase
-  pub may : MayMake limits allows f.seen a
-  pub has : IsAnswered limits a f.seen log → board words ≡ value_of_phase value log a.phase
+  pub may : MayMakeAsk limits allows f.seen a
+  pub has : IsAnsweredAsk limits a f.seen log → board words ≡ value_of_phase value log a.phase
   pub posts : posted words a.task ≡ a.phase + 1
-  pub sends : Stands log a.task a.phase a.phase → sends_of (sent words a.task) ≡ a.sends
+  pub sends : IsAtPhases log a.task a.phase a.phase → sends_of (send_word words a.task) ≡ a.sends
 
 -- an ask that was answered, and whose value is still to be read
-pub record Reads (value : List ℤ → Outcome) (log : History) (words : List ℕ) (f : Knowledge)
+pub record HasToRead (value : List ℤ → Outcome) (log : History) (words : List ℕ) (f : Knowledge)
     (a : Ask) : Type 0 where
   pub speaks : f.speaks ≡ a.task ∷ []
   pub fits : Fits f log
-  pub stands : Stands log a.task (a.phase + 1) (a.phase + 1)
+  pub stands : IsAtPhases log a.task (a.phase + 1) (a.phase + 1)
   pub below : a.phase < done_of log
   pub has : board words ≡ value_of_phase value f.seen a.phase
 
@@ -64,7 +64,7 @@ pub record Posts (words : List ℕ) (f : Knowledge) (n : ℕ) : Type 0 where
   pub task : ℕ
   pub speaks : f.speaks ≡ task ∷ []
   pub low : task < lanes_most
-  pub has : sent words task ≡ n
+  pub has : send_word words task ≡ n
 
 abbrev pub IsSound : {T : Type 0} → (List ℤ → Outcome) → Limits → Allows → Option T → ℕ → History
     → ℕ → List ℕ → ℕ → View → Type 0
@@ -78,9 +78,9 @@ IsSound value limits allows home holder log told words j (Joining f g) =
 IsSound value limits allows home holder log told words j (Posting f n) =
     Fits f log × (is_distinct f.speaks ≡ true) × Posts words f n
 IsSound value limits allows home holder log told words j (Asking f a) =
-    Asks value limits allows log told words f a
+    AskStands value limits allows log told words f a
 IsSound value limits allows home holder log told words j (Reading f a) =
-    Reads value log words f a
+    HasToRead value log words f a
 IsSound value limits allows home holder log told words j Spent = Unit {0}
 
 -- an ask stands at some seat, and is not answered
@@ -120,11 +120,11 @@ abbrev pub IsLane : History → List View → ℕ → ℕ → Type 0
 IsLane log views i n = (n ≡ 0) ⊎ (AskedAt views i ⊎ (IsPast log i n ⊎ HeldAt views i))
 
 pub record Kept {T : Type 0} (value : List ℤ → Outcome) (limits : Limits) (allows : Allows)
-    (Stands : T → History → Type 0) (home : Option T) (told : ℕ) (words : List ℕ)
+    (IsAtPhases : T → History → Type 0) (home : Option T) (told : ℕ) (words : List ℕ)
     (views : List View) : Type 0 where
   pub log : History
   pub good : IsGood limits allows log
-  pub stands : (x : T) → home ≡ Some x → Stands x log
+  pub stands : (x : T) → home ≡ Some x → IsAtPhases x log
   pub within : told % 2 ≡ 1 → told / 2 ≤ done_of log
   pub holder : ℕ
   pub out : home ≡ None → (f : Knowledge) × (claims : List Ask) × (said : Outcome)

@@ -12,9 +12,9 @@ abbrev pub lanes_most : ℕ
 lanes_most = 16
 
 -- a number as a word: those that are not negative are the even words
-abbrev pub word_of : ℤ → ℕ
-word_of (pos n) = n * 2
-word_of (negsuc n) = n * 2 + 1
+abbrev pub word_for : ℤ → ℕ
+word_for (pos n) = n * 2
+word_for (negsuc n) = n * 2 + 1
 
 -- the number of a word
 abbrev pub number_of : ℕ → ℤ
@@ -47,8 +47,8 @@ send_place task = task * 16 + 16
 abbrev pub posted : List ℕ → ℕ → ℕ
 posted words task = slice_index words (phase_place task)
 
-abbrev pub sent : List ℕ → ℕ → ℕ
-sent words task = slice_index words (send_place task)
+abbrev pub send_word : List ℕ → ℕ → ℕ
+send_word words task = slice_index words (send_place task)
 
 -- what a word says of an outcome: its kind, and its number where it has one
 pub record KindIs (kind : ℕ) (outcome : Outcome) : Type 0 where

@@ -14,7 +14,7 @@ use Rattle.phase_core.specs.phase_base.Lists.{is_distinct, is_in}
 use Rattle.phase_shared.specs.Views.{resting, turning, speaks_of, known_of, second_of, Fits}
 use Rattle.phase_core.specs.phase_accum.declared.outcome.Outcome.{Outcome}
 use Rattle.phase_shared.specs.declared.seats.view.Ask.{Ask}
-use Rattle.phase_shared.specs.Asks.{Stands, IsOneOf}
+use Rattle.phase_shared.specs.Asks.{IsAtPhases, IsOneOf}
 pub use Rattle.phase_shared.specs.Goods.{Allows, Keeps, IsGood, IsGoodAt}
 pub use Rattle.phase_shared.specs.Desks.{Kept}
 pub use Rattle.phase_shared.specs.Tells.{Took}
@@ -67,7 +67,7 @@ pub record AfterTake {A K : Type 0} (op : Operation A) (allows : K → Allows) (
   pub others : OthersCame (me ∷ []) (known_of v).seen now
   pub good : IsGoodAt allows terms now
   pub stands : StandsWithin op terms.limits x now
-  pub read : (a : Ask) → IsOneOf claims a → Stands now a.task (a.phase + 1) a.phase
+  pub read : (a : Ask) → IsOneOf claims a → IsAtPhases now a.task (a.phase + 1) a.phase
       × (is_in a.task (me ∷ []) ≡ false)
   pub is : w ≡ turning now (me ∷ []) claims said None
   pub member : entry_of (members_of now) me ≡ Some entry

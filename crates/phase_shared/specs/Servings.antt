@@ -1,6 +1,5 @@
 -- A turn of a seat that asked: what it read of others' asks, and what it did so far.
-use Rattle.std.specs.Prelude.{◌≡◌, ℕ, ℤ, ◌+◌, ◌<◌, ◌≤◌, List, [], ◌∷◌, ◌++◌, ◌⊎◌, Bool, true, false, Option, Some, None, Result, Err}
-use Rattle.phase_core.specs.phase_base.Limits.{Limits}
+use Rattle.std.specs.Prelude.{◌≡◌, ℕ, ◌+◌, ◌<◌, ◌≤◌, List, [], ◌∷◌, ◌++◌, ◌⊎◌, Bool, true, false, Option, Some, None}
 use Rattle.phase_core.specs.phase_base.Modes.{mode_signals, mode_waits}
 use Rattle.phase_core.specs.phase_base.Members.{Members, entry_of}
 use Rattle.phase_core.specs.phase_base.declared.entry.Entry.{Entry}
@@ -22,8 +21,8 @@ use Rattle.phase_shared.specs.declared.seats.request.Request.{Request}
 use Rattle.phase_shared.specs.declared.seats.request.Came.{Came}
 use Rattle.phase_shared.specs.declared.seats.request.Came.TheVariants.{Got, Refused, Asked}
 use Rattle.phase_shared.specs.declared.rule.Terms.{Terms}
-use Rattle.phase_shared.specs.Asks.{Ask, Stands, IsUnmade, IsMade, IsAnswered, Batch, IsOneOf}
-use Rattle.phase_shared.specs.Desks.{MayMake}
+use Rattle.phase_shared.specs.Asks.{Ask, IsAtPhases, IsUnmade, IsMade, IsAnsweredAsk, Batch, IsOneOf}
+use Rattle.phase_shared.specs.Desks.{MayMakeAsk}
 use Rattle.phase_shared.specs.Goods.{Allows, IsGoodAt}
 use Rattle.phase_shared.specs.Lanes.{lanes_most, sends_of}
 use Rattle.phase_shared.specs.Rule.{StandsWithin}
@@ -41,14 +40,14 @@ pub record IsRequestOf {A K : Type 0} (op : Operation A) (r : Request) (reg : Re
   pub wait_at : reg.entry.wait_phase ≡ r.phase
   pub holds : StandsForSends op reg.held (sends_of r.send)
 
--- a seat at rest of a task that stands before its next phase and has a lane. Whatever the others do,
--- the phaser's rule allows its signal
+-- a seat at rest of a task that stands before its next phase and has a lane. Whatever the others
+-- do, the phaser's rule allows its signal
 pub record MayAsk {K : Type 0} (allows : K → Allows) (terms : Terms K) (ask : Ask) (v : View)
     : Type 0 where
   pub rests : v ≡ resting (known_of v).seen (ask.task ∷ [])
   pub low : ask.task < lanes_most
-  pub stands : Stands (known_of v).seen ask.task ask.phase ask.phase
-  pub may : MayMake terms.limits (allows terms.rule) (known_of v).seen ask
+  pub stands : IsAtPhases (known_of v).seen ask.task ask.phase ask.phase
+  pub may : MayMakeAsk terms.limits (allows terms.rule) (known_of v).seen ask
 
 -- a seat that asks
 abbrev pub IsAsking : Ask → History → View → Type 0
@@ -93,10 +92,10 @@ module _ {A K : Type 0} (op : Operation A) (allows : K → Allows) (terms : Term
     pub theirs : (a : Ask) → IsOneOf claims a → is_in a.task (ask.task ∷ []) ≡ false
     pub own : (lane ≡ None) ⊎ (lane ≡ Some (ask.phase + 1))
     pub quiet : serves ≡ false → (a : Ask) → IsOneOf claims a
-        → Stands (later ++ now) a.task (a.phase + 1) (a.phase + 1) → ⊥
+        → IsAtPhases (later ++ now) a.task (a.phase + 1) (a.phase + 1) → ⊥
     pub complete : serves ≡ true → ask.phase < done_of (later ++ now)
     pub served : (a : Ask) → IsOneOf claims a → a.task < k → a.phase ≡ ask.phase
-        → Stands (later ++ now) a.task (a.phase + 1) (a.phase + 1)
+        → IsAtPhases (later ++ now) a.task (a.phase + 1) (a.phase + 1)
 
 module _ {A K : Type 0} (op : Operation A) (allows : K → Allows) (terms : Terms K) (ask : Ask)
     (seen : History) where
@@ -106,14 +105,14 @@ module _ {A K : Type 0} (op : Operation A) (allows : K → Allows) (terms : Term
     pub first : turned.later ≡ []
     pub unmade : IsUnmade ask seen turned.now
     pub waits : IsWaiterIn turned.now ask.task
-    pub may : MayMake terms.limits (allows terms.rule) seen ask
+    pub may : MayMakeAsk terms.limits (allows terms.rule) seen ask
 
   -- its signal is made, and its wait is still to be made
   pub record Serving (serves : Bool) (k : ℕ) (v : View) (x : CoreState A) : Type 0 where
     pub turned : Turned op allows terms ask serves k v x
     pub made : IsMade terms.limits ask seen (turned.later ++ turned.now)
     pub waits : IsWaiterIn (turned.later ++ turned.now) ask.task
-    pub may : MayMake terms.limits (allows terms.rule) seen ask
+    pub may : MayMakeAsk terms.limits (allows terms.rule) seen ask
 
   -- its wait is made, last of all
   pub record Finished (serves : Bool) (k : ℕ) (outcome : Outcome) (v : View) (x : CoreState A)
@@ -131,7 +130,7 @@ module _ {A K : Type 0} (op : Operation A) (allows : K → Allows) (terms : Term
     pub turned : Turned op allows terms ask false 0 v x
     pub first : turned.later ≡ []
     pub lane_is : turned.lane ≡ Some (ask.phase + 1)
-    pub answered : IsAnswered terms.limits ask seen turned.now
+    pub answered : IsAnsweredAsk terms.limits ask seen turned.now
     pub has : turned.said ≡ value_of_phase op.value turned.now ask.phase
 
   -- the answer: its signal, others' events, and its wait
@@ -159,10 +158,10 @@ module _ {A K : Type 0} (op : Operation A) (allows : K → Allows) (terms : Term
   CameTo Asked w = IsAsking ask seen w
 
 -- its phase is complete
-abbrev pub IsDone : {A K : Type 0} {op : Operation A} {allows : K → Allows} {terms : Terms K}
+abbrev pub IsPhaseDone : {A K : Type 0} {op : Operation A} {allows : K → Allows} {terms : Terms K}
     {ask : Ask} {seen : History} {serves : Bool} {k : ℕ} {v : View} {x : CoreState A}
     → Serving op allows terms ask seen serves k v x → Type 0
-IsDone {ask = ask} s = ask.phase < done_of (s.turned.later ++ s.turned.now)
+IsPhaseDone {ask = ask} s = ask.phase < done_of (s.turned.later ++ s.turned.now)
 
 -- the phase is complete in whatever the core stands for
 abbrev pub IsCompleteIn : {A : Type 0} → Operation A → CoreState A → ℕ → Type 0

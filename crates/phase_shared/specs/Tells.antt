@@ -11,9 +11,9 @@ use Rattle.phase_core.specs.phase_history.Others.{OthersCame}
 use Rattle.phase_shared.specs.Goods.{Allows, IsGood}
 use Rattle.phase_shared.specs.declared.seats.view.Knowledge.{Knowledge}
 use Rattle.phase_shared.specs.Views.{knowledge, speaks_of, known_of}
-use Rattle.phase_shared.specs.Asks.{Ask, Stage, IsMade, IsAnswered, Stands, IsOneOf}
+use Rattle.phase_shared.specs.Asks.{Ask, Stage, IsMade, IsAnsweredAsk, IsAtPhases, IsOneOf}
 use Rattle.phase_shared.specs.Lanes.{sends_of}
-use Rattle.phase_shared.specs.Desks.{View, Resting, Turning, Asking, Reading, MayMake, IsPast}
+use Rattle.phase_shared.specs.Desks.{View, Resting, Turning, Asking, Reading, MayMakeAsk, IsPast}
 
 -- a take that won, of a seat at rest: the history goes on from what it had seen, by events of
 -- others
@@ -25,7 +25,7 @@ pub record Took {T : Type 0} (limits : Limits) (allows : Allows) (StandsFor : T 
   pub others : OthersCame (speaks_of v) (known_of v).seen now
   pub good : IsGood limits allows now
   pub stands : StandsFor x now
-  pub read : (a : Ask) → IsOneOf claims a → Stands now a.task (a.phase + 1) a.phase
+  pub read : (a : Ask) → IsOneOf claims a → IsAtPhases now a.task (a.phase + 1) a.phase
       × (is_in a.task (speaks_of v) ≡ false)
   pub is : w ≡ Turning (knowledge now (speaks_of v)) claims said None
 
@@ -36,10 +36,10 @@ pub record TookAsked {T : Type 0} (value : List ℤ → Outcome) (limits : Limit
   pub claims : List Ask
   pub said : Outcome
   pub stage : Stage limits a f.seen now
-  pub has : IsAnswered limits a f.seen now → said ≡ value_of_phase value now a.phase
+  pub has : IsAnsweredAsk limits a f.seen now → said ≡ value_of_phase value now a.phase
   pub good : IsGood limits allows now
   pub stands : StandsFor x now
-  pub read : (b : Ask) → IsOneOf claims b → Stands now b.task (b.phase + 1) b.phase
+  pub read : (b : Ask) → IsOneOf claims b → IsAtPhases now b.task (b.phase + 1) b.phase
       × (is_in b.task (a.task ∷ []) ≡ false)
   pub is : w ≡ Turning (knowledge now (a.task ∷ [])) claims said (Some (a.phase + 1))
 
@@ -54,20 +54,20 @@ pub record Learnt (limits : Limits) (allows : Allows) (a : Ask) (f : Knowledge) 
   pub is : w ≡ Reading (knowledge (Waited a.task 1 ∷ middle) (a.task ∷ [])) a
 
 -- whether what is told says that an ask for the phase was answered
-abbrev pub Answers : ℕ → ℕ → Type 0
-Answers told phase = (told % 2 ≡ 1) × (phase < told / 2)
+abbrev pub TellsAnswer : ℕ → ℕ → Type 0
+TellsAnswer told phase = (told % 2 ≡ 1) × (phase < told / 2)
 
 -- the look of a seat that asked
 pub record Looked (limits : Limits) (allows : Allows) (a : Ask) (f : Knowledge) (told : ℕ)
     (w : View) : Type 0 where
-  pub answered : Answers told a.phase → Learnt limits allows a f w
-  pub stays : (Answers told a.phase → ⊥) → w ≡ Asking f a
+  pub answered : TellsAnswer told a.phase → Learnt limits allows a f w
+  pub stays : (TellsAnswer told a.phase → ⊥) → w ≡ Asking f a
 
 -- the signal of an ask that is not made can be made
 pub record MayBeMade (limits : Limits) (allows : Allows) (log : History) (a : Ask) : Type 0 where
   pub seen : History
   pub others : OthersCame (a.task ∷ []) seen log
-  pub may : MayMake limits allows seen a
+  pub may : MayMakeAsk limits allows seen a
 
 -- what the holder learns of an ask: it is another task's, no other ask of this task stands, and it
 -- is made or can be
@@ -76,8 +76,8 @@ pub record IsClaim (limits : Limits) (allows : Allows) (f : Knowledge) (claims :
   pub one : IsOneOf claims a
   pub theirs : is_in a.task f.speaks ≡ false
   pub only : (b : Ask) → IsOneOf claims b → b.task ≡ a.task → b ≡ a
-  pub stands : (Stands f.seen a.task a.phase a.phase × MayBeMade limits allows f.seen a)
-      ⊎ Stands f.seen a.task (a.phase + 1) a.phase
+  pub stands : (IsAtPhases f.seen a.task a.phase a.phase × MayBeMade limits allows f.seen a)
+      ⊎ IsAtPhases f.seen a.task (a.phase + 1) a.phase
 
 -- the holder read r in the lane of task i: what was asked there it has read, and each ask that was
 -- newly read is a claim
@@ -94,7 +94,7 @@ pub record LaneRead (limits : Limits) (allows : Allows) (i : ℕ) (f : Knowledge
 abbrev pub SendRead : ℕ → Knowledge → List Ask → View → ℕ → View → Type 0
 SendRead i f claims v r w =
     (w ≡ v) × ((a : Ask) → IsOneOf claims a → a.task ≡ i
-    → Stands f.seen a.task a.phase a.phase → sends_of r ≡ a.sends)
+    → IsAtPhases f.seen a.task a.phase a.phase → sends_of r ≡ a.sends)
 
 -- what a giver knows of its own lane, and of its own ask where it is not answered
 pub record StillAsks (limits : Limits) (allows : Allows) (told : ℕ) (new : History) (f : Knowledge)
@@ -104,7 +104,7 @@ pub record StillAsks (limits : Limits) (allows : Allows) (told : ℕ) (new : His
   pub mine : f.speaks ≡ ask.task ∷ []
   pub speaks : knows.speaks ≡ ask.task ∷ []
   pub made : IsMade limits ask knows.seen new
-  pub may : MayMake limits allows knows.seen ask
+  pub may : MayMakeAsk limits allows knows.seen ask
   pub posts : lane ≡ Some (ask.phase + 1)
   pub waits : told % 2 ≡ 1 → told / 2 ≤ ask.phase
   pub is : w ≡ Asking knows ask
@@ -116,8 +116,8 @@ LaneIsPast new f (Some n) = (task : ℕ) × (f.speaks ≡ task ∷ []) × IsPast
 
 -- the view that a turn ends with: at rest, at this history or an earlier one that has all of the
 -- giver's own events, or asking still
-abbrev pub Ends : Limits → Allows → ℕ → History → Knowledge → Option ℕ → View → Type 0
-Ends limits allows told new f lane w =
+abbrev pub EndsTurn : Limits → Allows → ℕ → History → Knowledge → Option ℕ → View → Type 0
+EndsTurn limits allows told new f lane w =
     ((h : History) × (w ≡ Resting (knowledge h f.speaks)) × OthersCame f.speaks h new
     × LaneIsPast new f lane)
     ⊎ StillAsks limits allows told new f lane w
@@ -126,5 +126,6 @@ Ends limits allows told new f lane w =
 -- made, its phase is not told; where it was made, the board has its value
 pub record Leaves (value : List ℤ → Outcome) (new : History) (told : ℕ) (said : Outcome) (a : Ask)
     : Type 0 where
-  pub waits : told % 2 ≡ 1 → Stands new a.task (a.phase + 1) a.phase → told / 2 ≤ a.phase
-  pub has : Stands new a.task (a.phase + 1) (a.phase + 1) → said ≡ value_of_phase value new a.phase
+  pub waits : told % 2 ≡ 1 → IsAtPhases new a.task (a.phase + 1) a.phase → told / 2 ≤ a.phase
+  pub has : IsAtPhases new a.task (a.phase + 1) (a.phase + 1)
+      → said ≡ value_of_phase value new a.phase

@@ -1,5 +1,5 @@
 -- What steps on words tell, over views.
-use Rattle.std.specs.Prelude.{◌≡◌, ℕ, ℤ, ◌+◌, ◌<◌, List, [], ◌∷◌, ◌++◌, false, Option, Some, None}
+use Rattle.std.specs.Prelude.{◌≡◌, ℕ, ◌<◌, List, [], ◌∷◌, ◌++◌, false, Option}
 use Rattle.phase_core.specs.phase_base.Lists.{is_in}
 use Rattle.phase_core.specs.phase_accum.Operations.{Operation}
 use Rattle.phase_core.specs.phase_accum.declared.outcome.Outcome.{Outcome}
@@ -16,7 +16,7 @@ use Rattle.phase_shared.specs.Goods.{Allows}
 use Rattle.phase_shared.specs.Lanes.{sends_of, KindIs, NumberIs, with_number}
 use Rattle.phase_shared.specs.Rule.{StandsWithin}
 use Rattle.phase_shared.specs.Tells.{TookAsked, Looked, LaneRead, SendRead}
-use Rattle.phase_shared.specs.Views.{known_of, speaks_of, turning, board_of}
+use Rattle.phase_shared.specs.Views.{turning, board_of}
 
 -- a view that has the turn, and one that has still to read its value
 pub record IsHolder (v : View) : Type 0 where

@@ -144,6 +144,7 @@ impl<A: Accumulate, K: SignalRule> Reg<A, K> {
             Ok(made) => made,
             Err(tried) => return Err(tried),
         };
+        phaser.locked.hints.came();
         Ok(Reg {
             seat: Some(made.1),
             number: made.0,

@@ -43,7 +43,7 @@ pub fn send_place(task: u64) -> usize
 
 /// A number as a word. Those that are not negative are the even words.
 pub fn word_of(value: i64) -> u64
-    ensures { result ≡ lanes.word_of value }
+    ensures { result ≡ lanes.word_for value }
 {
     if value >= 0 {
         (value as u64) * 2

@@ -68,7 +68,7 @@ impl<A: Accumulate, K: SignalRule> Reg<A, K> {
                 got: Some(got),
             });
         }
-        if let Some(request) = self.request(single) {
+        if let Some(request) = self.request(phaser, single) {
             return self.ask_next(rt, phaser, request);
         }
         let waits = self.mode().waits();
@@ -76,7 +76,6 @@ impl<A: Accumulate, K: SignalRule> Reg<A, K> {
             Ok(answer) => answer,
             Err(refusal) => return Err(refusal),
         };
-        self.note_alone(got.is_some());
         if !waits || got.is_some() {
             return Ok(Next {
                 signalled: Some(phase),
@@ -91,17 +90,10 @@ impl<A: Accumulate, K: SignalRule> Reg<A, K> {
         })
     }
 
-    // Whether others came while it had the turn, or whether none did.
-    fn note_alone(&mut self, is_alone: bool)
-        ensures { self.new ≡ self.old }
-    {
-        self.spins.set_alone(is_alone);
-    }
-
     // What it asks others for, where it can: it waits too, and names no single; it has a lane, and
-    // stands before its next phase; and a word says what it holds. Where it was alone the last time
-    // it asks nobody.
-    fn request(&self, single: Option<Single>) -> Option<Request>
+    // stands before its next phase; and a word says what it holds. Where it is alone, it asks
+    // nobody.
+    fn request(&self, phaser: &Phaser<A, K>, single: Option<Single>) -> Option<Request>
         ensures request { IfSome result (λ r. IsRequestOf A.operation r self.now) }
         ensures waits { IfSome result (λ r. mode_waits self.now.entry.mode ≡ true) }
         ensures single { IfSome result (λ r. single ≡ None) }
@@ -111,7 +103,7 @@ impl<A: Accumulate, K: SignalRule> Reg<A, K> {
         }
         let phase = self.entry.signal_phase;
         let send = self.pending.word()?;
-        if self.spins.is_alone() || self.number >= LANES || phase == u64::MAX {
+        if phaser.locked.hints.is_alone() || self.number >= LANES || phase == u64::MAX {
             return None;
         }
         if self.entry.wait_phase != phase {

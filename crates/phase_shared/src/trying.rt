@@ -134,6 +134,7 @@ impl<A: Accumulate, K: SignalRule> Reg<A, K> {
             Ok(made) => made,
             Err(tried) => return Err(tried),
         };
+        phaser.locked.hints.came();
         Ok(Reg {
             seat: Some(made.1),
             number: made.0,
@@ -167,7 +168,10 @@ impl<A: Accumulate, K: SignalRule> Reg<A, K> {
         } = self;
         let Some(seat) = seat else { unreachable!() };
         match steps::leave(&phaser.locked, seat, number, entry) {
-            Ok(seat) => Ok(Past { seat }),
+            Ok(seat) => {
+                phaser.locked.hints.left();
+                Ok(Past { seat })
+            }
             Err(seat) => Err(Reg {
                 seat: Some(seat),
                 number,

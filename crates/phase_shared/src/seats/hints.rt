@@ -1,6 +1,7 @@
 //! When a waiting call tries again. No contract speaks of it: a wrong number costs time alone.
-ghost use Rattle.std.specs.Prelude.{◌<◌, ◌^◌};
+ghost use Rattle.std.specs.Prelude.{◌<◌, ◌≤◌, ◌^◌};
 
+use crate::lane_words::LANES;
 use crate::rule::SignalRule;
 use crossbeam_utils::CachePadded;
 use phase_core::phase_accum::Accumulate;
@@ -118,6 +119,8 @@ pub struct Hints {
     // How many phases every waiter has to have got before that is told. A signal that was ahead
     // writes it under the turn.
     wanted: CachePadded<AtomicU64>,
+    // How many tasks are registered, and how many were.
+    tasks: CachePadded<(AtomicU64, AtomicU64)>,
     bound: u64,
 }
 
@@ -128,12 +131,36 @@ impl Hints {
             phases: CachePadded::new(Bell::new()),
             room: CachePadded::new(Bell::new()),
             wanted: CachePadded::new(AtomicU64::new(wanted)),
+            tasks: CachePadded::new((AtomicU64::new(1), AtomicU64::new(1))),
             bound,
         }
     }
 
     pub fn bound(&self) -> u64 {
         self.bound
+    }
+
+    // A task was registered.
+    pub fn came(&self) {
+        let _ = self.tasks.0.fetch_add(1, SeqCst);
+        let _ = self.tasks.1.fetch_add(1, SeqCst);
+    }
+
+    // A task has left.
+    pub fn left(&self) {
+        let _ = self.tasks.0.fetch_sub(1, SeqCst);
+    }
+
+    // How many lanes may be in use.
+    pub fn lanes(&self) -> u64
+        ensures { result ≤ LANES }
+    {
+        self.tasks.1.load(SeqCst).min(LANES)
+    }
+
+    // Whether one task is registered, or none.
+    pub fn is_alone(&self) -> bool {
+        self.tasks.0.load(SeqCst) <= 1
     }
 
     // Tells how far the phaser is, under the turn.

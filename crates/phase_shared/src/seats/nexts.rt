@@ -2,7 +2,7 @@
 ghost use Rattle.std.specs.Prelude.{◌≡◌, false, IfOk, IfErr};
 ghost use Rattle.turn_lock.specs.Seats.{IsSeatAt, seat_view};
 ghost use Rattle.phase_core.specs.phase_history.Histories.{IsAlive};
-ghost use Rattle.phase_shared.specs.Desks.{MayMake};
+ghost use Rattle.phase_shared.specs.Desks.{MayMakeAsk};
 ghost use Rattle.phase_shared.specs.LockedPhasers.{locked_place, locked_terms};
 ghost use Rattle.phase_shared.specs.Rule.{IsSeatOfTask};
 ghost use Rattle.phase_shared.specs.Servings.{ask_of, MayAsk, IsAsking, IsWaiterIn, HasAnswer, IsRefused, CameTo};
@@ -98,7 +98,7 @@ fn try_turn<A: Accumulate, K: SignalRule, S: Since>(
     requires seat { IsSeatAt (locked_place phaser.now) seat }
     requires asks { IsAsking (ask_of request) S.seen (seat_view seat) }
     requires waits { IsAlive S.seen request.task × IsWaiterIn S.seen request.task }
-    requires may { MayMake (locked_terms phaser.now).limits
+    requires may { MayMakeAsk (locked_terms phaser.now).limits
         (K.allows (locked_terms phaser.now).rule) S.seen (ask_of request) }
     ensures seat { IsSeatAt (locked_place phaser.now) result.0 }
     ensures came { CameTo A.operation K.allows (locked_terms phaser.now) (ask_of request)
@@ -147,7 +147,7 @@ fn yield_for<A: Accumulate, K: SignalRule, S: Since>(
     requires seat { IsSeatAt (locked_place phaser.now) seat }
     requires asks { IsAsking (ask_of request) S.seen (seat_view seat) }
     requires waits { IsAlive S.seen request.task × IsWaiterIn S.seen request.task }
-    requires may { MayMake (locked_terms phaser.now).limits
+    requires may { MayMakeAsk (locked_terms phaser.now).limits
         (K.allows (locked_terms phaser.now).rule) S.seen (ask_of request) }
     ensures seat { IsSeatAt (locked_place phaser.now) result.0 }
     ensures came { CameTo A.operation K.allows (locked_terms phaser.now) (ask_of request)
@@ -186,7 +186,7 @@ fn wait_for<A: Accumulate, K: SignalRule, S: Since, W: Wait>(
     requires seat { IsSeatAt (locked_place phaser.now) seat }
     requires asks { IsAsking (ask_of request) S.seen (seat_view seat) }
     requires waits { IsAlive S.seen request.task × IsWaiterIn S.seen request.task }
-    requires may { MayMake (locked_terms phaser.now).limits
+    requires may { MayMakeAsk (locked_terms phaser.now).limits
         (K.allows (locked_terms phaser.now).rule) S.seen (ask_of request) }
     ensures seat { IsSeatAt (locked_place phaser.now) result.0 }
     ensures answer { IfOk result.1 (λ outcome. HasAnswer A.operation K.allows
@@ -226,7 +226,7 @@ fn after_turn<A: Accumulate, K: SignalRule, S: Since, W: Wait>(
     requires came { CameTo A.operation K.allows (locked_terms phaser.now) (ask_of request)
         S.seen came (seat_view seat) }
     requires waits { IsAlive S.seen request.task × IsWaiterIn S.seen request.task }
-    requires may { MayMake (locked_terms phaser.now).limits
+    requires may { MayMakeAsk (locked_terms phaser.now).limits
         (K.allows (locked_terms phaser.now).rule) S.seen (ask_of request) }
     ensures seat { IsSeatAt (locked_place phaser.now) result.0 }
     ensures answer { IfOk result.1 (λ outcome. HasAnswer A.operation K.allows
@@ -256,7 +256,7 @@ fn wait_longer<A: Accumulate, K: SignalRule, S: Since, W: Wait>(
     requires seat { IsSeatAt (locked_place phaser.now) seat }
     requires asks { IsAsking (ask_of request) S.seen (seat_view seat) }
     requires waits { IsAlive S.seen request.task × IsWaiterIn S.seen request.task }
-    requires may { MayMake (locked_terms phaser.now).limits
+    requires may { MayMakeAsk (locked_terms phaser.now).limits
         (K.allows (locked_terms phaser.now).rule) S.seen (ask_of request) }
     ensures seat { IsSeatAt (locked_place phaser.now) result.0 }
     ensures answer { IfOk result.1 (λ outcome. HasAnswer A.operation K.allows

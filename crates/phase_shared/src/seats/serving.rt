@@ -3,7 +3,7 @@
 ghost use Rattle.std.specs.Prelude.{◌≡◌, ◌<◌, ◌+◌, ◌^◌, ℕ, Bool, true, false};
 ghost use Rattle.turn_lock.specs.Seats.{IsTurnAt, turn_view, turn_value};
 ghost use Rattle.phase_shared.specs.LockedPhasers.{locked_place, locked_terms};
-ghost use Rattle.phase_shared.specs.Servings.{ask_of, IsBefore, IsBetween, Serving, Finished, IsCompleteIn, IsDone};
+ghost use Rattle.phase_shared.specs.Servings.{ask_of, IsBefore, IsBetween, Serving, Finished, IsCompleteIn, IsPhaseDone};
 ghost use Rattle.phase_shared.specs.Views.{known_of};
 
 use crate::lane_words::{LANES, sends_of};
@@ -93,7 +93,7 @@ fn signal_all<A: Accumulate, K: SignalRule, S: Since>(
 {
     let mut turn = turn;
     let mut has_made = false;
-    for task in 0..LANES {
+    for task in 0..phaser.hints.lanes() {
         let (next, is_made) = signal_for::<A, K, S>(phaser, turn, request, task);
         turn = next;
         has_made |= is_made;
@@ -119,8 +119,8 @@ fn is_complete<A: Accumulate, K: SignalRule>(
     (turn, is_done)
 }
 
-// Makes the signals that others ask for while the phase is not complete, for so many looks. It
-// tells whether the phase is complete.
+// Makes the signals that others ask for while the phase is not complete, for one look and so many
+// more. It tells whether the phase is complete.
 pub fn gather<A: Accumulate, K: SignalRule, S: Since>(
     phaser: &LockedPhaser<A, K>,
     turn: PhaserTurn<A, K>,
@@ -138,7 +138,7 @@ pub fn gather<A: Accumulate, K: SignalRule, S: Since>(
         → IsCompleteIn A.operation (turn_value result.0) request.phase }
 {
     let mut turn = turn;
-    for _ in 0..looks {
+    for _ in 0..looks.saturating_add(1) {
         let (next, is_done) = is_complete(phaser, turn, request.phase);
         if is_done {
             return (next, true);
@@ -228,12 +228,12 @@ pub fn wait_own<A: Accumulate, K: SignalRule, S: Since>(
     requires turn { IsTurnAt (locked_place phaser.now) turn }
     requires serving { (serves : Bool) × (k : ℕ)
         × (s : Serving A.operation K.allows (locked_terms phaser.now) (ask_of request)
-        S.seen serves k (turn_view turn) (turn_value turn)) × IsDone s }
+        S.seen serves k (turn_view turn) (turn_value turn)) × IsPhaseDone s }
     ensures turn { IsTurnAt (locked_place phaser.now) result.0 }
     ensures knows { known_of (turn_view result.0) ≡ known_of (turn_view turn) }
     ensures finished { (serves : Bool) (k : ℕ)
         (s : Serving A.operation K.allows (locked_terms phaser.now) (ask_of request)
-        S.seen serves k (turn_view turn) (turn_value turn)) → IsDone s
+        S.seen serves k (turn_view turn) (turn_value turn)) → IsPhaseDone s
         → Finished A.operation K.allows (locked_terms phaser.now) (ask_of request)
         S.seen serves k result.1 (turn_view result.0) (turn_value result.0) }
 {

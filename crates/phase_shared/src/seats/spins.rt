@@ -14,8 +14,6 @@ const PROBE: u64 = 128;
 /// What a registration learned of how soon others come.
 #[derive(Clone, Copy, Debug, PartialEq, Eq)]
 pub struct Spins {
-    // Whether its last turn completed a phase at once, and nobody waited for it.
-    is_alone: bool,
     // Whether it had the turn when its last phase was complete, and served others then.
     has_served: bool,
     serves_others: bool,
@@ -35,7 +33,6 @@ fn doubled(number: u32, most: u32) -> u32 {
 impl Spins {
     pub fn new() -> Spins {
         Spins {
-            is_alone: true,
             has_served: true,
             serves_others: false,
             serve: SERVE,
@@ -49,15 +46,6 @@ impl Spins {
             self.first = FIRST;
             self.serve = SERVE;
         }
-    }
-
-    pub fn is_alone(&self) -> bool {
-        self.is_alone
-    }
-
-    // Whether others came while it had the turn, or whether none did.
-    pub fn set_alone(&mut self, is_alone: bool) {
-        self.is_alone = is_alone;
     }
 
     // Whether it takes the turn before it posts.

@@ -4,7 +4,7 @@ ghost use Rattle.turn_lock.specs.Seats.{IsSeatAt, IsTurnAt, seat_view, turn_numb
 ghost use Rattle.turn_lock.specs.WordSteps.{GivesOf};
 ghost use Rattle.phase_core.specs.phase_history.Histories.{IsAlive};
 ghost use Rattle.phase_core.specs.phase_history.Refusals.{signal_refusal};
-ghost use Rattle.phase_shared.specs.Desks.{MayMake};
+ghost use Rattle.phase_shared.specs.Desks.{MayMakeAsk};
 ghost use Rattle.phase_shared.specs.LockedPhasers.{locked_place, locked_terms};
 ghost use Rattle.phase_shared.specs.Rule.{HasOneHistory, StandsWithin};
 ghost use Rattle.phase_shared.specs.Servings.{ask_of, IsAsking, IsWaiterIn, Starting, Serving, HasAnswer, IsRefused, CameTo, IsAnsweredIn, IsCompleteIn, WasOpen};
@@ -263,7 +263,7 @@ pub fn go_on<A: Accumulate, K: SignalRule, S: Since>(
         (StandsWithin A.operation terms.limits) (knowledge S.seen (request.task ∷ []))
         (ask_of request) (turn_value turn) (turn_view turn) }
     requires waits { IsAlive S.seen request.task × IsWaiterIn S.seen request.task }
-    requires may { MayMake (locked_terms phaser.now).limits
+    requires may { MayMakeAsk (locked_terms phaser.now).limits
         (K.allows (locked_terms phaser.now).rule) S.seen (ask_of request) }
     ensures seat { IsSeatAt (locked_place phaser.now) result.0 }
     ensures came { CameTo A.operation K.allows (locked_terms phaser.now) (ask_of request)

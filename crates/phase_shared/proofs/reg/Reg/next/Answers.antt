@@ -57,7 +57,7 @@ returns-then-not-waits-clause-call g c =
     let waits : asked ≡ mode_waits old.entry.mode = c.waits-waits.ensures ∙ ap mode_waits c.mode-2.ensures.value in
     subst (λ (r : RegState g.row.A.Denot g.row.K.Denot). IsCall g.K.SignalRule.allows (phaser_terms c.args.phaser.now) NoTask entry_after_next
     (GoesOrRefuses op limits c.args.single old r.seen (Ok (record { signalled = Some phase; got = got }))) old r
-    (Ok (record { signalled = Some phase; got = got }))) (sym c.note_alone.ensures)
+    (Ok (record { signalled = Some phase; got = got }))) refl
     (record {
       call = record {
         middle = both.middle;
@@ -84,10 +84,10 @@ module _ (g : Over) (c : After-mode-mode g) where
   old = c.args.self.now
 
   abbrev new : RegState g.row.A.Denot g.row.K.Denot
-  new = c.note_alone.new.self
+  new = c.signal_and_wait.new.self
 
   same : new ≡ c.signal_and_wait.new.self
-  same = c.note_alone.ensures
+  same = refl
 
   number_is : new.number ≡ old.number
   number_is = ap (λ (r : RegState g.row.A.Denot g.row.K.Denot). r.number) same ∙ c.signal_and_wait.ensures.call.at.1
@@ -136,8 +136,8 @@ pub wait_in_turn-got-requires-2-clause-signalled : goal.wait_in_turn-got-require
 wait_in_turn-got-requires-2-clause-signalled g c signals' same =
     let at = (goal.at.wait_in_turn-got-requires-2-clause-signalled g c).After-mode-mode in
     let s = signal g at in
-    signalled_apart (limits g at) c.args.self.now.number c.args.self.now.entry c.note_alone.new.self.entry c.args.self.now.seen s.before
-    c.note_alone.new.self.seen c.args.single s.sends s.others s.seen (legal g at) c.mode.ensures.entry (entry_is g at)
+    signalled_apart (limits g at) c.args.self.now.number c.args.self.now.entry c.signal_and_wait.new.self.entry c.args.self.now.seen s.before
+    c.signal_and_wait.new.self.seen c.args.single s.sends s.others s.seen (legal g at) c.mode.ensures.entry (entry_is g at)
     (signals g at) (waits g at) same
 
 -- a task that gets its value later
@@ -145,7 +145,7 @@ pub returns-clause-call : goal.returns-clause-call
 returns-clause-call g c =
     let at = (goal.at.returns-clause-call g c).After-mode-mode in
     let old = c.args.self.now in
-    let new = c.note_alone.new.self in
+    let new = c.signal_and_wait.new.self in
     let limits = phaser_limits c.args.phaser.now in
     let op = g.A.Accumulate.operation in
     let last = c.wait_in_turn-got-2.new.self.seen in

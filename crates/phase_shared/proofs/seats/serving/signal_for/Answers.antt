@@ -1,7 +1,5 @@
-use Rattle.std.proofs.Common.{◌≡◌, ◌≤◌, false, [], ◌∷◌, ◌++◌, refl, sym, ap, subst, ◌∙◌, arith}
-use Rattle.std.specs.Prelude.{None, Ok}
+use Rattle.std.proofs.Common.{◌≡◌, false, ◌++◌, refl, sym, ap, subst, ◌∙◌, arith}
 use Rattle.turn_lock.specs.Seats.{turn_view, turn_value}
-use Rattle.phase_core.specs.phase_history.declared.event.Event.TheVariants.{Signalled}
 use Rattle.phase_core.specs.Cores.{CoreState, StandsFor}
 use Rattle.phase_shared.specs.Lanes.{sends_of}
 use Rattle.phase_shared.specs.LockedPhasers.{locked_terms}

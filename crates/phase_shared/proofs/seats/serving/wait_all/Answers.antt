@@ -1,4 +1,4 @@
-use Rattle.std.proofs.Common.{◌≡◌, ◌∙◌}
+use Rattle.std.proofs.Common.{◌∙◌}
 use Rattle.std.proofs.lemmas.Bool.{and_parts}
 use Rattle.turn_lock.specs.Seats.{turn_view, turn_value}
 use Rattle.phase_shared.specs.LockedPhasers.{locked_terms}
@@ -9,8 +9,7 @@ use Rattle.phase_shared.proofs.seats.serving.wait_all.Goals as goal
 pub loop-task-preserved : goal.loop-task-preserved
 loop-task-preserved g c =
     let i = c.loop-task.invariant in
-    let e = c.wait_for-next.ensures in
-    (
+    let e = c.wait_for-next.ensures in (
       e.turn,
       e.knows ∙ i.1,
       e.serving,

@@ -1,4 +1,4 @@
-use Rattle.std.proofs.Common.{◌≡◌, [], ◌∷◌, ◌++◌, refl, sym, ap, subst, ◌∙◌}
+use Rattle.std.proofs.Common.{◌≡◌, ◌++◌, sym, ap, subst, ◌∙◌}
 use Rattle.std.specs.Prelude.{Result, Ok, Err}
 use Rattle.turn_lock.specs.Seats.{turn_view, turn_value}
 use Rattle.phase_core.specs.Cores.{CoreState, StandsFor}
@@ -9,7 +9,6 @@ use Rattle.phase_core.specs.phase_history.declared.refusal.WaitRefusal.{WaitRefu
 use Rattle.phase_shared.specs.LockedPhasers.{locked_terms}
 use Rattle.phase_shared.specs.Servings.{ask_of}
 use Rattle.phase_shared.proofs.ServingSteps.{own_reply, own_waited}
-use Rattle.phase_shared.proofs.seats.serving.wait_own.Given.{Over}
 use Rattle.phase_shared.proofs.seats.serving.wait_own.Goals as goal
 
 pub returns-clause-finished : goal.returns-clause-finished

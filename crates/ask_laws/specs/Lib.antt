@@ -1,6 +1,0 @@
-pub mod Asks
-pub mod Base
-pub mod Desks
-pub mod Lanes
-pub mod Learns
-pub mod Tells
