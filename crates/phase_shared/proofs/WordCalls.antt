@@ -16,7 +16,7 @@ use Rattle.phase_shared.specs.Rule.{HasOneHistory, StandsWithin}
 use Rattle.phase_shared.specs.Servings.{ask_of, MayAsk, IsAsking}
 use Rattle.phase_shared.specs.Tells.{LaneRead, SendRead}
 use Rattle.phase_shared.specs.Views.{knowledge, known_of, board_of, claims_of, lane_of}
-use Rattle.phase_shared.specs.WordTells.{IsOther, IsOwnLane, LaneReadAt, SendReadAt, asking_of, with_board, with_lane, Completes, HasKind, HasNumber}
+use Rattle.phase_shared.specs.WordTells.{IsHolder, IsOther, IsOwnLane, LaneReadAt, SendReadAt, asking_of, with_board, with_lane, Completes, HasKind, HasNumber}
 use Rattle.phase_shared.proofs.Stages.{signal_is}
 use Rattle.phase_shared.proofs.AskPosting.{posts_send, posts_phase, posts_in, clears_in}
 use Rattle.phase_shared.proofs.AskBoards.{writes_number, writes_kind}
@@ -127,3 +127,7 @@ module _ {A K : Type 0} (op : Operation A) (allows : K → Allows) (terms : Term
       let q = writes_number op.value terms.limits (allows terms.rule) StandsFor number f c.claims c.said c.lane c.later c.batch c.legal c.more told words views long k (at ∙ ap some c.is) n in
       let new : Outcome = board (set words 0 n) in
       (Turning f c.claims new c.lane, q.0, ap (λ (o : Outcome). Turning f c.claims o c.lane) q.1 ∙ ap (λ (u : View). with_board (with_number n (board_of u)) u) (sym c.is))
+
+-- a board that is being written is a holder's
+pub is_holder : {K : Type 0} (terms : Terms K) (v : View) → Completes terms v → IsHolder v
+is_holder terms v c = record { knows = knowledge c.now c.speaks; claims = c.claims; said = c.said; lane = c.lane; is = c.is }

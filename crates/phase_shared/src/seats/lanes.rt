@@ -12,7 +12,7 @@ use crate::lane_words::{
     IS_EMPTY, IS_TOO_BIG, IS_VALUE, KIND, LANES, NUMBER, phase_place, send_place, word_of,
 };
 use crate::rule::SignalRule;
-use crate::seats::ghost_steps::{OnPost, OnReport, OnStep, Plan, Report};
+use crate::seats::ghost_steps::{OnBoardKind, OnPost, OnReport, OnStep, Plan, Report};
 use crate::seats::locked::LockedPhaser;
 use crate::seats::request::Request;
 use crate::seats::view::{PhaserSeat, PhaserTurn};
@@ -171,6 +171,10 @@ fn write_kind<A: Accumulate, K: SignalRule>(
     ensures value { turn_value result ≡ turn_value turn }
     ensures kind { HasKind kind (turn_view turn) (turn_view result) }
 {
+    let (turn, found) = phaser.lock.read_in::<OnBoardKind>(turn, KIND);
+    if found == kind {
+        return turn;
+    }
     write_as::<A, K, Brand, _>(phaser, turn, KIND, kind, kind)
 }
 
