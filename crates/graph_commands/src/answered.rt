@@ -1,10 +1,13 @@
 //! A check and an evaluation of a graph.
-ghost use Rattle.std.specs.Prelude.{◌≡◌, ℕ, List, Option, true, OnOk, OnErr, IfErr, option_map};
+ghost use Rattle.std.specs.Prelude.{◌≡◌, ℕ, List, Option, Some, true, OnOk, OnErr, IfErr, option_map};
 ghost use Rattle.std.specs.Io.KnownBytes.{Appends};
 ghost use Rattle.graph_commands.specs.Ends.{AreNotes, CheckFails, Checks, ColumnsFail, EvalFails};
 ghost use Rattle.graph_commands.specs.Ends.{WritesCheck, WritesCheckPrefix};
+ghost use Rattle.graph_commands.specs.Failures.{IsUnanswered};
 ghost use Rattle.graph_commands.specs.FileJobs.{IsJobOf, Known};
 ghost use Rattle.graph_commands.specs.GraphRuns.{AsksSink, Evaluates, EvaluatesColumns, check_line};
+ghost use Rattle.stream_eval.specs.stream_lists.Ranges.{first_too_big};
+ghost use Rattle.graph_show.specs.graph_base.declared.place.Place.{Place as PlaceValue};
 ghost use Rattle.graph_show.specs.watched_io.Prefix.{AppendsPrefix};
 ghost use Rattle.graph_show.specs.watched_io.States.{writer_state};
 ghost use Rattle.graph_show.specs.watched_io.Watched.{has_failed_of, inner_of};
@@ -116,6 +119,19 @@ pub fn eval<'a, W: Write, F: Files>(
     }
 }
 
+/// Why a job has no lists.
+fn unanswered<'a>(job: Job, fault: EvalFault) -> Failure<'a>
+    requires { (place : PlaceValue) (n : ℕ) → fault ≡ EvalFault.TooBig place n
+        → first_too_big job ≡ Some (place, n) }
+    ensures { (known : Known) (name : List ℕ) (asked : Option (List ℕ))
+        → IsJobOf known name job → IsUnanswered ⊥ known name asked result }
+{
+    match fault {
+        EvalFault::TooBig { place, phase } => Failure::TooBig { job, place, phase },
+        EvalFault::OutOfMemory => Failure::Io(IoFault::OutOfMemory),
+    }
+}
+
 /// Evaluates a job for all its sinks, or for the one that is asked for.
 fn eval_asked<'a, W: Write>(
     alloc: Global,
@@ -137,8 +153,7 @@ fn eval_asked<'a, W: Write>(
             Ok(()) => Ok(()),
             Err(_) => Err(Failure::Io(IoFault::WriteFault)),
         },
-        Err(EvalFault::TooBig { place, phase }) => Err(Failure::TooBig { job, place, phase }),
-        Err(EvalFault::OutOfMemory) => Err(Failure::Io(IoFault::OutOfMemory)),
+        Err(fault) => Err(unanswered(job, fault)),
     }
 }
 
@@ -180,7 +195,6 @@ fn job_columns<'a, W: Write>(
             Ok(()) => Ok(()),
             Err(_) => Err(Failure::Io(IoFault::WriteFault)),
         },
-        Err(EvalFault::TooBig { place, phase }) => Err(Failure::TooBig { job, place, phase }),
-        Err(EvalFault::OutOfMemory) => Err(Failure::Io(IoFault::OutOfMemory)),
+        Err(fault) => Err(unanswered(job, fault)),
     }
 }

@@ -9,7 +9,7 @@ use crate::controls::without_controls;
 use crate::further::{further_lines, tell_bytes};
 use crate::graph_faults::tell;
 use crate::hints::{sink_texts, value_texts};
-use crate::meeting::meeting_name;
+use crate::meeting::meeting_found;
 use crate::records::record_explained;
 use crate::{Failure, FileRefusal, JobFault, Refuses};
 use graph_show::explanation;
@@ -121,8 +121,9 @@ fn further<F: Files + Refuses>(
 {
     match fault {
         JobFault::Graph(found) => {
-            let meeting = meeting_name(alloc, files, text, *found)?;
-            explanation(alloc, text, *found, meeting.as_deref())
+            let meeting = meeting_found(alloc, files, text, *found)?;
+            let place = meeting.as_ref().map(|met| met.place());
+            explanation(alloc, text, *found, place)
         }
         JobFault::BadSample { name, number } => {
             record_explained(alloc, files, text, name.as_str(), *number)

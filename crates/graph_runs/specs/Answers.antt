@@ -175,10 +175,6 @@ turn_up_to steps most job m t = answer_up_to steps most job m t (next_of job m t
 abbrev pub answer_by : ℕ → Job → Moment → ℕ → Next → Answer
 answer_by steps job m t next = answer_up_to steps (task_at job.graph t).block job m t next
 
--- what a turn of task t makes of at most so many steps
-abbrev pub turn_by : ℕ → Job → Moment → ℕ → Answer
-turn_by steps job m t = answer_by steps job m t (next_of job m t)
-
 -- the answer where it makes at most a block of its line
 abbrev pub answer_to : Job → Moment → ℕ → Next → Answer
 answer_to job m t next = answer_by (task_at job.graph t).block job m t next
@@ -247,12 +243,6 @@ tells_up_to steps most job m t = word_of_answer job m (turn_up_to steps most job
 abbrev pub after_turns : Job → Moment → List ℕ → Moment
 after_turns job m [] = m
 after_turns job m (t ∷ ts) = after_turns job (after_answer job (answer_of_turn job m t) m) ts
-
--- after turns of these tasks that make at most so many steps each
-abbrev pub after_turns_by : Job → Moment → List (ℕ × ℕ) → Moment
-after_turns_by job m [] = m
-after_turns_by job m (turn ∷ turns) =
-    after_turns_by job (after_answer job (turn_by turn.1 job m turn.0) m) turns
 
 -- what the turns of these tasks make
 abbrev pub answers_in_turn : Job → Moment → List ℕ → List Answer

@@ -9,6 +9,7 @@ use crate::below::Below;
 use crate::forms::put_form;
 use crate::grammar::Reading;
 use crate::mark::{Mark, mark_of};
+use crate::meeting_place::MeetingPlace;
 use crate::parts::put;
 use graph_lang::graph_text::{are_printable, lines_of, without_cr, words_of};
 use graph_lang::{FaultKind, GraphFault};
@@ -135,15 +136,15 @@ fn bytes_wanted(rest: &[u8]) -> &'static [u8] {
     }
 }
 
-/// Marks what is at fault in a line, by the lines above it and those below, and by the phaser on
-/// which tasks meet.
+/// Marks what is at fault in a line, by the lines above it and those below, and by where tasks
+/// meet.
 fn line_marked<'a>(
     alloc: Global,
     above: &[&'a [u8]],
     below: &Below<'_, 'a>,
     line: &'a [u8],
     kind: FaultKind,
-    meeting: Option<&str>,
+    meeting: Option<MeetingPlace<'a>>,
 ) -> Result<Vec<u8>, AllocError>
     ensures { IfOk result (λ text. Marks line.now text.items) }
 {
@@ -171,7 +172,7 @@ fn line_explained<'a>(
     below: &Below<'_, 'a>,
     line: &'a [u8],
     kind: FaultKind,
-    meeting: Option<&str>,
+    meeting: Option<MeetingPlace<'a>>,
 ) -> Result<Vec<u8>, AllocError>
     ensures { IfOk result (λ text. ExplainsKind kind line.now text.items) }
 {
@@ -186,7 +187,7 @@ fn line_explained<'a>(
 /// nothing. It takes memory.
 ///
 /// Where tasks meet on a phaser with `any`, the text alone does not tell on which of several
-/// outputs; `meeting` is the name of that phaser, where it is known. Else the task is marked.
+/// outputs; `meeting` tells where, if it is known. Else the task is marked.
 ///
 /// ```text
 ///   fir f X -> Q shift 0 taps 1
@@ -197,7 +198,7 @@ pub fn explanation(
     alloc: Global,
     text: &[u8],
     fault: GraphFault,
-    meeting: Option<&str>,
+    meeting: Option<MeetingPlace<'_>>,
 ) -> Result<Vec<u8>, AllocError>
     ensures { IfOk result (λ more. ExplainsFault text.now fault more.items) }
 {

@@ -5,6 +5,7 @@ use crate::below::Below;
 use crate::explain_parts::Part;
 use crate::grammar::{Known, Reading};
 use crate::limits::{count_passed, limit_passed};
+use crate::meeting_place::MeetingPlace;
 use crate::wanted::Wanted;
 use graph_lang::FaultKind;
 use graph_lang::graph_text::Version;
@@ -28,14 +29,14 @@ impl<'a> Mark<'a> {
 }
 
 /// The first word of these that fails a test of words, or the first word of the line. Where tasks
-/// meet, `meeting` is the phaser on which they do, if it is known.
+/// meet, `meeting` tells where they do, if it is known.
 pub(crate) fn mark_of<'a>(
     alloc: Global,
     kind: FaultKind,
     reading: &Reading<'_, 'a>,
     above: &Above<'a>,
     below: &Below<'_, 'a>,
-    meeting: Option<&str>,
+    meeting: Option<MeetingPlace<'a>>,
 ) -> Result<Mark<'a>, AllocError> {
     let found = reading.found.as_slice();
     let mark = match kind {
@@ -332,8 +333,18 @@ fn meeting_count(found: &[Known<'_>], above: &Above<'_>) -> usize {
     count
 }
 
-/// This word and this text, and the line that signals a phaser, where its number is not 0.
-fn signalled_mark<'a>(word: usize, text: &'static str, line: usize) -> Mark<'a> {
+/// This word and this text, and where tasks meet there, if it is known, or else the line that
+/// signals the phaser, where its number is not 0.
+fn met_mark<'a>(
+    word: usize,
+    text: &'static str,
+    line: usize,
+    meeting: Option<MeetingPlace<'a>>,
+) -> Mark<'a> {
+    if let Some(place) = meeting {
+        let wanted = Wanted::with_meeting(text, place);
+        return Mark { word, wanted };
+    }
     if line == 0 {
         return Mark::text(word, text);
     }
@@ -343,17 +354,21 @@ fn signalled_mark<'a>(word: usize, text: &'static str, line: usize) -> Mark<'a> 
 
 /// The output on which the task meets another, where it is known, or the only one on which it may;
 /// else the task.
-fn meeting_mark<'a>(found: &[Known<'a>], above: &Above<'_>, meeting: Option<&str>) -> Mark<'a> {
+fn meeting_mark<'a>(
+    found: &[Known<'a>],
+    above: &Above<'_>,
+    meeting: Option<MeetingPlace<'a>>,
+) -> Mark<'a> {
     let is_only = meeting_count(found, above) == 1;
     for word in 0..found.len() {
         let (part, name) = found[word];
         let is_known = match meeting {
-            Some(phaser) => phaser.as_bytes() == name,
+            Some(place) => place.phaser.as_bytes() == name,
             None => is_only && above.may_meet(name),
         };
         if part.is_output() && is_known {
             let wanted = "a phaser that no task of a line above signals in the same phase";
-            return signalled_mark(word, wanted, above.only_signaller(name));
+            return met_mark(word, wanted, above.only_signaller(name), meeting);
         }
     }
     Mark::text(

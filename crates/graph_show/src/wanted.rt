@@ -1,19 +1,22 @@
 //! What was expected in the place of a word, as a text with a word or a number in it.
 
+use crate::meeting_place::MeetingPlace;
 use crate::parts::put;
 use itoa::Buffer;
 use std::alloc::{AllocError, Global};
 
-/// What was expected in the place of a word: a text, and perhaps more behind it, with a word or
-/// with the number of a line.
+/// What was expected in the place of a word: a text, and perhaps more behind it, with a word, the
+/// number of a line or a phase.
 #[derive(Clone, Copy)]
 pub(crate) struct Wanted<'a> {
     text: &'static str,
     before: &'static str,
     word: &'a [u8],
+    between: &'static str,
     /// The number of a line, counted from 1, or 0 for none.
     line: usize,
     behind: &'static str,
+    phase: Option<u128>,
 }
 
 impl<'a> Wanted<'a> {
@@ -33,8 +36,10 @@ impl<'a> Wanted<'a> {
             text,
             before,
             word,
+            between: "",
             line: 0,
             behind,
+            phase: None,
         }
     }
 
@@ -44,8 +49,23 @@ impl<'a> Wanted<'a> {
             text,
             before: ": line ",
             word: b"".as_slice(),
+            between: "",
             line,
             behind,
+            phase: None,
+        }
+    }
+
+    /// This text, and the task that a task meets, with the phase.
+    pub(crate) fn with_meeting(text: &'static str, meeting: MeetingPlace<'a>) -> Wanted<'a> {
+        Wanted {
+            text,
+            before: ": task ",
+            word: meeting.task.as_bytes(),
+            between: " (line ",
+            line: meeting.line,
+            behind: ") also signals it in phase ",
+            phase: Some(meeting.phase),
         }
     }
 
@@ -54,10 +74,14 @@ impl<'a> Wanted<'a> {
         let mut told = Vec::new(alloc);
         put(&mut told, [self.text, self.before].as_slice())?;
         told.extend_from_slice(self.word)?;
+        put(&mut told, [self.between].as_slice())?;
         if self.line != 0 {
             put(&mut told, [Buffer::new().format(self.line)].as_slice())?;
         }
         put(&mut told, [self.behind].as_slice())?;
+        if let Some(phase) = self.phase {
+            put(&mut told, [Buffer::new().format(phase)].as_slice())?;
+        }
         Ok(told)
     }
 }

@@ -36,7 +36,7 @@ use Rattle.phase_shared.specs.Blocks.{SignalsBlock, WaitsBlock}
 use Rattle.phase_shared.specs.Joins.{HasRegisteredNow}
 use Rattle.phase_shared.specs.Parts.{PartStays, HasNoPart}
 use Rattle.phase_shared.specs.BlockParts.{SendsLists, GetsValues}
-use Rattle.phase_shared.proofs.Keeping.{is_in_self}
+use Rattle.phase_shared.proofs.Small.{is_in_self}
 use Rattle.phase_shared.proofs.Giving.{member_after}
 use Rattle.phase_shared.proofs.PartSteps.{PartStays-others}
 

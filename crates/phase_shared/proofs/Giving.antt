@@ -1,7 +1,7 @@
 -- What a seat that speaks for one task owes at a give.
-use Rattle.std.proofs.Common.{◌≡◌, ℕ, false, cond, eqb, List, [], ◌∷◌, ◌++◌, Option, Some, refl, sym, ap, subst, ◌∙◌, inl}
-use Rattle.std.specs.Prelude.{is_some}
-use Rattle.turn_lock.specs.Steps.{GivesBack}
+use Rattle.std.proofs.Common.{◌≡◌, ℕ, ◌+◌, ◌*◌, false, cond, eqb, List, [], ◌∷◌, ◌++◌, Option, Some, None, refl, sym, ap, subst, ◌∙◌, inl, arith}
+use Rattle.std.specs.Prelude.{◌%◌, is_some}
+use Rattle.turn_lock.specs.WordSteps.{GivesOf}
 use Rattle.phase_core.specs.phase_base.Limits.{Limits}
 use Rattle.phase_core.specs.phase_base.declared.entry.Entry.{Entry}
 use Rattle.phase_core.specs.phase_accum.Operations.{Operation}
@@ -15,11 +15,16 @@ use Rattle.phase_shared.specs.declared.rule.Terms.{Terms}
 use Rattle.phase_core.specs.phase_history.Others.{IsUsed, is_by, events_of, OthersCame}
 use Rattle.phase_shared.specs.Views.{knowledge, resting, turning, known_of, speaks_of}
 use Rattle.phase_shared.specs.Rule.{Allows, IsGoodAt, HasOneHistory, StandsWithin, TookAt, IsSeatOfTask, AfterTake, Keeps}
+use Rattle.phase_core.specs.phase_base.Lists.{is_in}
+use Rattle.phase_core.specs.phase_accum.declared.outcome.Outcome.{Outcome}
+use Rattle.phase_shared.specs.declared.seats.view.Ask.{Ask}
+use Rattle.phase_shared.specs.Steps.{GivesEven}
+use Rattle.phase_core.proofs.phase_history_lemmas.OthersEvents.{OthersCame-refl}
 use Rattle.phase_core.proofs.phase_history_lemmas.Used.{IsUsed-member, IsUsed-longer, entry_of-others}
-use Rattle.phase_shared.proofs.Keeping.{gives, one_of, or_false, is_in_self}
-
-same_some : {A : Type 0} (x y : A) → Some x ≡ Some y → x ≡ y
-same_some x y e = cc
+use Rattle.phase_shared.proofs.Small.{same_some, one_of, or_false, is_in_self, apart_phases}
+use Rattle.phase_shared.proofs.Stages.{wait_is}
+use Rattle.phase_shared.proofs.GivingAsks.{no_lane}
+use Rattle.phase_shared.proofs.GivingAsks as asks
 
 -- a longer history has come about by events of this task alone
 pub record OwnCame (me : ℕ) (old new : History) : Type 0 where
@@ -44,6 +49,9 @@ member_after limits me entry old now came legal member =
     ap (λ h. entry_of (members_of h) me) came.is
     ∙ entry_of-others limits came.later old me entry (subst (λ (h : History). IsLegal limits h) came.is legal) (came.others me (is_in_self me [])) member
 
+pub even : (n : ℕ) → n * 2 % 2 ≡ 0
+even n = omega arith
+
 module _ {A K : Type 0} (op : Operation A) (allows : K → Allows) (terms : Terms K) (me : ℕ) where
   pub entered : (entry : Entry) (v : View) (x : CoreState A) (w : View) → IsSeatOfTask allows terms me entry v → TookAt op allows terms v x w → AfterTake op allows terms me entry v x w
   entered entry v x w s t =
@@ -52,10 +60,13 @@ module _ {A K : Type 0} (op : Operation A) (allows : K → Allows) (terms : Term
       let member : entry_of (members_of t.now) me ≡ Some entry = member_after terms.limits me entry (known_of v).seen t.now others t.good.legal s.member in
       record {
         now = t.now;
+        claims = t.claims;
+        said = t.said;
         others = others;
         good = t.good;
         stands = t.stands;
-        is = t.is ∙ ap (λ l. turning t.now l) speaks;
+        read = λ a one. let r = t.read a one in (r.0, subst (λ (l : List ℕ). is_in a.task l ≡ false) speaks r.1);
+        is = t.is ∙ ap (λ l. turning t.now l t.claims t.said None) speaks;
         member = member;
         used = IsUsed-member t.now me (ap is_some member);
       }
@@ -64,30 +75,45 @@ module _ {A K : Type 0} (op : Operation A) (allows : K → Allows) (terms : Term
   Goes = View → View → Type 0
 
   -- a give after a call that made events of the task's own, or none
-  pub gives_own : (goes : Goes) (number : ℕ) (y : CoreState A) (w : View) (now new : History) → w ≡ turning now (me ∷ []) → IsUsed now me
+  pub gives_own : (goes : Goes) (number told : ℕ) (y : CoreState A) (w : View) (now new : History) (claims : List Ask) (said : Outcome)
+      → w ≡ turning now (me ∷ []) claims said None → IsUsed now me
       → OwnCame me now new → IsGoodAt allows terms new → StandsWithin op terms.limits y new
-      → goes (turning now (me ∷ [])) (resting new (me ∷ []))
-      → GivesBack (HasOneHistory op allows) terms number w y (λ v z u. goes v u)
-  gives_own goes number y w now new is used own good stands told =
+      → goes (turning now (me ∷ []) claims said None) (resting new (me ∷ []))
+      → GivesEven (HasOneHistory op allows) terms number w y told (λ v z u. goes v u)
+  gives_own goes number told y w now new claims said is used own good stands goes_on done =
       let all : History = own.later ++ now in
       let good' : IsGoodAt allows terms all = subst (λ (h : History). IsGoodAt allows terms h) own.is good in
       let stands' : StandsWithin op terms.limits y all = subst (λ (h : History). StandsWithin op terms.limits y h) own.is stands in
       let used' : IsUsed all me = IsUsed-longer terms.limits now all me good'.legal (record { later = own.later; is = refl }) used in
-      subst (λ (z : View). GivesBack (HasOneHistory op allows) terms number z y (λ v q u. goes v u)) (sym is)
-      (λ views k at. (
+      subst (λ (z : View). GivesOf (HasOneHistory op allows) terms number z y told (done * 2) (λ v q u. goes v u)) (sym is)
+      (λ words views long k at. (
         resting all (me ∷ []),
-        gives terms.limits (allows terms.rule) (StandsWithin op terms.limits) number (knowledge now (me ∷ [])) y own.later (me ∷ [])
+        asks.gives_own op.value terms.limits (allows terms.rule) (StandsWithin op terms.limits) number (knowledge now (me ∷ [])) claims said y own.later (me ∷ [])
+            told (done * 2) (even done)
             (λ task none. own.own task (or_false (eqb me task) none)) good' stands' refl
-            (λ task has. (subst (λ (n : ℕ). IsUsed all n) (one_of me task has) used', inl has)) views k at,
-        subst (λ (h : History). goes (turning now (me ∷ [])) (resting h (me ∷ []))) own.is told,
+            (λ task has. (subst (λ (n : ℕ). IsUsed all n) (one_of me task has) used', inl has)) words views k at,
+        subst (λ (h : History). goes (turning now (me ∷ []) claims said None) (resting h (me ∷ []))) own.is goes_on,
       ))
 
   -- a give after a call that made no event
-  pub gives_same : (number : ℕ) (y : CoreState A) (w : View) (now : History) → w ≡ turning now (me ∷ []) → IsUsed now me
-      → IsGoodAt allows terms now → StandsWithin op terms.limits y now
-      → GivesBack (HasOneHistory op allows) terms number w y (λ v z u. u ≡ resting (known_of v).seen (speaks_of v))
-  gives_same number y w now is used good stands =
-      gives_own (λ v u. u ≡ resting (known_of v).seen (speaks_of v)) number y w now now is used (own_none me now) good stands refl
+  pub gives_same : (number told : ℕ) (entry : Entry) (v : View) (x y : CoreState A) (w : View) (e : AfterTake op allows terms me entry v x w)
+      → StandsWithin op terms.limits y e.now
+      → GivesOf (HasOneHistory op allows) terms number w y told told (λ p q u. u ≡ resting (known_of p).seen (speaks_of p))
+  gives_same number told entry v x y w e stands =
+      let then : View → CoreState A → View → Type 0 = λ p q u. u ≡ resting (known_of p).seen (speaks_of p) in
+      let rests : View = resting e.now (me ∷ []) in
+      subst (λ (z : View). GivesOf (HasOneHistory op allows) terms number z y told told then) (sym e.is)
+      (λ words views long k at. (
+        rests,
+        asks.gives_same op.value terms.limits (allows terms.rule) (StandsWithin op terms.limits) number (knowledge e.now (me ∷ [])) e.claims e.said None y []
+            told rests tt e.good stands
+            (λ a one low st. absurd (apart_phases a.phase (sym (wait_is e.now a.task (a.phase + 1) (a.phase + 1) st)
+            ∙ wait_is e.now a.task (a.phase + 1) a.phase (e.read a one).0)))
+            (inl (e.now, refl, OthersCame-refl (me ∷ []) e.now, tt))
+            (λ s. absurd (no_lane (s.ask.phase + 1) s.posts))
+            words views k at,
+        refl,
+      ))
 
   -- a seat after a give
   pub stays : (entry : Entry) (v : View) (h : History) → v ≡ resting h (me ∷ []) → IsGoodAt allows terms h

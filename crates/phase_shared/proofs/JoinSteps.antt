@@ -16,7 +16,7 @@ use Rattle.phase_core.specs.phase_accum.Operations.{Operation}
 use Rattle.phase_core.specs.Cores.{CoreState, StandsFor}
 use Rattle.phase_shared.specs.declared.rule.Terms.{Terms}
 use Rattle.phase_shared.specs.Rule.{Allows, IsGoodAt, StandsWithin}
-use Rattle.phase_shared.proofs.Keeping.{eqb_refl}
+use Rattle.phase_shared.proofs.Small.{eqb_refl}
 use Rattle.phase_shared.proofs.Giving.{AfterCall, after_call}
 use Rattle.phase_shared.proofs.RegisterSteps.{NewChild, new_child, NewMember}
 

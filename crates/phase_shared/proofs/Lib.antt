@@ -6,9 +6,30 @@ pub mod OneLists
 pub mod PartSteps
 pub mod LaterBlocks
 pub mod BlockPartSteps
-pub mod Keeping
+pub mod Small
+pub mod Stages
+pub mod Steadies
+pub mod Places
+pub mod Growing
+pub mod Taking
+pub mod GivingAsks
+pub mod Joining
+pub mod LaneWords
+pub mod AskMoves
+pub mod AskPosting
+pub mod AskBoards
+pub mod LaneReading
+pub mod AskAnswering
+pub mod WordCalls
+pub mod AskCalls
+pub mod WaitsLow
+pub mod AskNexts
+pub mod LaterNexts
 pub mod Giving
 pub mod Answering
+pub mod TurnParts
+pub mod TurnEnds
+pub mod TurnGoes
 pub mod Stepping
 pub mod SignalSteps
 pub mod WaitSteps
@@ -18,3 +39,4 @@ pub mod BlockSteps
 pub mod JoinSteps
 pub use Rattle.phase_core.proofs.phase_history_lemmas as phase_history_lemmas
 pub use Rattle.turn_lock.proofs as turn_lock_lemmas
+pub mod ServingSteps

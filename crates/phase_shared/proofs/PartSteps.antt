@@ -37,7 +37,7 @@ use Rattle.phase_shared.specs.Calls.{Signals, Waits, HasRegistered, RefusesRegis
 use Rattle.phase_shared.specs.Nexts.{MadeWhere, GoesNext, RefusesNext}
 use Rattle.phase_shared.specs.Regs.{RegState}
 use Rattle.phase_shared.specs.Parts.{with_got, with_any, PartStays, HasNoPart, SendsHeld, Gets, SendsAndGets}
-use Rattle.phase_shared.proofs.Keeping.{is_in_self}
+use Rattle.phase_shared.proofs.Small.{is_in_self}
 use Rattle.phase_shared.proofs.Giving.{member_after}
 
 -- ---- while others' events come

@@ -1,9 +1,9 @@
 -- A registration under the turn.
-use Rattle.std.proofs.Common.{◌≡◌, ◌≢◌, ℕ, ◌+◌, ◌<◌, true, false, cond, eqb, [], ◌∷◌, ◌⊎◌, inl, inr, ⊎_elim, Option, Some, None, refl, sym, ap, subst, ◌∙◌, arith}
+use Rattle.std.proofs.Common.{◌≡◌, ◌≢◌, ℕ, ◌+◌, ◌*◌, ◌<◌, true, false, cond, eqb, List, [], ◌∷◌, ◌⊎◌, inl, inr, ⊎_elim, Option, Some, None, refl, sym, ap, subst, ◌∙◌, arith}
 use Rattle.std.specs.Prelude.{◌||◌, is_some, Result, Err}
 use Rattle.std.proofs.lemmas.Bool.Decides.{nat_tests}
 use Rattle.std.proofs.lemmas.Bool.{eqb-true, ne_eqb}
-use Rattle.turn_lock.specs.Steps.{GivesBack, Forks}
+use Rattle.turn_lock.specs.WordSteps.{GivesOf, ForksOf}
 use Rattle.phase_core.specs.phase_base.Limits.{Limits}
 use Rattle.phase_core.specs.phase_base.declared.mode.Mode.{Mode}
 use Rattle.phase_core.specs.phase_base.declared.entry.Entry.{Entry}
@@ -25,17 +25,21 @@ use Rattle.phase_shared.specs.declared.seats.view.View.{View}
 use Rattle.phase_shared.specs.declared.rule.Terms.{Terms}
 use Rattle.phase_core.specs.phase_history.Others.{IsUsed, is_by, OthersCame}
 use Rattle.phase_core.specs.phase_base.Lists.{is_in}
+use Rattle.phase_core.specs.phase_accum.declared.outcome.Outcome.{Outcome}
+use Rattle.phase_shared.specs.declared.seats.view.Ask.{Ask}
 use Rattle.phase_shared.specs.Views.{knowledge, resting, turning, known_of, speaks_of, first_part, other_part, SpeaksForTwo}
-use Rattle.phase_shared.specs.Rule.{Allows, IsGoodAt, HasOneHistory, StandsWithin, IsSeatOfTask}
+use Rattle.phase_shared.specs.Rule.{Allows, IsGoodAt, HasOneHistory, StandsWithin, IsSeatOfTask, AfterTake}
 use Rattle.phase_shared.specs.Calls.{Tries, number_after, next_child, RefusesRegister}
 use Rattle.phase_shared.specs.Entries.{entry_stays}
-use Rattle.phase_shared.specs.Steps.{IsStep}
+use Rattle.phase_shared.specs.Steps.{IsStep, GivesEven}
 use Rattle.phase_shared.specs.declared.tried.Tried.{Tried}
 use Rattle.phase_shared.specs.declared.tried.Tried.TheVariants.{Refused}
 use Rattle.phase_core.proofs.phase_history_lemmas.Used.{IsUsed-longer}
 use Rattle.phase_core.proofs.phase_history_lemmas.Received.{start_of-above, fresh}
-use Rattle.phase_shared.proofs.Keeping.{gives, forks, or_false, is_in_self, eqb_refl}
-use Rattle.phase_shared.proofs.Giving.{AfterCall, after_call, gives_same, stays, station, told_entry}
+use Rattle.phase_shared.proofs.Small.{or_false, is_in_self, eqb_refl}
+use Rattle.phase_shared.proofs.GivingAsks as asks
+use Rattle.phase_shared.proofs.Joining.{forks}
+use Rattle.phase_shared.proofs.Giving.{even, AfterCall, after_call, gives_same, stays, station, told_entry}
 
 in_two : (a b t : ℕ) → is_in t (a ∷ b ∷ []) ≡ true → (a ≡ t) ⊎ (b ≡ t)
 in_two a b t has = elim (eqb a t) as (λ c. (eqb a t ≡ c) → (c || (eqb b t || false)) ≡ true → (a ≡ t) ⊎ (b ≡ t)) [
@@ -83,17 +87,18 @@ child_is_next now child greatest is next above = grind (arith, nat_tests)
 
 module _ {A K : Type 0} (op : Operation A) (allows : K → Allows) (terms : Terms K) (me : ℕ) where
   -- a give after a call that registered a child by this event
-  pub gives_child : (number : ℕ) (y : CoreState A) (w : View) (now : History) (event : Event) (child : ℕ) → ((task : ℕ) → is_by task event ≡ eqb me task)
-      → IsUsed (event ∷ now) child → w ≡ turning now (me ∷ []) → IsUsed now me → NewChild now me child
+  pub gives_child : (number told : ℕ) (y : CoreState A) (w : View) (now : History) (claims : List Ask) (said : Outcome) (event : Event) (child : ℕ) → ((task : ℕ) → is_by task event ≡ eqb me task)
+      → IsUsed (event ∷ now) child → w ≡ turning now (me ∷ []) claims said None → IsUsed now me → NewChild now me child
       → IsGoodAt allows terms (event ∷ now) → StandsWithin op terms.limits y (event ∷ now)
-      → (goes : View → View → Type 0) → goes (turning now (me ∷ [])) (resting (event ∷ now) (me ∷ child ∷ []))
-      → GivesBack (HasOneHistory op allows) terms number w y (λ v z u. goes v u)
-  gives_child number y w now event child by joined is used new good stands goes told =
+      → (goes : View → View → Type 0) → goes (turning now (me ∷ []) claims said None) (resting (event ∷ now) (me ∷ child ∷ []))
+      → GivesEven (HasOneHistory op allows) terms number w y told (λ v z u. goes v u)
+  gives_child number told y w now claims said event child by joined is used new good stands goes goes_on done =
       let out : eqb child me ≡ false = ne_eqb child me new.apart in
-      subst (λ (z : View). GivesBack (HasOneHistory op allows) terms number z y (λ v q u. goes v u)) (sym is)
-      (λ views k at. (
+      subst (λ (z : View). GivesOf (HasOneHistory op allows) terms number z y told (done * 2) (λ v q u. goes v u)) (sym is)
+      (λ words views long k at. (
         resting (event ∷ now) (me ∷ child ∷ []),
-        gives terms.limits (allows terms.rule) (StandsWithin op terms.limits) number (knowledge now (me ∷ [])) y (event ∷ []) (me ∷ child ∷ [])
+        asks.gives_own op.value terms.limits (allows terms.rule) (StandsWithin op terms.limits) number (knowledge now (me ∷ [])) claims said y (event ∷ [])
+            (me ∷ child ∷ []) told (done * 2) (even done)
             (λ task none. ap (λ b. cond b (event ∷ []) []) (by task ∙ or_false (eqb me task) none))
             good stands (rw out refl)
             (λ task has. ⊎_elim
@@ -101,15 +106,16 @@ module _ {A K : Type 0} (op : Operation A) (allows : K → Allows) (terms : Term
             (IsUsed-longer terms.limits now (event ∷ now) me good.legal (record { later = event ∷ []; is = refl }) used, inl (is_in_self me [])))
             (λ (m : child ≡ task). subst (λ (n : ℕ). IsUsed (event ∷ now) n × ((is_in n (me ∷ []) ≡ true) ⊎ (IsUsed now n → ⊥))) m
             (joined, inr new.unused))
-            (in_two me child task has)) views k at,
-        told,
+            (in_two me child task has)) words views k at,
+        goes_on,
       ))
 
   pub forks_child : (number : ℕ) (v : View) (h : History) (child : ℕ) → v ≡ resting h (me ∷ child ∷ [])
-      → Forks {T = CoreState A} (HasOneHistory op allows) terms number v (first_part v) (other_part v)
+      → ForksOf {T = CoreState A} (HasOneHistory op allows) terms number v (first_part v) (other_part v)
   forks_child number v h child is =
-      subst (λ (z : View). Forks {T = CoreState A} (HasOneHistory op allows) terms number z (first_part z) (other_part z)) (sym is)
-      (λ home views k at. forks terms.limits (allows terms.rule) (StandsWithin op terms.limits) number h me child home views k at)
+      subst (λ (z : View). ForksOf {T = CoreState A} (HasOneHistory op allows) terms number z (first_part z) (other_part z)) (sym is)
+      (λ home told words views long k at.
+      forks op.value terms.limits (allows terms.rule) (StandsWithin op terms.limits) number h me child home told words views k at)
 
 -- a refusal in the words of the definition
 pub refuses : (refusal : RegisterRefusal) (me : ℕ) (mode : Mode) (old new : History) → OthersCame (me ∷ []) old new
@@ -123,9 +129,9 @@ refuses register.OutOfMemory me mode old new others told memory = (others, memor
 
 -- the seat of both after the give, and its two parts
 module _ (me : ℕ) (now : History) (event : Event) (child : ℕ) where
-  pub for_both : (u w : View) → u ≡ resting (event ∷ (known_of w).seen) (me ∷ child ∷ []) → w ≡ turning now (me ∷ [])
-      → u ≡ resting (event ∷ now) (me ∷ child ∷ [])
-  for_both u w told is = told ∙ ap (λ (v : View). resting (event ∷ (known_of v).seen) (me ∷ child ∷ [])) is
+  pub for_both : (u w : View) (claims : List Ask) (said : Outcome) → u ≡ resting (event ∷ (known_of w).seen) (me ∷ child ∷ [])
+      → w ≡ turning now (me ∷ []) claims said None → u ≡ resting (event ∷ now) (me ∷ child ∷ [])
+  for_both u w claims said told is = told ∙ ap (λ (v : View). resting (event ∷ (known_of v).seen) (me ∷ child ∷ [])) is
 
   pub speaks_for_both : (u : View) → u ≡ resting (event ∷ now) (me ∷ child ∷ []) → SpeaksForTwo u
   speaks_for_both u both = record {
@@ -177,10 +183,10 @@ module _ {A K : Type 0} (op : Operation A) (allows : K → Allows) (terms : Term
     is_there o viewed = viewed ∙ ap (λ ms. entry_of ms child) b.stands.stands.members_are ∙ b.there
 
     -- the give
-    pub gives_new_member : (number : ℕ) (w : View) → w ≡ turning now (me ∷ []) → IsUsed now me
-        → GivesBack (HasOneHistory op allows) terms number w x (λ v z u. u ≡ resting (event ∷ (known_of v).seen) (me ∷ child ∷ []))
-    gives_new_member number w is used =
-        gives_child op allows terms me number x w now event child b.own b.joined is used b.new b.good b.stands
+    pub gives_new_member : (number told : ℕ) (w : View) (claims : List Ask) (said : Outcome) → w ≡ turning now (me ∷ []) claims said None → IsUsed now me
+        → GivesEven (HasOneHistory op allows) terms number w x told (λ v z u. u ≡ resting (event ∷ (known_of v).seen) (me ∷ child ∷ []))
+    gives_new_member number told w claims said is used =
+        gives_child op allows terms me number told x w now claims said event child b.own b.joined is used b.new b.good b.stands
         (λ v u. u ≡ resting (event ∷ (known_of v).seen) (me ∷ child ∷ [])) refl
 
     -- the parent's seat
@@ -196,22 +202,23 @@ module _ {A K : Type 0} (op : Operation A) (allows : K → Allows) (terms : Term
     )
 
   -- a refused call left all as it was
-  pub gives_refused : (number : ℕ) (now : History) (w : View) (old x : CoreState A) → StandsWithin op terms.limits old now → x ≡ old
-      → w ≡ turning now (me ∷ []) → IsUsed now me → IsGoodAt allows terms now
-      → GivesBack (HasOneHistory op allows) terms number w x (λ v z u. u ≡ resting (known_of v).seen (speaks_of v))
-  gives_refused number now w old x before same is used good =
-      gives_same op allows terms me number x w now is used good (subst (λ (z : CoreState A). StandsWithin op terms.limits z now) (sym same) before)
+  pub gives_refused : (number told : ℕ) (v w : View) (z old x : CoreState A) (e : AfterTake op allows terms me entry v z w)
+      → StandsWithin op terms.limits old e.now → x ≡ old
+      → GivesOf (HasOneHistory op allows) terms number w x told told (λ p q u. u ≡ resting (known_of p).seen (speaks_of p))
+  gives_refused number told v w z old x e before same =
+      gives_same op allows terms me number told entry v z x w e (subst (λ (q : CoreState A). StandsWithin op terms.limits q e.now) (sym same) before)
 
   -- the step whose call was refused
   pub refused_step : {X : Type 0} (now : History) (child greatest : ℕ) (mode : Mode) (refusal : RegisterRefusal) (same : Type 0)
-      (call : Result X RegisterRefusal → Type 0) (old u w : View) → u ≡ resting (known_of w).seen (speaks_of w) → w ≡ turning now (me ∷ [])
+      (call : Result X RegisterRefusal → Type 0) (old u w : View) (claims : List Ask) (said : Outcome) → u ≡ resting (known_of w).seen (speaks_of w)
+      → w ≡ turning now (me ∷ []) claims said None
       → IsGoodAt allows terms now → entry_of (members_of now) me ≡ Some entry → OthersCame (me ∷ []) (known_of old).seen now
       → greatest ≡ greatest_used now → child ≡ number_after greatest
       → (refusal ≢ register.OutOfMemory → register_refusal now me child mode ≡ Some refusal)
       → (refusal ≡ register.OutOfMemory → register_refusal now me child mode ≡ None)
       → (RefusesRegister me mode (known_of old).seen (known_of u).seen refusal → call (Err refusal))
       → IsStep {X = X} allows terms me register.NoTask entry_stays (Tries same call (Err (Refused refusal))) entry entry old u (Err (Refused refusal))
-  refused_step {X} now child greatest mode refusal same call old u w told is good member others greatest_is next refused memory answered =
+  refused_step {X} now child greatest mode refusal same call old u w claims said told is good member others greatest_is next refused memory answered =
       let rests : u ≡ resting now (me ∷ []) = told ∙ ap (λ (v : View). resting (known_of v).seen (speaks_of v)) is in
       let next' : child ≡ number_after (greatest_used now) = next ∙ ap number_after greatest_is in
       record {

@@ -2,7 +2,6 @@
 use Rattle.std.proofs.Common.{◌≡◌, ◌≢◌, ℕ, true, false, [], ◌∷◌, Option, Some, None, sym, ap, subst, ◌∙◌}
 use Rattle.std.specs.Prelude.{Result, Err, is_some}
 use Rattle.std.specs.Result.{result_ok}
-use Rattle.turn_lock.specs.Steps.{GivesBack}
 use Rattle.phase_core.specs.phase_base.Members.{entry_of}
 use Rattle.phase_core.specs.phase_base.declared.entry.Entry.{Entry}
 use Rattle.phase_core.specs.phase_accum.Operations.{Operation}
@@ -16,7 +15,7 @@ use Rattle.phase_shared.specs.declared.tried.Tried.TheVariants.{Busy}
 use Rattle.phase_shared.specs.Views.{resting, turning, known_of}
 use Rattle.phase_shared.specs.Rule.{Allows, IsGoodAt, HasOneHistory, StandsWithin, IsSeatOfTask, AfterTake, Keeps}
 use Rattle.phase_shared.specs.Calls.{Tries, tried}
-use Rattle.phase_shared.specs.Steps.{IsStep}
+use Rattle.phase_shared.specs.Steps.{IsStep, GivesEven}
 use Rattle.phase_shared.proofs.Answering.{tries, result_ok-tried, tried_never_busy, refused_as}
 use Rattle.phase_shared.proofs.Giving.{OwnCame, AfterCall, after_call, gives_own, station, told_entry}
 
@@ -49,11 +48,12 @@ module _ {A K : Type 0} (op : Operation A) (allows : K → Allows) (terms : Term
       cc
 
   -- the give
-  pub gives_called : (goes : View → View → Type 0) (number : ℕ) (entry : Entry) (v : View) (w : View) (y x : CoreState A) (new : History) (expected : Entry)
-      → (e : AfterTake op allows terms me entry v y w) → Called e.now new x expected → goes (turning e.now (me ∷ [])) (resting new (me ∷ []))
-      → GivesBack (HasOneHistory op allows) terms number w x (λ p q r. goes p r)
-  gives_called goes number entry v w y x new expected e c told =
-      gives_own op allows terms me goes number x w e.now new e.is e.used c.own c.good c.stands told
+  pub gives_called : (goes : View → View → Type 0) (number told : ℕ) (entry : Entry) (v : View) (w : View) (y x : CoreState A) (new : History) (expected : Entry)
+      → (e : AfterTake op allows terms me entry v y w) → Called e.now new x expected
+      → goes (turning e.now (me ∷ []) e.claims e.said None) (resting new (me ∷ []))
+      → GivesEven (HasOneHistory op allows) terms number w x told (λ p q r. goes p r)
+  gives_called goes number told entry v w y x new expected e c goes_on =
+      gives_own op allows terms me goes number told x w e.now new e.claims e.said e.is e.used c.own c.good c.stands goes_on
 
   -- the step, once its seat rests again
   pub stepped : {X R : Type 0} (no_task : R) (after : Option X → Entry → Entry) (same : Type 0) (call : Result X R → Type 0) (entry new_entry : Entry)

@@ -1,8 +1,12 @@
+pub mod Asks
 pub mod BlockParts
 pub mod Blocks
 pub mod Calls
+pub mod Desks
 pub mod Entries
+pub mod Goods
 pub mod Joins
+pub mod Lanes
 pub mod LockedPhasers
 pub mod Nexts
 pub mod OneSends
@@ -10,8 +14,11 @@ pub mod Parts
 pub mod Puts
 pub mod Regs
 pub mod Rule
+pub mod Servings
 pub mod Steps
+pub mod Tells
 pub mod Views
+pub mod WordTells
 pub use Rattle.phase_core.specs.phase_accum as phase_accum
 pub use Rattle.phase_core.specs.phase_base as phase_base
 pub use Rattle.phase_core.specs as phase_core

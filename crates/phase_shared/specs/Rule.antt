@@ -1,62 +1,23 @@
 -- The rule of a shared phaser: there is one legal history, which keeps the phaser's rule.
-use Rattle.std.specs.Prelude.{◌≡◌, ℕ, ℤ, List, [], ◌∷◌, ◌++◌, Option, Some, None, true}
-use mathlib.Core.Option.{some}
-use lib.ListN.{get_elem?}
+use Rattle.std.specs.Prelude.{◌≡◌, ℕ, ◌+◌, List, [], ◌∷◌, ◌++◌, Option, Some, None, true, false}
 use Rattle.phase_core.specs.phase_base.Limits.{Limits}
-use Rattle.phase_core.specs.phase_accum.declared.single.Single.{Single}
 use Rattle.phase_core.specs.phase_accum.Operations.{Operation}
-use Rattle.phase_core.specs.phase_history.declared.event.Event.TheVariants.{Made, Signalled}
+use Rattle.phase_core.specs.phase_history.declared.event.Event.TheVariants.{Made}
 use Rattle.phase_core.specs.phase_base.declared.entry.Entry.{Entry}
 use Rattle.phase_core.specs.phase_base.Members.{entry_of}
 use Rattle.phase_core.specs.phase_history.Histories.{History, members_of}
-use Rattle.phase_core.specs.phase_history.Legal.{IsLegal}
 use Rattle.phase_core.specs.Cores.{CoreState, StandsFor}
-use Rattle.phase_shared.specs.declared.seats.view.Knowledge.{Knowledge}
 use Rattle.phase_shared.specs.declared.seats.view.View.{View}
-use Rattle.phase_shared.specs.declared.seats.view.View.TheVariants.{Resting, Turning, Joining, Spent}
 use Rattle.phase_shared.specs.declared.rule.Terms.{Terms}
 use Rattle.phase_core.specs.phase_history.Others.{OthersCame, IsUsed}
 use Rattle.phase_core.specs.phase_base.Lists.{is_distinct, is_in}
 use Rattle.phase_shared.specs.Views.{resting, turning, speaks_of, known_of, second_of, Fits}
-
--- which signals are allowed after a history
-abbrev pub Allows : Type 1
-Allows = History → ℕ → List (List ℤ) → Option Single → Type 0
-
--- each signal was allowed after the history before it
-abbrev pub Keeps : Allows → History → Type 0
-Keeps allows [] = Unit {0}
-Keeps allows (Signalled task lists single ∷ before) =
-    allows before task lists single × Keeps allows before
-Keeps allows (event ∷ before) = Keeps allows before
-
--- a legal history that keeps the rule
-pub record IsGood (limits : Limits) (allows : Allows) (h : History) : Type 0 where
-  pub legal : IsLegal limits h
-  pub keeps : Keeps allows h
-
--- what the view of seat j says of the history, while the value is home or out with the holder
-abbrev pub IsSound : {T : Type 0} → Option T → ℕ → History → ℕ → View → Type 0
-IsSound home holder log j (Resting f) = Fits f log × (is_distinct f.speaks ≡ true)
-IsSound home holder log j (Turning f) =
-    (f.seen ≡ log) × (is_distinct f.speaks ≡ true) × (j ≡ holder) × (home ≡ None)
-    × ((task : ℕ) × (is_in task f.speaks ≡ true))
-IsSound home holder log j (Joining f g) =
-    Fits f log × Fits g log × (is_distinct (speaks_of (Joining f g)) ≡ true)
-IsSound home holder log j Spent = Unit {0}
-
--- there is one good history, for which the value at home stands, and which each view fits
-pub record Kept {T : Type 0} (limits : Limits) (allows : Allows) (Stands : T → History → Type 0)
-    (home : Option T) (views : List View) : Type 0 where
-  pub log : History
-  pub good : IsGood limits allows log
-  pub stands : (x : T) → home ≡ Some x → Stands x log
-  pub holder : ℕ
-  pub out : home ≡ None → (f : Knowledge) × (get_elem? views holder ≡ some (Turning f))
-  pub sound : (j : ℕ) (v : View) → get_elem? views j ≡ some v → IsSound home holder log j v
-  pub owner : ℕ → ℕ
-  pub owns : (j : ℕ) (v : View) (task : ℕ) → get_elem? views j ≡ some v
-      → is_in task (speaks_of v) ≡ true → (owner task ≡ j) × IsUsed log task
+use Rattle.phase_core.specs.phase_accum.declared.outcome.Outcome.{Outcome}
+use Rattle.phase_shared.specs.declared.seats.view.Ask.{Ask}
+use Rattle.phase_shared.specs.Asks.{IsAtPhases, IsOneOf}
+pub use Rattle.phase_shared.specs.Goods.{Allows, Keeps, IsGood, IsGoodAt}
+pub use Rattle.phase_shared.specs.Desks.{Kept}
+pub use Rattle.phase_shared.specs.Tells.{Took}
 
 -- the core stands for the history, and has the phaser's limits
 pub record StandsWithin {A : Type 0} (op : Operation A) (limits : Limits) (core : CoreState A)
@@ -66,22 +27,14 @@ pub record StandsWithin {A : Type 0} (op : Operation A) (limits : Limits) (core 
 
 module _ {A K : Type 0} (op : Operation A) (allows : K → Allows) where
   -- the rule of a phaser's lock
-  abbrev pub HasOneHistory : Terms K → Option (CoreState A) → List View → Type 0
-  HasOneHistory terms home views =
-      Kept terms.limits (allows terms.rule) (StandsWithin op terms.limits) home views
+  abbrev pub HasOneHistory : Terms K → Option (CoreState A) → ℕ → List ℕ → List View → Type 0
+  HasOneHistory terms home told words views =
+      Kept op.value terms.limits (allows terms.rule) (StandsWithin op terms.limits) home told words
+      views
 
 -- the view of the first seat: its task 0 made the phaser
 abbrev pub founding : View
 founding = resting (Made 0 ∷ []) (0 ∷ [])
-
--- a take that won: the history goes on from what the seat had seen, by events of others
-pub record Took {T : Type 0} (limits : Limits) (allows : Allows) (Stands : T → History → Type 0)
-    (v : View) (x : T) (w : View) : Type 0 where
-  pub now : History
-  pub others : OthersCame (speaks_of v) (known_of v).seen now
-  pub good : IsGood limits allows now
-  pub stands : Stands x now
-  pub is : w ≡ turning now (speaks_of v)
 
 -- the look after a join
 pub record Learned (limits : Limits) (allows : Allows) (v : View) (w : View) : Type 0 where
@@ -91,10 +44,6 @@ pub record Learned (limits : Limits) (allows : Allows) (v : View) (w : View) : T
   pub distinct : is_distinct (speaks_of v) ≡ true
   pub good : IsGood limits allows now
   pub is : w ≡ resting now (speaks_of v)
-
--- a good history, at a phaser's terms
-abbrev pub IsGoodAt : {K : Type 0} → (K → Allows) → Terms K → History → Type 0
-IsGoodAt allows terms h = IsGood terms.limits (allows terms.rule) h
 
 -- a take, at a phaser's terms
 abbrev pub TookAt : {A K : Type 0} → Operation A → (K → Allows) → Terms K → View → CoreState A
@@ -113,10 +62,14 @@ pub record IsSeatOfTask {K : Type 0} (allows : K → Allows) (terms : Terms K) (
 pub record AfterTake {A K : Type 0} (op : Operation A) (allows : K → Allows) (terms : Terms K)
     (me : ℕ) (entry : Entry) (v : View) (x : CoreState A) (w : View) : Type 0 where
   pub now : History
+  pub claims : List Ask
+  pub said : Outcome
   pub others : OthersCame (me ∷ []) (known_of v).seen now
   pub good : IsGoodAt allows terms now
   pub stands : StandsWithin op terms.limits x now
-  pub is : w ≡ turning now (me ∷ [])
+  pub read : (a : Ask) → IsOneOf claims a → IsAtPhases now a.task (a.phase + 1) a.phase
+      × (is_in a.task (me ∷ []) ≡ false)
+  pub is : w ≡ turning now (me ∷ []) claims said None
   pub member : entry_of (members_of now) me ≡ Some entry
   pub used : IsUsed now me
 

@@ -1,7 +1,8 @@
 -- What holds of every step of a seat that speaks for one task.
-use Rattle.std.specs.Prelude.{◌≡◌, ◌≢◌, ℕ, [], ◌∷◌, Option, Result, Ok, Err}
+use Rattle.std.specs.Prelude.{◌≡◌, ◌≢◌, ℕ, ◌*◌, List, [], ◌∷◌, Option, Result, Ok, Err}
 use Rattle.std.specs.Result.{result_ok}
 use Rattle.turn_lock.specs.declared.seat.Seat.{Seat}
+use Rattle.turn_lock.specs.WordSteps.{GivesOf}
 use Rattle.turn_lock.specs.Seats.{Place, IsSeatAt, seat_view}
 use Rattle.phase_core.specs.phase_base.declared.entry.Entry.{Entry}
 use Rattle.phase_core.specs.phase_base.declared.mode.Mode.{Mode}
@@ -29,6 +30,12 @@ pub record IsStep {K X R : Type 0} (allows : K → Allows) (terms : Terms K) (me
   pub entry_is : new_entry ≡ after (result_ok result) entry
   pub known : result ≢ Err (Refused no_task)
   pub alone : OnlyUsed (me ∷ []) (known_of old).seen → result ≢ Err Busy
+
+-- a give that tells any even number
+abbrev pub GivesEven : {N T V : Type 0} → (N → Option T → ℕ → List ℕ → List V → Type 0) → N → ℕ
+    → V → T → ℕ → (V → T → V → Type 0) → Type 0
+GivesEven holds name number v y told then =
+    (done : ℕ) → GivesOf holds name number v y told (done * 2) then
 
 -- an accepted registration: the child's seat stands where the parent's does, in its own mode, and
 -- has seen what the parent's has

@@ -1,10 +1,13 @@
 -- What a seat knows: the history that it has seen, and the tasks that it speaks for.
-use Rattle.std.specs.Prelude.{◌≡◌, ℕ, List, [], ◌∷◌, ◌++◌, Bool, true, false, take, drop}
+use Rattle.std.specs.Prelude.{◌≡◌, ℕ, List, [], ◌∷◌, ◌++◌, Bool, true, false, Option, None, take, drop}
 use Rattle.phase_core.specs.phase_history.Histories.{History}
 use Rattle.phase_core.specs.phase_history.Others.{OthersCame}
+use Rattle.phase_core.specs.phase_accum.declared.outcome.Outcome.{Outcome}
+use Rattle.phase_core.specs.phase_accum.declared.outcome.Outcome.TheVariants.{Empty}
+use Rattle.phase_shared.specs.declared.seats.view.Ask.{Ask}
 use Rattle.phase_shared.specs.declared.seats.view.Knowledge.{Knowledge}
 use Rattle.phase_shared.specs.declared.seats.view.View.{View}
-use Rattle.phase_shared.specs.declared.seats.view.View.TheVariants.{Resting, Turning, Joining, Spent}
+use Rattle.phase_shared.specs.declared.seats.view.View.TheVariants.{Resting, Turning, Joining, Posting, Asking, Reading, Spent}
 
 -- this history was seen, and these numbers are spoken for
 abbrev pub knowledge : History → List ℕ → Knowledge
@@ -14,22 +17,28 @@ knowledge seen speaks = record { seen = seen; speaks = speaks }
 abbrev pub resting : History → List ℕ → View
 resting seen speaks = Resting (knowledge seen speaks)
 
--- the same, with the turn
-abbrev pub turning : History → List ℕ → View
-turning seen speaks = Turning (knowledge seen speaks)
+-- the same, with the turn: it has read these asks, and knows what the board and its own lane have
+abbrev pub turning : History → List ℕ → List Ask → Outcome → Option ℕ → View
+turning seen speaks claims said lane = Turning (knowledge seen speaks) claims said lane
 
 -- the numbers that a view speaks for
 abbrev pub speaks_of : View → List ℕ
 speaks_of (Resting f) = f.speaks
-speaks_of (Turning f) = f.speaks
+speaks_of (Turning f claims said lane) = f.speaks
 speaks_of (Joining f g) = f.speaks ++ g.speaks
+speaks_of (Posting f n) = f.speaks
+speaks_of (Asking f a) = f.speaks
+speaks_of (Reading f a) = f.speaks
 speaks_of Spent = []
 
 -- what a view knows, the first of both where it has two
 abbrev pub known_of : View → Knowledge
 known_of (Resting f) = f
-known_of (Turning f) = f
+known_of (Turning f claims said lane) = f
 known_of (Joining f g) = f
+known_of (Posting f n) = f
+known_of (Asking f a) = f
+known_of (Reading f a) = f
 known_of Spent = knowledge [] []
 
 -- the second of both, of a view that has two
@@ -39,7 +48,7 @@ second_of v = known_of v
 
 -- whether the view has the turn
 abbrev pub is_turning : View → Bool
-is_turning (Turning f) = true
+is_turning (Turning f claims said lane) = true
 is_turning _ = false
 
 -- what was seen is a beginning of the history, which has no later events of those spoken for
@@ -68,3 +77,16 @@ pub record SpeaksForTwo (v : View) : Type 0 where
   pub one : ℕ
   pub other : ℕ
   pub rests : v ≡ resting (known_of v).seen (one ∷ other ∷ [])
+
+-- what a holder knows of the board, what it read, and what its own lane has
+abbrev pub board_of : View → Outcome
+board_of (Turning f claims said lane) = said
+board_of v = Empty
+
+abbrev pub claims_of : View → List Ask
+claims_of (Turning f claims said lane) = claims
+claims_of v = []
+
+abbrev pub lane_of : View → Option ℕ
+lane_of (Turning f claims said lane) = lane
+lane_of v = None

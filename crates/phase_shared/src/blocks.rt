@@ -7,9 +7,11 @@ ghost use Rattle.phase_shared.specs.Entries.{entry_stays};
 ghost use Rattle.phase_shared.specs.Blocks.{SignalsBlock, WaitsBlock, MaySignalBlock, entry_after_block, entry_after_values, without_lists};
 ghost use Rattle.phase_shared.specs.Joins.{RegistersNow};
 
+use crate::held::Held;
 use crate::phaser::Phaser;
 use crate::reg::Reg;
 use crate::rule::SignalRule;
+use crate::seats::spins::Spins;
 use crate::seats::{block_steps, join_steps};
 use crate::tried::Tried;
 use phase_core::phase_accum::{Accumulate, Outcome, Pending, Single};
@@ -142,11 +144,13 @@ impl<A: Accumulate, K: SignalRule> Reg<A, K> {
             Ok(made) => made,
             Err(tried) => return Err(tried),
         };
+        phaser.locked.hints.came();
         Ok(Reg {
             seat: Some(made.1),
             number: made.0,
             entry: made.2,
-            pending: Pending::new(),
+            pending: Held::new(),
+            spins: Spins::new(),
         })
     }
 }

@@ -111,6 +111,8 @@
 #![tactic(auto)]
 
 mod blocks;
+mod held;
+mod lane_words;
 pub mod laws;
 mod loose;
 mod next;

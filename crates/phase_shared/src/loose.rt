@@ -32,6 +32,7 @@ impl<A: Accumulate, K: SignalRule> Drop for Loose<A, K> {
             number: _,
             entry: _,
             pending: _,
+            spins: _,
         } = reg;
         drop(seat);
     }

@@ -1,17 +1,25 @@
 //! A registration's next phase, by one call.
-ghost use Rattle.std.specs.Prelude.{◌≡◌, ◌≢◌, true, Some, Ok, Err, is_ok, ◌&&◌};
+ghost use Rattle.std.specs.Prelude.{◌≡◌, ◌≢◌, true, Some, None, Ok, Err, IfSome, is_ok, ◌&&◌};
 ghost use Rattle.phase_core.specs.phase_base.Modes.{mode_signals, mode_waits};
 ghost use Rattle.phase_shared.specs.Rule.{IsGoodAt};
 ghost use Rattle.phase_shared.specs.Regs.{phaser_lock, phaser_terms, phaser_limits};
 ghost use Rattle.phase_shared.specs.Calls.{IsCall, Waits, MaySignal, HeldAfter};
 ghost use Rattle.phase_shared.specs.Entries.{entry_after_wait, entry_after_next};
 ghost use Rattle.phase_shared.specs.Nexts.{GoesOrRefuses};
+ghost use Rattle.phase_shared.specs.Servings.{IsRequestOf};
 
+use crate::held::Held;
+use crate::lane_words::LANES;
+use crate::patience::Patience;
 use crate::phaser::Phaser;
 use crate::reg::Reg;
 use crate::rule::SignalRule;
+use crate::seats::nexts;
+use crate::seats::request::Request;
+use crate::tried::Tried;
 use phase_core::phase_accum::{Accumulate, Single};
 use phase_core::{Got, SignalRefusal};
+use std::marker::Brand;
 use std::sync::Wait;
 
 /// What a registration did in a phase.
@@ -60,12 +68,14 @@ impl<A: Accumulate, K: SignalRule> Reg<A, K> {
                 got: Some(got),
             });
         }
+        if let Some(request) = self.request(phaser, single) {
+            return self.ask_next(rt, phaser, request);
+        }
         let waits = self.mode().waits();
-        let answer = match self.signal_and_wait(rt, phaser, single, waits) {
+        let (phase, got) = match self.signal_and_wait(rt, phaser, single, waits) {
             Ok(answer) => answer,
             Err(refusal) => return Err(refusal),
         };
-        let (phase, got) = answer;
         if !waits || got.is_some() {
             return Ok(Next {
                 signalled: Some(phase),
@@ -77,6 +87,110 @@ impl<A: Accumulate, K: SignalRule> Reg<A, K> {
         Ok(Next {
             signalled: Some(phase),
             got: Some(got),
+        })
+    }
+
+    // What it asks others for, where it can: it waits too, and names no single; it has a lane, and
+    // stands before its next phase; and a word says what it holds. Where it is alone, it asks
+    // nobody.
+    fn request(&self, phaser: &Phaser<A, K>, single: Option<Single>) -> Option<Request>
+        ensures request { IfSome result (λ r. IsRequestOf A.operation r self.now) }
+        ensures waits { IfSome result (λ r. mode_waits self.now.entry.mode ≡ true) }
+        ensures single { IfSome result (λ r. single ≡ None) }
+    {
+        if single.is_some() || !self.mode().waits() {
+            return None;
+        }
+        let phase = self.entry.signal_phase;
+        let send = self.pending.word()?;
+        if phaser.locked.hints.is_alone() || self.number >= LANES || phase == u64::MAX {
+            return None;
+        }
+        if self.entry.wait_phase != phase {
+            return None;
+        }
+        Some(Request {
+            task: self.number,
+            phase,
+            send,
+        })
+    }
+
+    // Goes to its next phase, where it can ask others. It tries again where it is ahead.
+    fn ask_next<W: Wait>(
+        &mut self,
+        rt: &W,
+        phaser: &Phaser<A, K>,
+        request: Request,
+    ) -> Result<Next, SignalRefusal>
+        requires at { self.old.at ≡ phaser_lock phaser.now }
+        requires both { (mode_signals self.old.entry.mode ≡ true)
+            × (mode_waits self.old.entry.mode ≡ true) }
+        requires request { IsRequestOf A.operation request self.old }
+        requires rule { MaySignal A.operation K.allows (phaser_terms phaser.now) self.old None }
+        ensures call { let old = self.old in
+            IsCall K.allows (phaser_terms phaser.now) SignalRefusal.NoTask entry_after_next
+            (GoesOrRefuses A.operation (phaser_limits phaser.now) None old self.new.seen result)
+            old self.new result }
+        ensures waited { result ≢ Err SignalRefusal.Ahead }
+        ensures held { HeldAfter A.operation (is_ok result) self.old.held self.new.held }
+    {
+        let patience = Patience::new();
+        for _ in rt.forever() {
+            let refusal = match self.ask_once(rt, phaser, request) {
+                Ok(next) => return Ok(next),
+                Err(refusal) => refusal,
+            };
+            let SignalRefusal::Ahead = refusal else {
+                return Err(refusal);
+            };
+            let tried = Tried::Refused(refusal);
+            self.pause_for_room(rt, phaser, 1, &patience, tried);
+        }
+        unreachable!()
+    }
+
+    // Goes to its next phase, where it can ask others, or is refused as a signal is.
+    fn ask_once<W: Wait>(
+        &mut self,
+        rt: &W,
+        phaser: &Phaser<A, K>,
+        request: Request,
+    ) -> Result<Next, SignalRefusal>
+        requires at { self.old.at ≡ phaser_lock phaser.now }
+        requires both { (mode_signals self.old.entry.mode ≡ true)
+            × (mode_waits self.old.entry.mode ≡ true) }
+        requires request { IsRequestOf A.operation request self.old }
+        requires rule { MaySignal A.operation K.allows (phaser_terms phaser.now) self.old None }
+        ensures call { let old = self.old in
+            IsCall K.allows (phaser_terms phaser.now) SignalRefusal.NoTask entry_after_next
+            (GoesOrRefuses A.operation (phaser_limits phaser.now) None old self.new.seen result)
+            old self.new result }
+        ensures held { HeldAfter A.operation (is_ok result) self.old.held self.new.held }
+    {
+        let Some(seat) = self.seat.take() else {
+            unreachable!()
+        };
+        let (seat, answer) = nexts::next::<A, K, Brand, W>(
+            rt,
+            &phaser.locked,
+            seat,
+            self.entry,
+            request,
+            &mut self.spins,
+        );
+        self.seat = Some(seat);
+        let outcome = match answer {
+            Ok(outcome) => outcome,
+            Err(refused) => return Err(refused),
+        };
+        let phase = request.phase;
+        self.entry.signal_phase = phase + 1;
+        self.entry.wait_phase = phase + 1;
+        self.pending = Held::new();
+        Ok(Next {
+            signalled: Some(phase),
+            got: Some(Got::Value { phase, outcome }),
         })
     }
 

@@ -7,10 +7,12 @@ ghost use Rattle.phase_core.specs.phase_history.Others.{OnlyUsed};
 ghost use Rattle.phase_shared.specs.Rule.{IsGoodAt};
 ghost use Rattle.phase_shared.specs.Regs.{phaser_lock, phaser_terms, phaser_limits};
 
+use crate::held::Held;
 use crate::reg::Reg;
 use crate::rule::{SignalRule, Terms};
 use crate::seats::locked::LockedPhaser;
-use phase_core::phase_accum::{Accumulate, Pending};
+use crate::seats::spins::Spins;
+use phase_core::phase_accum::Accumulate;
 use phase_core::phase_base::{Entry, Mode, Spec};
 use std::alloc::{AllocError, Global};
 
@@ -61,7 +63,8 @@ impl<A: Accumulate, K: SignalRule> Phaser<A, K> {
             seat: Some(seat),
             number: 0,
             entry,
-            pending: Pending::new(),
+            pending: Held::new(),
+            spins: Spins::new(),
         };
         Ok((Phaser { locked }, founder))
     }
@@ -75,6 +78,6 @@ impl<A: Accumulate, K: SignalRule> Phaser<A, K> {
     ///
     /// It is a hint for when to try again, and no contract speaks of it.
     pub fn told(&self) -> (u64, u64) {
-        self.locked.hints.told(self.locked.lock.told())
+        self.locked.hints.told(self.locked.told())
     }
 }

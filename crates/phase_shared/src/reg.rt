@@ -8,9 +8,11 @@ ghost use Rattle.phase_core.specs.phase_accum.Parcels.{StandsForSends};
 ghost use Rattle.phase_core.specs.phase_history.Histories.{members_of};
 ghost use Rattle.phase_shared.specs.Regs.{IsGoodOn};
 
+use crate::held::Held;
 use crate::phaser::Phaser;
 use crate::refusal::SendRefusal;
 use crate::rule::SignalRule;
+use crate::seats::spins::Spins;
 use crate::seats::view::PhaserSeat;
 use phase_core::phase_accum::{Accumulate, Pending, SendFault};
 use phase_core::phase_base::{Entry, Mode};
@@ -36,7 +38,8 @@ pub struct Reg<A: Accumulate, K: SignalRule> {
     pub(crate) seat: Option<PhaserSeat<A, K>>,
     pub(crate) number: u64,
     pub(crate) entry: Entry,
-    pub(crate) pending: Pending<A>,
+    pub(crate) pending: Held<A>,
+    pub(crate) spins: Spins,
 }
 
 impl<A: Accumulate, K: SignalRule> Model for Reg<A, K> {
@@ -87,7 +90,7 @@ impl<A: Accumulate, K: SignalRule> Reg<A, K> {
         ensures same { (self.new.at ≡ self.old.at) × (self.new.number ≡ self.old.number)
             × (self.new.entry ≡ self.old.entry) × (self.new.seen ≡ self.old.seen) }
     {
-        self.pending = sends;
+        self.pending = Held::these(sends);
     }
 
     /// Returns how many sends it holds.
@@ -96,7 +99,6 @@ impl<A: Accumulate, K: SignalRule> Reg<A, K> {
         // There are sends that it holds, so many.
         ensures held { (sends : List ℤ) × StandsForSends A.operation self.now.held sends }
     {
-        let _part = self.pending.part();
         self.pending.count()
     }
 

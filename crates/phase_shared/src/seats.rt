@@ -1,10 +1,17 @@
 //! A phaser under a lock: what the seats of its lock know, and each call as a step of a seat.
 
+pub mod asking;
 pub mod block_steps;
 pub mod ghost_steps;
 pub mod hints;
 pub mod join_steps;
+pub mod lanes;
 pub mod locked;
+pub mod nexts;
 pub mod pauses;
+pub mod request;
+pub mod serving;
+pub mod spins;
 pub mod steps;
+pub mod turns;
 pub mod view;

@@ -9,13 +9,15 @@ ghost use Rattle.phase_shared.specs.Calls.{IsTry, Tries, Signals, Waits, Registe
 ghost use Rattle.phase_shared.specs.Entries.{entry_stays, entry_after_signal, entry_after_wait, entry_after_both};
 ghost use Rattle.phase_shared.specs.Nexts.{SignalsAndMayWait};
 
+use crate::held::Held;
 use crate::past::Past;
 use crate::phaser::Phaser;
 use crate::reg::Reg;
 use crate::rule::SignalRule;
+use crate::seats::spins::Spins;
 use crate::seats::steps;
 use crate::tried::Tried;
-use phase_core::phase_accum::{Accumulate, Pending, Single};
+use phase_core::phase_accum::{Accumulate, Single};
 use phase_core::phase_base::Mode;
 use phase_core::{Got, RegisterRefusal, SignalRefusal, WaitRefusal};
 
@@ -71,7 +73,7 @@ impl<A: Accumulate, K: SignalRule> Reg<A, K> {
             seat,
             self.number,
             self.entry,
-            self.pending,
+            self.pending.sends(),
             single,
             waits,
         );
@@ -79,7 +81,7 @@ impl<A: Accumulate, K: SignalRule> Reg<A, K> {
         self.entry = entry;
         match answer {
             Ok(answer) => {
-                self.pending = Pending::new();
+                self.pending = Held::new();
                 Ok(answer)
             }
             Err(tried) => Err(tried),
@@ -132,11 +134,13 @@ impl<A: Accumulate, K: SignalRule> Reg<A, K> {
             Ok(made) => made,
             Err(tried) => return Err(tried),
         };
+        phaser.locked.hints.came();
         Ok(Reg {
             seat: Some(made.1),
             number: made.0,
             entry: made.2,
-            pending: Pending::new(),
+            pending: Held::new(),
+            spins: Spins::new(),
         })
     }
 
@@ -160,15 +164,20 @@ impl<A: Accumulate, K: SignalRule> Reg<A, K> {
             number,
             entry,
             pending,
+            spins,
         } = self;
         let Some(seat) = seat else { unreachable!() };
         match steps::leave(&phaser.locked, seat, number, entry) {
-            Ok(seat) => Ok(Past { seat }),
+            Ok(seat) => {
+                phaser.locked.hints.left();
+                Ok(Past { seat })
+            }
             Err(seat) => Err(Reg {
                 seat: Some(seat),
                 number,
                 entry,
                 pending,
+                spins,
             }),
         }
     }

@@ -1,70 +1,37 @@
--- Words that are refused: one kind stands for them, or two, and none is a call for help or for the
--- version.
-use Rattle.std.proofs.Common.{◌≡◌, ◌≢◌, List, [], ◌∷◌, rules}
-use Rattle.std.proofs.Common.{inl, inr, sym, subst, ◌∙◌}
-use Rattle.clap.specs.Words.{IsAmong, Kinds, Text}
+-- Words that are refused: some kinds stand for them, and none is a call for help or for the version.
+use Rattle.std.proofs.Common.{◌≡◌, Bool, true, false, [], ◌∷◌, inl, inr, sym, subst, ap, ◌∙◌}
+use Rattle.std.specs.List.{list_any}
+use Rattle.std.proofs.lemmas.Bool.{or_parts}
+use Rattle.clap.specs.Words.{IsAmong, Kinds}
 use Rattle.clap.specs.declared.error.kind.ErrorKind.{ErrorKind}
-use Rattle.clap.specs.declared.error.kind.ErrorKind.TheVariants.{ArgumentConflict, InvalidSubcommand, InvalidValue, MissingRequiredArgument, UnknownArgument, ValueValidation}
-use Rattle.phase_words.specs.CommandLine.{AreRefused, IsShown, Refuse, kinds_of}
+use Rattle.clap.specs.declared.error.kind.ErrorKind.TheVariants.{DisplayHelp, DisplayVersion}
+use Rattle.phase_words.specs.CommandLine.{IsShown, Refuse}
 
-not_empty : (kind : ErrorKind) (kinds : Kinds) → kind ∷ kinds ≢ []
-not_empty kind kinds = λ e. search rules
+-- whether a kind is shown
+abbrev pub is_shown : ErrorKind → Bool
+is_shown DisplayHelp = true
+is_shown DisplayVersion = true
+is_shown other = false
 
-pub unknown_not_shown : IsShown UnknownArgument → ⊥
-unknown_not_shown (inl e) = search rules
-unknown_not_shown (inr e) = search rules
+shown_is : (kind : ErrorKind) → IsShown kind → is_shown kind ≡ true
+shown_is kind (inl help) = ap is_shown help
+shown_is kind (inr version) = ap is_shown version
 
-invalid_not_shown : IsShown InvalidSubcommand → ⊥
-invalid_not_shown (inl e) = search rules
-invalid_not_shown (inr e) = search rules
+-- a kind that is shown is not among kinds of which none is
+none_among : (kinds : Kinds) (kind : ErrorKind) → list_any is_shown kinds ≡ false → IsShown kind
+    → IsAmong kind kinds → ⊥
+none_among [] kind none shown among = among
+none_among (one ∷ more) kind none shown (inl is) =
+    let parts = or_parts (is_shown one) (list_any is_shown more) none in
+    absurd (let b : true ≡ false = sym (shown_is kind shown) ∙ (ap is_shown is ∙ parts.0) in cc)
+none_among (one ∷ more) kind none shown (inr rest) =
+    none_among more kind (or_parts (is_shown one) (list_any is_shown more) none).1 shown rest
 
-pub missing_not_shown : IsShown MissingRequiredArgument → ⊥
-missing_not_shown (inl e) = search rules
-missing_not_shown (inr e) = search rules
-
-pub value_not_shown : IsShown InvalidValue → ⊥
-value_not_shown (inl e) = search rules
-value_not_shown (inr e) = search rules
-
-pub validation_not_shown : IsShown ValueValidation → ⊥
-validation_not_shown (inl e) = search rules
-validation_not_shown (inr e) = search rules
-
-pub conflict_not_shown : IsShown ArgumentConflict → ⊥
-conflict_not_shown (inl e) = search rules
-conflict_not_shown (inr e) = search rules
-
--- a kind that is shown is not among one kind that is not, and not among two
-not_among_one : (one kind : ErrorKind) → (IsShown one → ⊥) → IsShown kind
-    → IsAmong kind (one ∷ []) → ⊥
-not_among_one one kind refused shown (inl is) = refused (subst (λ (k : ErrorKind). IsShown k) is shown)
-not_among_one one kind refused shown (inr none) = none
-
-not_among_two : (one two kind : ErrorKind) → (IsShown one → ⊥) → (IsShown two → ⊥) → IsShown kind
-    → IsAmong kind (one ∷ two ∷ []) → ⊥
-not_among_two one two kind first second shown (inl is) = first (subst (λ (k : ErrorKind). IsShown k) is shown)
-not_among_two one two kind first second shown (inr rest) = not_among_one two kind second shown rest
-
--- one kind of refusal refuses, and so do two
-pub refuse_by_one : (kinds : Kinds) (one : ErrorKind) → (IsShown one → ⊥) → kinds ≡ one ∷ [] → Refuse kinds
-refuse_by_one kinds one refused e = (
-  λ empty. not_empty one [] (sym e ∙ empty),
+-- so words that have such kinds are refused
+pub refused : (kinds : Kinds) (one : ErrorKind) (more : Kinds)
+    → list_any is_shown (one ∷ more) ≡ false → kinds ≡ one ∷ more → Refuse kinds
+refused kinds one more none e = (
+  λ empty. let b : one ∷ more ≡ [] = sym e ∙ empty in cc,
   λ kind shown among.
-      not_among_one one kind refused shown (subst (λ (kinds : Kinds). IsAmong kind kinds) e among),
-)
-
-pub unknown_refused : (words : List Text) → kinds_of words ≡ UnknownArgument ∷ [] → AreRefused words
-unknown_refused words e = refuse_by_one (kinds_of words) UnknownArgument unknown_not_shown e
-
-pub missing_refused : (words : List Text) → kinds_of words ≡ MissingRequiredArgument ∷ []
-    → AreRefused words
-missing_refused words e = refuse_by_one (kinds_of words) MissingRequiredArgument missing_not_shown e
-
-pub stray_refused : (words : List Text) → kinds_of words ≡ UnknownArgument ∷ InvalidSubcommand ∷ []
-    → AreRefused words
-stray_refused words e = (
-  λ empty. not_empty UnknownArgument (InvalidSubcommand ∷ []) (sym e ∙ empty),
-  λ kind shown among.
-      not_among_two UnknownArgument InvalidSubcommand kind unknown_not_shown invalid_not_shown shown
-      (subst (λ (kinds : Kinds). IsAmong kind kinds) e among),
+      none_among (one ∷ more) kind none shown (subst (λ (kinds : Kinds). IsAmong kind kinds) e among),
 )

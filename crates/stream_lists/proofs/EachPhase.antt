@@ -1,5 +1,5 @@
 -- Which tasks have a value in a phase of a phaser's list.
-use Rattle.std.proofs.Common.{◌≡◌, ℕ, zero, suc, ◌+◌, ◌<◌, ◌≤◌, ◌⊎◌, inl, inr, Bool, true, false, ◌&&◌, length, map, get_or, ℤ, Some, None, refl, sym, ap, subst, ◌∙◌, arith, List}
+use Rattle.std.proofs.Common.{◌≡◌, ℕ, zero, suc, ◌+◌, ◌<◌, ◌≤◌, ◌⊎◌, inl, inr, Bool, true, false, ◌&&◌, length, map, get_or, ℤ, Some, None, refl, sym, ap, ◌∙◌, arith, List}
 use Rattle.std.specs.Prelude.{max, Option, nat_lt, nat_le, if◌then◌else◌, ◌↔◌}
 use native.Mathlib.Nat.{zero-max}
 use Rattle.std.specs.List.{range_with_len, fold, list_any, find}
@@ -8,7 +8,7 @@ use Rattle.std.proofs.lemmas.Bool.{cases_lt, cases_order, and_parts, or_parts}
 use Rattle.std.proofs.lemmas.Bool.Decides.{nat_tests}
 use Rattle.std.proofs.lemmas.List.FromFn.{length-map-range_with_len}
 use Rattle.graph_base.specs.Graphs.{Graph, Task, task_at, phaser_at}
-use Rattle.graph_base.specs.TaskLines.{IsGraph, IsTaskLine, IsParent, HasEnds, has_children}
+use Rattle.graph_base.specs.TaskLines.{IsGraph, IsTaskLine, IsParent, has_children}
 use Rattle.graph_base.specs.declared.line.Kind.{Kind}
 use Rattle.graph_base.specs.declared.line.Kind.TheVariants.{Source, Fir, Split, Join, Peer, Sink}
 use Rattle.graph_base.specs.phase_base.declared.operation.Op.TheVariants.{Any}
@@ -268,7 +268,7 @@ overlap_parts a ae b be e =
       grind (arith, nat_tests, three.1),
     )
 
-overlap_from : (a ae b be n : ℕ) → a ≤ n → n < ae → b ≤ n → n < be → overlap a ae b be ≡ true
+pub overlap_from : (a ae b be n : ℕ) → a ≤ n → n < ae → b ≤ n → n < be → overlap a ae b be ≡ true
 overlap_from a ae b be n la ha lb hb =
     let one : nat_lt a ae ≡ true = grind (arith, nat_tests, la, ha) in
     let two : nat_lt b be ≡ true = grind (arith, nat_tests, lb, hb) in

@@ -1,6 +1,7 @@
 pub mod Bounds
 pub mod AsMany
 pub mod Distances
+pub mod FirstMeetings
 pub mod Firsts
 pub mod Given
 pub mod Growing
@@ -15,6 +16,7 @@ pub mod LawExamples
 pub mod LengthsAbove
 pub mod ListLengths
 pub mod ListsAbove
+pub mod MoreExamples
 pub mod MoreSamples
 pub mod OneSend
 pub mod Ordered

@@ -10,7 +10,6 @@ use Rattle.graph_base.specs.declared.line.Kind.TheVariants.{Source, Fir, Split, 
 use Rattle.stream_lists.specs.Jobs.{Job, samples_at, start_at, index_in}
 use Rattle.stream_lists.specs.Spans.{signalled_by, LooksAt, puts_on, takes_from, turns_below, offset_of, cut_at, span_at, spans_of, lengths_of, span_in, enough_for, values_from, greatest, end_on, end_of, schedule_of}
 use Rattle.stream_lists.specs.Lists.{turn_at, mixed, mixed_at, taken_by, output_list, output_on, contribution_at, contribution_by, list_over, number, numbers_of, end_of_contribution, ends_on}
-use Rattle.stream_lists.specs.declared.span.Span.{Span}
 use Rattle.stream_lists.proofs.Growing.{map-same}
 use Rattle.stream_lists.proofs.Ordered.{place-at}
 use Rattle.stream_lists.proofs.SpansAbove.{spans_all}

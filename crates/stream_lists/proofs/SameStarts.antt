@@ -3,7 +3,6 @@
 use Rattle.std.proofs.Common.{◌≡◌, ℕ, List, [], ◌∷◌, ◌++◌, length, map, Option, Some, None, refl, ap, ◌∙◌}
 use Rattle.std.specs.Prelude.{Result, Ok, Err, ℤ}
 use Rattle.std.specs.List.{range_with_len}
-use Rattle.graph_base.specs.phase_accum.declared.outcome.Outcome.{Outcome}
 use Rattle.graph_base.specs.Graphs.{task_at}
 use Rattle.stream_lists.specs.declared.span.Span.{Span}
 use Rattle.stream_lists.specs.Jobs.{Job, samples_at, start_at, with_starts}

@@ -10,8 +10,8 @@ use Rattle.graph_base.specs.declared.line.Parent.{Parent}
 use Rattle.stream_lists.specs.declared.span.Span.{Span}
 use Rattle.graph_base.specs.declared.line.Kind.TheVariants.{Sink}
 use Rattle.stream_lists.specs.Jobs.{Job, samples_at, start_at, index_in, with_starts, least}
-use Rattle.stream_lists.specs.Spans.{nowhere, offset_of, span_at, span_of, span_in, spans_over, spans_of, lengths_of, lengths_up_to, end_of, end_on, length_on, greatest, signalled_by, cut_at, enough_for, values_from}
-use Rattle.stream_lists.specs.Meetings.{overlap, meet_on, meets_on, meets_above, meeting_at, meeting_line, is_any}
+use Rattle.stream_lists.specs.Spans.{nowhere, offset_of, span_at, span_in, spans_over, spans_of, lengths_of, end_of, end_on, length_on, greatest, signalled_by, cut_at, enough_for, values_from}
+use Rattle.stream_lists.specs.Meetings.{overlap, meet_on, meets_on, meets_above, meeting_line, is_any}
 use Rattle.stream_lists.proofs.Growing.{map-same}
 use Rattle.stream_lists.proofs.SpansAbove.{parent-is, same_offset, spans_are, spans_all}
 use Rattle.stream_lists.proofs.EachPhase.{signaller_stays, overlap_parts}

@@ -1,10 +1,12 @@
--- Which tasks signal in one phase of a phaser with `any`.
-use Rattle.std.specs.Prelude.{ℕ, ◌&&◌, Bool, true, false, List, length, Option, get_or, nat_lt}
+-- Which tasks signal in one phase of a phaser with `any`, and where they do first.
+use Rattle.std.specs.Prelude.{ℕ, ◌-◌, ◌&&◌, Bool, true, false, List, length, map, Option, None, get_or, nat_le, nat_lt, if◌then◌else◌}
 use Rattle.std.specs.Option.{option_map}
 use Rattle.std.specs.List.{range_with_len, list_any, find}
 use Rattle.graph_base.specs.Graphs.{Graph, task_at, phaser_at}
 use Rattle.stream_lists.specs.Jobs.{Job}
+use Rattle.stream_lists.specs.Ranges.{first_some}
 use Rattle.stream_lists.specs.Spans.{nowhere, end_of, spans_of}
+use Rattle.stream_lists.specs.declared.meeting.Meeting.{Meeting}
 use Rattle.stream_lists.specs.declared.span.Span.{Span}
 use Rattle.graph_base.specs.phase_base.declared.operation.Op.{Op}
 use Rattle.graph_base.specs.phase_base.declared.operation.Op.TheVariants.{Sum, Product, Least, Greatest, Any}
@@ -49,3 +51,35 @@ meeting_at graph spans =
 -- the line of the first task that meets a task above it
 abbrev pub meeting_line : Job → Option ℕ
 meeting_line job = meeting_at job.graph (spans_of job)
+
+-- ---- where a task meets one
+
+-- whether task t, at these spans, signals phaser p in phase n
+abbrev pub signals_in : Graph → List Span → ℕ → ℕ → ℕ → Bool
+signals_in graph spans p t n =
+    nat_le (get_or spans t nowhere).offset n && nat_lt n (end_of graph spans p t)
+
+-- the phases of phaser p in which task t signals, in order
+abbrev pub phases_on : Graph → List Span → ℕ → ℕ → List ℕ
+phases_on graph spans p t =
+    let first = (get_or spans t nowhere).offset in
+    range_with_len first (end_of graph spans p t - first)
+
+-- the first phase of phaser p in which tasks t and u both signal
+abbrev pub first_both : Graph → List Span → ℕ → ℕ → ℕ → Option ℕ
+first_both graph spans t p u = find (signals_in graph spans p u) (phases_on graph spans p t)
+
+-- task u, and that phase
+abbrev pub meeting_with : Graph → List Span → ℕ → ℕ → ℕ → Option Meeting
+meeting_with graph spans t p u =
+    option_map (λ n. record { task = u; phase = n }) (first_both graph spans t p u)
+
+-- the first task above task t that it meets on phaser p, whatever its operation is
+abbrev pub meeting_above : Graph → List Span → ℕ → ℕ → Option Meeting
+meeting_above graph spans t p =
+    first_some (map (meeting_with graph spans t p) (range_with_len 0 t))
+
+-- the same on a phaser with `any`: on another, tasks do not meet
+abbrev pub meeting_on : Graph → List Span → ℕ → ℕ → Option Meeting
+meeting_on graph spans t p =
+    if is_any (phaser_at graph p).op then meeting_above graph spans t p else None

@@ -1,14 +1,15 @@
 //! Which tasks signal in one phase of a phaser with `any`.
-ghost use Rattle.std.specs.Prelude.{◌≡◌, ◌<◌, ◌≤◌, length, get_or, IfOk};
-ghost use Rattle.std.specs.List.{All, list_any, range_with_len};
+ghost use Rattle.std.specs.Prelude.{◌≡◌, ◌<◌, ◌≤◌, length, get_or, IfOk, IfSome, is_some};
+ghost use Rattle.std.specs.List.{All};
 ghost use Rattle.graph_base.specs.Graphs.{phaser_at};
 ghost use Rattle.stream_lists.specs.Jobs.{counted};
 ghost use Rattle.stream_lists.specs.JobFields.{IsShort, given};
-ghost use Rattle.stream_lists.specs.Meetings.{is_any, meet_on, meeting_at, meeting_line, meets_above, meets_on};
+ghost use Rattle.stream_lists.specs.Meetings.{first_both, is_any, meet_on, meeting_above, meeting_at, meeting_line, meeting_on, meets_above, meets_on};
 ghost use Rattle.stream_lists.specs.Spans.{nowhere, spans_of};
 
 use crate::SAMPLES_MAX;
 use crate::lengths::{all_lengths, end_on};
+use crate::meeting::Meeting;
 use crate::sample_counts::{COUNT_MAX, counts_of};
 use crate::span::Span;
 use crate::task_spans::all_spans;
@@ -39,18 +40,32 @@ fn meet(graph: &Graph, spans: &[Span], t: usize, p: usize, u: usize) -> bool
     first < first_end && second < second_end && first < second_end && second < first_end
 }
 
-/// Whether task number `t` meets a task above it on phaser number `p`, whatever its operation is.
-fn meets_one(graph: &Graph, spans: &[Span], t: usize, p: usize) -> bool
+/// The first phase of phaser number `p` in which tasks number `t` and `u` both signal.
+fn first_phase(graph: &Graph, spans: &[Span], t: usize, p: usize, u: usize) -> Option<u128>
+    requires first { t < length graph.now.tasks }
+    requires second { u < length graph.now.tasks }
+    requires short { All IsShort spans.now }
+    ensures { result ≡ first_both graph.now spans.now t p u }
+{
+    if !meet(graph, spans, t, p, u) {
+        return None;
+    }
+    Some(offset_at(spans, t).max(offset_at(spans, u)))
+}
+
+/// Where task number `t` meets a task above it on phaser number `p`, whatever its operation is.
+fn first_above(graph: &Graph, spans: &[Span], t: usize, p: usize) -> Option<Meeting>
     requires task { t < length graph.now.tasks }
     requires short { All IsShort spans.now }
-    ensures { result ≡ list_any (meet_on graph.now spans.now t p) (range_with_len 0 t) }
+    ensures meeting { result ≡ meeting_above graph.now spans.now t p }
+    ensures above { IfSome result (λ found. found.task < t) }
 {
     for u in 0..t {
-        if meet(graph, spans, t, p, u) {
-            return true;
+        if let Some(phase) = first_phase(graph, spans, t, p, u) {
+            return Some(Meeting { task: u, phase });
         }
     }
-    false
+    None
 }
 
 /// Whether phaser number `p` is one with `any`.
@@ -61,14 +76,19 @@ fn is_any_line(graph: &Graph, p: usize) -> bool
     matches!(graph.phaser(p).op, Op::Any)
 }
 
-/// Whether task number `t` meets a task above it on phaser number `p`.
-fn meets(graph: &Graph, spans: &[Span], t: usize, p: usize) -> bool
+/// Where task number `t` meets a task above it on phaser number `p`.
+fn first_on(graph: &Graph, spans: &[Span], t: usize, p: usize) -> Option<Meeting>
     requires task { t < length graph.now.tasks }
     requires phaser { p < length graph.now.phasers }
     requires short { All IsShort spans.now }
-    ensures { result ≡ meets_on graph.now spans.now t p }
+    ensures meeting { result ≡ meeting_on graph.now spans.now t p }
+    ensures meets { is_some result ≡ meets_on graph.now spans.now t p }
+    ensures above { IfSome result (λ found. found.task < t) }
 {
-    is_any_line(graph, p) && meets_one(graph, spans, t, p)
+    if !is_any_line(graph, p) {
+        return None;
+    }
+    first_above(graph, spans, t, p)
 }
 
 /// Whether task number `t` meets a task above it.
@@ -78,7 +98,7 @@ fn meets_some(graph: &Graph, spans: &[Span], t: usize) -> bool
     ensures { result ≡ meets_above graph.now spans.now t }
 {
     for p in 0..graph.phasers() {
-        if meets(graph, spans, t, p) {
+        if first_on(graph, spans, t, p).is_some() {
             return true;
         }
     }
@@ -123,27 +143,30 @@ pub fn meeting_with(alloc: Global, graph: &Graph, counts: &[u64]) -> Result<Opti
     Ok(first_meeting(graph, &spans))
 }
 
-/// Returns whether task number `t` meets a task of an earlier line on phaser number `p`, in a graph
-/// with these samples of its sources, one list for each in the order of their lines: the phaser is
-/// one with `any`, and both signal in one of its phases. So it tells where a task meets one, of
-/// which `Job::new` told the line.
+/// Returns the first task of an earlier line that task number `t` meets on phaser number `p`, and
+/// the first phase in which both signal, in a graph with these samples of its sources, one list for
+/// each in the order of their lines. There is none where the phaser is not one with `any`. So it
+/// tells where a task meets one, of which `Job::new` told the line.
 ///
 /// It takes memory for a span of each task, a length of each phaser and a number of each source. No
 /// list is composed.
-pub fn meets_on(
+pub fn meeting_on(
     alloc: Global,
     graph: &Graph,
     samples: &[Vec<i64>],
     t: usize,
     p: usize,
-) -> Result<bool, AllocError>
+) -> Result<Option<Meeting>, AllocError>
     requires task { t < length graph.now.tasks }
     requires phaser { p < length graph.now.phasers }
     requires few { All (λ list. length list.items ≤ SAMPLES_MAX) samples.now }
-    ensures { IfOk result (λ is. is
+    ensures meeting { IfOk result (λ found. found
+        ≡ meeting_on graph.now (spans_of (given graph.now samples.now)) t p) }
+    ensures meets { IfOk result (λ found. is_some found
         ≡ meets_on graph.now (spans_of (given graph.now samples.now)) t p) }
+    ensures above { IfOk result (λ found. IfSome found (λ meeting. meeting.task < t)) }
 {
     let counts = counts_of(alloc, samples)?;
     let spans = spans_with(alloc, graph, &counts)?;
-    Ok(meets(graph, &spans, t, p))
+    Ok(first_on(graph, &spans, t, p))
 }

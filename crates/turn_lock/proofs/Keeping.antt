@@ -20,20 +20,20 @@ within (x ∷ xs) zero a e = omega arith
 within (x ∷ xs) (suc i) a e = let h = within xs i a e in omega arith
 
 -- the name in a view is the lock's
-named : {N : Type 0} (n m : N) (o : Option N) → o ≡ Some n → o ≡ Some m → n ≡ m
+pub named : {N : Type 0} (n m : N) (o : Option N) → o ≡ Some n → o ≡ Some m → n ≡ m
 named n m o e f = cc
 
-not_true : (b : Bool) → (b ≡ true → ⊥) → b ≡ false
+pub not_true : (b : Bool) → (b ≡ true → ⊥) → b ≡ false
 not_true true h = absurd (h refl)
 not_true false h = refl
 
-not_both : (b : Bool) → b ≡ true → b ≡ false → ⊥
+pub not_both : (b : Bool) → b ≡ true → b ≡ false → ⊥
 not_both b e f = cc
 
-abbrev Hub : Type 0 → Type 0 → Type 0 → Type 0
+abbrev pub Hub : Type 0 → Type 0 → Type 0 → Type 0
 Hub N T V = State T (Doing N V)
 
-abbrev hub : {N T V : Type 0} → List ℕ → List (mathlib.Core.Option.Option T) → List (Doing N V) → Hub N T V
+abbrev pub hub : {N T V : Type 0} → List ℕ → List (mathlib.Core.Option.Option T) → List (Doing N V) → Hub N T V
 hub ws hs vs = record { words = ws; homes = hs; views = vs }
 
 -- a word that is one number stays as it is
@@ -43,19 +43,19 @@ same_word ws n e = subst (λ (z : List ℕ). set z 0 (slice_index z 0) ≡ z) (s
 or_one : (n : ℕ) → bit_or n 1 + n % 2 ≡ n + 1
 or_one n = let a = or_add_and n 1 in let b = and_mask n 1 in omega (arith, a, b)
 
-even_is : (t : ℕ) → (t * 2) % 2 ≡ 0
+pub even_is : (t : ℕ) → (t * 2) % 2 ≡ 0
 even_is t = omega arith
 
-odd_is : (t : ℕ) → (t * 2 + 1) % 2 ≡ 1
+pub odd_is : (t : ℕ) → (t * 2 + 1) % 2 ≡ 1
 odd_is t = omega arith
 
-or_even : (t : ℕ) → bit_or (t * 2) 1 ≡ t * 2 + 1
+pub or_even : (t : ℕ) → bit_or (t * 2) 1 ≡ t * 2 + 1
 or_even t = let a = or_one (t * 2) in let b = even_is t in omega arith
 
-or_odd : (t : ℕ) → bit_or (t * 2 + 1) 1 ≡ t * 2 + 1
+pub or_odd : (t : ℕ) → bit_or (t * 2 + 1) 1 ≡ t * 2 + 1
 or_odd t = let a = or_one (t * 2 + 1) in let b = odd_is t in omega arith
 
-abbrev swapped : ℕ → ℕ
+abbrev pub swapped : ℕ → ℕ
 swapped n = bit_or n 1
 
 same_tried : (ws : List ℕ) (t : ℕ) → ws ≡ (t * 2 + 1) ∷ spare → set ws 0 (swapped (slice_index ws 0)) ≡ ws
@@ -72,10 +72,10 @@ abbrev item : {T : Type 0} → T → List (ℕ × T) → T
 item x [] = x
 item x (y ∷ ys) = y.1
 
-abbrev alone : {T : Type 0} → T → List (ℕ × T)
+abbrev pub alone : {T : Type 0} → T → List (ℕ × T)
 alone y = (0, y) ∷ []
 
-same_item : {T : Type 0} (y z : T) → alone y ≡ alone z → y ≡ z
+pub same_item : {T : Type 0} (y z : T) → alone y ≡ alone z → y ≡ z
 same_item {T} y z e = ap (item y) e
 
 -- a list that holds the slot 0 alone is the list of it and its value

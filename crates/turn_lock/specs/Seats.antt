@@ -7,6 +7,7 @@ use Rattle.turn_lock.specs.Held.{alone_value, alone_with}
 use Rattle.turn_lock.specs.declared.seat.Seat.{Seat}
 use Rattle.turn_lock.specs.declared.seat.Turn.{Turn}
 use Rattle.turn_lock.specs.declared.lock.TurnLock.{TurnLock}
+use Rattle.turn_lock.specs.declared.words.WordLock.{WordLock}
 
 -- a lock's place, with names of type N
 abbrev pub Place : Type 0 → Type 0
@@ -40,6 +41,10 @@ module _ {T N V : Type 0} where
   -- the value that is out with the turn
   abbrev pub turn_value : Turn T N V → T
   turn_value t = alone_value t.inner.me.1 t.out
+
+  -- what the lock tells while the turn lasts, where it is a lock with words
+  abbrev pub turn_told : Turn T N V → ℕ
+  turn_told t = t.inner.me.0.told
 
   -- the turn, with another value
   abbrev pub turn_with : Turn T N V → T → Turn T N V
@@ -79,3 +84,11 @@ module _ {T R N V : Type 0} where
   -- the turn belongs to the lock
   abbrev pub IsTurnOf : TurnLock T R N V → Turn T N V → Type 0
   IsTurnOf l t = IsTurnAt (lock_place l) t
+
+  -- what the lock with words was told when it was made
+  abbrev pub word_lock_name : WordLock T R N V → N
+  word_lock_name l = l.table.shared.key
+
+  -- which lock it is
+  abbrev pub word_lock_place : WordLock T R N V → Place N
+  word_lock_place l = (l.table.shared.table_id, Some (word_lock_name l))

@@ -13,9 +13,10 @@ use Rattle.turn_lock.specs.Steps.{Busy}
 abbrev pub Stand : Type 0 → Type 0 → Type 0 → Type 0
 Stand N T V = Me T (Doing N V)
 
--- a seat's record of the lock's name, whether it has the turn, and what its caller knows
+-- a seat's record of the lock's name, whether it has the turn, and what its caller knows. What it
+-- told is of locks with words
 abbrev pub doing : {N V : Type 0} → Option N → Bool → V → Doing N V
-doing name turn v = record { name = name; turn = turn; client = v }
+doing name turn v = record { name = name; turn = turn; told = 0; client = v }
 
 -- what the caller's rule sees of a seat
 abbrev pub client : {N V : Type 0} → Doing N V → V

@@ -7,7 +7,7 @@ use atomic_table::{Table, TableRule};
 use std::alloc::Global;
 use std::marker::PhantomData;
 
-mod ghost_steps;
+pub(crate) mod ghost_steps;
 mod steps;
 
 // The rule of the table that a lock stands on.

@@ -8,6 +8,7 @@ use atomic_table::Seat as TableSeat;
 pub struct Doing<N, V> {
     pub name: Option<N>,
     pub turn: bool,
+    pub told: u64,
     pub client: V,
 }
 

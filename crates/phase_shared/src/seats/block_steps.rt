@@ -62,7 +62,7 @@ pub fn signal_lists<A: Accumulate, K: SignalRule>(
         Ok(turn) => turn,
         Err(seat) => return (seat, entry, Err(Tried::Busy)),
     };
-    let core = turn.value(&phaser.lock);
+    let core = turn.value_in(&phaser.lock);
     let answer = core.signal_lists(me, lists, single);
     let Some(entry) = core.view(me) else {
         unreachable!()
@@ -101,7 +101,7 @@ pub fn wait_block<A: Accumulate, K: SignalRule>(
         Ok(turn) => turn,
         Err(seat) => return (seat, entry, Err(Tried::Busy)),
     };
-    let core = turn.value(&phaser.lock);
+    let core = turn.value_in(&phaser.lock);
     let answer = core.wait_block(me, out);
     let Some(entry) = core.view(me) else {
         unreachable!()

@@ -6,7 +6,7 @@ use crate::seats::view::View;
 use phase_core::PhaserCore;
 use phase_core::phase_accum::Accumulate;
 use std::marker::{Brand, PhantomData};
-use turn_lock::{Join, Learns, Split, Tells};
+use turn_lock::{Join, Learns, Reads, Split, Tells};
 
 // A take: all that the others did is seen.
 pub struct OnTake<A, K> {
@@ -80,4 +80,118 @@ impl<K: SignalRule> Learns<Terms<K>, View> for OnLook<K> {
     ghost use Rattle.phase_shared.specs.Rule.{LearnedAt};
 
     ghost then = { LearnedAt K.allows };
+}
+
+// What a read tells, as its caller picks it.
+pub trait Report {
+    ghost use Rattle.phase_shared.specs.declared.seats.view.View.{View};
+    ghost use Rattle.std.specs.Prelude.{ℕ};
+
+    ghost tells: { View → ℕ → View → Type 0 };
+}
+
+impl Report for Brand {
+    ghost tells = { λ v r w. Unit {0} };
+}
+
+// A step that writes a word.
+pub struct OnStep<E> {
+    marker: PhantomData<E>,
+}
+
+impl<K, E: Plan> Learns<Terms<K>, View> for OnStep<E> {
+    ghost then = { λ terms v w. E.goes v w };
+}
+
+// A step that reads one.
+pub struct OnReport<E> {
+    marker: PhantomData<E>,
+}
+
+impl<K, E: Report> Reads<Terms<K>, View> for OnReport<E> {
+    ghost then = { λ terms v r w. E.tells v r w };
+}
+
+// A seat whose send is posted posts its phase.
+pub struct OnPost;
+
+impl<K> Learns<Terms<K>, View> for OnPost {
+    ghost use Rattle.phase_shared.specs.WordTells.{asking_of};
+
+    ghost then = { λ terms v w. w ≡ asking_of v };
+}
+
+// A look of a seat that asks.
+pub struct OnAsked<K> {
+    marker: PhantomData<K>,
+}
+
+impl<K: SignalRule> Reads<Terms<K>, View> for OnAsked<K> {
+    ghost use Rattle.phase_shared.specs.WordTells.{LookedAt};
+
+    ghost then = { LookedAt K.allows };
+}
+
+// A take of one.
+pub struct OnTakeAsked<A, K> {
+    marker: PhantomData<(A, K)>,
+}
+
+impl<A: Accumulate, K: SignalRule> Tells<Terms<K>, PhaserCore<A>, View> for OnTakeAsked<A, K> {
+    ghost use Rattle.phase_shared.specs.WordTells.{TookAskedAt};
+
+    ghost then = { λ terms v x w. TookAskedAt K.allows terms A.operation v x w };
+}
+
+// Who was answered reads the value's kind.
+pub struct OnKind<A> {
+    marker: PhantomData<A>,
+}
+
+impl<K, A: Accumulate> Reads<Terms<K>, View> for OnKind<A> {
+    ghost use Rattle.phase_shared.specs.WordTells.{ReadsKind};
+
+    ghost then = { λ terms v r w. ReadsKind A.operation v r w };
+}
+
+// And then its number.
+pub struct OnNumber<A> {
+    marker: PhantomData<A>,
+}
+
+impl<K, A: Accumulate> Reads<Terms<K>, View> for OnNumber<A> {
+    ghost use Rattle.phase_shared.specs.WordTells.{ReadsNumber};
+
+    ghost then = { λ terms v r w. ReadsNumber A.operation v r w };
+}
+
+// The holder reads the kind that is on the board.
+pub struct OnBoardKind;
+
+impl<K> Reads<Terms<K>, View> for OnBoardKind {
+    ghost use Rattle.phase_shared.specs.WordTells.{BoardKind};
+
+    ghost then = { λ terms v r w. BoardKind v r w };
+}
+
+// And the number.
+pub struct OnBoardNumber;
+
+impl<K> Reads<Terms<K>, View> for OnBoardNumber {
+    ghost use Rattle.phase_shared.specs.WordTells.{BoardNumber};
+
+    ghost then = { λ terms v r w. BoardNumber v r w };
+}
+
+// What a seat had seen when its call began.
+pub trait Since {
+    ghost use Rattle.phase_core.specs.phase_history.Histories.{History};
+
+    ghost seen: { History };
+}
+
+impl Since for Brand {
+    ghost use Rattle.std.specs.Prelude.{[]};
+
+    ghost seen = { [] };
 }

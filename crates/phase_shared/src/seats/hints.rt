@@ -1,6 +1,7 @@
 //! When a waiting call tries again. No contract speaks of it: a wrong number costs time alone.
-ghost use Rattle.std.specs.Prelude.{◌<◌, ◌^◌};
+ghost use Rattle.std.specs.Prelude.{◌<◌, ◌≤◌, ◌^◌};
 
+use crate::lane_words::LANES;
 use crate::rule::SignalRule;
 use crossbeam_utils::CachePadded;
 use phase_core::phase_accum::Accumulate;
@@ -14,7 +15,7 @@ use std::time::Duration;
 const ENDED: u64 = u64::MAX;
 
 // The greatest number that a lock tells. It stands for all above it.
-const TOLD_MAX: u64 = u64::MAX >> 1;
+const TOLD_MAX: u64 = u64::MAX >> 2;
 
 // How many milliseconds a pause sleeps, at most. So a wake that is lost costs these, and no more.
 const SLEEP: u64 = 10;
@@ -118,6 +119,8 @@ pub struct Hints {
     // How many phases every waiter has to have got before that is told. A signal that was ahead
     // writes it under the turn.
     wanted: CachePadded<AtomicU64>,
+    // How many tasks are registered, and how many were.
+    tasks: CachePadded<(AtomicU64, AtomicU64)>,
     bound: u64,
 }
 
@@ -128,12 +131,36 @@ impl Hints {
             phases: CachePadded::new(Bell::new()),
             room: CachePadded::new(Bell::new()),
             wanted: CachePadded::new(AtomicU64::new(wanted)),
+            tasks: CachePadded::new((AtomicU64::new(1), AtomicU64::new(1))),
             bound,
         }
     }
 
     pub fn bound(&self) -> u64 {
         self.bound
+    }
+
+    // A task was registered.
+    pub fn came(&self) {
+        let _ = self.tasks.0.fetch_add(1, SeqCst);
+        let _ = self.tasks.1.fetch_add(1, SeqCst);
+    }
+
+    // A task has left.
+    pub fn left(&self) {
+        let _ = self.tasks.0.fetch_sub(1, SeqCst);
+    }
+
+    // How many lanes may be in use.
+    pub fn lanes(&self) -> u64
+        ensures { result ≤ LANES }
+    {
+        self.tasks.1.load(SeqCst).min(LANES)
+    }
+
+    // Whether one task is registered, or none.
+    pub fn is_alone(&self) -> bool {
+        self.tasks.0.load(SeqCst) <= 1
     }
 
     // Tells how far the phaser is, under the turn.
@@ -154,8 +181,8 @@ impl Hints {
 
     // What there is to tell, under the turn, where the lock tells `told`.
     pub fn news(&self, reached: Reached, told: u64) -> News
-        requires { told < 2 ^ 63 }
-        ensures { result.done < 2 ^ 63 }
+        requires { told < 2 ^ 62 }
+        ensures { result.done < 2 ^ 62 }
     {
         let done = reached.done.min(TOLD_MAX);
         let is_wanted = reached.base >= self.wanted.load(SeqCst);

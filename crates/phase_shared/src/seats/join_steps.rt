@@ -8,10 +8,9 @@ ghost use Rattle.phase_shared.specs.Entries.{entry_stays};
 ghost use Rattle.phase_shared.specs.LockedPhasers.{locked_place, locked_terms};
 
 use crate::rule::SignalRule;
-use crate::seats::ghost_steps::Same;
 use crate::seats::hints::Hints;
 use crate::seats::locked::LockedPhaser;
-use crate::seats::steps::{child_of, enter, put_back, split};
+use crate::seats::steps::{child_of, enter, give_same, put_back, split};
 use crate::seats::view::PhaserSeat;
 use crate::tried::Tried;
 use phase_core::RegisterRefusal;
@@ -42,17 +41,13 @@ pub fn register_now<A: Accumulate, K: SignalRule>(
         Ok(turn) => turn,
         Err(seat) => return (seat, Err(Tried::Busy)),
     };
-    let core = turn.value(&phaser.lock);
+    let core = turn.value_in(&phaser.lock);
     let child = child_of(core);
     let answer = core.register_now(me, child);
     let found = core.view(child);
     let reached = Hints::look(core);
     if let Err(refusal) = answer {
-        let told = phaser.lock.told();
-        return (
-            phaser.lock.give::<Same>(turn, told),
-            Err(Tried::Refused(refusal)),
-        );
+        return (give_same(phaser, turn), Err(Tried::Refused(refusal)));
     }
     let Some(start) = found else { unreachable!() };
     let both = put_back::<A, K, Brand, _>(phaser, turn, reached, (me, child));

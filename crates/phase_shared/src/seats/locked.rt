@@ -1,18 +1,18 @@
 //! A phaser of one thread under a lock.
-ghost use Rattle.std.specs.Prelude.{◌≡◌, IfOk};
+ghost use Rattle.std.specs.Prelude.{◌≡◌, ◌<◌, ◌^◌, IfOk};
 ghost use Rattle.turn_lock.specs.Seats.{IsSeatAt, seat_view};
 ghost use Rattle.phase_core.specs.phase_history.Histories.{founder};
 ghost use Rattle.phase_shared.specs.LockedPhasers.{locked_place, locked_terms};
 ghost use Rattle.phase_shared.specs.Rule.{founding, IsSeatOfTask};
 
 use crate::rule::{SignalRule, Terms};
-use crate::seats::hints::Hints;
+use crate::seats::hints::{Hints, News, Reached};
 use crate::seats::view::{PhaserLock, PhaserSeat};
 use phase_core::PhaserCore;
 use phase_core::phase_accum::Accumulate;
 use phase_core::phase_base::Spec;
 use std::alloc::{AllocError, Global};
-use turn_lock::TurnLock;
+use turn_lock::WordLock;
 
 /// A phaser of one thread under a lock, with hints for those that wait. Sends become values by the
 /// operation `A`, and each signal abides by the rule `K`.
@@ -37,8 +37,23 @@ impl<A: Accumulate, K: SignalRule> LockedPhaser<A, K> {
     {
         let bound = terms.limits.bound();
         let core = PhaserCore::new(alloc, terms.limits, 0)?;
-        let (lock, seat) = TurnLock::new(alloc, &terms, core)?;
+        let (lock, seat) = WordLock::new(alloc, &terms, core)?;
         let hints = Hints::new::<K>(bound);
         Ok((LockedPhaser { lock, hints }, seat))
+    }
+
+    // How many phases are complete, as far as the last give told. The lock tells twice that, and
+    // one more where every task that asked for one of them was answered.
+    pub(crate) fn told(&self) -> u64
+        ensures { result < 2 ^ 62 }
+    {
+        self.lock.told() / 2
+    }
+
+    // What there is to tell, under the turn.
+    pub(crate) fn news(&self, reached: Reached) -> News
+        ensures { result.done < 2 ^ 62 }
+    {
+        self.hints.news(reached, self.told())
     }
 }

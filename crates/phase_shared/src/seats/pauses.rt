@@ -21,7 +21,7 @@ enum Aim {
 impl<A: Accumulate, K: SignalRule> LockedPhaser<A, K> {
     fn is_reached(&self, aim: Aim) -> bool {
         match aim {
-            Aim::Phases(least) => self.lock.told() >= least,
+            Aim::Phases(least) => self.told() >= least,
             Aim::Room(least) => self.hints.told_base() >= least,
         }
     }

@@ -1,18 +1,18 @@
 //! The steps of a seat at rest that speaks for one task. Each call of a registration is one.
 ghost use Rattle.std.specs.Prelude.{◌≡◌, ℤ, List, [], ◌∷◌, true, false, Ok, Err, IfOk, IfErr, IsOk, IsErr, OnErr};
-ghost use Rattle.turn_lock.specs.Seats.{IsSeatAt, IsTurnAt, IsSameSeat, seat_view, turn_number, turn_view, turn_value};
-ghost use Rattle.turn_lock.specs.Steps.{GivesBack};
+ghost use Rattle.turn_lock.specs.Seats.{IsSeatAt, IsTurnAt, IsSameSeat, seat_view, turn_number, turn_view, turn_value, turn_told};
+ghost use Rattle.turn_lock.specs.WordSteps.{GivesOf};
 ghost use Rattle.phase_core.specs.phase_accum.Parcels.{StandsForSends};
 ghost use Rattle.phase_core.specs.phase_history.Histories.{History};
 ghost use Rattle.phase_core.specs.phase_history.declared.event.Event.TheVariants.{Signalled};
 ghost use Rattle.phase_core.specs.phase_history.Replies.{signal_reply, wait_reply};
 ghost use Rattle.phase_core.specs.phase_history.Others.{OnlyUsed, OthersCame};
 ghost use Rattle.phase_shared.specs.declared.seats.view.View.TheVariants.{Resting};
-ghost use Rattle.phase_shared.specs.Views.{known_of, joining, first_part, other_part, SpeaksForOne, SpeaksForTwo};
+ghost use Rattle.phase_shared.specs.Views.{resting, known_of, speaks_of, joining, first_part, other_part, SpeaksForOne, SpeaksForTwo};
 ghost use Rattle.phase_shared.specs.Rule.{HasOneHistory, AfterTake, IsGoodAt, IsSeatOfTask, LearnedAt, HaveMet};
 ghost use Rattle.phase_core.specs.Cores.{StandsFor};
 ghost use Rattle.phase_core.specs.Passes.{after_both};
-ghost use Rattle.phase_shared.specs.Steps.{IsStep, RegistersSeat};
+ghost use Rattle.phase_shared.specs.Steps.{IsStep, RegistersSeat, GivesEven};
 ghost use Rattle.phase_shared.specs.Calls.{Tries, Waits, LeavesSeat, SignalsAndMayWait, number_after, tried};
 ghost use Rattle.phase_shared.specs.Entries.{entry_stays, entry_after_wait, entry_after_both};
 ghost use Rattle.phase_shared.specs.LockedPhasers.{locked_place, locked_terms, locked_limits};
@@ -60,16 +60,34 @@ pub(crate) fn put_back<A: Accumulate, K: SignalRule, E: Plan, X: Copy>(
     told: X,
 ) -> PhaserSeat<A, K>
     requires turn { IsTurnAt (locked_place phaser.now) turn }
-    requires rule { GivesBack (HasOneHistory A.operation K.allows) (locked_terms phaser.now)
-        (turn_number turn) (turn_view turn) (turn_value turn) (λ v y w. E.goes v w) }
+    requires rule { GivesEven (HasOneHistory A.operation K.allows) (locked_terms phaser.now)
+        (turn_number turn) (turn_view turn) (turn_value turn) (turn_told turn)
+        (λ v y w. E.goes v w) }
     ensures seat { IsSeatAt (locked_place phaser.now) result }
     ensures rule { E.goes (turn_view turn) (seat_view result) }
 {
     let _ = told;
-    let news = phaser.hints.news(reached, phaser.lock.told());
-    let seat = phaser.lock.give::<OnGive<E>>(turn, news.done);
+    let news = phaser.news(reached);
+    let seat = phaser.lock.give::<OnGive<E>>(turn, news.done * 2);
     phaser.hints.tell::<K>(news);
     seat
+}
+
+// Gives the turn back after a call that made no event: the lock tells what it told.
+pub(crate) fn give_same<A: Accumulate, K: SignalRule>(
+    phaser: &LockedPhaser<A, K>,
+    turn: PhaserTurn<A, K>,
+) -> PhaserSeat<A, K>
+    requires turn { IsTurnAt (locked_place phaser.now) turn }
+    requires rule { GivesOf (HasOneHistory A.operation K.allows) (locked_terms phaser.now)
+        (turn_number turn) (turn_view turn) (turn_value turn) (turn_told turn) (turn_told turn)
+        (λ v y w. w ≡ resting (known_of v).seen (speaks_of v)) }
+    ensures seat { IsSeatAt (locked_place phaser.now) result }
+    ensures rule { seat_view result
+        ≡ resting (known_of (turn_view turn)).seen (speaks_of (turn_view turn)) }
+{
+    let (turn, told) = phaser.lock.told_in(turn);
+    phaser.lock.give::<Same>(turn, told)
 }
 
 // Signals, and then waits where that is asked for. Where it is not, the wait is refused.
@@ -138,15 +156,14 @@ pub fn signal<A: Accumulate, K: SignalRule>(
         Err(seat) => return (seat, entry, Err(Tried::Busy)),
     };
     let _part = pending.part();
-    let core = turn.value(&phaser.lock);
+    let core = turn.value_in(&phaser.lock);
     let answer = signal_where(core, me, pending, single, waits);
     let (phase, waited) = match answer {
         Ok(answer) => answer,
         Err(refused) => {
             let wants = phaser.hints.wants(entry.signal_phase, 1);
             phaser.hints.want(Some(refused.0), wants, Hints::look(core));
-            let told = phaser.lock.told();
-            let seat = phaser.lock.give::<Same>(turn, told);
+            let seat = give_same(phaser, turn);
             return (seat, entry, Err(Tried::Refused(refused.0)));
         }
     };
@@ -178,7 +195,7 @@ pub fn leave<A: Accumulate, K: SignalRule>(
         Ok(turn) => turn,
         Err(seat) => return Err(seat),
     };
-    let core = turn.value(&phaser.lock);
+    let core = turn.value_in(&phaser.lock);
     let answer = core.drop_task(me);
     let Ok(()) = answer else { unreachable!() };
     let reached = Hints::look(core);
@@ -215,7 +232,7 @@ pub fn wait<A: Accumulate, K: SignalRule>(
         Ok(turn) => turn,
         Err(seat) => return (seat, entry, Err(Tried::Busy)),
     };
-    let core = turn.value(&phaser.lock);
+    let core = turn.value_in(&phaser.lock);
     let answer = core.wait(me);
     let Some(entry) = core.view(me) else {
         unreachable!()
@@ -256,17 +273,13 @@ pub fn register<A: Accumulate, K: SignalRule>(
         Ok(turn) => turn,
         Err(seat) => return (seat, Err(Tried::Busy)),
     };
-    let core = turn.value(&phaser.lock);
+    let core = turn.value_in(&phaser.lock);
     let child = child_of(core);
     let answer = core.register(me, child, mode);
     let found = core.view(child);
     let reached = Hints::look(core);
     if let Err(refusal) = answer {
-        let told = phaser.lock.told();
-        return (
-            phaser.lock.give::<Same>(turn, told),
-            Err(Tried::Refused(refusal)),
-        );
+        return (give_same(phaser, turn), Err(Tried::Refused(refusal)));
     }
     let Some(start) = found else { unreachable!() };
     let both = put_back::<A, K, Brand, _>(phaser, turn, reached, (me, child, mode));

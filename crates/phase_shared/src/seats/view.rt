@@ -1,10 +1,10 @@
 //! What the seats of a phaser's lock know.
 use crate::rule::{SignalRule, Terms};
-use phase_core::phase_accum::Accumulate;
+use phase_core::phase_accum::{Accumulate, Outcome};
 use phase_core::{Event, PhaserCore};
 use std::collections::LinkedList;
 use std::marker::PhantomData;
-use turn_lock::{Seat, Turn, TurnLock, TurnRule};
+use turn_lock::{Seat, Turn, WordLock, WordRule};
 
 // What was seen, and the numbers spoken for. No value of it is made.
 pub struct Knowledge {
@@ -12,24 +12,40 @@ pub struct Knowledge {
     pub speaks: LinkedList<u64>,
 }
 
+// What a task asks for: its signal of this phase, with these sends, and its wait for it. No value
+// of it is made.
+pub struct Ask {
+    pub task: u64,
+    pub phase: u64,
+    pub sends: LinkedList<i64>,
+}
+
 // What a seat knows. No value of it is made.
 pub enum View {
     // At rest: others may have gone on.
     Resting(Knowledge),
-    // With the turn: it has seen all.
-    Turning(Knowledge),
+    // With the turn: it has seen all, read these asks, and knows what the board says and, where
+    // that is not past, what its own lane has.
+    Turning(Knowledge, LinkedList<Ask>, Outcome, Option<u64>),
     // From a join to its look: what both had seen.
     Joining(Knowledge, Knowledge),
+    // At rest, and this is the word of its lane that says what is sent.
+    Posting(Knowledge, u64),
+    // It asked: others may have made its signal, and its wait.
+    Asking(Knowledge, Ask),
+    // It was answered, and has still to read the value.
+    Reading(Knowledge, Ask),
     // Left behind by a join.
     Spent,
 }
 
-// The rule of the lock: there is one history, of which each seat has seen a beginning.
+// The rule of the lock: there is one history, of which each seat has seen a beginning, but for the
+// calls that others make for it.
 pub struct OneHistory<A, K> {
     marker: PhantomData<(A, K)>,
 }
 
-impl<A: Accumulate, K: SignalRule> TurnRule<PhaserCore<A>> for OneHistory<A, K> {
+impl<A: Accumulate, K: SignalRule> WordRule<PhaserCore<A>> for OneHistory<A, K> {
     ghost use Rattle.phase_shared.specs.Rule.{HasOneHistory, founding};
     ghost use Rattle.phase_shared.specs.declared.seats.view.View.{View};
     ghost use Rattle.phase_shared.specs.declared.rule.Terms.{Terms};
@@ -44,7 +60,7 @@ impl<A: Accumulate, K: SignalRule> TurnRule<PhaserCore<A>> for OneHistory<A, K> 
 }
 
 // A phaser under a lock.
-pub type PhaserLock<A, K> = TurnLock<PhaserCore<A>, OneHistory<A, K>>;
+pub type PhaserLock<A, K> = WordLock<PhaserCore<A>, OneHistory<A, K>>;
 
 // A seat of it.
 pub type PhaserSeat<A, K> = Seat<PhaserCore<A>, Terms<K>, View>;

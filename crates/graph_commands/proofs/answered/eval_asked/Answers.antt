@@ -1,33 +1,18 @@
-use Rattle.std.proofs.Common.{rules, ◌≡◌, inl, inr, map, refl}
+use Rattle.std.proofs.Common.{◌≡◌, inl, inr, map, refl}
 use Rattle.std.specs.List.{All}
 use Rattle.stream_eval.specs.Results.{sink_values}
 use Rattle.stream_eval.specs.stream_lists.Lists.{lines_of, start_in}
 use Rattle.stream_eval.proofs.SinkStarts.{outputs-are}
-use Rattle.graph_commands.proofs.Needed.{needed-graph}
 use Rattle.graph_commands.proofs.answered.eval_asked.Goals as goal
 
 -- the lines are the job's
 pub write_sinks-requires : goal.write_sinks-requires
 write_sinks-requires g c = (c.args.asked.job.starts, rw c.deref.ensures.value c.in-Ok.ensures.ok)
 
--- a value is out of range
-pub returns-in-Err-TooBig-clause-failed : goal.returns-in-Err-TooBig-clause-failed
-returns-in-Err-TooBig-clause-failed g c known name sink of asks =
-    let place = c.in-Err-TooBig.place in
-    let phase = c.in-Err-TooBig.phase in
-    inl (
-      record {
-        job_of = of;
-        first = rw (c.in-Err-TooBig.place-is, c.in-Err-TooBig.phase-is)
-            (c.in-Err-TooBig.ensures.too_big place phase (search rules));
-      },
-      refl,
-    )
-
--- memory ran out over the lists
+-- there are no lists
 pub returns-clause-failed : goal.returns-clause-failed
 returns-clause-failed g c known name sink of asks =
-    inl ((refl, needed-graph known name c.args.asked.job.graph of.graph_of), refl)
+    inl (c.unanswered.ensures known name sink of, refl)
 
 -- the lists were written
 pub returns-in-Ok-write_sinks-clause-done : goal.returns-in-Ok-write_sinks-clause-done
@@ -66,7 +51,7 @@ returns-in-Ok-clause-failed g c known name sink of asks =
         fits = c.in-Ok.ensures.fits;
         sink = c.args.asked.sink;
         asks = asks;
-        written = rw outputs at c.in-Err.ensures.err;
+        written = rw outputs at c.in-Err-write_sinks.ensures.err;
       };
-      noted = c.in-Err.ensures.failed;
+      noted = c.in-Err-write_sinks.ensures.failed;
     })

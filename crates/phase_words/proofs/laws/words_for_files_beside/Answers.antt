@@ -1,11 +1,11 @@
 -- clap's reading, computed.
-use Rattle.std.proofs.Common.{◌≡◌, [], ◌∷◌, codes, refl}
+use Rattle.std.proofs.Common.{[], refl}
 use Rattle.clap.proofs.OnLiterals.{clap_on_literals}
 use Rattle.clap.specs.declared.error.kind.ErrorKind.TheVariants.{UnknownArgument}
 use Rattle.phase_words.specs.CommandLine.{asked_in, kinds_of, phase_app}
 use Rattle.phase_words.specs.RunLine.{run_app, run_in, run_kinds_of}
 use Rattle.phase_words.specs.StreamLine.{stream_app, stream_in, stream_kinds_of}
-use Rattle.phase_words.proofs.Refused.{unknown_refused}
+use Rattle.phase_words.proofs.Refused.{refused}
 use Rattle.phase_words.proofs.laws.words_for_files_beside.Goals as goal
 
 pub returns-clause-check : goal.returns-clause-check
@@ -28,9 +28,6 @@ pub returns-clause-stream : goal.returns-clause-stream
 unfolding stream_in stream_kinds_of stream_app clap_on_literals
 returns-clause-stream c = record { taken = refl; stream = refl }
 
-kinds-draw : kinds_of (codes "draw" ∷ codes "g" ∷ codes "--beside" ∷ []) ≡ UnknownArgument ∷ []
-unfolding kinds_of phase_app clap_on_literals
-kinds-draw = refl
-
 pub returns-clause-draw : goal.returns-clause-draw
-returns-clause-draw c = unknown_refused (codes "draw" ∷ codes "g" ∷ codes "--beside" ∷ []) kinds-draw
+unfolding kinds_of phase_app clap_on_literals
+returns-clause-draw c = refused _ UnknownArgument [] refl refl

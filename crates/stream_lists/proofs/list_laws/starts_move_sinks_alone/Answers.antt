@@ -1,7 +1,7 @@
 -- The definitions read the starts by the schedule alone, and each task's start is that of the
 -- least.
-use Rattle.std.proofs.Common.{ℕ, ◌≡◌, ◌+◌, Bool, true, false, Some, None, refl, ap}
-use Rattle.std.specs.Prelude.{max, nat_le, ◌&&◌, if◌then◌else◌, get_or}
+use Rattle.std.proofs.Common.{◌+◌, Some, None, refl, ap}
+use Rattle.std.specs.Prelude.{nat_le, ◌&&◌, if◌then◌else◌, get_or}
 use native.Mathlib.Nat.{zero-max}
 use Rattle.stream_lists.specs.declared.span.Span.{Span}
 use Rattle.stream_lists.specs.Spans.{nowhere}

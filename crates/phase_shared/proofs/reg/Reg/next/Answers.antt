@@ -5,9 +5,12 @@ use Rattle.phase_core.specs.phase_base.Modes.{mode_signals, mode_waits}
 use Rattle.phase_core.specs.phase_base.Members.{entry_of, signalled}
 use Rattle.phase_core.specs.phase_history.declared.got.Got.{Got}
 use Rattle.phase_core.specs.phase_history.Histories.{History, members_of}
-use Rattle.phase_shared.specs.Regs.{RegState, phaser_limits}
-use Rattle.phase_shared.specs.Calls.{Signals, Waits}
-use Rattle.phase_shared.specs.Nexts.{SignalsAndMayWait, HasSignalledAndMayWait}
+use Rattle.phase_shared.specs.Regs.{RegState, phaser_limits, phaser_terms}
+use Rattle.phase_core.specs.phase_history.Legal.{IsLegal}
+use Rattle.phase_core.specs.phase_history.declared.refusal.SignalRefusal.TheVariants.{NoTask}
+use Rattle.phase_shared.specs.Calls.{IsCall, Signals, Waits}
+use Rattle.phase_shared.specs.Entries.{entry_after_next}
+use Rattle.phase_shared.specs.Nexts.{GoesOrRefuses, SignalsAndMayWait, HasSignalledAndMayWait}
 use Rattle.phase_shared.proofs.NextSteps.{waits_else, signalled_member, signalled_apart, made, not_made, is_none, MadeWait, not_asked, answered, unanswered}
 use Rattle.phase_core.specs.phase_base.Limits.{Limits}
 use Rattle.phase_shared.proofs.reg.Reg.next.Given.{Over}
@@ -52,7 +55,10 @@ returns-then-not-waits-clause-call g c =
     subst (λ r. SignalsAndMayWait asked op limits old.number old.held c.args.single old.seen new.seen r) c.in-Ok.is c.signal_and_wait.ensures.call.call in
     let signals : mode_signals old.entry.mode ≡ true = ap mode_signals (sym c.mode.ensures.value) ∙ sym c.signals.ensures ∙ c.if-not-signals.false in
     let waits : asked ≡ mode_waits old.entry.mode = c.waits-waits.ensures ∙ ap mode_waits c.mode-2.ensures.value in
-    record {
+    subst (λ (r : RegState g.row.A.Denot g.row.K.Denot). IsCall g.K.SignalRule.allows (phaser_terms c.args.phaser.now) NoTask entry_after_next
+    (GoesOrRefuses op limits c.args.single old r.seen (Ok (record { signalled = Some phase; got = got }))) old r
+    (Ok (record { signalled = Some phase; got = got }))) refl
+    (record {
       call = record {
         middle = both.middle;
         signals = made (mode_signals old.entry.mode) (λ (phase : ℕ). Signals op limits old.number old.held c.args.single old.seen both.middle (Ok phase))
@@ -70,7 +76,7 @@ returns-then-not-waits-clause-call g c =
       at = search rules;
       good = search rules;
       known = search rules;
-    }
+    })
 
 -- a task that has signalled, and has no value yet
 module _ (g : Over) (c : After-mode-mode g) where
@@ -80,8 +86,17 @@ module _ (g : Over) (c : After-mode-mode g) where
   abbrev new : RegState g.row.A.Denot g.row.K.Denot
   new = c.signal_and_wait.new.self
 
+  same : new ≡ c.signal_and_wait.new.self
+  same = refl
+
+  number_is : new.number ≡ old.number
+  number_is = ap (λ (r : RegState g.row.A.Denot g.row.K.Denot). r.number) same ∙ c.signal_and_wait.ensures.call.at.1
+
   abbrev limits : Limits
   limits = phaser_limits c.args.phaser.now
+
+  legal : IsLegal limits new.seen
+  legal = subst (λ (r : RegState g.row.A.Denot g.row.K.Denot). IsLegal limits r.seen) (sym same) c.signal_and_wait.ensures.call.good.legal
 
   signals : mode_signals c.args.self.now.entry.mode ≡ true
   signals = ap mode_signals (sym c.mode.ensures.value) ∙ sym c.signals.ensures ∙ c.if-not-signals.false
@@ -93,8 +108,12 @@ module _ (g : Over) (c : After-mode-mode g) where
   signal =
       let op = g.A.Accumulate.operation in
       let asked = c.waits-waits.result in
+      let middle = c.signal_and_wait.new.self.seen in
+      let here : HasSignalledAndMayWait asked op limits old.number old.held c.args.single old.seen middle c.in-Ok.answer =
+      subst (λ r. SignalsAndMayWait asked op limits old.number old.held c.args.single old.seen middle r) c.in-Ok.is c.signal_and_wait.ensures.call.call in
       let both : HasSignalledAndMayWait asked op limits old.number old.held c.args.single old.seen new.seen c.in-Ok.answer =
-      subst (λ r. SignalsAndMayWait asked op limits old.number old.held c.args.single old.seen new.seen r) c.in-Ok.is c.signal_and_wait.ensures.call.call in
+      subst (λ (r : RegState g.row.A.Denot g.row.K.Denot).
+      HasSignalledAndMayWait asked op limits old.number old.held c.args.single old.seen r.seen c.in-Ok.answer) (sym same) here in
       let none : is_some c.in-Ok.answer.1 ≡ false = sym c.is_some-else-not-waits.ensures ∙ c.if-is_some-2.false in
       let last : new.seen ≡ both.middle = unanswered op.value limits old.number both.middle new.seen asked c.in-Ok.answer.1 none both.waits in
       subst (λ (h : History). Signals op limits old.number old.held c.args.single old.seen h (Ok c.in-Ok.answer.0)) (sym last) both.signals
@@ -102,9 +121,9 @@ module _ (g : Over) (c : After-mode-mode g) where
   entry_is : new.entry ≡ signalled 1 old.entry
   entry_is =
       let there : entry_of (members_of new.seen) old.number ≡ Some new.entry =
-      subst (λ n. entry_of (members_of new.seen) n ≡ Some new.entry) c.signal_and_wait.ensures.call.at.1 c.mode-mode.ensures.entry in
+      subst (λ n. entry_of (members_of new.seen) n ≡ Some new.entry) number_is c.mode-mode.ensures.entry in
       signalled_member limits old.number old.entry new.entry old.seen signal.before new.seen c.args.single signal.sends signal.others signal.seen
-      c.signal_and_wait.ensures.call.good.legal c.mode.ensures.entry there
+      legal c.mode.ensures.entry there
 
 -- a task that waits is one after its signal
 pub wait_in_turn-got-requires-2-clause-waits : goal.wait_in_turn-got-requires-2-clause-waits
@@ -118,7 +137,7 @@ wait_in_turn-got-requires-2-clause-signalled g c signals' same =
     let at = (goal.at.wait_in_turn-got-requires-2-clause-signalled g c).After-mode-mode in
     let s = signal g at in
     signalled_apart (limits g at) c.args.self.now.number c.args.self.now.entry c.signal_and_wait.new.self.entry c.args.self.now.seen s.before
-    c.signal_and_wait.new.self.seen c.args.single s.sends s.others s.seen c.signal_and_wait.ensures.call.good.legal c.mode.ensures.entry (entry_is g at)
+    c.signal_and_wait.new.self.seen c.args.single s.sends s.others s.seen (legal g at) c.mode.ensures.entry (entry_is g at)
     (signals g at) (waits g at) same
 
 -- a task that gets its value later
@@ -138,7 +157,7 @@ returns-clause-call g c =
             (new.seen ≡ old.seen) c.in-Ok.answer.0 (signals g at) (signal g at);
         waits = made (mode_waits old.entry.mode) (λ (got : Got). Waits op.value limits old.number new.seen last (Ok got)) (last ≡ new.seen) got
             (waits g at)
-            (subst (λ n. Waits op.value limits n new.seen last (Ok got)) c.signal_and_wait.ensures.call.at.1 c.wait_in_turn-got-2.ensures.call);
+            (subst (λ n. Waits op.value limits n new.seen last (Ok got)) (number_is g at) c.wait_in_turn-got-2.ensures.call);
         named = λ none. absurd (let z : true ≡ false = sym (signals g at) ∙ none in cc);
       };
       entry = search rules;

@@ -9,6 +9,10 @@ use Rattle.phase_shared.specs.declared.rule.Terms.{Terms}
 use Rattle.phase_shared.specs.declared.tried.Tried.{Tried}
 use Rattle.phase_shared.specs.Regs.{RegState, reg_state, phaser_lock, phaser_terms}
 use Rattle.phase_shared.specs.Calls.{IsTry, Tries, MaySignal}
+use Rattle.phase_core.specs.phase_accum.Parcels.{StandsForSends}
+use Rattle.turn_lock.specs.Seats.{IsSameSeat, seat_view}
+use Rattle.phase_shared.specs.Views.{known_of}
+use Rattle.phase_shared.specs.Steps.{IsStep}
 use Rattle.phase_shared.specs.Entries.{entry_after_both}
 use Rattle.phase_shared.specs.Nexts.{SignalsAndMayWait}
 use Rattle.phase_shared.proofs.Opening.{opened, closed, reg_is, is_try}
@@ -32,7 +36,13 @@ signal-seat-requires g c =
     let is : reg_state (Some c.in-Some.seat) inside.number inside.entry inside.pending ≡ c.args.self.now =
     reg_is g.K.SignalRule.allows p.0 terms inside.number inside.entry inside.pending inside.seat c.in-Some.seat c.args.self.now
     (sym c.take.ensures.value ∙ c.in-Some.is) c.self.view_is in
-    record { seat = o.at; at = o.station; rule = subst P (sym is) c.requires.rule }
+    let may : P (reg_state (Some c.in-Some.seat) inside.number inside.entry inside.pending) = subst P (sym is) c.requires.rule in
+    record {
+      seat = o.at;
+      at = o.station;
+      rule = λ h sends good others held.
+          may h sends good others (subst (λ (p : Parcel g.row.A.Denot). StandsForSends g.A.Accumulate.operation p sends) c.sends.ensures held);
+    }
 
 pub invariant_of-self : goal.invariant_of-self
 invariant_of-self g c =
@@ -68,6 +78,14 @@ module _ (g : Over) (c : After-signal-seat g) where
       (SignalsAndMayWait c.args.waits g.A.Accumulate.operation terms.limits old.number old.held c.args.single old.seen (new held).seen) result)
       old (new held) result
 
+  -- the step, of these sends
+  abbrev IsStepOf : Parcel g.row.A.Denot → Type 0
+  IsStepOf held = IsStep g.K.SignalRule.allows terms c.self.inside.number NoTask entry_after_both
+      (Tries (IsSameSeat c.in-Some.seat c.signal-seat.result.0 × (c.signal-seat.result.1 ≡ c.self.inside.entry))
+      (SignalsAndMayWait c.args.waits g.A.Accumulate.operation terms.limits c.self.inside.number held c.args.single
+      (known_of (seat_view c.in-Some.seat)).seen (known_of (seat_view c.signal-seat.result.0)).seen) c.signal-seat.result.2)
+      c.self.inside.entry c.signal-seat.result.1 (seat_view c.in-Some.seat) (seat_view c.signal-seat.result.0) c.signal-seat.result.2
+
   tried : (held : Parcel g.row.A.Denot) → (IsErr c.signal-seat.result.2 → held ≡ c.self.inside.pending) → IsTried held c.signal-seat.result.2
   tried held stays =
       let inside = c.self.inside in
@@ -76,7 +94,7 @@ module _ (g : Over) (c : After-signal-seat g) where
       inside.entry c.signal-seat.result.1 inside.pending held c.in-Some.seat c.signal-seat.result.0 c.args.self.now c.signal-seat.result.2
       (reg_is g.K.SignalRule.allows (phaser_lock c.args.phaser.now).0 terms inside.number inside.entry inside.pending inside.seat c.in-Some.seat
       c.args.self.now (sym c.take.ensures.value ∙ c.in-Some.is) c.self.view_is)
-      c.requires.at c.signal-seat.ensures.seat mode_stays stays c.signal-seat.ensures.step
+      c.requires.at c.signal-seat.ensures.seat mode_stays stays (subst IsStepOf c.sends.ensures c.signal-seat.ensures.step)
 
 pub returns-in-Ok-clause-call : goal.returns-in-Ok-clause-call
 returns-in-Ok-clause-call g c =

@@ -1,7 +1,7 @@
-use Rattle.std.proofs.Common.{◌≡◌, ℕ, ℤ, List, [], ◌∷◌, length, true, false, refl, sym, ap, ◌∙◌}
+use Rattle.std.proofs.Common.{◌≡◌, ℕ, ℤ, List, [], ◌∷◌, None, length, true, false, refl, sym, ap, ◌∙◌}
 use Rattle.std.specs.Prelude.{is_some, Result}
 use Rattle.std.specs.Result.{result_ok}
-use Rattle.turn_lock.specs.Seats.{seat_view, turn_view, turn_value, turn_number, IsSameSeat}
+use Rattle.turn_lock.specs.Seats.{seat_view, turn_view, turn_value, turn_number, turn_told, IsSameSeat}
 use Rattle.phase_core.specs.phase_history.declared.refusal.SignalRefusal.{SignalRefusal}
 use Rattle.phase_core.specs.phase_history.declared.refusal.SignalRefusal.TheVariants as signal
 use Rattle.phase_core.specs.phase_history.Histories.{History, signal_phase}
@@ -26,10 +26,10 @@ use Rattle.phase_shared.proofs.seats.block_steps.signal_lists.Goals as goal
 
 -- the phaser under the turn stood for what was seen
 stood : (g : Over) (c : After-signal_lists-answer g)
-    → StandsWithin g.A.Accumulate.operation (locked_terms c.args.phaser.now).limits c.value-core.result.now c.in-Ok.ensures.took.now
+    → StandsWithin g.A.Accumulate.operation (locked_terms c.args.phaser.now).limits c.value_in-core.result.now c.in-Ok.ensures.took.now
 stood g c =
-    lent g.A.Accumulate.operation g.K.SignalRule.allows (locked_terms c.args.phaser.now) c.args.me (turn_value c.in-Ok.turn) c.value-core.result.now
-    c.in-Ok.ensures.took.now c.value-core.ensures.value c.in-Ok.ensures.took.stands
+    lent g.A.Accumulate.operation g.K.SignalRule.allows (locked_terms c.args.phaser.now) c.args.me (turn_value c.in-Ok.turn) c.value_in-core.result.now
+    c.in-Ok.ensures.took.now c.value_in-core.ensures.value c.in-Ok.ensures.took.stands
 
 -- what the signal of these sends leaves there
 left : (g : Over) (c : After-signal_lists-answer g) (sends : List (List ℤ)) → StandForLists g.A.Accumulate.operation c.args.lists.now sends
@@ -43,7 +43,7 @@ left g c sends stand =
     let me = c.args.me in
     let n = length c.args.lists.now in
     let answer = c.signal_lists-answer.result in
-    called op g.K.SignalRule.allows terms me e.now (after_signal answer me sends c.args.single e.now) c.value-core.result.now c.signal_lists-answer.new.self
+    called op g.K.SignalRule.allows terms me e.now (after_signal answer me sends c.args.single e.now) c.value_in-core.result.now c.signal_lists-answer.new.self
     (entry_after_block n (result_ok answer) c.args.entry) (stood g c) c.signal_lists-answer.ensures.limits
     (c.signal_lists-answer.ensures.after e.now sends (stood g c).stands stand)
     (keeps_signal (g.K.SignalRule.allows terms.rule) me e.now answer sends c.args.single (c.requires.rule e.now sends e.good e.others stand) e.good.keeps)
@@ -52,10 +52,10 @@ left g c sends stand =
 
 -- the definition's answer, whichever lists of sends the parcels stand for
 replies : (g : Over) (c : After-signal_lists-answer g) (sends : List (List ℤ)) → StandForLists g.A.Accumulate.operation c.args.lists.now sends
-    → signal_reply c.value-core.result.now.limits c.in-Ok.ensures.took.now c.args.me sends c.args.single ≡ c.signal_lists-answer.result
+    → signal_reply c.value_in-core.result.now.limits c.in-Ok.ensures.took.now c.args.me sends c.args.single ≡ c.signal_lists-answer.result
 replies g c sends stand =
-    let P : Result ℕ SignalRefusal → Type 0 = λ r. (h : History) (lists : List (List ℤ)) → StandsFor g.A.Accumulate.operation c.value-core.result.now h
-    → StandForLists g.A.Accumulate.operation c.args.lists.now lists → signal_reply c.value-core.result.now.limits h c.args.me lists c.args.single ≡ r in
+    let P : Result ℕ SignalRefusal → Type 0 = λ r. (h : History) (lists : List (List ℤ)) → StandsFor g.A.Accumulate.operation c.value_in-core.result.now h
+    → StandForLists g.A.Accumulate.operation c.args.lists.now lists → signal_reply c.value_in-core.result.now.limits h c.args.me lists c.args.single ≡ r in
     either P c.signal_lists-answer.result c.signal_lists-answer.ensures.ok c.signal_lists-answer.ensures.refused c.in-Ok.ensures.took.now sends
     (stood g c).stands stand
 
@@ -78,7 +78,7 @@ put_back-seat-requires-clause-rule g c =
     gives_called op g.K.SignalRule.allows (locked_terms c.args.phaser.now) c.args.me
     (λ v w. (sends : List (List ℤ)) × StandForLists op c.args.lists.now sends
     × (w ≡ resting (after_signal answer c.args.me sends c.args.single (known_of v).seen) (speaks_of v)))
-    (turn_number c.in-Ok.turn) c.args.entry (seat_view c.args.seat) (turn_view c.in-Ok.turn) (turn_value c.in-Ok.turn) c.signal_lists-answer.new.self
+    (turn_number c.in-Ok.turn) (turn_told c.in-Ok.turn) c.args.entry (seat_view c.args.seat) (turn_view c.in-Ok.turn) (turn_value c.in-Ok.turn) c.signal_lists-answer.new.self
     (after_signal answer c.args.me held.0 c.args.single e.now) (entry_after_block (length c.args.lists.now) (result_ok answer) c.args.entry) e
     (left g (goal.at.put_back-seat-requires-clause-rule g c).After-signal_lists-answer held.0 held.1) (held.0, held.1, refl)
 
@@ -94,11 +94,11 @@ returns-clause-step g c =
     let told = c.put_back-seat.ensures.rule in
     let answer = c.signal_lists-answer.result in
     let seat = c.put_back-seat.result in
-    let limits = c.value-core.result.now.limits in
+    let limits = c.value_in-core.result.now.limits in
     let new = after_signal answer me told.0 single e.now in
     let rests : seat_view seat ≡ resting new (me ∷ []) =
     told_at (λ v. resting (after_signal answer me told.0 single (known_of v).seen) (speaks_of v)) (seat_view seat) (turn_view c.in-Ok.turn)
-    (turning e.now (me ∷ [])) told.2 e.is in
+    (turning e.now (me ∷ []) e.claims e.said None) told.2 e.is in
     let call : Result ℕ SignalRefusal → Type 0 =
     SignalsBlock op terms.limits me c.args.lists.now single (known_of (seat_view c.args.seat)).seen (known_of (seat_view seat)).seen in
     stepped op g.K.SignalRule.allows terms me signal.NoTask (entry_after_block (length c.args.lists.now))

@@ -1,11 +1,14 @@
 use Rattle.std.proofs.Common.{ap, ◌∷◌, []}
 use Rattle.phase_shared.specs.LockedPhasers.{locked_terms}
 use Rattle.turn_lock.specs.Seats.{seat_view, seat_number, turn_value, turn_view}
-use Rattle.phase_shared.specs.Views.{knowledge, known_of}
+use Rattle.turn_lock.specs.WordSteps.{BusyOf}
+use Rattle.phase_shared.specs.Views.{knowledge, resting, known_of}
 use Rattle.phase_shared.specs.Rule.{StandsWithin, HasOneHistory}
 use Rattle.std.specs.Prelude.{is_some}
 use Rattle.phase_core.proofs.phase_history_lemmas.Used.{IsUsed-member}
-use Rattle.phase_shared.proofs.Keeping.{takes, never_busy, is_in_self}
+use Rattle.phase_shared.proofs.Small.{is_in_self}
+use Rattle.phase_shared.proofs.Taking.{takes}
+use Rattle.phase_shared.proofs.Joining.{never_busy}
 use Rattle.phase_shared.proofs.Giving.{entered}
 use Rattle.phase_shared.proofs.seats.steps.enter.Goals as goal
 
@@ -17,8 +20,9 @@ try_take-requires-clause-rule g c =
     let allows = g.K.SignalRule.allows in
     let seen = (known_of (seat_view c.args.seat)).seen in
     rw c.requires.at.rests
-    (takes terms.limits (allows terms.rule) (StandsWithin op terms.limits) (seat_number c.args.seat) (knowledge seen (c.args.me ∷ []))
-    (c.args.me, is_in_self c.args.me []))
+    (λ x told words views long k at.
+    takes op.value terms.limits (allows terms.rule) (StandsWithin op terms.limits) (seat_number c.args.seat) (knowledge seen (c.args.me ∷ [])) x told words views
+    k at (c.args.me, is_in_self c.args.me []))
 
 pub returns-in-Ok-clause-took : goal.returns-in-Ok-clause-took
 returns-in-Ok-clause-took g c =
@@ -37,8 +41,7 @@ returns-in-Err-clause-alone g c only =
     let op = g.A.Accumulate.operation in
     let allows = g.K.SignalRule.allows in
     let seen = (known_of (seat_view c.args.seat)).seen in
-    absurd (never_busy terms.limits (allows terms.rule) (StandsWithin op terms.limits) (HasOneHistory op allows) terms (λ views k. k)
-    (knowledge seen (c.args.me ∷ []))
+    let b : BusyOf (HasOneHistory op allows) terms (resting seen (c.args.me ∷ [])) = rw c.requires.at.rests at c.in-Err.ensures.busy in
+    absurd (never_busy op.value terms.limits (allows terms.rule) (StandsWithin op terms.limits) b.number (knowledge seen (c.args.me ∷ []))
     (c.args.me, is_in_self c.args.me [], IsUsed-member seen c.args.me (ap is_some c.requires.at.member))
-    only
-    (rw c.requires.at.rests at c.in-Err.ensures.busy))
+    only b.told b.words b.views b.kept b.here)

@@ -1,5 +1,5 @@
 use Rattle.std.proofs.Common.{◌≡◌, [], ◌∷◌, None, true, false, refl, sym, ap, ◌∙◌, rules}
-use Rattle.turn_lock.specs.Seats.{seat_view, turn_view, turn_value, turn_number, IsSameSeat}
+use Rattle.turn_lock.specs.Seats.{seat_view, turn_view, turn_value, turn_number, turn_told, IsSameSeat}
 use Rattle.phase_core.specs.phase_base.declared.entry.Entry.{Entry}
 use Rattle.phase_core.specs.phase_history.declared.event.Event.{Event}
 use Rattle.phase_core.specs.phase_history.declared.event.Event.TheVariants.{Registered}
@@ -22,10 +22,10 @@ use Rattle.phase_shared.proofs.seats.steps.register.Goals as goal
 
 -- the phaser under the turn stood for what was seen
 stood : (g : Over) (c : After-view-found g)
-    → StandsWithin g.A.Accumulate.operation (locked_terms c.args.phaser.now).limits c.value-core.result.now c.in-Ok.ensures.took.now
+    → StandsWithin g.A.Accumulate.operation (locked_terms c.args.phaser.now).limits c.value_in-core.result.now c.in-Ok.ensures.took.now
 stood g c =
-    lent g.A.Accumulate.operation g.K.SignalRule.allows (locked_terms c.args.phaser.now) c.args.me (turn_value c.in-Ok.turn) c.value-core.result.now
-    c.in-Ok.ensures.took.now c.value-core.ensures.value c.in-Ok.ensures.took.stands
+    lent g.A.Accumulate.operation g.K.SignalRule.allows (locked_terms c.args.phaser.now) c.args.me (turn_value c.in-Ok.turn) c.value_in-core.result.now
+    c.in-Ok.ensures.took.now c.value_in-core.ensures.value c.in-Ok.ensures.took.stands
 
 -- the event, and where the child stands
 abbrev event : (g : Over) (c : After-view-found g) → Event
@@ -40,15 +40,15 @@ module _ (g : Over) (c : After-view-found g) where
       c.child_of-child.result (begins g c) c.register-answer.new.self
 
   -- what the registration leaves, where the core accepted it
-  made : ((h : History) → StandsFor g.A.Accumulate.operation c.value-core.result.now h → register_refusal h c.args.me c.child_of-child.result c.args.mode ≡ None)
-      → c.register-answer.new.self.limits ≡ c.value-core.result.now.limits
-      → ((h : History) → StandsFor g.A.Accumulate.operation c.value-core.result.now h → StandsFor g.A.Accumulate.operation c.register-answer.new.self (event g c ∷ h))
+  made : ((h : History) → StandsFor g.A.Accumulate.operation c.value_in-core.result.now h → register_refusal h c.args.me c.child_of-child.result c.args.mode ≡ None)
+      → c.register-answer.new.self.limits ≡ c.value_in-core.result.now.limits
+      → ((h : History) → StandsFor g.A.Accumulate.operation c.value_in-core.result.now h → StandsFor g.A.Accumulate.operation c.register-answer.new.self (event g c ∷ h))
       → IsMade
   made ok limits after =
       let e = c.in-Ok.ensures.took in
       let before = stood g c in
       new_member g.A.Accumulate.operation g.K.SignalRule.allows (locked_terms c.args.phaser.now) c.args.me c.args.entry e.now c.child_of-child.result c.args.mode
-      c.value-core.result.now c.register-answer.new.self before e.good e.used e.member (ok e.now before.stands) limits (after e.now before.stands)
+      c.value_in-core.result.now c.register-answer.new.self before e.good e.used e.member (ok e.now before.stands) limits (after e.now before.stands)
 
 -- the child is a member now
 pub unreachable-requires : goal.unreachable-requires
@@ -65,14 +65,14 @@ put_back-both-requires-clause-rule g c =
     let e = c.in-Ok.ensures.took in
     gives_new_member g.A.Accumulate.operation g.K.SignalRule.allows (locked_terms c.args.phaser.now) c.args.me c.args.entry e.now (event g at)
     c.child_of-child.result (begins g at) c.register-answer.new.self (made g at c.in_default.ensures.ok c.in_default.ensures.limits c.in_default.ensures.after)
-    (turn_number c.in-Ok.turn) (turn_view c.in-Ok.turn) e.is e.used
+    (turn_number c.in-Ok.turn) (turn_told c.in-Ok.turn) (turn_view c.in-Ok.turn) e.claims e.said e.is e.used
 
-pub give-requires-clause-rule : goal.give-requires-clause-rule
-give-requires-clause-rule g c =
+pub give_same-requires-clause-rule : goal.give_same-requires-clause-rule
+give_same-requires-clause-rule g c =
     let e = c.in-Ok.ensures.took in
-    gives_refused g.A.Accumulate.operation g.K.SignalRule.allows (locked_terms c.args.phaser.now) c.args.me c.args.entry (turn_number c.in-Ok.turn) e.now
-    (turn_view c.in-Ok.turn) c.value-core.result.now c.register-answer.new.self (stood g (goal.at.give-requires-clause-rule g c).After-view-found)
-    c.in-Err-answer.ensures.err e.is e.used e.good
+    gives_refused g.A.Accumulate.operation g.K.SignalRule.allows (locked_terms c.args.phaser.now) c.args.me c.args.entry (turn_number c.in-Ok.turn) (turn_told c.in-Ok.turn)
+    (seat_view c.args.seat) (turn_view c.in-Ok.turn) (turn_value c.in-Ok.turn) c.value_in-core.result.now c.register-answer.new.self e (stood g (goal.at.give_same-requires-clause-rule g c).After-view-found)
+    c.in-Err-answer.ensures.err
 
 pub split-seat-requires-clause-two : goal.split-seat-requires-clause-two
 split-seat-requires-clause-two g c =
@@ -80,7 +80,7 @@ split-seat-requires-clause-two g c =
     let e = c.in-Ok.ensures.took in
     let child = c.child_of-child.result in
     speaks_for_both c.args.me e.now (event g at) child (seat_view c.put_back-both.result)
-    (for_both c.args.me e.now (event g at) child (seat_view c.put_back-both.result) (turn_view c.in-Ok.turn) c.put_back-both.ensures.rule e.is)
+    (for_both c.args.me e.now (event g at) child (seat_view c.put_back-both.result) (turn_view c.in-Ok.turn) e.claims e.said c.put_back-both.ensures.rule e.is)
 
 pub returns-clause-step : goal.returns-clause-step
 returns-clause-step g c =
@@ -95,7 +95,7 @@ returns-clause-step g c =
     let x = c.register-answer.new.self in
     let b : IsMade g at = made g at c.in_default.ensures.ok c.in_default.ensures.limits c.in_default.ensures.after in
     let both : seat_view c.put_back-both.result ≡ resting (event g at ∷ e.now) (me ∷ child ∷ []) =
-    for_both me e.now (event g at) child (seat_view c.put_back-both.result) (turn_view c.in-Ok.turn) c.put_back-both.ensures.rule e.is in
+    for_both me e.now (event g at) child (seat_view c.put_back-both.result) (turn_view c.in-Ok.turn) e.claims e.said c.put_back-both.ensures.rule e.is in
     let left : seat_view c.split-seat.result.0 ≡ resting (event g at ∷ e.now) (me ∷ []) =
     parent_rests me e.now (event g at) child (seat_view c.put_back-both.result) (seat_view c.split-seat.result.0) c.split-seat.ensures.left both in
     let right : seat_view c.split-seat.result.1 ≡ resting (event g at ∷ e.now) (child ∷ []) =
@@ -111,7 +111,7 @@ returns-clause-step g c =
             others = e.others;
             seen = ap (λ (v : View). (known_of v).seen) left;
             reply = c.in_default.ensures.ok e.now before.stands;
-            next = child_is_next e.now child c.value-core.result.now.greatest before.stands.greatest_is c.child_of-child.ensures b.new.above;
+            next = child_is_next e.now child c.value_in-core.result.now.greatest before.stands.greatest_is c.child_of-child.ensures b.new.above;
           };
           at = stands.0;
           seen = ap (λ (v : View). (known_of v).seen) right ∙ sym (ap (λ (v : View). (known_of v).seen) left);
@@ -130,11 +130,11 @@ returns-in-Err-answer-clause-step g c =
     let e = c.in-Ok.ensures.took in
     let before = stood g (goal.at.returns-in-Err-answer-clause-step g c).After-view-found in
     let old = (known_of (seat_view c.args.seat)).seen in
-    let new = (known_of (seat_view c.give.result)).seen in
+    let new = (known_of (seat_view c.give_same.result)).seen in
     refused_step g.A.Accumulate.operation g.K.SignalRule.allows (locked_terms c.args.phaser.now) c.args.me c.args.entry e.now c.child_of-child.result
-    c.value-core.result.now.greatest c.args.mode c.in-Err-answer.refusal (IsSameSeat c.args.seat c.give.result)
+    c.value_in-core.result.now.greatest c.args.mode c.in-Err-answer.refusal (IsSameSeat c.args.seat c.give_same.result)
     (RegistersSeat g.K.SignalRule.allows (locked_place c.args.phaser.now) (locked_terms c.args.phaser.now) c.args.me c.args.mode c.args.entry old new)
-    (seat_view c.args.seat) (seat_view c.give.result) (turn_view c.in-Ok.turn) c.give.ensures.rule e.is e.good e.member e.others
+    (seat_view c.args.seat) (seat_view c.give_same.result) (turn_view c.in-Ok.turn) e.claims e.said c.give_same.ensures.rule e.is e.good e.member e.others
     before.stands.greatest_is c.child_of-child.ensures (λ other. c.in-Err-answer.ensures.refused other e.now before.stands)
     (λ none. c.in-Err-answer.ensures.out_of_memory none e.now before.stands) (λ r. r)
 

@@ -1,7 +1,7 @@
 use Rattle.std.proofs.Common.{◌≡◌, ℤ, List, [], ◌∷◌, Err, true, false, sym, subst, ap, refl, ◌∙◌, rules}
 use Rattle.std.specs.Prelude.{is_some}
 use Rattle.phase_shared.specs.LockedPhasers.{locked_terms}
-use Rattle.turn_lock.specs.Seats.{seat_view, turn_view, turn_value, turn_number}
+use Rattle.turn_lock.specs.Seats.{seat_view, turn_view, turn_value, turn_number, turn_told}
 use Rattle.phase_core.specs.phase_history.declared.event.Event.TheVariants.{Signalled}
 use Rattle.phase_core.specs.phase_history.Histories.{History, signal_phase}
 use Rattle.phase_core.specs.Cores.{CoreState}
@@ -26,10 +26,10 @@ use Rattle.phase_shared.proofs.seats.steps.signal.Goals as goal
 
 -- the phaser under the turn stood for what was seen
 stood : (g : Over) (c : In-Ok-answer g)
-    → StandsWithin g.A.Accumulate.operation (locked_terms c.args.phaser.now).limits c.value-core.result.now c.in-Ok.ensures.took.now
+    → StandsWithin g.A.Accumulate.operation (locked_terms c.args.phaser.now).limits c.value_in-core.result.now c.in-Ok.ensures.took.now
 stood g c =
-    lent g.A.Accumulate.operation g.K.SignalRule.allows (locked_terms c.args.phaser.now) c.args.me (turn_value c.in-Ok.turn) c.value-core.result.now
-    c.in-Ok.ensures.took.now c.value-core.ensures.value c.in-Ok.ensures.took.stands
+    lent g.A.Accumulate.operation g.K.SignalRule.allows (locked_terms c.args.phaser.now) c.args.me (turn_value c.in-Ok.turn) c.value_in-core.result.now
+    c.in-Ok.ensures.took.now c.value_in-core.ensures.value c.in-Ok.ensures.took.stands
 
 -- what the signal of these sends, and the wait, leave there
 left : (g : Over) (c : In-Ok-answer g) (sends : List ℤ) → StandsForSends g.A.Accumulate.operation c.args.pending sends
@@ -40,7 +40,7 @@ left g c sends held =
     let e = c.in-Ok.ensures.took in
     let waited = c.in-Ok-answer.answer.1 in
     let middle : History = Signalled c.args.me (sends ∷ []) c.args.single ∷ e.now in
-    after_call g.A.Accumulate.operation g.K.SignalRule.allows terms c.args.me e.now (after_wait waited c.args.me middle) c.value-core.result.now
+    after_call g.A.Accumulate.operation g.K.SignalRule.allows terms c.args.me e.now (after_wait waited c.args.me middle) c.value_in-core.result.now
     c.signal_where-answer.new.core (stood g c) c.in-Ok-answer.ensures.limits
     (c.in-Ok-answer.ensures.after e.now sends (stood g c).stands held)
     (keeps_wait (g.K.SignalRule.allows terms.rule) c.args.me middle waited (c.requires.rule e.now sends e.good e.others held, e.good.keeps))
@@ -73,22 +73,23 @@ put_back-seat-requires-clause-rule g c =
     gives_own op allows terms c.args.me
     (λ v w. (sends : List ℤ) × StandsForSends op c.args.pending sends
     × (w ≡ resting (after_wait waited c.args.me (Signalled c.args.me (sends ∷ []) c.args.single ∷ (known_of v).seen)) (speaks_of v)))
-    (turn_number turn) new (turn_view turn) e.now (after_wait waited c.args.me middle) e.is e.used
+    (turn_number turn) (turn_told turn) new (turn_view turn) e.now (after_wait waited c.args.me middle) e.claims e.said e.is e.used
     (own_wait c.args.me e.now middle waited
     (own_event c.args.me e.now e.now (Signalled c.args.me (held.0 ∷ []) c.args.single) (λ t. refl) (own_none c.args.me e.now)))
     s.good s.stands (held.0, held.1, refl)
 
-pub give-seat-requires-clause-rule : goal.give-seat-requires-clause-rule
-give-seat-requires-clause-rule g c =
+pub give_same-seat-requires-clause-rule : goal.give_same-seat-requires-clause-rule
+give_same-seat-requires-clause-rule g c =
     let op = g.A.Accumulate.operation in
     let allows = g.K.SignalRule.allows in
     let terms = locked_terms c.args.phaser.now in
     let turn = c.in-Ok.turn in
     let e = c.in-Ok.ensures.took in
-    let old = c.value-core.result.now in
-    let before : StandsWithin op terms.limits old e.now = lent op allows terms c.args.me (turn_value turn) old e.now c.value-core.ensures.value e.stands in
+    let old = c.value_in-core.result.now in
+    let before : StandsWithin op terms.limits old e.now = lent op allows terms c.args.me (turn_value turn) old e.now c.value_in-core.ensures.value e.stands in
     let after : StandsWithin op terms.limits c.signal_where-answer.new.core e.now = subst (λ (z : CoreState g.row.A.Denot). StandsWithin op terms.limits z e.now) (sym c.in-Err-answer.ensures.err) before in
-    gives_same op allows terms c.args.me (turn_number turn) c.signal_where-answer.new.core (turn_view turn) e.now e.is e.used e.good after
+    gives_same op allows terms c.args.me (turn_number turn) (turn_told turn) c.args.entry (seat_view c.args.seat) (turn_value turn) c.signal_where-answer.new.core
+    (turn_view turn) e after
 
 pub returns-clause-step : goal.returns-clause-step
 returns-clause-step g c =
@@ -152,11 +153,11 @@ returns-in-Err-answer-clause-step g c =
     let terms = locked_terms c.args.phaser.now in
     let turn = c.in-Ok.turn in
     let e = c.in-Ok.ensures.took in
-    let old = c.value-core.result.now in
-    let before : StandsWithin op terms.limits old e.now = lent op allows terms c.args.me (turn_value turn) old e.now c.value-core.ensures.value e.stands in
+    let old = c.value_in-core.result.now in
+    let before : StandsWithin op terms.limits old e.now = lent op allows terms c.args.me (turn_value turn) old e.now c.value_in-core.ensures.value e.stands in
     let held = c.part-part.ensures.held in
-    let view : seat_view c.give-seat.result ≡ resting e.now (c.args.me ∷ []) =
-    c.give-seat.ensures.rule ∙ ap (λ (v : View). resting (known_of v).seen (speaks_of v)) e.is in
+    let view : seat_view c.give_same-seat.result ≡ resting e.now (c.args.me ∷ []) =
+    c.give_same-seat.ensures.rule ∙ ap (λ (v : View). resting (known_of v).seen (speaks_of v)) e.is in
     record {
       call = record {
         before = e.now;
@@ -167,7 +168,7 @@ returns-in-Err-answer-clause-step g c =
         reply = λ sends stands. ap (λ l. signal_reply l e.now c.args.me (sends ∷ []) c.args.single) (sym before.limits_are)
             ∙ c.in-Err-answer.ensures.refused e.now sends before.stands stands;
       };
-      at = stays op allows terms c.args.me c.args.entry (seat_view c.give-seat.result) e.now view e.good e.member;
+      at = stays op allows terms c.args.me c.args.entry (seat_view c.give_same-seat.result) e.now view e.good e.member;
       entry_is = refl;
       -- the task is registered
       known = λ none.

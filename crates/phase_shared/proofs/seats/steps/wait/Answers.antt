@@ -1,7 +1,7 @@
-use Rattle.std.proofs.Common.{◌≡◌, [], ◌∷◌, true, false, refl, sym, ap, ◌∙◌}
+use Rattle.std.proofs.Common.{◌≡◌, [], ◌∷◌, None, true, false, refl, sym, ap, ◌∙◌}
 use Rattle.std.specs.Prelude.{Result, is_some}
 use Rattle.std.specs.Result.{result_ok}
-use Rattle.turn_lock.specs.Seats.{seat_view, turn_view, turn_value, turn_number, IsSameSeat}
+use Rattle.turn_lock.specs.Seats.{seat_view, turn_view, turn_value, turn_number, turn_told, IsSameSeat}
 use Rattle.phase_core.specs.phase_history.declared.got.Got.{Got}
 use Rattle.phase_core.specs.phase_history.declared.refusal.WaitRefusal.{WaitRefusal}
 use Rattle.phase_core.specs.phase_history.declared.refusal.WaitRefusal.TheVariants as wait
@@ -25,10 +25,10 @@ use Rattle.phase_shared.proofs.seats.steps.wait.Goals as goal
 
 -- the phaser under the turn stood for what was seen
 stood : (g : Over) (c : After-wait-answer g)
-    → StandsWithin g.A.Accumulate.operation (locked_terms c.args.phaser.now).limits c.value-core.result.now c.in-Ok.ensures.took.now
+    → StandsWithin g.A.Accumulate.operation (locked_terms c.args.phaser.now).limits c.value_in-core.result.now c.in-Ok.ensures.took.now
 stood g c =
-    lent g.A.Accumulate.operation g.K.SignalRule.allows (locked_terms c.args.phaser.now) c.args.me (turn_value c.in-Ok.turn) c.value-core.result.now
-    c.in-Ok.ensures.took.now c.value-core.ensures.value c.in-Ok.ensures.took.stands
+    lent g.A.Accumulate.operation g.K.SignalRule.allows (locked_terms c.args.phaser.now) c.args.me (turn_value c.in-Ok.turn) c.value_in-core.result.now
+    c.in-Ok.ensures.took.now c.value_in-core.ensures.value c.in-Ok.ensures.took.stands
 
 -- what the wait leaves there
 left : (g : Over) (c : After-wait-answer g) → Called g.A.Accumulate.operation g.K.SignalRule.allows (locked_terms c.args.phaser.now) c.args.me
@@ -39,7 +39,7 @@ left g c =
     let e = c.in-Ok.ensures.took in
     let me = c.args.me in
     let answer = c.wait-answer.result in
-    called g.A.Accumulate.operation g.K.SignalRule.allows terms me e.now (after_wait answer me e.now) c.value-core.result.now c.wait-answer.new.self
+    called g.A.Accumulate.operation g.K.SignalRule.allows terms me e.now (after_wait answer me e.now) c.value_in-core.result.now c.wait-answer.new.self
     (entry_after_wait (result_ok answer) c.args.entry) (stood g c) c.wait-answer.ensures.limits (c.wait-answer.ensures.after e.now (stood g c).stands)
     (keeps_wait (g.K.SignalRule.allows terms.rule) me e.now answer e.good.keeps) (own_wait me e.now e.now answer (own_none me e.now))
     (member_waits me e.now c.args.entry answer e.member)
@@ -57,7 +57,7 @@ put_back-seat-requires-clause-rule g c =
     let e = c.in-Ok.ensures.took in
     let answer = c.wait-answer.result in
     gives_called g.A.Accumulate.operation g.K.SignalRule.allows (locked_terms c.args.phaser.now) c.args.me
-    (λ v w. w ≡ resting (after_wait answer c.args.me (known_of v).seen) (speaks_of v)) (turn_number c.in-Ok.turn) c.args.entry (seat_view c.args.seat)
+    (λ v w. w ≡ resting (after_wait answer c.args.me (known_of v).seen) (speaks_of v)) (turn_number c.in-Ok.turn) (turn_told c.in-Ok.turn) c.args.entry (seat_view c.args.seat)
     (turn_view c.in-Ok.turn) (turn_value c.in-Ok.turn) c.wait-answer.new.self (after_wait answer c.args.me e.now)
     (entry_after_wait (result_ok answer) c.args.entry) e (left g (goal.at.put_back-seat-requires-clause-rule g c).After-wait-answer) refl
 
@@ -73,7 +73,7 @@ returns-clause-step g c =
     let seat = c.put_back-seat.result in
     let new = after_wait answer me e.now in
     let rests : seat_view seat ≡ resting new (me ∷ []) =
-    told_at (λ v. resting (after_wait answer me (known_of v).seen) (speaks_of v)) (seat_view seat) (turn_view c.in-Ok.turn) (turning e.now (me ∷ []))
+    told_at (λ v. resting (after_wait answer me (known_of v).seen) (speaks_of v)) (seat_view seat) (turn_view c.in-Ok.turn) (turning e.now (me ∷ []) e.claims e.said None)
     c.put_back-seat.ensures.rule e.is in
     let reply = c.wait-answer.ensures.reply e.now before.stands in
     let call : Result Got WaitRefusal → Type 0 = Waits op.value terms.limits me (known_of (seat_view c.args.seat)).seen (known_of (seat_view seat)).seen in
@@ -87,8 +87,8 @@ returns-clause-step g c =
       reply = ap (λ l. wait_reply op.value l e.now me) (sym before.limits_are) ∙ reply;
     })
     -- the task is registered
-    (λ none. wait_refusal-never c.value-core.result.now.limits e.now me 1 (ap is_some e.member)
-    (refused_is (wait_refusal c.value-core.result.now.limits e.now me 1) (got_at op.value e.now (wait_phase e.now me)) wait.NoTask (reply ∙ none)))
+    (λ none. wait_refusal-never c.value_in-core.result.now.limits e.now me 1 (ap is_some e.member)
+    (refused_is (wait_refusal c.value_in-core.result.now.limits e.now me 1) (got_at op.value e.now (wait_phase e.now me)) wait.NoTask (reply ∙ none)))
 
 -- the turn was another's
 pub returns-in-Err-clause-step : goal.returns-in-Err-clause-step

@@ -3,14 +3,17 @@ use Rattle.phase_core.specs.phase_base.Limits.{Limits}
 use Rattle.phase_core.specs.phase_history.declared.event.Event.TheVariants.{Made}
 use Rattle.phase_core.specs.phase_history.Histories.{founder}
 use Rattle.phase_core.specs.phase_history.Legal.{IsLegal}
-use Rattle.phase_shared.specs.Rule.{IsSeatOfTask}
+use Rattle.phase_shared.specs.Rule.{IsSeatOfTask, StandsWithin}
 use Rattle.phase_shared.specs.declared.seats.view.View.{View}
-use Rattle.phase_shared.proofs.Keeping.{founds}
+use Rattle.phase_shared.proofs.Joining.{founds}
 use Rattle.phase_shared.proofs.seats.locked.LockedPhaser.new.Goals as goal
 
 pub new-requires-2 : goal.new-requires-2
 new-requires-2 g c = record {
-  rule = founds g.A.Accumulate.operation g.K.SignalRule.allows c.args.terms c.in_ok-core.core c.in_ok-core.ensures.stands c.in_ok-core.ensures.limits;
+  rule = founds g.A.Accumulate.operation.value c.args.terms.limits (g.K.SignalRule.allows c.args.terms.rule)
+      (StandsWithin g.A.Accumulate.operation c.args.terms.limits) c.in_ok-core.core
+      (record { stands = c.in_ok-core.ensures.stands; limits_are = c.in_ok-core.ensures.limits })
+      (subst (λ (l : Limits). IsLegal l (Made 0 ∷ [])) c.in_ok-core.ensures.limits c.in_ok-core.ensures.stands.legal);
 }
 
 -- the founder is a member

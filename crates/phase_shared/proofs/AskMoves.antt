@@ -1,0 +1,218 @@
+-- A step of one seat, at which one word may change: what it has to show that the rule stays.
+use Rattle.std.proofs.Common.{◌≡◌, ◌≢◌, ℕ, ℤ, ◌<◌, true, false, List, [], ◌∷◌, ◌⊎◌, Option, Some, None, set, refl, sym, ap, subst, ◌∙◌, inl, inr, ⊎_elim}
+use mathlib.Core.Option.{some}
+use lib.ListN.{get_elem?}
+use Rattle.atomic_table.proofs.Lists.{at_set, set_here}
+use Rattle.turn_lock.proofs.Keeping.{within}
+use Rattle.phase_core.specs.phase_base.Limits.{Limits}
+use Rattle.phase_core.specs.phase_base.Lists.{is_in}
+use Rattle.phase_core.specs.phase_accum.declared.outcome.Outcome.{Outcome}
+use Rattle.phase_core.specs.phase_history.Histories.{History}
+use Rattle.phase_core.specs.phase_history.Others.{IsUsed}
+use Rattle.phase_shared.specs.declared.seats.view.Knowledge.{Knowledge}
+use Rattle.phase_shared.specs.Goods.{Allows}
+use Rattle.phase_shared.specs.Views.{speaks_of, known_of, claims_of, lane_of, is_turning}
+use Rattle.phase_shared.specs.Asks.{Ask, IsMade, IsOneOf}
+use Rattle.phase_shared.specs.Lanes.{lanes_most, board, posted, sends_of}
+use Rattle.phase_shared.specs.Desks.{View, Resting, Turning, Joining, Posting, Asking, Reading, Spent, IsSound, AskStands, HasToRead, Posts, HasLane, LaneIs, StandsAsked, AskedAt, IsPast, HeldAt, IsLane, Kept}
+use Rattle.phase_shared.proofs.Small.{not_true_is, not_both, none_some, is_in_self}
+use Rattle.phase_shared.proofs.Places.{is_asking, same_view, was, stays, asked_stays}
+use Rattle.phase_shared.proofs.LaneWords.{SameElse}
+
+-- the one task of a list that a task is not in is another
+pub not_this : (task t : ℕ) (speaks : List ℕ) → speaks ≡ task ∷ [] → is_in t speaks ≡ false → task ≢ t
+not_this task t speaks is out same =
+    not_both (is_in t speaks) (subst (λ (l : List ℕ). is_in t l ≡ true) (sym is) (subst (λ (n : ℕ). is_in n (task ∷ []) ≡ true) same (is_in_self task []))) out
+
+-- and it is in it
+pub this_is_in : (task : ℕ) (speaks : List ℕ) → speaks ≡ task ∷ [] → is_in task speaks ≡ true
+this_is_in task speaks is = subst (λ (l : List ℕ). is_in task l ≡ true) (sym is) (is_in_self task [])
+
+abbrev head_or : ℕ → List ℕ → ℕ
+head_or d [] = d
+head_or d (x ∷ xs) = x
+
+pub same_task : (speaks : List ℕ) (s t : ℕ) → speaks ≡ s ∷ [] → speaks ≡ t ∷ [] → s ≡ t
+same_task speaks s t e e' = ap (λ (l : List ℕ). head_or s l) (sym e ∙ e')
+
+-- what another seat knows stays while a word of this task's lane changes
+pub words_else : {T : Type 0} (value : List ℤ → Outcome) (limits : Limits) (allows : Allows) (home : Option T) (holder : ℕ) (log : History) (told t : ℕ)
+    (words after : List ℕ) → SameElse t words after → (j : ℕ) (u : View) → is_in t (speaks_of u) ≡ false
+    → IsSound value limits allows home holder log told words j u → IsSound value limits allows home holder log told after j u
+words_else value limits allows home holder log told t words after same j (Resting g) out s = s
+words_else value limits allows home holder log told t words after same j (Turning g cs said None) out s = (s.0, s.1, s.2, s.3, s.4, s.5 ∙ sym same.same_board, tt)
+words_else value limits allows home holder log told t words after same j (Turning g cs said (Some n)) out s =
+    let l : HasLane words g n = s.6 in (
+      s.0,
+      s.1,
+      s.2,
+      s.3,
+      s.4,
+      s.5 ∙ sym same.same_board,
+      record { task = l.task; speaks = l.speaks; low = l.low; has = same.same_posted l.task (not_this l.task t g.speaks l.speaks out) ∙ l.has },
+    )
+words_else value limits allows home holder log told t words after same j (Joining g h) out s = s
+words_else value limits allows home holder log told t words after same j (Posting g n) out s =
+    let l : Posts words g n = s.2 in
+    (s.0, s.1, record { task = l.task; speaks = l.speaks; low = l.low; has = same.same_sent l.task (not_this l.task t g.speaks l.speaks out) ∙ l.has })
+words_else value limits allows home holder log told t words after same j (Asking g a) out s =
+    let q : AskStands value limits allows log told words g a = s in
+    let ne : a.task ≢ t = not_this a.task t g.speaks q.speaks out in
+    record {
+      speaks = q.speaks;
+      low = q.low;
+      stage = q.stage;
+      waits = q.waits;
+      may = q.may;
+      has = λ n. same.same_board ∙ q.has n;
+      posts = same.same_posted a.task ne ∙ q.posts;
+      sends = λ st. ap (λ (n : ℕ). sends_of n) (same.same_sent a.task ne) ∙ q.sends st;
+    }
+words_else value limits allows home holder log told t words after same j (Reading g a) out s =
+    let q : HasToRead value log words g a = s in
+    record { speaks = q.speaks; fits = q.fits; stands = q.stands; below = q.below; has = same.same_board ∙ q.has }
+words_else value limits allows home holder log told t words after same j Spent out s = tt
+
+module _ {T : Type 0} (value : List ℤ → Outcome) (limits : Limits) (allows : Allows) (StandsFor : T → History → Type 0)
+    (home : Option T) (told : ℕ) (words : List ℕ) (views : List View) (k : Kept value limits allows StandsFor home told words views)
+    (number : ℕ) (v : View) (at : get_elem? views number ≡ some v) where
+  -- no other seat speaks for what this one speaks for
+  pub apart : (t : ℕ) → is_in t (speaks_of v) ≡ true → (j : ℕ) (u : View) → j ≢ number → get_elem? views j ≡ some u → is_in t (speaks_of u) ≡ false
+  apart t mine j u ne e = not_true_is (is_in t (speaks_of u)) (λ theirs. ne (sym (k.owns j u t e theirs).0 ∙ (k.owns number v t at mine).0))
+
+  -- so it knows no less where a word of this seat's lane changes
+  pub else_sound : (t : ℕ) (after : List ℕ) → is_in t (speaks_of v) ≡ true → SameElse t words after → (j : ℕ) (u : View) → j ≢ number → get_elem? views j ≡ some u
+      → IsSound value limits allows home k.holder k.log told after j u
+  else_sound t after mine same j u ne e = words_else value limits allows home k.holder k.log told t words after same j u (apart t mine j u ne e) (k.sound j u e)
+
+  module _ (after : List ℕ) (w : View) (speaks : speaks_of w ≡ speaks_of v)
+      (here : IsSound value limits allows home k.holder k.log told after number w)
+      (others : (j : ℕ) (u : View) → j ≢ number → get_elem? views j ≡ some u → IsSound value limits allows home k.holder k.log told after j u) where
+    sound_set : (j : ℕ) (u : View) → get_elem? (set views number w) j ≡ some u → IsSound value limits allows home k.holder k.log told after j u
+    sound_set j u e = ⊎_elim
+        (λ (p : (j ≡ number) × (w ≡ u)). subst (λ (z : View). IsSound value limits allows home k.holder k.log told after j z) p.1
+        (subst (λ (i : ℕ). IsSound value limits allows home k.holder k.log told after i w) (sym p.0) here))
+        (λ (p : (j ≢ number) × (get_elem? views j ≡ some u)). others j u p.0 p.1)
+        (at_set views number j w u e)
+
+    owns_set : (j : ℕ) (u : View) (task : ℕ) → get_elem? (set views number w) j ≡ some u → is_in task (speaks_of u) ≡ true → (k.owner task ≡ j) × IsUsed k.log task
+    owns_set j u task e has = ⊎_elim
+        (λ (p : (j ≡ number) × (w ≡ u)).
+        let mine : is_in task (speaks_of w) ≡ true = subst (λ (z : View). is_in task (speaks_of z) ≡ true) (sym p.1) has in
+        let o = k.owns number v task at (subst (λ (l : List ℕ). is_in task l ≡ true) speaks mine) in (o.0 ∙ sym p.0, o.1))
+        (λ (p : (j ≢ number) × (get_elem? views j ≡ some u)). k.owns j u task p.1 has)
+        (at_set views number j w u e)
+
+    -- a seat that has no turn
+    pub moves : is_turning v ≡ false → is_turning w ≡ false
+        → ((a : Ask) → StandsAsked limits k.log views a → StandsAsked limits k.log (set views number w) a)
+        → ((h : Knowledge) (a : Ask) → w ≡ Asking h a → IsMade limits a h.seen k.log → ⊥)
+        → ((i : ℕ) → i < lanes_most → IsLane k.log (set views number w) i (posted after i))
+        → Kept value limits allows StandsFor home told after (set views number w)
+    moves not_v not_w asked not_made lanes = record {
+      log = k.log;
+      good = k.good;
+      stands = k.stands;
+      within = k.within;
+      holder = k.holder;
+      out = λ e. let o = k.out e in (o.0, o.1, o.2, o.3, stays is_turning views number k.holder v w (Turning o.0 o.1 o.2 o.3) at not_v refl o.4);
+      sound = sound_set;
+      owner = k.owner;
+      owns = owns_set;
+      claimed = λ j g cs said l e a one. asked a (k.claimed j g cs said l (was is_turning views number j w (Turning g cs said l) not_w refl e).1 a one);
+      all = λ j g cs said l e i h a e' m. ⊎_elim
+          (λ (p : (i ≡ number) × (w ≡ Asking h a)). absurd (not_made h a p.1 m))
+          (λ (p : (i ≢ number) × (get_elem? views i ≡ some (Asking h a))).
+          k.all j g cs said l (was is_turning views number j w (Turning g cs said l) not_w refl e).1 i h a p.1 m)
+          (at_set views number i w (Asking h a) e');
+      lanes = lanes;
+    }
+
+-- ---- the holder
+
+module _ {T : Type 0} (value : List ℤ → Outcome) (limits : Limits) (allows : Allows) (StandsFor : T → History → Type 0)
+    (told : ℕ) (words : List ℕ) (views : List View) (k : Kept value limits allows StandsFor None told words views)
+    (number : ℕ) (f : Knowledge) (claims : List Ask) (said : Outcome) (lane : Option ℕ) (at : get_elem? views number ≡ some (Turning f claims said lane)) where
+  -- no other seat has the turn
+  pub no_other : (j : ℕ) (g : Knowledge) (cs : List Ask) (sd : Outcome) (l : Option ℕ) → j ≢ number → get_elem? views j ≡ some (Turning g cs sd l) → ⊥
+  no_other j g cs sd l ne e = let s = k.sound j (Turning g cs sd l) e in let m = k.sound number (Turning f claims said lane) at in ne (s.2 ∙ sym m.2)
+
+  -- a lane that is the holder's is what its view says
+  pub held_is : (i : ℕ) (h : HeldAt views i) → Turning h.knows h.claims h.said (Some h.n) ≡ Turning f claims said lane
+  held_is i h =
+      let s = k.sound h.seat (Turning h.knows h.claims h.said (Some h.n)) h.at in
+      let m = k.sound number (Turning f claims said lane) at in
+      same_view views h.seat number (Turning h.knows h.claims h.said (Some h.n)) (Turning f claims said lane) h.at at (s.2 ∙ sym m.2)
+
+  pub held_speaks : (i : ℕ) → HeldAt views i → f.speaks ≡ i ∷ []
+  held_speaks i h = ap (λ (u : View). (known_of u).speaks) (sym (held_is i h)) ∙ h.speaks
+
+  module _ (after : List ℕ) (claims' : List Ask) (said' : Outcome) (lane' : Option ℕ)
+      (said_is : said' ≡ board after) (lane_is : LaneIs after f lane')
+      (others : (j : ℕ) (u : View) → j ≢ number → get_elem? views j ≡ some u → IsSound {T = T} value limits allows None k.holder k.log told after j u)
+      (more : (a : Ask) → IsOneOf claims a → IsOneOf claims' a)
+      (each : (a : Ask) → IsOneOf claims' a → StandsAsked limits k.log views a) where
+    w : View
+    w = Turning f claims' said' lane'
+
+    there : get_elem? (set views number (Turning f claims' said' lane')) number ≡ some (Turning f claims' said' lane')
+    there = set_here views number (Turning f claims' said' lane') (within views number (Turning f claims said lane) at)
+
+    asking_stays : (j : ℕ) (g : Knowledge) (a : Ask) → get_elem? views j ≡ some (Asking g a)
+        → get_elem? (set views number (Turning f claims' said' lane')) j ≡ some (Asking g a)
+    asking_stays j g a e = stays is_asking views number j (Turning f claims said lane) (Turning f claims' said' lane') (Asking g a) at refl refl e
+
+    -- a lane that the holder did not write
+    pub lane_still : lane' ≡ lane → (i n : ℕ) → IsLane k.log views i n → IsLane k.log (set views number (Turning f claims' said' lane')) i n
+    lane_still same i n l = ⊎_elim
+        (λ (z : n ≡ 0). inl z)
+        (λ (r : AskedAt views i ⊎ (IsPast k.log i n ⊎ HeldAt views i)). inr (⊎_elim
+        (λ (q : AskedAt views i). inl record { seat = q.seat; knows = q.knows; ask = q.ask; at = asking_stays q.seat q.knows q.ask q.at; is = q.is })
+        (λ (r' : IsPast k.log i n ⊎ HeldAt views i). inr (⊎_elim
+        (λ (p : IsPast k.log i n). inl p)
+        (λ (h : HeldAt views i).
+        let lane_has : lane' ≡ Some h.n = same ∙ sym (ap (λ (u : View). lane_of u) (held_is i h)) in
+        inr record {
+          seat = number;
+          knows = f;
+          claims = claims';
+          said = said';
+          n = h.n;
+          at = there ∙ ap (λ (o : Option ℕ). some (Turning f claims' said' o)) lane_has;
+          speaks = held_speaks i h;
+        })
+        r'))
+        r))
+        l
+
+    pub holds : ((i : ℕ) → i < lanes_most → IsLane k.log (set views number (Turning f claims' said' lane')) i (posted after i))
+        → Kept value limits allows StandsFor None told after (set views number (Turning f claims' said' lane'))
+    holds lanes =
+        let m = k.sound number (Turning f claims said lane) at in
+        record {
+          log = k.log;
+          good = k.good;
+          stands = λ y e. absurd (none_some y (sym e));
+          within = k.within;
+          holder = k.holder;
+          out = λ e. (f, claims', said', lane', ap (λ (i : ℕ). get_elem? (set views number (Turning f claims' said' lane')) i) (sym m.2) ∙ there);
+          sound = λ j u e. sound_set value limits allows StandsFor None told words views k number (Turning f claims said lane) at after
+              (Turning f claims' said' lane') refl (m.0, m.1, m.2, m.3, m.4, said_is, lane_is) others j u e;
+          owner = k.owner;
+          owns = λ j u task e has. owns_set value limits allows StandsFor None told words views k number (Turning f claims said lane) at after
+              (Turning f claims' said' lane') refl (m.0, m.1, m.2, m.3, m.4, said_is, lane_is) others j u task e has;
+          claimed = λ j g cs sd l e a one. ⊎_elim
+              (λ (p : (j ≡ number) × (Turning f claims' said' lane' ≡ Turning g cs sd l)).
+              asked_stays limits k.log views (set views number (Turning f claims' said' lane')) a asking_stays
+              (each a (subst (λ (z : List Ask). IsOneOf z a) (sym (ap claims_of p.1)) one)))
+              (λ (p : (j ≢ number) × (get_elem? views j ≡ some (Turning g cs sd l))). absurd (no_other j g cs sd l p.0 p.1))
+              (at_set views number j (Turning f claims' said' lane') (Turning g cs sd l) e);
+          all = λ j g cs sd l e i h a e' q. ⊎_elim
+              (λ (p : (j ≡ number) × (Turning f claims' said' lane' ≡ Turning g cs sd l)).
+              subst (λ (z : List Ask). IsOneOf z a) (ap claims_of p.1)
+              (more a (k.all number f claims said lane at i h a
+              (was is_asking views number i (Turning f claims' said' lane') (Asking h a) refl refl e').1 q)))
+              (λ (p : (j ≢ number) × (get_elem? views j ≡ some (Turning g cs sd l))). absurd (no_other j g cs sd l p.0 p.1))
+              (at_set views number j (Turning f claims' said' lane') (Turning g cs sd l) e);
+          lanes = lanes;
+        }

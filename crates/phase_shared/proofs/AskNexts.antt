@@ -1,0 +1,252 @@
+-- A next phase that others may make: how it begins, and what its answer is, as the contracts of
+-- calls say it.
+use Rattle.std.proofs.Common.{◌≡◌, ℕ, ◌+◌, ◌<◌, Bool, true, false, [], ◌∷◌, Some, None, refl, sym, ap, subst, ◌∙◌, inl, arith}
+use Rattle.std.specs.Prelude.{Ok, Err, is_some}
+use Rattle.phase_core.specs.phase_base.declared.entry.Entry.{Entry}
+use Rattle.phase_core.specs.phase_base.Modes.{mode_signals, mode_waits}
+use Rattle.phase_core.specs.phase_base.Members.{entry_of, signalled, waited}
+use Rattle.phase_core.specs.phase_accum.Operations.{Operation}
+use Rattle.phase_core.specs.phase_accum.declared.outcome.Outcome.{Outcome}
+use Rattle.phase_core.specs.phase_history.declared.event.Event.{Event}
+use Rattle.phase_core.specs.phase_history.declared.event.Event.TheVariants.{Signalled, Waited}
+use Rattle.phase_core.specs.phase_history.declared.got.Got.{Got}
+use Rattle.phase_core.specs.phase_history.declared.got.Got.TheVariants as got
+use Rattle.phase_core.specs.phase_history.declared.refusal.SignalRefusal.{SignalRefusal}
+use Rattle.phase_core.specs.phase_history.declared.refusal.SignalRefusal.TheVariants as signal
+use Rattle.phase_core.specs.phase_history.Histories.{History, IsAlive, members_of, signal_phase}
+use Rattle.phase_core.specs.phase_history.Legal.{IsLegal}
+use Rattle.phase_core.specs.phase_history.Others.{OthersCame}
+use Rattle.phase_core.specs.phase_history.Replies.{refused_or}
+use Rattle.phase_core.specs.Cores.{CoreState}
+use Rattle.phase_core.proofs.phase_history_lemmas.Answered.{signal_refusal-never}
+use Rattle.phase_core.proofs.phase_history_lemmas.MemberLemmas.{entry_of-changed_same}
+use Rattle.phase_core.proofs.phase_history_lemmas.Used.{IsLegal-beginning}
+use Rattle.phase_shared.specs.declared.next.Next.{Next}
+use Rattle.phase_shared.specs.declared.rule.Terms.{Terms}
+use Rattle.phase_shared.specs.declared.seats.request.Request.{Request}
+use Rattle.phase_shared.specs.declared.seats.view.View.{View}
+use Rattle.phase_shared.specs.Asks.{IsAtPhases}
+use Rattle.phase_shared.specs.Calls.{IsCall, MaySignal, Signals, Waits}
+use Rattle.phase_shared.specs.Desks.{Reading}
+use Rattle.phase_shared.specs.Entries.{entry_after_next}
+use Rattle.phase_shared.specs.Lanes.{lanes_most, sends_of}
+use Rattle.phase_shared.specs.Nexts.{GoesOrRefuses, RefusesNext}
+use Rattle.phase_shared.specs.Regs.{RegState}
+use Rattle.phase_shared.specs.Rule.{Allows, AfterTake, IsGoodAt, IsSeatOfTask}
+use Rattle.phase_shared.specs.Servings.{ask_of, HasAnswer, IsRefused, IsRequestOf, IsWaiterIn, MayAsk, Starting}
+use Rattle.phase_shared.specs.Tells.{Learnt}
+use Rattle.phase_shared.specs.Views.{knowledge, known_of, resting}
+use Rattle.phase_shared.proofs.AskAnswering.{asked_signals, asked_waits, same_refusal}
+use Rattle.phase_shared.proofs.Giving.{member_after}
+use Rattle.phase_shared.proofs.NextSteps.{made}
+use Rattle.phase_shared.proofs.Small.{apart_phases, same_some}
+use Rattle.phase_shared.proofs.Stages.{wait_is}
+
+no_event_is_none : (e : Event) (h : History) → e ∷ h ≡ [] → ⊥
+no_event_is_none e h none = cc
+
+module _ {A K : Type 0} (op : Operation A) (allows : K → Allows) (terms : Terms K) (r : Request) where
+  -- a turn begins, of a seat at rest that may ask
+  pub starting : (seen : History) (entry : Entry) (v : View) (x : CoreState A) (w : View)
+      → MayAsk allows terms (ask_of r) v → seen ≡ (known_of v).seen → IsAlive seen r.task × IsWaiterIn seen r.task
+      → AfterTake op allows terms r.task entry v x w → Starting op allows terms (ask_of r) seen w x
+  starting seen entry v x w may since waits e =
+      subst (λ (h : History). Starting op allows terms (ask_of r) h w x) (sym since)
+      (begun (subst (λ (h : History). IsWaiterIn h r.task) since waits.1))
+    where
+      begun : IsWaiterIn (known_of v).seen r.task → Starting op allows terms (ask_of r) (known_of v).seen w x
+      begun waiter =
+          let st : IsAtPhases (known_of v).seen r.task r.phase r.phase = may.stands in
+          let there : entry_of (members_of e.now) r.task ≡ Some st.entry =
+          member_after terms.limits r.task st.entry (known_of v).seen e.now e.others e.good.legal st.member in
+          record {
+            turned = record {
+              now = e.now;
+              claims = e.claims;
+              said = e.said;
+              lane = None;
+              later = [];
+              is = e.is;
+              some = λ none.
+                  let gone : None ≡ Some entry = ap (λ (h : History). entry_of (members_of h) r.task) (sym none) ∙ e.member in
+                  cc;
+              batch = tt;
+              good = e.good;
+              stands = e.stands;
+              theirs = λ a one. (e.read a one).1;
+              own = inl refl;
+              quiet = λ none a one st'. apart_phases a.phase (sym (wait_is e.now a.task (a.phase + 1) (a.phase + 1) st')
+                  ∙ wait_is e.now a.task (a.phase + 1) a.phase (e.read a one).0);
+              complete = λ serves. absurd (cc);
+              served = λ a one low at. absurd (omega arith);
+            };
+            first = refl;
+            unmade = record {
+              others = e.others;
+              stands = record {
+                entry = st.entry;
+                member = there;
+                signals = st.signals;
+                signal_at = st.signal_at;
+                wait_at = st.wait_at;
+              };
+            };
+            waits = λ other member.
+                ap (λ (f : Entry). mode_waits f.mode) (same_some other st.entry (sym member ∙ there)) ∙ waiter st.entry st.member;
+            may = may.may;
+          }
+
+module _ {A K : Type 0} (op : Operation A) (allows : K → Allows) (terms : Terms K) (old : RegState A K) (r : Request)
+    (q : IsRequestOf op r old) (signals : mode_signals old.entry.mode ≡ true) (waits : mode_waits old.entry.mode ≡ true)
+    (member : entry_of (members_of old.seen) old.number ≡ Some old.entry) where
+  -- the entry, under the number that the request names
+  asked_member : entry_of (members_of old.seen) r.task ≡ Some old.entry
+  asked_member = subst (λ (n : ℕ). entry_of (members_of old.seen) n ≡ Some old.entry) (sym q.task) member
+
+  pub alive : IsAlive old.seen r.task × IsWaiterIn old.seen r.task
+  alive = (
+    ap is_some asked_member,
+    λ e there. ap (λ (f : Entry). mode_waits f.mode) (same_some e old.entry (sym there ∙ asked_member)) ∙ waits,
+  )
+
+  -- its seat may ask
+  pub may_ask : (v : View) → v ≡ resting old.seen (old.number ∷ []) → (known_of v).seen ≡ old.seen → r.task < lanes_most
+      → MaySignal op allows terms old None → MayAsk allows terms (ask_of r) v
+  may_ask v rests seen low may = record {
+    rests = rests ∙ ap (λ (n : ℕ). resting old.seen (n ∷ [])) (sym q.task) ∙ ap (λ (h : History). resting h (r.task ∷ [])) (sym seen);
+    low = low;
+    stands = record {
+      entry = old.entry;
+      member = subst (λ (h : History). entry_of (members_of h) r.task ≡ Some old.entry) (sym seen) asked_member;
+      signals = signals;
+      signal_at = q.signal_at;
+      wait_at = q.wait_at;
+    };
+    may = λ h good others.
+        let came : OthersCame (old.number ∷ []) old.seen h =
+        subst (λ (n : ℕ). OthersCame (n ∷ []) old.seen h) q.task (subst (λ (g : History). OthersCame (r.task ∷ []) g h) seen others) in
+        subst (λ (n : ℕ). allows terms.rule h n (sends_of r.send ∷ []) None) (sym q.task) (may h (sends_of r.send) good came q.holds);
+  }
+
+  -- where it stands after its next phase
+  abbrev pub entry_then : Entry
+  entry_then = record old.entry { signal_phase = r.phase + 1; wait_phase = r.phase + 1 }
+
+  entry_then_is : waited 1 (signalled 1 old.entry) ≡ entry_then
+  entry_then_is = λ i. record old.entry { signal_phase = q.signal_at i + 1; wait_phase = q.wait_at i + 1 }
+
+  module _ (outcome : Outcome) (w : View) (a : HasAnswer op allows terms (ask_of r) old.seen outcome w) where
+    abbrev learnt : Learnt terms.limits (allows terms.rule) (ask_of r) (knowledge old.seen (r.task ∷ []))
+        (Reading (knowledge (Waited r.task 1 ∷ a.middle) (r.task ∷ [])) (ask_of r))
+    learnt = record {
+      middle = a.middle;
+      good = a.good;
+      made = a.made;
+      accepted = a.accepted;
+      complete = a.complete;
+      is = refl;
+    }
+
+    abbrev signalled_then : History
+    signalled_then = Signalled r.task (sends_of r.send ∷ []) None ∷ a.made.before
+
+    member_then : entry_of (members_of (Waited r.task 1 ∷ a.middle)) r.task ≡ Some entry_then
+    member_then =
+        let middle_legal : IsLegal terms.limits a.middle = a.good.legal.0 in
+        let first_legal : IsLegal terms.limits signalled_then =
+        IsLegal-beginning terms.limits signalled_then a.middle
+        (no_event_is_none (Signalled r.task (sends_of r.send ∷ []) None) a.made.before) middle_legal
+        (record { later = a.made.since.later; is = a.made.since.is }) in
+        let before = member_after terms.limits r.task old.entry old.seen a.made.before a.made.others first_legal.0 asked_member in
+        let after = entry_of-changed_same r.task (signalled 1) old.entry (members_of a.made.before) before in
+        let middle = member_after terms.limits r.task (signalled 1 old.entry) signalled_then a.middle a.made.since middle_legal after in
+        entry_of-changed_same r.task (waited 1) (signalled 1 old.entry) (members_of a.middle) middle ∙ ap Some entry_then_is
+
+    -- its seat after its answer
+    pub answered_seat : IsSeatOfTask allows terms old.number entry_then w
+    answered_seat =
+        subst (λ (n : ℕ). IsSeatOfTask allows terms n entry_then w) q.task
+        (subst (λ (u : View). IsSeatOfTask allows terms r.task entry_then u) (sym a.is)
+        (record { rests = refl; member = member_then; good = a.good }))
+
+    abbrev goes : Next
+    goes = record { signalled = Some r.phase; got = Some (got.Value r.phase outcome) }
+
+    -- the answer of the call
+    pub answered_call : (new : RegState A K) → new.at ≡ old.at → new.number ≡ old.number → new.entry ≡ entry_then
+        → new.seen ≡ (known_of w).seen
+        → IsCall allows terms signal.NoTask entry_after_next (GoesOrRefuses op terms.limits None old new.seen (Ok goes)) old new (Ok goes)
+    answered_call new at number entry seen =
+        let last : new.seen ≡ Waited r.task 1 ∷ a.middle = seen ∙ ap (λ (u : View). (known_of u).seen) a.is in
+        let signal : Signals op terms.limits old.number old.held None old.seen signalled_then (Ok r.phase) =
+        subst (λ (n : ℕ). Signals op terms.limits n old.held None old.seen signalled_then (Ok r.phase)) q.task
+        (asked_signals op terms.limits (allows terms.rule) (ask_of r) (knowledge old.seen (r.task ∷ []))
+        (Reading (knowledge (Waited r.task 1 ∷ a.middle) (r.task ∷ [])) (ask_of r)) learnt old.held q.holds) in
+        let wait : Waits op.value terms.limits old.number signalled_then new.seen (Ok (got.Value r.phase outcome)) =
+        subst (λ (n : ℕ). Waits op.value terms.limits n signalled_then new.seen (Ok (got.Value r.phase outcome))) q.task
+        (subst (λ (h : History). Waits op.value terms.limits r.task signalled_then h (Ok (got.Value r.phase outcome))) (sym last)
+        (asked_waits op terms.limits (allows terms.rule) (ask_of r) (knowledge old.seen (r.task ∷ []))
+        (Reading (knowledge (Waited r.task 1 ∷ a.middle) (r.task ∷ [])) (ask_of r)) learnt outcome a.has)) in
+        record {
+          call = record {
+            middle = signalled_then;
+            signals = made (mode_signals old.entry.mode)
+                (λ (phase : ℕ). Signals op terms.limits old.number old.held None old.seen signalled_then (Ok phase))
+                (signalled_then ≡ old.seen) r.phase signals signal;
+            waits = made (mode_waits old.entry.mode)
+                (λ (got : Got). Waits op.value terms.limits old.number signalled_then new.seen (Ok got))
+                (new.seen ≡ signalled_then) (got.Value r.phase outcome) waits wait;
+            named = λ none. absurd (let z : true ≡ false = sym signals ∙ none in cc);
+          };
+          entry = entry ∙ sym entry_then_is;
+          mode = ap (λ (e : Entry). e.mode) entry;
+          at = (at, number);
+          good = subst (λ (h : History). IsGoodAt allows terms h) (sym last) a.good;
+          known = λ none. cc;
+        }
+
+  module _ (refusal : SignalRefusal) (w : View) (f : IsRefused op allows terms (ask_of r) old.seen refusal w) where
+    -- its seat after a refusal
+    pub refused_seat : IsSeatOfTask allows terms old.number old.entry w
+    refused_seat =
+        subst (λ (n : ℕ). IsSeatOfTask allows terms n old.entry w) q.task
+        (subst (λ (u : View). IsSeatOfTask allows terms r.task old.entry u) (sym f.is)
+        (record { rests = refl; member = member_now; good = f.good }))
+      where
+        member_now : entry_of (members_of f.now) r.task ≡ Some old.entry
+        member_now = member_after terms.limits r.task old.entry old.seen f.now f.others f.good.legal asked_member
+
+    -- the refusal of the call
+    pub refused_call : (new : RegState A K) → new.at ≡ old.at → new.number ≡ old.number → new.entry ≡ old.entry
+        → new.seen ≡ (known_of w).seen
+        → IsCall allows terms signal.NoTask entry_after_next (GoesOrRefuses op terms.limits None old new.seen (Err refusal)) old new (Err refusal)
+    refused_call new at number entry seen =
+        let last : new.seen ≡ f.now = seen ∙ ap (λ (u : View). (known_of u).seen) f.is in
+        let there : entry_of (members_of f.now) r.task ≡ Some old.entry =
+        member_after terms.limits r.task old.entry old.seen f.now f.others f.good.legal asked_member in
+        let said : Signals op terms.limits r.task old.held None old.seen new.seen (Err refusal) = record {
+          before = f.now;
+          sends = sends_of r.send;
+          others = f.others;
+          stands = q.holds;
+          seen = last;
+          reply = λ xs holds.
+              ap (λ o. refused_or o (signal_phase f.now r.task))
+              (same_refusal terms.limits f.now r.task xs (sends_of r.send) (sym holds.count_is ∙ q.holds.count_is) ∙ f.refused);
+        } in
+        record {
+          call = refuses (mode_signals old.entry.mode) signals
+              (subst (λ (n : ℕ). Signals op terms.limits n old.held None old.seen new.seen (Err refusal)) q.task said);
+          entry = entry;
+          mode = ap (λ (e : Entry). e.mode) entry;
+          at = (at, number);
+          good = subst (λ (h : History). IsGoodAt allows terms h) (sym last) f.good;
+          known = λ none.
+              let is : refusal ≡ signal.NoTask = cc in
+              signal_refusal-never terms.limits f.now r.task (sends_of r.send ∷ []) None (ap is_some there) (f.refused ∙ ap Some is);
+        }
+      where
+        refuses : (can : Bool) → can ≡ true → Signals op terms.limits old.number old.held None old.seen new.seen (Err refusal)
+            → RefusesNext op terms.limits None old new.seen can refusal
+        refuses true yes' s = s
+        refuses false yes' s = absurd (cc)

@@ -1,0 +1,107 @@
+-- What a longer history leaves: a task's phases only grow.
+use Rattle.std.proofs.Common.{◌≡◌, ℕ, ◌+◌, ◌≤◌, true, false, cond, eqb, List, [], ◌∷◌, ◌++◌, ◌⊎◌, length, Some, refl, sym, ap, ◌∙◌, inl, ⊎_elim, arith}
+use Rattle.std.proofs.lemmas.Option.{same_Some}
+use Rattle.phase_core.specs.phase_base.Limits.{Limits}
+use Rattle.phase_core.specs.phase_base.Lists.{is_in}
+use Rattle.phase_core.specs.phase_base.declared.entry.Entry.{Entry}
+use Rattle.phase_core.specs.phase_history.declared.event.Event.TheVariants.{Made, Registered, RegisteredNow, Signalled, Waited, Dropped}
+use Rattle.phase_core.specs.phase_history.Histories.{History, start_of, phases_signalled, phases_waited, done_of}
+use Rattle.phase_core.specs.phase_history.Legal.{IsLegal}
+use Rattle.phase_core.specs.phase_history.Laws.{HasCounted}
+use Rattle.phase_core.specs.phase_history.Others.{events_of}
+use Rattle.phase_core.proofs.phase_history_lemmas.LawProofs.{counted_of}
+use Rattle.phase_core.proofs.phase_history_lemmas.Steps.{steps, sound_of}
+use Rattle.phase_core.proofs.phase_history_lemmas.Streams.{legal_rest}
+use Rattle.phase_core.proofs.phase_history_lemmas.Used.{start_of-longer}
+use Rattle.phase_core.proofs.phase_history_lemmas.OthersEvents.{skips}
+use Rattle.phase_shared.specs.Asks.{Ask, IsAtPhases, IsUnmade, IsMade, IsAnsweredAsk, Stage, Batch}
+use Rattle.phase_shared.specs.Desks.{IsPast}
+
+more_signals : (task : ℕ) (later h : History) → phases_signalled h task ≤ phases_signalled (later ++ h) task
+more_signals task [] h = omega arith
+more_signals task (Made founding ∷ later) h = more_signals task later h
+more_signals task (Registered parent child mode ∷ later) h = more_signals task later h
+more_signals task (RegisteredNow parent child ∷ later) h = more_signals task later h
+more_signals task (Signalled signaller lists single ∷ later) h =
+    let r = more_signals task later h in
+    elim (eqb signaller task) as (λ b. phases_signalled h task
+    ≤ cond b (phases_signalled (later ++ h) task + length lists) (phases_signalled (later ++ h) task)) [
+      | true ↦ omega arith
+      | false ↦ r
+    ]
+more_signals task (Waited waiter phases ∷ later) h = more_signals task later h
+more_signals task (Dropped gone ∷ later) h = more_signals task later h
+
+more_waits : (task : ℕ) (later h : History) → phases_waited h task ≤ phases_waited (later ++ h) task
+more_waits task [] h = omega arith
+more_waits task (Made founding ∷ later) h = more_waits task later h
+more_waits task (Registered parent child mode ∷ later) h = more_waits task later h
+more_waits task (RegisteredNow parent child ∷ later) h = more_waits task later h
+more_waits task (Signalled signaller lists single ∷ later) h = more_waits task later h
+more_waits task (Waited waiter phases ∷ later) h =
+    let r = more_waits task later h in
+    elim (eqb waiter task) as (λ b. phases_waited h task
+    ≤ cond b (phases_waited (later ++ h) task + phases) (phases_waited (later ++ h) task)) [
+      | true ↦ omega arith
+      | false ↦ r
+    ]
+more_waits task (Dropped gone ∷ later) h = more_waits task later h
+
+-- what is past stays past
+pub past_goes : (limits : Limits) (later h : History) (task n : ℕ) → IsLegal limits (later ++ h) → IsPast h task n → IsPast (later ++ h) task n
+past_goes limits later h task n legal p = record {
+  start = p.start;
+  start_is = start_of-longer limits h (later ++ h) task p.start legal (record { later = later; is = refl }) p.start_is;
+  past = (let low = p.past in let more = more_waits task later h in omega arith);
+}
+
+-- a task's next signal is not for a lower phase later
+pub signals_grow : (limits : Limits) (later h : History) (task s w s' w' : ℕ) → IsLegal limits h → IsLegal limits (later ++ h)
+    → IsAtPhases h task s w → IsAtPhases (later ++ h) task s' w' → s ≤ s'
+signals_grow limits later h task s w s' w' legal legal' st st' =
+    let c : HasCounted h task st.entry = counted_of limits h task st.entry legal st.member in
+    let d : HasCounted (later ++ h) task st'.entry = counted_of limits (later ++ h) task st'.entry legal' st'.member in
+    let same : start_of (later ++ h) task ≡ Some c.start = start_of-longer limits h (later ++ h) task c.start legal' (record { later = later; is = refl }) c.start_is in
+    let start_is : d.start ≡ c.start = same_Some d.start c.start (sym d.start_is ∙ same) in
+    let counts : d.start.signal_phase + phases_signalled (later ++ h) task ≡ st'.entry.signal_phase = d.signals in
+    let there : c.start.signal_phase + phases_signalled (later ++ h) task ≡ st'.entry.signal_phase =
+    ap (λ (e : Entry). e.signal_phase + phases_signalled (later ++ h) task) (sym start_is) ∙ counts in
+    let here : c.start.signal_phase + phases_signalled h task ≡ st.entry.signal_phase = c.signals in
+    let more = more_signals task later h in
+    let at : st.entry.signal_phase ≡ s = st.signal_at in
+    let at' : st'.entry.signal_phase ≡ s' = st'.signal_at in
+    omega arith
+
+-- an ask that is unmade later was unmade
+pub unmade_before : (limits : Limits) (a : Ask) (seen later h : History) → IsLegal limits h → IsLegal limits (later ++ h)
+    → Stage limits a seen h → IsAtPhases (later ++ h) a.task a.phase a.phase → IsAtPhases h a.task a.phase a.phase
+unmade_before limits a seen later h legal legal' stage st = ⊎_elim
+    (λ (u : IsUnmade a seen h). u.stands)
+    (λ (r : IsMade limits a seen h ⊎ IsAnsweredAsk limits a seen h). absurd (⊎_elim
+    (λ (m : IsMade limits a seen h).
+    let low = signals_grow limits later h a.task (a.phase + 1) a.phase a.phase a.phase legal legal' m.stands st in omega arith)
+    (λ (n : IsAnsweredAsk limits a seen h).
+    let low = signals_grow limits later h a.task (a.phase + 1) (a.phase + 1) a.phase a.phase legal legal' n.stands st in omega arith)
+    r))
+    stage
+
+-- no complete phase is undone
+pub done_grows : (limits : Limits) (later h : History) → (h ≡ [] → ⊥) → IsLegal limits (later ++ h) → done_of h ≤ done_of (later ++ h)
+done_grows limits [] h some legal = omega arith
+done_grows limits (e ∷ later) h some legal =
+    let longer : later ++ h ≡ [] → ⊥ = λ none. longer_some later h some none in
+    let r = legal_rest limits e (later ++ h) longer legal in
+    let first = done_grows limits later h some r.0 in
+    let then = (steps limits (later ++ h) e r.0 (sound_of limits (later ++ h) r.0) r.1).grows in
+    omega arith
+  where
+    longer_some : (later h : History) → (h ≡ [] → ⊥) → later ++ h ≡ [] → ⊥
+    longer_some [] h some none = some none
+    longer_some (e ∷ later) h some none = cc
+
+-- events of the holder's own are a turn in which nothing was read
+pub own_batch : (Claimed : Ask → Type 0) (speaks : List ℕ) (own log : History)
+    → ((task : ℕ) → is_in task speaks ≡ false → events_of task own ≡ []) → Batch Claimed speaks own log
+own_batch Claimed speaks [] log mine = tt
+own_batch Claimed speaks (e ∷ own) log mine =
+    (own_batch Claimed speaks own log (λ task out. (skips task e own (mine task out)).rest), inl (λ task out. (skips task e own (mine task out)).not_by))

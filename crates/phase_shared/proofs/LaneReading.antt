@@ -1,0 +1,176 @@
+-- A holder reads the lane of another's task: there is nothing, or what is past, or what was asked, which it has read then.
+use Rattle.std.proofs.Common.{◌≡◌, ℕ, ℤ, ◌+◌, ◌<◌, ◌≤◌, false, List, [], ◌∷◌, ◌++◌, ◌⊎◌, Option, Some, None, set, refl, sym, ap, subst, ◌∙◌, inl, inr, ⊎_elim, arith}
+use Rattle.std.proofs.lemmas.Option.{same_Some}
+use mathlib.Core.Option.{some}
+use lib.ListN.{get_elem?}
+use Rattle.atomic_table.proofs.Lists.{set_again}
+use Rattle.phase_core.specs.phase_base.Limits.{Limits}
+use Rattle.phase_core.specs.phase_base.Lists.{is_in}
+use Rattle.phase_core.specs.phase_base.declared.entry.Entry.{Entry}
+use Rattle.phase_core.specs.phase_base.Members.{entry_of}
+use Rattle.phase_core.specs.phase_accum.declared.outcome.Outcome.{Outcome}
+use Rattle.phase_core.specs.phase_history.Histories.{History, members_of, phases_waited}
+use Rattle.phase_core.specs.phase_history.Legal.{IsLegal}
+use Rattle.phase_core.specs.phase_history.Laws.{HasCounted}
+use Rattle.phase_core.specs.phase_history.Others.{OthersCame}
+use Rattle.phase_core.proofs.phase_history_lemmas.LawProofs.{counted_of}
+use Rattle.phase_shared.specs.declared.seats.view.Knowledge.{Knowledge}
+use Rattle.phase_shared.specs.Goods.{Allows}
+use Rattle.phase_shared.specs.Asks.{Ask, IsAtPhases, Stage, IsUnmade, IsMade, IsAnsweredAsk, IsOneOf}
+use Rattle.phase_shared.specs.Lanes.{lanes_most, posted, send_word, sends_of}
+use Rattle.phase_shared.specs.Desks.{View, Turning, Asking, AskStands, StandsAsked, AskedAt, IsPast, HeldAt, Kept}
+use Rattle.phase_shared.specs.Tells.{IsClaim, LaneRead}
+use Rattle.phase_shared.proofs.Small.{not_both}
+use Rattle.phase_shared.proofs.Growing.{past_goes}
+use Rattle.phase_shared.proofs.Places.{ask_in, same_view}
+use Rattle.phase_shared.proofs.AskMoves.{this_is_in, held_speaks, lane_still, holds}
+
+-- ---- what is past
+
+-- a number that is at most the phase that a member waits for
+pub past_of : (limits : Limits) (h : History) (task n : ℕ) (entry : Entry) → IsLegal limits h → entry_of (members_of h) task ≡ Some entry
+    → n ≤ entry.wait_phase → IsPast h task n
+past_of limits h task n entry legal member low =
+    let c : HasCounted h task entry = counted_of limits h task entry legal member in
+    record { start = c.start; start_is = c.start_is; past = (let counts = c.waits in omega arith) }
+
+-- it is at most that later, too
+pub not_past : (limits : Limits) (later h : History) (task n : ℕ) (entry : Entry) → IsPast h task n → IsLegal limits (later ++ h)
+    → entry_of (members_of (later ++ h)) task ≡ Some entry → n ≤ entry.wait_phase
+not_past limits later h task n entry p legal member =
+    let now : IsPast (later ++ h) task n = past_goes limits later h task n legal p in
+    let c : HasCounted (later ++ h) task entry = counted_of limits (later ++ h) task entry legal member in
+    let same : now.start ≡ c.start = same_Some now.start c.start (sym now.start_is ∙ c.start_is) in
+    let counts : now.start.wait_phase + phases_waited (later ++ h) task ≡ entry.wait_phase =
+    ap (λ (e : Entry). e.wait_phase + phases_waited (later ++ h) task) same ∙ c.waits in
+    let low = now.past in omega arith
+
+-- what an ask that was answered has posted
+pub answered_past : (limits : Limits) (a : Ask) (seen log : History) → IsLegal limits log → IsAnsweredAsk limits a seen log → IsPast log a.task (a.phase + 1)
+answered_past limits a seen log legal n =
+    past_of limits log a.task (a.phase + 1) n.stands.entry legal n.stands.member (let at : n.stands.entry.wait_phase ≡ a.phase + 1 = n.stands.wait_at in omega arith)
+
+-- ---- reading a lane
+
+module _ {T : Type 0} (value : List ℤ → Outcome) (limits : Limits) (allows : Allows) (StandsFor : T → History → Type 0)
+    (number : ℕ) (f : Knowledge) (claims : List Ask) (said : Outcome) (lane : Option ℕ) (i : ℕ)
+    (told : ℕ) (words : List ℕ) (views : List View) (k : Kept value limits allows StandsFor None told words views)
+    (at : get_elem? views number ≡ some (Turning f claims said lane)) where
+  log_is : f.seen ≡ k.log
+  log_is = (k.sound number (Turning f claims said lane) at).0
+
+  asks_at : (j : ℕ) (g : Knowledge) (a : Ask) → get_elem? views j ≡ some (Asking g a) → AskStands value limits allows k.log told words g a
+  asks_at j g a e = k.sound j (Asking g a) e
+
+  posted_is : (j : ℕ) (g : Knowledge) (a : Ask) → get_elem? views j ≡ some (Asking g a) → a.task ≡ i → posted words i ≡ a.phase + 1
+  posted_is j g a e same = ap (λ (t : ℕ). posted words t) (sym same) ∙ (asks_at j g a e).posts
+
+  -- what was read is what is posted
+  claim_posted : (a : Ask) → IsOneOf claims a → a.task ≡ i → posted words i ≡ a.phase + 1
+  claim_posted a one same = let c = k.claimed number f claims said lane at a one in posted_is c.seat c.knows a c.at same
+
+  -- two asks of one task are one
+  one_ask : (j l : ℕ) (g h : Knowledge) (a b : Ask) → get_elem? views j ≡ some (Asking g a) → get_elem? views l ≡ some (Asking h b) → b.task ≡ a.task → b ≡ a
+  one_ask j l g h a b e e' same =
+      let mine = (k.owns j (Asking g a) a.task e (this_is_in a.task g.speaks (asks_at j g a e).speaks)).0 in
+      let its = (k.owns l (Asking h b) b.task e' (this_is_in b.task h.speaks (asks_at l h b e').speaks)).0 in
+      ap (λ (u : View). ask_in a u) (same_view views l j (Asking h b) (Asking g a) e' e (sym its ∙ ap k.owner same ∙ mine))
+
+  -- nothing is read
+  reads_none : (posted words i ≡ 0) ⊎ IsPast f.seen i (posted words i)
+      → (w : View) × Kept value limits allows StandsFor None told words (set views number w) × LaneRead limits allows i f claims said lane (posted words i) w
+  reads_none found = (
+    Turning f claims said lane,
+    subst (λ (l : List View). Kept value limits allows StandsFor None told words l) (sym (set_again views number (Turning f claims said lane) at)) k,
+    record { new = []; is = refl; fresh = λ a one. absurd one; read = claim_posted; found = inl found },
+  )
+
+  -- an ask is read that is not answered
+  module _ (j : ℕ) (g : Knowledge) (a : Ask) (there : get_elem? views j ≡ some (Asking g a)) (is : a.task ≡ i) (out : is_in i f.speaks ≡ false)
+      (waits_on : IsUnmade a g.seen k.log ⊎ IsMade limits a g.seen k.log) where
+    each : (b : Ask) → IsOneOf (a ∷ claims) b → StandsAsked limits k.log views b
+    each b one = ⊎_elim
+        (λ (same : a ≡ b). subst (λ (x : Ask). StandsAsked limits k.log views x) same (record { seat = j; knows = g; at = there; waits_on = waits_on }))
+        (λ (rest : IsOneOf claims b). k.claimed number f claims said lane at b rest)
+        one
+
+    kept : Kept value limits allows StandsFor None told words (set views number (Turning f (a ∷ claims) said lane))
+    kept =
+        let s = k.sound number (Turning f claims said lane) at in
+        holds value limits allows StandsFor told words views k number f claims said lane at words (a ∷ claims) said lane
+        s.5 s.6 (λ l u ne e. k.sound l u e) (λ b one. inr one) each
+        (λ l few. lane_still value limits allows StandsFor told words views k number f claims said lane at words (a ∷ claims) said lane
+        s.5 s.6 (λ l' u ne e. k.sound l' u e) (λ b one. inr one) each refl l (posted words l) (k.lanes l few))
+
+    claim : IsClaim limits allows f (a ∷ claims) a
+    claim = record {
+      one = inl refl;
+      theirs = subst (λ (t : ℕ). is_in t f.speaks ≡ false) (sym is) out;
+      only = λ b one same. let c = each b one in one_ask j c.seat g c.knows a b there c.at same;
+      stands = ⊎_elim
+          (λ (u : IsUnmade a g.seen k.log). inl (
+            subst (λ (h : History). IsAtPhases h a.task a.phase a.phase) (sym log_is) u.stands,
+            record {
+              seen = g.seen;
+              others = subst (λ (h : History). OthersCame (a.task ∷ []) g.seen h) (sym log_is) u.others;
+              may = (asks_at j g a there).may;
+            },
+          ))
+          (λ (m : IsMade limits a g.seen k.log). inr (subst (λ (h : History). IsAtPhases h a.task (a.phase + 1) a.phase) (sym log_is) m.stands))
+          waits_on;
+    }
+
+    reads_ask : (w : View) × Kept value limits allows StandsFor None told words (set views number w) × LaneRead limits allows i f claims said lane (posted words i) w
+    reads_ask = (
+      Turning f (a ∷ claims) said lane,
+      kept,
+      record {
+        new = a ∷ [];
+        is = refl;
+        fresh = λ b one. ⊎_elim (λ (same : a ≡ b). subst (λ (x : Ask). (x.task ≡ i) × IsClaim limits allows f (a ∷ claims) x) same (is, claim)) (λ none. absurd none) one;
+        read = λ b one same. let c = each b one in posted_is c.seat c.knows b c.at same;
+        found = inr (a, is, claim);
+      },
+    )
+
+  pub lane_read : i < lanes_most → is_in i f.speaks ≡ false
+      → (w : View) × Kept value limits allows StandsFor None told words (set views number w) × LaneRead limits allows i f claims said lane (posted words i) w
+  lane_read few out = ⊎_elim
+      (λ (z : posted words i ≡ 0). reads_none (inl z))
+      (λ (r : AskedAt views i ⊎ (IsPast k.log i (posted words i) ⊎ HeldAt views i)). ⊎_elim
+      (λ (q : AskedAt views i). asked q (asks_at q.seat q.knows q.ask q.at).stage)
+      (λ (r' : IsPast k.log i (posted words i) ⊎ HeldAt views i). ⊎_elim
+      (λ (p : IsPast k.log i (posted words i)). reads_none (inr (past_here p)))
+      (λ (h : HeldAt views i).
+      absurd (not_both (is_in i f.speaks) (this_is_in i f.speaks (held_speaks value limits allows StandsFor told words views k number f claims said lane at i h)) out))
+      r')
+      r)
+      (k.lanes i few)
+    where
+      past_here : IsPast k.log i (posted words i) → IsPast f.seen i (posted words i)
+      past_here p = subst (λ (h : History). IsPast h i (posted words i)) (sym log_is) p
+
+      asked : (q : AskedAt views i) → Stage limits q.ask q.knows.seen k.log
+          → (w : View) × Kept value limits allows StandsFor None told words (set views number w) × LaneRead limits allows i f claims said lane (posted words i) w
+      asked q stage = ⊎_elim
+          (λ (u : IsUnmade q.ask q.knows.seen k.log). reads_ask q.seat q.knows q.ask q.at q.is out (inl u))
+          (λ (r : IsMade limits q.ask q.knows.seen k.log ⊎ IsAnsweredAsk limits q.ask q.knows.seen k.log). ⊎_elim
+          (λ (m : IsMade limits q.ask q.knows.seen k.log). reads_ask q.seat q.knows q.ask q.at q.is out (inr m))
+          (λ (n : IsAnsweredAsk limits q.ask q.knows.seen k.log).
+          let p : IsPast k.log q.ask.task (q.ask.phase + 1) = answered_past limits q.ask q.knows.seen k.log k.good.legal n in
+          let p' : IsPast k.log i (q.ask.phase + 1) = subst (λ (t : ℕ). IsPast k.log t (q.ask.phase + 1)) q.is p in
+          let p'' : IsPast k.log i (posted words i) = subst (λ (m : ℕ). IsPast k.log i m) (sym (posted_is q.seat q.knows q.ask q.at q.is)) p' in
+          reads_none (inr (subst (λ (h : History). IsPast h i (posted words i)) (sym log_is) p'')))
+          r)
+          stage
+
+  -- the second word has what is sent, where the signal is still to be made
+  pub send_read : (set views number (Turning f claims said lane) ≡ views)
+      × ((a : Ask) → IsOneOf claims a → a.task ≡ i → IsAtPhases f.seen a.task a.phase a.phase → sends_of (send_word words i) ≡ a.sends)
+  send_read = (
+    set_again views number (Turning f claims said lane) at,
+    λ a one same st.
+        let c = k.claimed number f claims said lane at a one in
+        let q = asks_at c.seat c.knows a c.at in
+        ap (λ (t : ℕ). sends_of (send_word words t)) (sym same) ∙ q.sends (subst (λ (h : History). IsAtPhases h a.task a.phase a.phase) log_is st),
+  )

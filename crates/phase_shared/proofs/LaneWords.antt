@@ -1,0 +1,157 @@
+-- What is said of the words beside a phaser's lock: the board, and the lanes of other tasks while one is written.
+use Rattle.std.proofs.Common.{◌≡◌, ◌≢◌, ℕ, ℤ, pos, negsuc, ◌+◌, ◌*◌, ◌/◌, ◌%◌, ◌<◌, Bool, true, false, cond, eqb, List, [], ◌∷◌, length, set, slice_index, refl, sym, ap, subst, ◌∙◌, arith}
+use Rattle.std.proofs.lemmas.Bool.{eq-eqb, eqb-true, ne_eqb}
+use Rattle.std.proofs.lemmas.List.{get_or-set_same, get_or-set_other}
+use Rattle.phase_core.specs.phase_accum.declared.outcome.Outcome.{Outcome}
+use Rattle.phase_core.specs.phase_accum.declared.outcome.Outcome.TheVariants.{Value, Empty, TooBig}
+use Rattle.phase_shared.specs.Lanes.{lanes_most, word_for, number_of, no_send, sends_of, outcome_of, board, phase_place, send_place, posted, send_word, KindIs, NumberIs, with_number}
+
+-- ---- what two words say
+
+pub kind_is : (number kind : ℕ) → KindIs kind (outcome_of number kind)
+kind_is number kind = record {
+  value = λ z. (number_of number, ap (λ b. cond b (Value (number_of number)) (cond (eqb kind 1) Empty TooBig)) (eq-eqb kind 0 z));
+  empty = λ o. ap (λ b. cond b (Value (number_of number)) (cond (eqb kind 1) Empty TooBig)) (ne_eqb kind 0 (λ z. let one = o in omega arith))
+      ∙ ap (λ b. cond b Empty TooBig) (eq-eqb kind 1 o);
+  big = λ z o. ap (λ b. cond b (Value (number_of number)) (cond (eqb kind 1) Empty TooBig)) (ne_eqb kind 0 z)
+      ∙ ap (λ b. cond b Empty TooBig) (ne_eqb kind 1 o);
+}
+
+abbrev value_in : ℤ → Outcome → ℤ
+value_in d (Value v) = v
+value_in d Empty = d
+value_in d TooBig = d
+
+abbrev has_value : Outcome → Bool
+has_value (Value v) = true
+has_value Empty = false
+has_value TooBig = false
+
+same_value_in : (v w : ℤ) → Value v ≡ Value w → w ≡ v
+same_value_in v w e = sym (ap (λ (o : Outcome). value_in v o) e)
+
+no_value : (o : Outcome) (w : ℤ) → has_value o ≡ false → o ≡ Value w → ⊥
+no_value o w none e = let yes' : has_value o ≡ true = ap (λ (x : Outcome). has_value x) e in cc
+
+pub number_is : (number kind : ℕ) → NumberIs number (outcome_of number kind)
+number_is number kind v = elim (eqb kind 0) as (λ b. cond b (Value (number_of number)) (cond (eqb kind 1) Empty TooBig) ≡ Value v → v ≡ number_of number) [
+  | true ↦ λ e. same_value_in (number_of number) v e
+  | false ↦ λ e. absurd (no_value (cond (eqb kind 1) Empty TooBig) v (neither (eqb kind 1)) e)
+]
+  where
+    neither : (b : Bool) → has_value (cond b Empty TooBig) ≡ false
+    neither true = refl
+    neither false = refl
+
+pub other_number : (number other kind : ℕ) → outcome_of other kind ≡ with_number other (outcome_of number kind)
+other_number number other kind = elim (eqb kind 0) as (λ b. cond b (Value (number_of other)) (cond (eqb kind 1) Empty TooBig)
+    ≡ with_number other (cond b (Value (number_of number)) (cond (eqb kind 1) Empty TooBig))) [
+      | true ↦ refl
+      | false ↦ empty_or_big (eqb kind 1)
+    ]
+  where
+    empty_or_big : (b : Bool) → cond b Empty TooBig ≡ with_number other (cond b Empty TooBig)
+    empty_or_big true = refl
+    empty_or_big false = refl
+
+-- ---- one word is written
+
+pub record SameElse (t : ℕ) (words after : List ℕ) : Type 0 where
+  pub same_board : board after ≡ board words
+  pub same_posted : (i : ℕ) → i ≢ t → posted after i ≡ posted words i
+  pub same_sent : (i : ℕ) → i ≢ t → send_word after i ≡ send_word words i
+
+pub else : (words : List ℕ) (place n i : ℕ) → i ≢ place → slice_index (set words place n) i ≡ slice_index words i
+else words place n i ne = get_or-set_other words place i n 0 ne
+
+same_board_of : (words after : List ℕ) → slice_index after 0 ≡ slice_index words 0 → slice_index after 1 ≡ slice_index words 1 → board after ≡ board words
+same_board_of words after e e' = ap (λ (n : ℕ). outcome_of n (slice_index after 1)) e ∙ ap (λ (n : ℕ). outcome_of (slice_index words 0) n) e'
+
+pub send_else : (words : List ℕ) (t n : ℕ) → SameElse t words (set words (send_place t) n)
+send_else words t n = record {
+  same_board = same_board_of words (set words (send_place t) n) (else words (send_place t) n 0 (λ e. omega arith)) (else words (send_place t) n 1 (λ e. omega arith));
+  same_posted = λ i ne. else words (send_place t) n (phase_place i) (λ e. omega arith);
+  same_sent = λ i ne. else words (send_place t) n (send_place i) (λ e. ne (omega arith));
+}
+
+pub send_posted : (words : List ℕ) (t n i : ℕ) → posted (set words (send_place t) n) i ≡ posted words i
+send_posted words t n i = else words (send_place t) n (phase_place i) (λ e. omega arith)
+
+pub phase_else : (words : List ℕ) (t n : ℕ) → SameElse t words (set words (phase_place t) n)
+phase_else words t n = record {
+  same_board = same_board_of words (set words (phase_place t) n) (else words (phase_place t) n 0 (λ e. omega arith)) (else words (phase_place t) n 1 (λ e. omega arith));
+  same_posted = λ i ne. else words (phase_place t) n (phase_place i) (λ e. ne (omega arith));
+  same_sent = λ i ne. else words (phase_place t) n (send_place i) (λ e. omega arith);
+}
+
+pub phase_sent : (words : List ℕ) (t n i : ℕ) → send_word (set words (phase_place t) n) i ≡ send_word words i
+phase_sent words t n i = else words (phase_place t) n (send_place i) (λ e. omega arith)
+
+-- the word that was written says what was written
+pub here : (words : List ℕ) (place n : ℕ) → length words ≡ 287 → place < 287 → slice_index (set words place n) place ≡ n
+here words place n long low = get_or-set_same words place n 0 (omega arith)
+
+pub send_here : (words : List ℕ) (t n : ℕ) → length words ≡ 287 → t < lanes_most → send_word (set words (send_place t) n) t ≡ n
+send_here words t n long low = here words (send_place t) n long (let few : t < 16 = low in omega arith)
+
+pub phase_here : (words : List ℕ) (t n : ℕ) → length words ≡ 287 → t < lanes_most → posted (set words (phase_place t) n) t ≡ n
+phase_here words t n long low = here words (phase_place t) n long (let few : t < 16 = low in omega arith)
+
+-- ---- the board is written
+
+pub board_number : (words : List ℕ) (n : ℕ) → length words ≡ 287 → board (set words 0 n) ≡ with_number n (board words)
+board_number words n long =
+    ap (λ (m : ℕ). outcome_of m (slice_index (set words 0 n) 1)) (here words 0 n long (omega arith))
+    ∙ ap (λ (m : ℕ). outcome_of n m) (else words 0 n 1 (λ e. omega arith))
+    ∙ other_number (slice_index words 0) n (slice_index words 1)
+
+pub board_kind : (words : List ℕ) (n : ℕ) → length words ≡ 287 → KindIs n (board (set words 1 n))
+board_kind words n long =
+    subst (λ (m : ℕ). KindIs n (outcome_of (slice_index (set words 1 n) 0) m)) (sym (here words 1 n long (omega arith)))
+    (kind_is (slice_index (set words 1 n) 0) n)
+
+-- a word of the board is in no lane
+pub board_posted : (words : List ℕ) (place n i : ℕ) → place < 2 → posted (set words place n) i ≡ posted words i
+board_posted words place n i low = else words place n (phase_place i) (λ e. omega arith)
+
+pub board_sent : (words : List ℕ) (place n i : ℕ) → place < 2 → send_word (set words place n) i ≡ send_word words i
+board_sent words place n i low = else words place n (send_place i) (λ e. omega arith)
+
+-- ---- numbers as words
+
+even_is : (n : ℕ) → eqb ((n * 2) % 2) 0 ≡ true
+even_is n = eq-eqb ((n * 2) % 2) 0 (omega arith)
+
+odd_is : (n : ℕ) → eqb ((n * 2 + 1) % 2) 0 ≡ false
+odd_is n = ne_eqb ((n * 2 + 1) % 2) 0 (λ e. let o : (n * 2 + 1) % 2 ≡ 1 = omega arith in omega arith)
+
+even_half : (n : ℕ) → n * 2 / 2 ≡ n
+even_half n = omega arith
+
+odd_half : (n : ℕ) → (n * 2 + 1) / 2 ≡ n
+odd_half n = omega arith
+
+-- a number's word says the number
+pub number_of_word : (v : ℤ) → number_of (word_for v) ≡ v
+number_of_word (pos n) = ap (λ b. cond b (pos (n * 2 / 2)) (negsuc (n * 2 / 2))) (even_is n) ∙ ap (λ (m : ℕ). pos m) (even_half n)
+number_of_word (negsuc n) = ap (λ b. cond b (pos ((n * 2 + 1) / 2)) (negsuc ((n * 2 + 1) / 2))) (odd_is n) ∙ ap (λ (m : ℕ). negsuc m) (odd_half n)
+
+-- and a word is that of its number
+pub word_of_number : (n : ℕ) → word_for (number_of n) ≡ n
+word_of_number n = elim (eqb (n % 2) 0) as (λ b. (eqb (n % 2) 0 ≡ b) → word_for (cond b (pos (n / 2)) (negsuc (n / 2))) ≡ n) [
+  | true ↦ λ t. let even : n % 2 ≡ 0 = eqb-true (n % 2) 0 t in omega arith
+  | false ↦ λ f. let odd : n % 2 ≢ 0 = (λ (z : n % 2 ≡ 0). no_both (eqb (n % 2) 0) (eq-eqb (n % 2) 0 z) f) in omega arith
+] refl
+  where
+    no_both : (b : Bool) → b ≡ true → b ≡ false → ⊥
+    no_both b e f = cc
+
+-- the word that says that nothing is sent
+pub sends_none : sends_of no_send ≡ []
+sends_none = ap (λ b. cond b [] (number_of no_send ∷ [])) (eq-eqb no_send no_send refl)
+
+-- every other number is sent by its word
+pub sends_one : (v : ℤ) → v ≢ number_of no_send → sends_of (word_for v) ≡ v ∷ []
+sends_one v ne =
+    ap (λ b. cond b [] (number_of (word_for v) ∷ [])) (ne_eqb (word_for v) no_send (λ same. ne (sym (number_of_word v) ∙ ap (λ (n : ℕ). number_of n) same)))
+    ∙ ap (λ (w : ℤ). w ∷ []) (number_of_word v)

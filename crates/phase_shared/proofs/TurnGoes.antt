@@ -1,0 +1,195 @@
+-- A seat that asked goes on under its turn, from where its ask stands.
+use Rattle.std.proofs.Common.{◌≡◌, ℕ, ◌+◌, ◌<◌, ◌≤◌, true, false, [], ◌∷◌, ◌⊎◌, Option, Some, None, refl, sym, ap, subst, ◌∙◌, inr, ⊎_elim, arith}
+use Rattle.std.specs.Prelude.{is_some}
+use Rattle.phase_core.specs.phase_base.Limits.{Limits}
+use Rattle.phase_core.specs.phase_base.Modes.{mode_waits}
+use Rattle.phase_core.specs.phase_base.Members.{entry_of, signalled, waited}
+use Rattle.phase_core.specs.phase_base.declared.entry.Entry.{Entry}
+use Rattle.phase_core.specs.phase_accum.Operations.{Operation}
+use Rattle.phase_core.specs.phase_history.declared.event.Event.TheVariants.{Signalled, Waited}
+use Rattle.phase_core.specs.phase_history.Histories.{History, members_of, done_of, IsAlive}
+use Rattle.phase_core.specs.phase_history.Legal.{IsLegal}
+use Rattle.phase_core.specs.Cores.{CoreState, StandsFor}
+use Rattle.phase_core.proofs.phase_history_lemmas.MemberLemmas.{entry_of-changed_same}
+use Rattle.phase_core.proofs.phase_history_lemmas.Used.{IsLegal-beginning}
+use Rattle.phase_shared.specs.declared.rule.Terms.{Terms}
+use Rattle.phase_shared.specs.Asks.{Ask, IsAtPhases, IsUnmade, IsMade, IsAnsweredAsk, Stage}
+use Rattle.phase_shared.specs.Desks.{View, MayMakeAsk}
+use Rattle.phase_shared.specs.Goods.{Allows}
+use Rattle.phase_shared.specs.Rule.{StandsWithin}
+use Rattle.phase_shared.specs.Servings.{Turned, Starting, Serving, IsAnsweredIn, IsWaiterIn, WasOpen}
+use Rattle.phase_shared.specs.Tells.{TookAsked}
+use Rattle.phase_shared.specs.Views.{knowledge, known_of}
+use Rattle.phase_shared.proofs.Small.{same_some, apart_phases}
+use Rattle.phase_shared.proofs.Stages.{wait_is}
+use Rattle.phase_shared.proofs.Giving.{member_after}
+use Rattle.phase_shared.proofs.TurnParts.{none_below, false_true}
+
+-- ---- a task's mode stays
+
+-- the task is registered then, in the same mode
+record Goes (h : History) (task : ℕ) (old : Entry) : Type 0 where
+  pub entry : Entry
+  pub member : entry_of (members_of h) task ≡ Some entry
+  pub mode_is : mode_waits entry.mode ≡ mode_waits old.mode
+
+made_goes : (limits : Limits) (a : Ask) (seen h : History) (e : Entry) → IsLegal limits h → IsMade limits a seen h
+    → entry_of (members_of seen) a.task ≡ Some e → Goes h a.task e
+made_goes limits a seen h e legal m member =
+    let signal : IsLegal limits (Signalled a.task (a.sends ∷ []) None ∷ m.before) = IsLegal-beginning limits (Signalled a.task (a.sends ∷ []) None ∷ m.before) h (λ none. cc) legal
+    (record { later = m.since.later; is = m.since.is }) in
+    let before = member_after limits a.task e seen m.before m.others signal.0 member in
+    let then = entry_of-changed_same a.task (signalled 1) e (members_of m.before) before in
+    record { entry = signalled 1 e; member = member_after limits a.task (signalled 1 e) (Signalled a.task (a.sends ∷ []) None ∷ m.before) h m.since legal then; mode_is = refl }
+
+stage_member : (limits : Limits) (a : Ask) (seen h : History) (e : Entry) → IsLegal limits h → Stage limits a seen h
+    → entry_of (members_of seen) a.task ≡ Some e → Goes h a.task e
+stage_member limits a seen h e legal stage member = ⊎_elim
+    (λ (u : IsUnmade a seen h). record { entry = e; member = member_after limits a.task e seen h u.others legal member; mode_is = refl })
+    (λ (r : IsMade limits a seen h ⊎ IsAnsweredAsk limits a seen h). ⊎_elim
+    (λ (m : IsMade limits a seen h). made_goes limits a seen h e legal m member)
+    (λ (n : IsAnsweredAsk limits a seen h).
+    let wait : IsLegal limits (Waited a.task 1 ∷ n.middle) = IsLegal-beginning limits (Waited a.task 1 ∷ n.middle) h (λ none. cc) legal
+    (record { later = n.since.later; is = n.since.is }) in
+    let g = made_goes limits a seen n.middle e wait.0 n.made member in
+    let then = entry_of-changed_same a.task (waited 1) g.entry (members_of n.middle) g.member in
+    record { entry = waited 1 g.entry; member = member_after limits a.task (waited 1 g.entry) (Waited a.task 1 ∷ n.middle) h n.since legal then; mode_is = g.mode_is })
+    r)
+    stage
+
+entry_in : {X : Type 0} (o : Option X) → is_some o ≡ true → (x : X) × (o ≡ Some x)
+entry_in (Some x) yes' = (x, refl)
+entry_in None yes' = absurd (cc)
+
+still_waits : (limits : Limits) (a : Ask) (seen h : History) → IsLegal limits h → Stage limits a seen h → IsAlive seen a.task → IsWaiterIn seen a.task → IsWaiterIn h a.task
+still_waits limits a seen h legal stage alive waits e member =
+    let first = entry_in (entry_of (members_of seen) a.task) alive in
+    let g = stage_member limits a seen h first.0 legal stage first.1 in
+    ap (λ (d : Entry). mode_waits d.mode) (same_some e g.entry (sym member ∙ g.member)) ∙ g.mode_is ∙ waits first.0 first.1
+
+-- ---- where it stands tells how far it is
+
+module _ (limits : Limits) (a : Ask) (seen h : History) (e : Entry) (member : entry_of (members_of h) a.task ≡ Some e) where
+  signals_at : (s w : ℕ) → IsAtPhases h a.task s w → e.signal_phase ≡ s
+  signals_at s w st = ap (λ (d : Entry). d.signal_phase) (same_some e st.entry (sym member ∙ st.member)) ∙ st.signal_at
+
+  waits_at : (s w : ℕ) → IsAtPhases h a.task s w → e.wait_phase ≡ w
+  waits_at s w st = ap (λ (d : Entry). d.wait_phase) (same_some e st.entry (sym member ∙ st.member)) ∙ st.wait_at
+
+  pub is_answered : Stage limits a seen h → a.phase < e.wait_phase → IsAnsweredAsk limits a seen h
+  is_answered stage more = ⊎_elim
+      (λ (u : IsUnmade a seen h). let w = waits_at a.phase a.phase u.stands in absurd (omega arith))
+      (λ (r : IsMade limits a seen h ⊎ IsAnsweredAsk limits a seen h). ⊎_elim
+      (λ (m : IsMade limits a seen h). let w = waits_at (a.phase + 1) a.phase m.stands in absurd (omega arith))
+      (λ (n : IsAnsweredAsk limits a seen h). n)
+      r)
+      stage
+
+  pub is_unmade : Stage limits a seen h → e.signal_phase ≡ a.phase → IsUnmade a seen h
+  is_unmade stage at = ⊎_elim
+      (λ (u : IsUnmade a seen h). u)
+      (λ (r : IsMade limits a seen h ⊎ IsAnsweredAsk limits a seen h). absurd (⊎_elim
+      (λ (m : IsMade limits a seen h). apart_phases a.phase (sym (signals_at (a.phase + 1) a.phase m.stands) ∙ at))
+      (λ (n : IsAnsweredAsk limits a seen h). apart_phases a.phase (sym (signals_at (a.phase + 1) (a.phase + 1) n.stands) ∙ at))
+      r))
+      stage
+
+  pub is_made : Stage limits a seen h → e.wait_phase ≤ a.phase → (e.signal_phase ≡ a.phase → ⊥) → IsMade limits a seen h
+  is_made stage low apart = ⊎_elim
+      (λ (u : IsUnmade a seen h). absurd (apart (signals_at a.phase a.phase u.stands)))
+      (λ (r : IsMade limits a seen h ⊎ IsAnsweredAsk limits a seen h). ⊎_elim
+      (λ (m : IsMade limits a seen h). m)
+      (λ (n : IsAnsweredAsk limits a seen h). let w = waits_at (a.phase + 1) (a.phase + 1) n.stands in absurd (omega arith))
+      r)
+      stage
+
+module _ {A K : Type 0} (op : Operation A) (allows : K → Allows) (terms : Terms K) (ask : Ask) (seen : History) where
+  -- ---- in other words
+
+  pub open_still : (v u : View) → known_of u ≡ known_of v → WasOpen v ask.phase → WasOpen u ask.phase
+  open_still v u same open' = subst (λ f. done_of f.seen ≤ ask.phase) (sym same) open'
+
+  abbrev Took : View → CoreState A → Type 0
+  Took v x = TookAsked op.value terms.limits (allows terms.rule) (StandsWithin op terms.limits) (knowledge seen (ask.task ∷ [])) ask x v
+
+  -- the core that was lent is the turn's
+  pub took_still : (v : View) (x y : CoreState A) → y ≡ x
+      → TookAsked op.value terms.limits (allows terms.rule) (StandsWithin op terms.limits) (knowledge seen (ask.task ∷ [])) ask x v
+      → TookAsked op.value terms.limits (allows terms.rule) (StandsWithin op terms.limits) (knowledge seen (ask.task ∷ [])) ask y v
+  took_still v x y same k = subst (λ (z : CoreState A). Took v z) (sym same) k
+
+  module _ (v : View) (x : CoreState A)
+      (k : TookAsked op.value terms.limits (allows terms.rule) (StandsWithin op terms.limits) (knowledge seen (ask.task ∷ [])) ask x v) where
+    -- ---- the turn that it took
+
+    pub legal_some : k.now ≡ [] → ⊥
+    legal_some none = let never : IsLegal terms.limits [] = subst (λ (h : History). IsLegal terms.limits h) none k.good.legal in never
+
+    pub took_turn : Turned op allows terms ask false 0 v x
+    took_turn = record {
+      now = k.now;
+      claims = k.claims;
+      said = k.said;
+      lane = Some (ask.phase + 1);
+      later = [];
+      is = k.is;
+      some = legal_some;
+      batch = tt;
+      good = k.good;
+      stands = k.stands;
+      theirs = λ a one. (k.read a one).1;
+      own = inr refl;
+      quiet = λ no a one st. apart_phases a.phase (sym (wait_is k.now a.task (a.phase + 1) (a.phase + 1) st) ∙ wait_is k.now a.task (a.phase + 1) a.phase (k.read a one).0);
+      complete = λ yes'. absurd (false_true yes');
+      served = λ a one low at. absurd (none_below a.task low);
+    }
+
+    -- the entry that the core told
+    pub told_member : (o : Option Entry) (e : Entry) → o ≡ entry_of x.members ask.task → o ≡ Some e → entry_of (members_of k.now) ask.task ≡ Some e
+    told_member o e viewed some = ap (λ ms. entry_of ms ask.task) (sym k.stands.stands.members_are) ∙ sym viewed ∙ some
+
+    -- the task is registered
+    pub stage_found : (o : Option Entry) → o ≡ entry_of x.members ask.task → o ≡ None → ⊥
+    stage_found o viewed none = ⊎_elim
+        (λ (u : IsUnmade ask seen k.now). no u.stands.entry u.stands.member)
+        (λ (r : IsMade terms.limits ask seen k.now ⊎ IsAnsweredAsk terms.limits ask seen k.now). ⊎_elim
+        (λ (m : IsMade terms.limits ask seen k.now). no m.stands.entry m.stands.member)
+        (λ (n : IsAnsweredAsk terms.limits ask seen k.now). no n.stands.entry n.stands.member)
+        r)
+        k.stage
+      where
+        no : (e : Entry) → entry_of (members_of k.now) ask.task ≡ Some e → ⊥
+        no e member =
+            let z : Some e ≡ None = sym member ∙ ap (λ ms. entry_of ms ask.task) (sym k.stands.stands.members_are) ∙ sym viewed ∙ none in
+            cc
+
+    -- the core tells how many phases are complete
+    pub open_now : (n : ℕ) → ((h : History) → StandsFor op x h → n ≡ done_of h) → n ≤ ask.phase → WasOpen v ask.phase
+    open_now n done low = subst (λ (u : View). done_of (known_of u).seen ≤ ask.phase) (sym k.is) (subst (λ (m : ℕ). m ≤ ask.phase) (done k.now k.stands.stands) low)
+
+    module _ (e : Entry) (member : entry_of (members_of k.now) ask.task ≡ Some e) where
+      pub answered_in : ask.phase < e.wait_phase → IsAnsweredIn op allows terms ask seen v x
+      unfolding took_turn
+      answered_in more =
+          let n : IsAnsweredAsk terms.limits ask seen k.now = is_answered terms.limits ask seen k.now e member k.stage more in
+          record { turned = took_turn; first = refl; lane_is = refl; answered = n; has = k.has n }
+
+      module _ (alive : IsAlive seen ask.task) (waits : IsWaiterIn seen ask.task) (may : MayMakeAsk terms.limits (allows terms.rule) seen ask) where
+        pub starting : e.signal_phase ≡ ask.phase → Starting op allows terms ask seen v x
+        unfolding took_turn
+        starting at = record {
+          turned = took_turn;
+          first = refl;
+          unmade = is_unmade terms.limits ask seen k.now e member k.stage at;
+          waits = still_waits terms.limits ask seen k.now k.good.legal k.stage alive waits;
+          may = may;
+        }
+
+        pub serving : e.wait_phase ≤ ask.phase → (e.signal_phase ≡ ask.phase → ⊥) → Serving op allows terms ask seen false 0 v x
+        unfolding took_turn
+        serving low apart = record {
+          turned = took_turn;
+          made = is_made terms.limits ask seen k.now e member k.stage low apart;
+          waits = still_waits terms.limits ask seen k.now k.good.legal k.stage alive waits;
+          may = may;
+        }

@@ -1,0 +1,165 @@
+-- The parts of a turn of a seat that asks: how it begins, its own signal, and what it ends with.
+use Rattle.std.proofs.Common.{◌≡◌, ℕ, ◌+◌, ◌<◌, ◌≤◌, Bool, true, false, eqb, [], ◌∷◌, ◌++◌, None, refl, sym, ap, subst, ◌∙◌, inl, arith}
+use Rattle.phase_core.specs.phase_base.Lists.{is_in}
+use Rattle.phase_core.specs.phase_base.Modes.{mode_waits}
+use Rattle.phase_core.specs.phase_base.Members.{signalled}
+use Rattle.phase_core.specs.phase_base.declared.entry.Entry.{Entry}
+use Rattle.phase_core.specs.phase_accum.Operations.{Operation}
+use Rattle.phase_core.specs.phase_history.declared.event.Event.TheVariants.{Signalled}
+use Rattle.phase_core.specs.phase_history.Histories.{History, members_of, done_of}
+use Rattle.phase_core.specs.phase_history.Legal.{IsLegal}
+use Rattle.phase_core.specs.Cores.{CoreState, StandsFor}
+use Rattle.phase_core.proofs.phase_history_lemmas.MemberLemmas.{entry_of-changed_same, entry_of-changed_other}
+use Rattle.phase_shared.specs.declared.rule.Terms.{Terms}
+use Rattle.phase_shared.specs.Asks.{Ask, IsAtPhases, IsMade, IsOneOf}
+use Rattle.phase_shared.specs.Desks.{View}
+use Rattle.phase_shared.specs.Goods.{Allows, IsGoodAt}
+use Rattle.phase_shared.specs.Rule.{StandsWithin}
+use Rattle.phase_shared.specs.Servings.{Turned, Starting, Serving, IsPhaseDone, IsCompleteIn, WasOpen}
+use Rattle.phase_shared.specs.Views.{knowledge, known_of}
+use Rattle.phase_shared.specs.WordTells.{IsOwnLane, IsHolder, Completes}
+use Rattle.phase_shared.proofs.Small.{same_some, or_false}
+use Rattle.phase_shared.proofs.Stages.{signal_is, done_within, stage_signalled}
+use Rattle.phase_shared.proofs.Giving.{legal_at}
+
+-- another task stood before the signal where it stands after it
+stood : (h : History) (task s w : ℕ) (ask : Ask) → is_in task (ask.task ∷ []) ≡ false → IsAtPhases (Signalled ask.task (ask.sends ∷ []) None ∷ h) task s w
+    → IsAtPhases h task s w
+stood h task s w ask other st = record {
+  entry = st.entry;
+  member = sym (entry_of-changed_other ask.task task (signalled 1) (members_of h) (or_false (eqb ask.task task) other)) ∙ st.member;
+  signals = st.signals;
+  signal_at = st.signal_at;
+  wait_at = st.wait_at;
+}
+
+pub none_below : (n : ℕ) → n < 0 → ⊥
+none_below n low = omega arith
+
+pub false_true : false ≡ true → ⊥
+false_true e = cc
+
+true_false : true ≡ false → ⊥
+true_false e = cc
+
+module _ {A K : Type 0} (op : Operation A) (allows : K → Allows) (terms : Terms K) (ask : Ask) where
+  -- ---- what it knows
+
+  pub own_lane : (serves : Bool) (k : ℕ) (v : View) (x : CoreState A) → Turned op allows terms ask serves k v x → IsOwnLane ask.task v
+  own_lane serves k v x t = record { knows = knowledge t.now (ask.task ∷ []); claims = t.claims; said = t.said; lane = t.lane; is = t.is; speaks = refl }
+
+  pub holder : (serves : Bool) (k : ℕ) (v : View) (x : CoreState A) → Turned op allows terms ask serves k v x → IsHolder v
+  holder serves k v x t = record { knows = knowledge t.now (ask.task ∷ []); claims = t.claims; said = t.said; lane = t.lane; is = t.is }
+
+  pub seen_is : (serves : Bool) (k : ℕ) (v : View) (x : CoreState A) (t : Turned op allows terms ask serves k v x) → (known_of v).seen ≡ t.now
+  seen_is serves k v x t = ap (λ (u : View). (known_of u).seen) t.is
+
+  -- the phase was open when the turn was taken, as the turn says
+  pub was_open : (serves : Bool) (k : ℕ) (u v : View) (x : CoreState A) (t : Turned op allows terms ask serves k v x)
+      → known_of v ≡ known_of u → WasOpen u ask.phase → done_of t.now ≤ ask.phase
+  was_open serves k u v x t same open' =
+      subst (λ (h : History). done_of h ≤ ask.phase) (sym (ap (λ f. f.seen) same) ∙ seen_is serves k v x t) open'
+
+  module _ (seen : History) where
+    -- ---- its own signal
+
+    module _ (v : View) (x : CoreState A) (s : Starting op allows terms ask seen v x) where
+      pub good_first : IsGoodAt allows terms s.turned.now
+      good_first = subst (λ (l : History). IsGoodAt allows terms (l ++ s.turned.now)) s.first s.turned.good
+
+      pub stands_first : StandsWithin op terms.limits x s.turned.now
+      stands_first = subst (λ (l : History). StandsWithin op terms.limits x (l ++ s.turned.now)) s.first s.turned.stands
+
+      -- no other's ask is answered then
+      pub quiet_first : (a : Ask) → IsOneOf s.turned.claims a → IsAtPhases s.turned.now a.task (a.phase + 1) (a.phase + 1) → ⊥
+      quiet_first a one st = s.turned.quiet refl a one (subst (λ (l : History). IsAtPhases (l ++ s.turned.now) a.task (a.phase + 1) (a.phase + 1)) (sym s.first) st)
+
+      -- its phase is open
+      pub open_first : WasOpen v ask.phase
+      open_first = subst (λ (h : History). done_of h ≤ ask.phase) (sym (seen_is false 0 v x s.turned))
+          (done_within s.turned.now ask.task ask.phase ask.phase s.unmade.stands)
+
+      pub signs : (y : CoreState A) → y.limits ≡ x.limits → StandsFor op y (Signalled ask.task (ask.sends ∷ []) None ∷ s.turned.now)
+          → Serving op allows terms ask seen false 0 v y
+      signs y same after =
+          let t = s.turned in
+          let now : History = t.now in
+          let new : History = Signalled ask.task (ask.sends ∷ []) None ∷ now in
+          let stands' : StandsWithin op terms.limits y new = record { stands = after; limits_are = same ∙ stands_first.limits_are } in
+          let legal : IsLegal terms.limits new = legal_at op allows terms ask.task y new stands' in
+          let made : IsMade terms.limits ask seen new = stage_signalled terms.limits ask seen now legal.0 legal.1
+          (signal_is now ask.task ask.phase ask.phase s.unmade.stands) (inl s.unmade) in
+          let first : Entry = s.unmade.stands.entry in
+          record {
+            turned = record {
+              now = now;
+              claims = t.claims;
+              said = t.said;
+              lane = t.lane;
+              later = Signalled ask.task (ask.sends ∷ []) None ∷ [];
+              is = t.is;
+              some = t.some;
+              batch = (tt, inl (λ task out. or_false (eqb ask.task task) out));
+              good = record { legal = legal; keeps = (s.may now good_first s.unmade.others, good_first.keeps) };
+              stands = stands';
+              theirs = t.theirs;
+              own = t.own;
+              quiet = λ no a one st. quiet_first a one (stood now a.task (a.phase + 1) (a.phase + 1) ask (t.theirs a one) st);
+              complete = λ yes'. absurd (false_true yes');
+              served = λ a one low at. absurd (none_below a.task low);
+            };
+            made = made;
+            waits = λ e member.
+                let is : signalled 1 first ≡ e = same_some (signalled 1 first) e
+                (sym (entry_of-changed_same ask.task (signalled 1) first (members_of now) s.unmade.stands.member) ∙ member) in
+                ap (λ (d : Entry). mode_waits d.mode) (sym is) ∙ s.waits first s.unmade.stands.member;
+            may = s.may;
+          }
+
+    -- ---- its phase is complete
+
+    pub serves_now : (v : View) (x : CoreState A) → Serving op allows terms ask seen false 0 v x → IsCompleteIn op x ask.phase
+        → Serving op allows terms ask seen true 0 v x
+    serves_now v x s done =
+        let t = s.turned in
+        record {
+          turned = record {
+            now = t.now;
+            claims = t.claims;
+            said = t.said;
+            lane = t.lane;
+            later = t.later;
+            is = t.is;
+            some = t.some;
+            batch = t.batch;
+            good = t.good;
+            stands = t.stands;
+            theirs = t.theirs;
+            own = t.own;
+            quiet = λ no. absurd (true_false no);
+            complete = λ yes'. done (t.later ++ t.now) t.stands.stands;
+            served = t.served;
+          };
+          made = s.made;
+          waits = s.waits;
+          may = s.may;
+        }
+
+    pub is_done : (v : View) (x : CoreState A) (s : Serving op allows terms ask seen false 0 v x) → IsCompleteIn op x ask.phase → IsPhaseDone s
+    is_done v x s done = done (s.turned.later ++ s.turned.now) s.turned.stands.stands
+
+    pub completes : (k : ℕ) (u v : View) (x : CoreState A) (t : Turned op allows terms ask true k v x)
+        → known_of v ≡ known_of u → WasOpen u ask.phase → Completes terms v
+    completes k u v x t same open' = record {
+      now = t.now;
+      speaks = ask.task ∷ [];
+      claims = t.claims;
+      said = t.said;
+      lane = t.lane;
+      later = t.later;
+      is = t.is;
+      batch = t.batch;
+      legal = t.good.legal;
+      some = t.some;
+      more = (let low = was_open true k u v x t same open' in let high = t.complete refl in omega arith);
+    }

@@ -1,0 +1,28 @@
+-- Which signals a phaser allows, and the histories that keep its rule.
+use Rattle.std.specs.Prelude.{ℕ, ℤ, List, [], ◌∷◌, Option}
+use Rattle.phase_core.specs.phase_base.Limits.{Limits}
+use Rattle.phase_core.specs.phase_accum.declared.single.Single.{Single}
+use Rattle.phase_core.specs.phase_history.declared.event.Event.TheVariants.{Signalled}
+use Rattle.phase_core.specs.phase_history.Histories.{History}
+use Rattle.phase_core.specs.phase_history.Legal.{IsLegal}
+use Rattle.phase_shared.specs.declared.rule.Terms.{Terms}
+
+-- which signals are allowed after a history
+abbrev pub Allows : Type 1
+Allows = History → ℕ → List (List ℤ) → Option Single → Type 0
+
+-- each signal was allowed after the history before it
+abbrev pub Keeps : Allows → History → Type 0
+Keeps allows [] = Unit {0}
+Keeps allows (Signalled task lists single ∷ before) =
+    allows before task lists single × Keeps allows before
+Keeps allows (event ∷ before) = Keeps allows before
+
+-- a legal history that keeps the rule
+pub record IsGood (limits : Limits) (allows : Allows) (h : History) : Type 0 where
+  pub legal : IsLegal limits h
+  pub keeps : Keeps allows h
+
+-- a good history, at a phaser's terms
+abbrev pub IsGoodAt : {K : Type 0} → (K → Allows) → Terms K → History → Type 0
+IsGoodAt allows terms h = IsGood terms.limits (allows terms.rule) h

@@ -1,0 +1,172 @@
+-- A turn of a seat that asked: what it read of others' asks, and what it did so far.
+use Rattle.std.specs.Prelude.{◌≡◌, ℕ, ◌+◌, ◌<◌, ◌≤◌, List, [], ◌∷◌, ◌++◌, ◌⊎◌, Bool, true, false, Option, Some, None}
+use Rattle.phase_core.specs.phase_base.Modes.{mode_signals, mode_waits}
+use Rattle.phase_core.specs.phase_base.Members.{Members, entry_of}
+use Rattle.phase_core.specs.phase_base.declared.entry.Entry.{Entry}
+use Rattle.phase_core.specs.phase_accum.Operations.{Operation}
+use Rattle.phase_core.specs.phase_accum.Parcels.{StandsForSends}
+use Rattle.phase_shared.specs.Regs.{RegState}
+use Rattle.phase_core.specs.phase_accum.declared.outcome.Outcome.{Outcome}
+use Rattle.phase_core.specs.phase_history.declared.event.Event.TheVariants.{Waited}
+use Rattle.phase_core.specs.phase_history.declared.refusal.SignalRefusal.{SignalRefusal}
+use Rattle.phase_core.specs.phase_history.Histories.{History, members_of, done_of}
+use Rattle.phase_core.specs.phase_history.Phases.{value_of_phase}
+use Rattle.phase_core.specs.phase_history.Refusals.{signal_refusal, wait_refusal}
+use Rattle.phase_core.specs.phase_history.Others.{OthersCame}
+use Rattle.phase_core.specs.Cores.{CoreState, StandsFor}
+use Rattle.phase_core.specs.phase_base.Lists.{is_in}
+use Rattle.phase_shared.specs.declared.seats.view.View.{View}
+use Rattle.phase_shared.specs.declared.seats.view.View.TheVariants.{Asking}
+use Rattle.phase_shared.specs.declared.seats.request.Request.{Request}
+use Rattle.phase_shared.specs.declared.seats.request.Came.{Came}
+use Rattle.phase_shared.specs.declared.seats.request.Came.TheVariants.{Got, Refused, Asked}
+use Rattle.phase_shared.specs.declared.rule.Terms.{Terms}
+use Rattle.phase_shared.specs.Asks.{Ask, IsAtPhases, IsUnmade, IsMade, IsAnsweredAsk, Batch, IsOneOf}
+use Rattle.phase_shared.specs.Desks.{MayMakeAsk}
+use Rattle.phase_shared.specs.Goods.{Allows, IsGoodAt}
+use Rattle.phase_shared.specs.Lanes.{lanes_most, sends_of}
+use Rattle.phase_shared.specs.Rule.{StandsWithin}
+use Rattle.phase_shared.specs.Views.{knowledge, known_of, resting, turning}
+
+-- what is asked for
+abbrev pub ask_of : Request → Ask
+ask_of r = record { task = r.task; phase = r.phase; sends = sends_of r.send }
+
+-- a request for the next phase of a registration, for what it holds
+pub record IsRequestOf {A K : Type 0} (op : Operation A) (r : Request) (reg : RegState A K)
+    : Type 0 where
+  pub task : r.task ≡ reg.number
+  pub signal_at : reg.entry.signal_phase ≡ r.phase
+  pub wait_at : reg.entry.wait_phase ≡ r.phase
+  pub holds : StandsForSends op reg.held (sends_of r.send)
+
+-- a seat at rest of a task that stands before its next phase and has a lane. Whatever the others
+-- do, the phaser's rule allows its signal
+pub record MayAsk {K : Type 0} (allows : K → Allows) (terms : Terms K) (ask : Ask) (v : View)
+    : Type 0 where
+  pub rests : v ≡ resting (known_of v).seen (ask.task ∷ [])
+  pub low : ask.task < lanes_most
+  pub stands : IsAtPhases (known_of v).seen ask.task ask.phase ask.phase
+  pub may : MayMakeAsk terms.limits (allows terms.rule) (known_of v).seen ask
+
+-- a seat that asks
+abbrev pub IsAsking : Ask → History → View → Type 0
+IsAsking ask seen v = v ≡ Asking (knowledge seen (ask.task ∷ [])) ask
+
+-- the task is registered as one that signals, and stands before the phase
+pub record IsBefore (members : Members) (task phase : ℕ) : Type 0 where
+  pub entry : Entry
+  pub member : entry_of members task ≡ Some entry
+  pub signals : mode_signals entry.mode ≡ true
+  pub signal_at : entry.signal_phase ≡ phase
+  pub wait_at : entry.wait_phase ≡ phase
+
+-- the same task has signalled the phase and not waited for it
+pub record IsBetween (members : Members) (task phase : ℕ) : Type 0 where
+  pub entry : Entry
+  pub member : entry_of members task ≡ Some entry
+  pub signals : mode_signals entry.mode ≡ true
+  pub signal_at : entry.signal_phase ≡ phase + 1
+  pub wait_at : entry.wait_phase ≡ phase
+
+-- the task is a waiter
+abbrev pub IsWaiterIn : History → ℕ → Type 0
+IsWaiterIn h task =
+    (e : Entry) → entry_of (members_of h) task ≡ Some e → mode_waits e.mode ≡ true
+
+module _ {A K : Type 0} (op : Operation A) (allows : K → Allows) (terms : Terms K) (ask : Ask) where
+  -- a turn: what the seat read, and the events of the turn. Where it has not begun to serve, none
+  -- of the asks that it read is answered; else its phase is complete, and those for it, of tasks
+  -- below k, are
+  pub record Turned (serves : Bool) (k : ℕ) (v : View) (x : CoreState A) : Type 0 where
+    pub now : History
+    pub claims : List Ask
+    pub said : Outcome
+    pub lane : Option ℕ
+    pub later : History
+    pub is : v ≡ turning now (ask.task ∷ []) claims said lane
+    pub some : now ≡ [] → ⊥
+    pub batch : Batch (IsOneOf claims) (ask.task ∷ []) later now
+    pub good : IsGoodAt allows terms (later ++ now)
+    pub stands : StandsWithin op terms.limits x (later ++ now)
+    pub theirs : (a : Ask) → IsOneOf claims a → is_in a.task (ask.task ∷ []) ≡ false
+    pub own : (lane ≡ None) ⊎ (lane ≡ Some (ask.phase + 1))
+    pub quiet : serves ≡ false → (a : Ask) → IsOneOf claims a
+        → IsAtPhases (later ++ now) a.task (a.phase + 1) (a.phase + 1) → ⊥
+    pub complete : serves ≡ true → ask.phase < done_of (later ++ now)
+    pub served : (a : Ask) → IsOneOf claims a → a.task < k → a.phase ≡ ask.phase
+        → IsAtPhases (later ++ now) a.task (a.phase + 1) (a.phase + 1)
+
+module _ {A K : Type 0} (op : Operation A) (allows : K → Allows) (terms : Terms K) (ask : Ask)
+    (seen : History) where
+  -- at the beginning of a turn: nothing of what it asked for is made
+  pub record Starting (v : View) (x : CoreState A) : Type 0 where
+    pub turned : Turned op allows terms ask false 0 v x
+    pub first : turned.later ≡ []
+    pub unmade : IsUnmade ask seen turned.now
+    pub waits : IsWaiterIn turned.now ask.task
+    pub may : MayMakeAsk terms.limits (allows terms.rule) seen ask
+
+  -- its signal is made, and its wait is still to be made
+  pub record Serving (serves : Bool) (k : ℕ) (v : View) (x : CoreState A) : Type 0 where
+    pub turned : Turned op allows terms ask serves k v x
+    pub made : IsMade terms.limits ask seen (turned.later ++ turned.now)
+    pub waits : IsWaiterIn (turned.later ++ turned.now) ask.task
+    pub may : MayMakeAsk terms.limits (allows terms.rule) seen ask
+
+  -- its wait is made, last of all
+  pub record Finished (serves : Bool) (k : ℕ) (outcome : Outcome) (v : View) (x : CoreState A)
+      : Type 0 where
+    pub turned : Turned op allows terms ask serves k v x
+    pub middle : History
+    pub last : turned.later ++ turned.now ≡ Waited ask.task 1 ∷ middle
+    pub made : IsMade terms.limits ask seen middle
+    pub accepted : wait_refusal terms.limits middle ask.task 1 ≡ None
+    pub complete : ask.phase < done_of middle
+    pub has : outcome ≡ value_of_phase op.value (Waited ask.task 1 ∷ middle) ask.phase
+
+  -- at the beginning of a turn: others have answered, and the board has the value
+  pub record IsAnsweredIn (v : View) (x : CoreState A) : Type 0 where
+    pub turned : Turned op allows terms ask false 0 v x
+    pub first : turned.later ≡ []
+    pub lane_is : turned.lane ≡ Some (ask.phase + 1)
+    pub answered : IsAnsweredAsk terms.limits ask seen turned.now
+    pub has : turned.said ≡ value_of_phase op.value turned.now ask.phase
+
+  -- the answer: its signal, others' events, and its wait
+  pub record HasAnswer (outcome : Outcome) (w : View) : Type 0 where
+    pub middle : History
+    pub made : IsMade terms.limits ask seen middle
+    pub accepted : wait_refusal terms.limits middle ask.task 1 ≡ None
+    pub complete : ask.phase < done_of middle
+    pub is : w ≡ resting (Waited ask.task 1 ∷ middle) (ask.task ∷ [])
+    pub has : outcome ≡ value_of_phase op.value (Waited ask.task 1 ∷ middle) ask.phase
+    pub good : IsGoodAt allows terms (Waited ask.task 1 ∷ middle)
+
+  -- its signal is refused
+  pub record IsRefused (refusal : SignalRefusal) (w : View) : Type 0 where
+    pub now : History
+    pub others : OthersCame (ask.task ∷ []) seen now
+    pub refused : signal_refusal terms.limits now ask.task (ask.sends ∷ []) None ≡ Some refusal
+    pub is : w ≡ resting now (ask.task ∷ [])
+    pub good : IsGoodAt allows terms now
+
+  -- what came of a turn: the answer, a refusal, or that it asks still
+  abbrev pub CameTo : Came → View → Type 0
+  CameTo (Got outcome) w = HasAnswer outcome w
+  CameTo (Refused refusal) w = IsRefused refusal w
+  CameTo Asked w = IsAsking ask seen w
+
+-- its phase is complete
+abbrev pub IsPhaseDone : {A K : Type 0} {op : Operation A} {allows : K → Allows} {terms : Terms K}
+    {ask : Ask} {seen : History} {serves : Bool} {k : ℕ} {v : View} {x : CoreState A}
+    → Serving op allows terms ask seen serves k v x → Type 0
+IsPhaseDone {ask = ask} s = ask.phase < done_of (s.turned.later ++ s.turned.now)
+
+-- the phase is complete in whatever the core stands for
+abbrev pub IsCompleteIn : {A : Type 0} → Operation A → CoreState A → ℕ → Type 0
+IsCompleteIn op x phase = (h : History) → StandsFor op x h → phase < done_of h
+
+-- it was not, when the turn was taken
+abbrev pub WasOpen : View → ℕ → Type 0
+WasOpen v phase = done_of (known_of v).seen ≤ phase

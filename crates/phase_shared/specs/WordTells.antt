@@ -1,0 +1,135 @@
+-- What steps on words tell, over views.
+use Rattle.std.specs.Prelude.{◌≡◌, ℕ, ◌<◌, List, [], ◌∷◌, ◌++◌, false, Option}
+use Rattle.phase_core.specs.phase_base.Lists.{is_in}
+use Rattle.phase_core.specs.phase_accum.Operations.{Operation}
+use Rattle.phase_core.specs.phase_accum.declared.outcome.Outcome.{Outcome}
+use Rattle.phase_core.specs.phase_history.Histories.{History, done_of, signal_phase}
+use Rattle.phase_core.specs.phase_history.Legal.{IsLegal}
+use Rattle.phase_core.specs.phase_history.Phases.{value_of_phase}
+use Rattle.phase_core.specs.Cores.{CoreState}
+use Rattle.phase_shared.specs.declared.seats.view.Knowledge.{Knowledge}
+use Rattle.phase_shared.specs.declared.seats.view.View.{View}
+use Rattle.phase_shared.specs.declared.seats.view.View.TheVariants.{Resting, Turning, Posting, Asking, Reading}
+use Rattle.phase_shared.specs.declared.rule.Terms.{Terms}
+use Rattle.phase_shared.specs.Asks.{Ask, Batch, IsOneOf}
+use Rattle.phase_shared.specs.Goods.{Allows}
+use Rattle.phase_shared.specs.Lanes.{sends_of, KindIs, NumberIs, with_number}
+use Rattle.phase_shared.specs.Rule.{StandsWithin}
+use Rattle.phase_shared.specs.Tells.{TookAsked, Looked, LaneRead, SendRead}
+use Rattle.phase_shared.specs.Views.{turning, board_of}
+
+-- a view that has the turn, and one that has still to read its value
+pub record IsHolder (v : View) : Type 0 where
+  pub knows : Knowledge
+  pub claims : List Ask
+  pub said : Outcome
+  pub lane : Option ℕ
+  pub is : v ≡ Turning knows claims said lane
+
+pub record IsReading (v : View) : Type 0 where
+  pub knows : Knowledge
+  pub ask : Ask
+  pub is : v ≡ Reading knows ask
+
+-- a holder that does not speak for the task
+pub record IsOther (task : ℕ) (v : View) : Type 0 where
+  pub knows : Knowledge
+  pub claims : List Ask
+  pub said : Outcome
+  pub lane : Option ℕ
+  pub is : v ≡ Turning knows claims said lane
+  pub theirs : is_in task knows.speaks ≡ false
+
+-- a holder that speaks for the task alone
+pub record IsOwnLane (task : ℕ) (v : View) : Type 0 where
+  pub knows : Knowledge
+  pub claims : List Ask
+  pub said : Outcome
+  pub lane : Option ℕ
+  pub is : v ≡ Turning knows claims said lane
+  pub speaks : knows.speaks ≡ task ∷ []
+
+-- a view with another board, and with another own lane
+abbrev pub with_board : Outcome → View → View
+with_board outcome (Turning f claims said lane) = Turning f claims outcome lane
+with_board outcome v = v
+
+abbrev pub with_lane : Option ℕ → View → View
+with_lane n (Turning f claims said lane) = Turning f claims said n
+with_lane n v = v
+
+-- the events of the turn so far complete a phase
+pub record Completes {K : Type 0} (terms : Terms K) (v : View) : Type 0 where
+  pub now : History
+  pub speaks : List ℕ
+  pub claims : List Ask
+  pub said : Outcome
+  pub lane : Option ℕ
+  pub later : History
+  pub is : v ≡ turning now speaks claims said lane
+  pub batch : Batch (IsOneOf claims) speaks later now
+  pub legal : IsLegal terms.limits (later ++ now)
+  pub some : now ≡ [] → ⊥
+  pub more : done_of now < done_of (later ++ now)
+
+-- the board has this kind, or this number where it has one
+abbrev pub HasKind : ℕ → View → View → Type 0
+HasKind kind v w = (w ≡ with_board (board_of w) v) × KindIs kind (board_of w)
+
+abbrev pub HasNumber : ℕ → View → View → Type 0
+HasNumber number v w = w ≡ with_board (with_number number (board_of v)) v
+
+module _ {K : Type 0} (allows : K → Allows) (terms : Terms K) where
+  -- a lane is read
+  abbrev pub LaneReadAt : ℕ → View → ℕ → View → Type 0
+  LaneReadAt i v r w =
+      (f : Knowledge) (claims : List Ask) (said : Outcome) (lane : Option ℕ)
+      → v ≡ Turning f claims said lane
+      → LaneRead terms.limits (allows terms.rule) i f claims said lane r w
+
+  -- a look of a seat that asks
+  abbrev pub LookedAt : View → ℕ → View → Type 0
+  LookedAt v told w =
+      (f : Knowledge) (a : Ask) → v ≡ Asking f a
+      → Looked terms.limits (allows terms.rule) a f told w
+
+  -- a take of one
+  abbrev pub TookAskedAt : {A : Type 0} → Operation A → View → CoreState A → View → Type 0
+  TookAskedAt op v x w =
+      (f : Knowledge) (a : Ask) → v ≡ Asking f a
+      → TookAsked op.value terms.limits (allows terms.rule) (StandsWithin op terms.limits) f a x w
+
+-- the second word of a lane is read
+abbrev pub SendReadAt : ℕ → View → ℕ → View → Type 0
+SendReadAt i v r w =
+    (f : Knowledge) (claims : List Ask) (said : Outcome) (lane : Option ℕ)
+    → v ≡ Turning f claims said lane → SendRead i f claims v r w
+
+-- the next phase of the one task, with what the word says
+abbrev pub next_ask : History → List ℕ → ℕ → Ask
+next_ask seen (task ∷ others) n =
+    record { task = task; phase = signal_phase seen task; sends = sends_of n }
+next_ask seen [] n = record { task = 0; phase = 0; sends = [] }
+
+-- it asks for it
+abbrev pub asking_of : View → View
+asking_of (Posting f n) = Asking f (next_ask f.seen f.speaks n)
+asking_of v = v
+
+-- who was answered reads the kind of the value, and then its number
+abbrev pub ReadsKind : {A : Type 0} → Operation A → View → ℕ → View → Type 0
+ReadsKind op v r w =
+    (w ≡ v) × ((f : Knowledge) (a : Ask) → v ≡ Reading f a
+    → KindIs r (value_of_phase op.value f.seen a.phase))
+
+abbrev pub ReadsNumber : {A : Type 0} → Operation A → View → ℕ → View → Type 0
+ReadsNumber op v r w =
+    (f : Knowledge) (a : Ask) → v ≡ Reading f a
+    → (w ≡ Resting f) × NumberIs r (value_of_phase op.value f.seen a.phase)
+
+-- the holder reads the board
+abbrev pub BoardKind : View → ℕ → View → Type 0
+BoardKind v r w = (w ≡ v) × KindIs r (board_of v)
+
+abbrev pub BoardNumber : View → ℕ → View → Type 0
+BoardNumber v r w = (w ≡ v) × NumberIs r (board_of v)

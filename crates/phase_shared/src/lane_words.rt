@@ -1,0 +1,85 @@
+//! What words beside a phaser's lock say.
+ghost use Rattle.std.specs.Prelude.{◌≡◌, ◌<◌, ◌≢◌};
+ghost use Rattle.phase_core.specs.phase_accum.Parcels.{StandsForSends};
+ghost use Rattle.phase_shared.specs.Lanes as lanes;
+
+use phase_core::phase_accum::{Accumulate, Outcome, Pending};
+
+/// How many tasks have lanes: those with the least numbers.
+pub const LANES: u64 = 16;
+
+/// The word of a lane that says that nothing is sent.
+pub const NO_SEND: u64 = u64::MAX;
+
+// The words of the board: the number of the value of the last phase that was told, and whether it
+// is one.
+pub const NUMBER: usize = 0;
+
+pub const KIND: usize = 1;
+
+pub const IS_VALUE: u64 = 0;
+
+pub const IS_EMPTY: u64 = 1;
+
+pub const IS_TOO_BIG: u64 = 2;
+
+/// Where a task's lane says which phase it asks for, and one more.
+pub fn phase_place(task: u64) -> usize
+    requires { task < LANES }
+    ensures value { result ≡ lanes.phase_place task }
+    ensures small { result < 287 }
+{
+    (task * 16 + 15) as usize
+}
+
+/// Where it says what is sent.
+pub fn send_place(task: u64) -> usize
+    requires { task < LANES }
+    ensures value { result ≡ lanes.send_place task }
+    ensures small { result < 287 }
+{
+    (task * 16 + 16) as usize
+}
+
+/// A number as a word. Those that are not negative are the even words.
+pub fn word_of(value: i64) -> u64
+    ensures { result ≡ lanes.word_for value }
+{
+    if value >= 0 {
+        (value as u64) * 2
+    } else {
+        (-(value + 1)) as u64 * 2 + 1
+    }
+}
+
+/// The number of a word.
+pub fn number_of(word: u64) -> i64
+    ensures { result ≡ lanes.number_of word }
+{
+    let half = (word / 2) as i64;
+    if word % 2 == 0 { half } else { -half - 1 }
+}
+
+/// The sends that a word says.
+pub fn sends_of<A: Accumulate>(word: u64) -> Pending<A>
+    ensures { StandsForSends A.operation result (lanes.sends_of word) }
+{
+    let mut sends = Pending::new();
+    if word != NO_SEND {
+        let Ok(()) = sends.send(number_of(word)) else {
+            unreachable!()
+        };
+    }
+    sends
+}
+
+/// The outcome that a board says.
+pub fn outcome_of(number: u64, kind: u64) -> Outcome
+    ensures { result ≡ lanes.outcome_of number kind }
+{
+    match kind {
+        IS_VALUE => Outcome::Value(number_of(number)),
+        IS_EMPTY => Outcome::Empty,
+        _ => Outcome::TooBig,
+    }
+}
