@@ -26,6 +26,12 @@
 //! complete or there is room for theirs. A signal that is ahead spins and yields for room for half
 //! the bound, and sleeps for its own.
 //!
+//! **Asking.** A registration below number 16 whose `next` names no single, and that holds one send
+//! or none, may ask others to do both: it writes what it sends in its **lane**, two words beside
+//! the lock. Who has the turn makes the signals that others ask for; and where that completes its
+//! phase, their waits too, writes the value on the **board**, and gives the turn back, which tells
+//! them all. Who is not answered soon takes the turn itself. No answer tells who made its events.
+//!
 //! **A registration in a thread.** No closure can hold one, as it cannot be thrown away. Lend it to
 //! the thread, or lend an `Option` that the thread takes it from. Each call asks that the
 //! registration is on the phaser that it names, so a function that is passed both has a `requires`
@@ -107,7 +113,9 @@
 //! numbers that it speaks for. The **rule** of the lock is that there is one legal history that the
 //! phaser stands for, of which each seat has seen a beginning that holds all events of its numbers.
 //! A **step** takes the turn, calls the phaser of one thread, and gives the turn back; or it finds
-//! the turn taken, and then nothing changed.
+//! the turn taken, and then nothing changed. The rule also says of each lane that its registration
+//! may signal with what stands there, so a turn that read it may; and of the board that it has the
+//! value of the phase that was told, until each whose events were made so has read it.
 #![tactic(auto)]
 
 mod blocks;

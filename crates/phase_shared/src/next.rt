@@ -34,7 +34,7 @@ pub struct Next {
 impl<A: Accumulate, K: SignalRule> Reg<A, K> {
     /// Signals where its mode signals, as `signal` does, and then waits where its mode waits, as
     /// `wait` does. It waits as these do. It takes no memory, and one turn for both where its
-    /// signal completes the phase.
+    /// signal completes the phase, or none where another's turn makes both.
     ///
     /// It is refused as `signal` is, though never as `NoSignal`, and then signalled nothing. In the
     /// mode `Wait` it is refused where a single is named, as `NotSingle`.
