@@ -120,11 +120,11 @@ abbrev pub IsLane : History → List View → ℕ → ℕ → Type 0
 IsLane log views i n = (n ≡ 0) ⊎ (AskedAt views i ⊎ (IsPast log i n ⊎ HeldAt views i))
 
 pub record Kept {T : Type 0} (value : List ℤ → Outcome) (limits : Limits) (allows : Allows)
-    (IsAtPhases : T → History → Type 0) (home : Option T) (told : ℕ) (words : List ℕ)
+    (Stands : T → History → Type 0) (home : Option T) (told : ℕ) (words : List ℕ)
     (views : List View) : Type 0 where
   pub log : History
   pub good : IsGood limits allows log
-  pub stands : (x : T) → home ≡ Some x → IsAtPhases x log
+  pub stands : (x : T) → home ≡ Some x → Stands x log
   pub within : told % 2 ≡ 1 → told / 2 ≤ done_of log
   pub holder : ℕ
   pub out : home ≡ None → (f : Knowledge) × (claims : List Ask) × (said : Outcome)

@@ -1,5 +1,5 @@
 -- A turn of a seat that asked: what it read of others' asks, and what it did so far.
-use Rattle.std.specs.Prelude.{◌≡◌, ℕ, ◌+◌, ◌<◌, ◌≤◌, List, [], ◌∷◌, ◌++◌, ◌⊎◌, Bool, true, false, Option, Some, None}
+use Rattle.std.specs.Prelude.{◌≡◌, ℕ, ◌+◌, ◌<◌, ◌≤◌, List, [], ◌∷◌, ◌++◌, ◌⊎◌, Bool, true, false, Option, Some, None, Result, Ok, Err}
 use Rattle.phase_core.specs.phase_base.Modes.{mode_signals, mode_waits}
 use Rattle.phase_core.specs.phase_base.Members.{Members, entry_of}
 use Rattle.phase_core.specs.phase_base.declared.entry.Entry.{Entry}
@@ -150,6 +150,11 @@ module _ {A K : Type 0} (op : Operation A) (allows : K → Allows) (terms : Term
     pub refused : signal_refusal terms.limits now ask.task (ask.sends ∷ []) None ≡ Some refusal
     pub is : w ≡ resting now (ask.task ∷ [])
     pub good : IsGoodAt allows terms now
+
+  -- how it ends: with the answer, or with a refusal
+  abbrev pub HasEnded : Result Outcome SignalRefusal → View → Type 0
+  HasEnded (Ok outcome) w = HasAnswer outcome w
+  HasEnded (Err refusal) w = IsRefused refusal w
 
   -- what came of a turn: the answer, a refusal, or that it asks still
   abbrev pub CameTo : Came → View → Type 0

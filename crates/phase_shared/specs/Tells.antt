@@ -17,28 +17,28 @@ use Rattle.phase_shared.specs.Desks.{View, Resting, Turning, Asking, Reading, Ma
 
 -- a take that won, of a seat at rest: the history goes on from what it had seen, by events of
 -- others
-pub record Took {T : Type 0} (limits : Limits) (allows : Allows) (StandsFor : T → History → Type 0)
+pub record Took {T : Type 0} (limits : Limits) (allows : Allows) (Stands : T → History → Type 0)
     (v : View) (x : T) (w : View) : Type 0 where
   pub now : History
   pub claims : List Ask
   pub said : Outcome
   pub others : OthersCame (speaks_of v) (known_of v).seen now
   pub good : IsGood limits allows now
-  pub stands : StandsFor x now
+  pub stands : Stands x now
   pub read : (a : Ask) → IsOneOf claims a → IsAtPhases now a.task (a.phase + 1) a.phase
       × (is_in a.task (speaks_of v) ≡ false)
   pub is : w ≡ Turning (knowledge now (speaks_of v)) claims said None
 
 -- a take of a seat that asked
 pub record TookAsked {T : Type 0} (value : List ℤ → Outcome) (limits : Limits) (allows : Allows)
-    (StandsFor : T → History → Type 0) (f : Knowledge) (a : Ask) (x : T) (w : View) : Type 0 where
+    (Stands : T → History → Type 0) (f : Knowledge) (a : Ask) (x : T) (w : View) : Type 0 where
   pub now : History
   pub claims : List Ask
   pub said : Outcome
   pub stage : Stage limits a f.seen now
   pub has : IsAnsweredAsk limits a f.seen now → said ≡ value_of_phase value now a.phase
   pub good : IsGood limits allows now
-  pub stands : StandsFor x now
+  pub stands : Stands x now
   pub read : (b : Ask) → IsOneOf claims b → IsAtPhases now b.task (b.phase + 1) b.phase
       × (is_in b.task (a.task ∷ []) ≡ false)
   pub is : w ≡ Turning (knowledge now (a.task ∷ [])) claims said (Some (a.phase + 1))

@@ -1,11 +1,11 @@
 //! A next phase of a task, which others may take it to.
-ghost use Rattle.std.specs.Prelude.{◌≡◌, false, IfOk, IfErr};
+ghost use Rattle.std.specs.Prelude.{◌≡◌, false};
 ghost use Rattle.turn_lock.specs.Seats.{IsSeatAt, seat_view};
 ghost use Rattle.phase_core.specs.phase_history.Histories.{IsAlive};
 ghost use Rattle.phase_shared.specs.Desks.{MayMakeAsk};
 ghost use Rattle.phase_shared.specs.LockedPhasers.{locked_place, locked_terms};
 ghost use Rattle.phase_shared.specs.Rule.{IsSeatOfTask};
-ghost use Rattle.phase_shared.specs.Servings.{ask_of, MayAsk, IsAsking, IsWaiterIn, HasAnswer, IsRefused, CameTo};
+ghost use Rattle.phase_shared.specs.Servings.{ask_of, MayAsk, IsAsking, IsWaiterIn, HasEnded, CameTo};
 ghost use Rattle.phase_shared.specs.Views.{known_of};
 
 use crate::rule::SignalRule;
@@ -189,10 +189,8 @@ fn wait_for<A: Accumulate, K: SignalRule, S: Since, W: Wait>(
     requires may { MayMakeAsk (locked_terms phaser.now).limits
         (K.allows (locked_terms phaser.now).rule) S.seen (ask_of request) }
     ensures seat { IsSeatAt (locked_place phaser.now) result.0 }
-    ensures answer { IfOk result.1 (λ outcome. HasAnswer A.operation K.allows
-        (locked_terms phaser.now) (ask_of request) S.seen outcome (seat_view result.0)) }
-    ensures refused { IfErr result.1 (λ refusal. IsRefused A.operation K.allows
-        (locked_terms phaser.now) (ask_of request) S.seen refusal (seat_view result.0)) }
+    ensures ended { HasEnded A.operation K.allows (locked_terms phaser.now) (ask_of request)
+        S.seen result.1 (seat_view result.0) }
 {
     let mut seat = seat;
     let mut is_made = is_made;
@@ -229,10 +227,8 @@ fn after_turn<A: Accumulate, K: SignalRule, S: Since, W: Wait>(
     requires may { MayMakeAsk (locked_terms phaser.now).limits
         (K.allows (locked_terms phaser.now).rule) S.seen (ask_of request) }
     ensures seat { IsSeatAt (locked_place phaser.now) result.0 }
-    ensures answer { IfOk result.1 (λ outcome. HasAnswer A.operation K.allows
-        (locked_terms phaser.now) (ask_of request) S.seen outcome (seat_view result.0)) }
-    ensures refused { IfErr result.1 (λ refusal. IsRefused A.operation K.allows
-        (locked_terms phaser.now) (ask_of request) S.seen refusal (seat_view result.0)) }
+    ensures ended { HasEnded A.operation K.allows (locked_terms phaser.now) (ask_of request)
+        S.seen result.1 (seat_view result.0) }
 {
     match came {
         Came::Got(outcome) => {
@@ -259,10 +255,8 @@ fn wait_longer<A: Accumulate, K: SignalRule, S: Since, W: Wait>(
     requires may { MayMakeAsk (locked_terms phaser.now).limits
         (K.allows (locked_terms phaser.now).rule) S.seen (ask_of request) }
     ensures seat { IsSeatAt (locked_place phaser.now) result.0 }
-    ensures answer { IfOk result.1 (λ outcome. HasAnswer A.operation K.allows
-        (locked_terms phaser.now) (ask_of request) S.seen outcome (seat_view result.0)) }
-    ensures refused { IfErr result.1 (λ refusal. IsRefused A.operation K.allows
-        (locked_terms phaser.now) (ask_of request) S.seen refusal (seat_view result.0)) }
+    ensures ended { HasEnded A.operation K.allows (locked_terms phaser.now) (ask_of request)
+        S.seen result.1 (seat_view result.0) }
 {
     let times = if spins.is_slow() { FEW } else { LOOKS };
     let (seat, came) = look_for::<A, K, S>(phaser, seat, request, times);
@@ -293,10 +287,8 @@ fn ask<A: Accumulate, K: SignalRule, S: Since, W: Wait>(
     requires since { S.seen ≡ (known_of (seat_view seat)).seen }
     requires waits { IsAlive S.seen request.task × IsWaiterIn S.seen request.task }
     ensures seat { IsSeatAt (locked_place phaser.now) result.0 }
-    ensures answer { IfOk result.1 (λ outcome. HasAnswer A.operation K.allows
-        (locked_terms phaser.now) (ask_of request) S.seen outcome (seat_view result.0)) }
-    ensures refused { IfErr result.1 (λ refusal. IsRefused A.operation K.allows
-        (locked_terms phaser.now) (ask_of request) S.seen refusal (seat_view result.0)) }
+    ensures ended { HasEnded A.operation K.allows (locked_terms phaser.now) (ask_of request)
+        S.seen result.1 (seat_view result.0) }
 {
     let seat = post(phaser, seat, request);
     if spins.first() != 0 {
@@ -334,10 +326,8 @@ pub fn next<A: Accumulate, K: SignalRule, S: Since, W: Wait>(
     requires since { S.seen ≡ (known_of (seat_view seat)).seen }
     requires waits { IsAlive S.seen request.task × IsWaiterIn S.seen request.task }
     ensures seat { IsSeatAt (locked_place phaser.now) result.0 }
-    ensures answer { IfOk result.1 (λ outcome. HasAnswer A.operation K.allows
-        (locked_terms phaser.now) (ask_of request) S.seen outcome (seat_view result.0)) }
-    ensures refused { IfErr result.1 (λ refusal. IsRefused A.operation K.allows
-        (locked_terms phaser.now) (ask_of request) S.seen refusal (seat_view result.0)) }
+    ensures ended { HasEnded A.operation K.allows (locked_terms phaser.now) (ask_of request)
+        S.seen result.1 (seat_view result.0) }
 {
     spins.begin(request.phase);
     if !spins.takes_first() {

@@ -93,15 +93,6 @@ impl<T, R: WordRule<T>> WordLock<T, R> {
         self.table.shared.peek(0) % 2 != TAKEN
     }
 
-    /// Returns the word at a place, without a seat. It takes no memory, and answers at once.
-    ///
-    /// It is a hint, and no contract says which number it is.
-    pub fn word(&self, place: usize) -> u64
-        requires { place < 287 }
-    {
-        self.table.shared.peek(place + 1)
-    }
-
     /// Returns the number that the lock tells. It takes no memory, and answers at once.
     pub fn look<M: Reads<R::Name, R::View>>(
         &self,

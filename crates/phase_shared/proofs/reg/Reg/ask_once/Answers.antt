@@ -1,5 +1,4 @@
 use Rattle.std.proofs.Common.{◌≡◌, ◌+◌, true, None, Some, Ok, Err, refl, sym, subst, ap, ◌∙◌}
-use Rattle.std.specs.Prelude.{IfOk, IfErr}
 use Rattle.turn_lock.specs.Seats.{seat_view}
 use Rattle.phase_core.specs.phase_base.Modes.{mode_signals, mode_waits}
 use Rattle.phase_core.specs.phase_history.declared.got.Got.TheVariants.{Value}
@@ -9,7 +8,7 @@ use Rattle.phase_shared.specs.Entries.{entry_after_next}
 use Rattle.phase_shared.specs.Nexts.{GoesOrRefuses}
 use Rattle.phase_shared.specs.Regs.{RegState, reg_state, phaser_lock, phaser_terms}
 use Rattle.phase_shared.specs.Rule.{IsSeatOfTask}
-use Rattle.phase_shared.specs.Servings.{ask_of, HasAnswer, IsRefused, IsRequestOf}
+use Rattle.phase_shared.specs.Servings.{ask_of, HasAnswer, HasEnded, IsRefused, IsRequestOf}
 use Rattle.phase_shared.specs.Views.{known_of}
 use Rattle.phase_shared.specs.declared.next.Next.{Next}
 use Rattle.phase_shared.proofs.AskNexts.{alive, may_ask, answered_seat, answered_call, refused_seat, refused_call}
@@ -63,7 +62,7 @@ invariant_of-self g c =
     subst (λ (r : RegState g.row.A.Denot g.row.K.Denot). (mode_signals r.entry.mode ≡ true) × (mode_waits r.entry.mode ≡ true)) (sym is) c.requires.both in
     let w = seat_view c.next-seat.result.0 in
     let f : IsRefused op allows terms (ask_of request) old.seen c.in-Err.refused w =
-    subst (λ r. IfErr r (λ refusal. IsRefused op allows terms (ask_of request) old.seen refusal w)) c.in-Err.is c.next-seat.ensures.refused in
+    subst (λ r. HasEnded op allows terms (ask_of request) old.seen r w) c.in-Err.is c.next-seat.ensures.ended in
     closed allows p.0 terms inside.number inside.entry c.next-seat.result.0 c.next-seat.ensures.seat
     (refused_seat op allows terms old request q both.0 both.1 o.station.member c.in-Err.refused w f)
 
@@ -86,7 +85,7 @@ returns-in-Err-clause-call g c =
     subst (λ (r : RegState g.row.A.Denot g.row.K.Denot). (mode_signals r.entry.mode ≡ true) × (mode_waits r.entry.mode ≡ true)) (sym is) c.requires.both in
     let w = seat_view c.next-seat.result.0 in
     let f : IsRefused op allows terms (ask_of request) old.seen c.in-Err.refused w =
-    subst (λ r. IfErr r (λ refusal. IsRefused op allows terms (ask_of request) old.seen refusal w)) c.in-Err.is c.next-seat.ensures.refused in
+    subst (λ r. HasEnded op allows terms (ask_of request) old.seen r w) c.in-Err.is c.next-seat.ensures.ended in
     let new : RegState g.row.A.Denot g.row.K.Denot = reg_state (Some c.next-seat.result.0) inside.number inside.entry inside.pending in
     subst (λ (r : RegState g.row.A.Denot g.row.K.Denot). IsCall {X = Next} allows terms NoTask entry_after_next
     (GoesOrRefuses op terms.limits None r new.seen (Err c.in-Err.refused)) r new (Err c.in-Err.refused)) is
@@ -112,7 +111,7 @@ invariant_of-self-2 g c =
     subst (λ (r : RegState g.row.A.Denot g.row.K.Denot). (mode_signals r.entry.mode ≡ true) × (mode_waits r.entry.mode ≡ true)) (sym is) c.requires.both in
     let w = seat_view c.next-seat.result.0 in
     let a : HasAnswer op allows terms (ask_of request) old.seen c.in-Ok.outcome w =
-    subst (λ r. IfOk r (λ outcome. HasAnswer op allows terms (ask_of request) old.seen outcome w)) c.in-Ok.is c.next-seat.ensures.answer in
+    subst (λ r. HasEnded op allows terms (ask_of request) old.seen r w) c.in-Ok.is c.next-seat.ensures.ended in
     closed allows p.0 terms inside.number (record inside.entry { signal_phase = request.phase + 1; wait_phase = request.phase + 1 }) c.next-seat.result.0
     c.next-seat.ensures.seat (answered_seat op allows terms old request q both.0 both.1 o.station.member c.in-Ok.outcome w a)
 
@@ -135,7 +134,7 @@ returns-clause-call g c =
     subst (λ (r : RegState g.row.A.Denot g.row.K.Denot). (mode_signals r.entry.mode ≡ true) × (mode_waits r.entry.mode ≡ true)) (sym is) c.requires.both in
     let w = seat_view c.next-seat.result.0 in
     let a : HasAnswer op allows terms (ask_of request) old.seen c.in-Ok.outcome w =
-    subst (λ r. IfOk r (λ outcome. HasAnswer op allows terms (ask_of request) old.seen outcome w)) c.in-Ok.is c.next-seat.ensures.answer in
+    subst (λ r. HasEnded op allows terms (ask_of request) old.seen r w) c.in-Ok.is c.next-seat.ensures.ended in
     let new : RegState g.row.A.Denot g.row.K.Denot = reg_state (Some c.next-seat.result.0) inside.number
     (record inside.entry { signal_phase = request.phase + 1; wait_phase = request.phase + 1 }) c.new-self-inside.result in
     let next : Next = record { signalled = Some request.phase; got = Some (Value request.phase c.in-Ok.outcome) } in
