@@ -1,6 +1,8 @@
-//! A lock and its example, the counter.
+//! A lock, one with words, and the example of a lock, the counter.
 use crate::counting::{count_by_threads, make_counter, read_sum, try_add_one};
-use phase_received::turn_lock::{Join, Learns, Split, Tells, TurnLock, TurnRule};
+use phase_received::turn_lock::{
+    Join, Learns, Reads, Split, Tells, TurnLock, TurnRule, WordLock, WordRule,
+};
 use std::test::Fail;
 
 // A rule that allows everything.
@@ -14,6 +16,20 @@ impl TurnRule<u64> for AnyValue {
     ghost holds = { λ _ _ _. Unit {0} };
 
     ghost first = { λ _. tt };
+}
+
+impl WordRule<u64> for AnyValue {
+    type Name = ();
+
+    type View = ();
+
+    ghost holds = { λ _ _ _ _ _. Unit {0} };
+
+    ghost first = { λ _. tt };
+}
+
+impl Reads<(), ()> for AnyValue {
+    ghost then = { λ _ _ _ _. Unit {0} };
 }
 
 impl Tells<(), u64, ()> for AnyValue {
@@ -68,6 +84,51 @@ fn turn_lock(rt: HostRuntime) -> Result<(), Fail> {
     let last = *turn.value(&lock);
     let _seat = lock.give::<AnyValue>(turn, 0);
     assert_eq!(rt; last, 6);
+    Ok(())
+}
+
+#[test]
+fn words_are_written_by_seats_and_turns(rt: HostRuntime) -> Result<(), Fail> {
+    let (lock, seat) = WordLock::<u64, AnyValue>::new(rt.alloc(), &(), 5)?;
+    let (a, b) = lock.split::<AnyValue>(seat);
+    let (a, unwritten) = lock.read::<AnyValue>(a, 286);
+    let a = lock.write::<AnyValue>(a, 286, 11);
+    let (b, written) = lock.read::<AnyValue>(b, 286);
+    let (b, first_told) = lock.look::<AnyValue>(b);
+    assert_eq!(rt; [unwritten, written, first_told], [0, 11, 0]);
+    assert!(rt; lock.is_free());
+
+    let Ok(turn) = lock.try_take::<AnyValue>(a) else {
+        panic!(rt; "the turn was free")
+    };
+    let was_free = lock.is_free();
+    let (b, was_busy) = match lock.try_take::<AnyValue>(b) {
+        Ok(turn) => (lock.give::<AnyValue>(turn, 0), false),
+        Err(b) => (b, true),
+    };
+    let b = lock.write::<AnyValue>(b, 0, u64::MAX);
+    let (turn, of_other) = lock.read_in::<AnyValue>(turn, 0);
+    let turn = lock.write_in::<AnyValue>(turn, 286, 12);
+    let (mut turn, told_in) = lock.told_in(turn);
+    let value = turn.value_in(&lock);
+    let first = *value;
+    *value = 6;
+    let a = lock.give::<AnyValue>(turn, (1 << 63) - 1);
+    assert!(rt; was_busy);
+    assert!(rt; !was_free);
+    assert_eq!(rt; [first, of_other, told_in], [5, u64::MAX, 0]);
+    assert_eq!(rt; lock.told(), (1 << 63) - 1);
+
+    let seat = lock.join::<AnyValue, AnyValue>(b, a);
+    let (seat, written) = lock.read::<AnyValue>(seat, 286);
+    let (seat, told) = lock.look::<AnyValue>(seat);
+    let Ok(mut turn) = lock.try_take::<AnyValue>(seat) else {
+        panic!(rt; "the turn is free")
+    };
+    let second = *turn.value_in(&lock);
+    let _seat = lock.give::<AnyValue>(turn, 0);
+    assert_eq!(rt; [written, told, second], [12, (1 << 63) - 1, 6]);
+    assert_eq!(rt; lock.told(), 0);
     Ok(())
 }
 
