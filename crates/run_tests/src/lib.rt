@@ -1,10 +1,12 @@
 //! Tests of runs on worker threads, by their public calls: of `worker_pool` and `stream_workers`;
-//! and of members of a phaser between threads, of `stream_members`. They stand in a crate of their
-//! own, since a crate is proved anew with its tests.
+//! of members of a phaser between threads, of `stream_members`; and of where tasks meet, of
+//! `stream_lists`. They stand in a crate of their own, since a crate is proved anew with its tests.
 #![tactic(auto)]
 
 #[cfg(test)]
 mod after_faults;
+#[cfg(test)]
+mod any_meets;
 #[cfg(test)]
 mod blocks;
 #[cfg(test)]

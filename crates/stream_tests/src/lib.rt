@@ -12,8 +12,6 @@ mod jobs;
 #[cfg(test)]
 mod lists;
 #[cfg(test)]
-mod meetings;
-#[cfg(test)]
 mod registrations;
 #[cfg(test)]
 mod samples;
