@@ -2,19 +2,19 @@
 use Rattle.std.proofs.Common.{◌≡◌, ℕ, List, [], ◌∷◌, None, set, slice_index, refl, sym, ap, subst, ◌∙◌}
 use mathlib.Core.Option.{some}
 use Rattle.turn_lock.specs.WordSteps.{TakesOf, LooksOf, ReadsOf, ReadsIn}
+use Rattle.phase_core.specs.phase_base.Limits.{Limits}
 use Rattle.phase_core.specs.phase_accum.Operations.{Operation}
 use Rattle.phase_core.specs.phase_accum.declared.outcome.Outcome.{Outcome}
 use Rattle.phase_core.specs.phase_history.declared.event.Event.TheVariants.{Waited}
 use Rattle.phase_core.specs.phase_history.Histories.{History}
 use Rattle.phase_core.specs.phase_history.Phases.{value_of_phase}
 use Rattle.phase_core.specs.Cores.{CoreState}
-use Rattle.phase_shared.specs.declared.rule.Terms.{Terms}
 use Rattle.phase_shared.specs.declared.seats.view.Knowledge.{Knowledge}
 use Rattle.phase_shared.specs.Asks.{Ask}
 use Rattle.phase_shared.specs.Desks.{View, Resting, Turning, Reading}
 use Rattle.phase_shared.specs.Goods.{Allows}
 use Rattle.phase_shared.specs.Lanes.{KindIs, NumberIs}
-use Rattle.phase_shared.specs.Rule.{HasOneHistory, StandsWithin}
+use Rattle.phase_shared.specs.Rule.{IsOneHistory, StandsWithin}
 use Rattle.phase_shared.specs.Servings.{IsAsking, HasAnswer}
 use Rattle.phase_shared.specs.Tells.{TookAsked, Looked, Learnt, TellsAnswer}
 use Rattle.phase_shared.specs.Views.{knowledge, known_of, board_of}
@@ -24,60 +24,60 @@ use Rattle.phase_shared.proofs.Taking.{takes_asked}
 use Rattle.phase_shared.proofs.AskBoards.{reads_kind, reads_number, board_read}
 use Rattle.phase_shared.proofs.AskAnswering.{looks_asked}
 
-module _ {A K : Type 0} (op : Operation A) (allows : K → Allows) (terms : Terms K) where
+module _ {A : Type 0} (op : Operation A) (limits : Limits) (allows : Allows) where
   abbrev StandsFor : CoreState A → History → Type 0
-  StandsFor = StandsWithin op terms.limits
+  StandsFor = StandsWithin op limits
 
   -- ---- a seat that asks
 
   pub takes_ask : (number : ℕ) (a : Ask) (seen : History) (v : View) → IsAsking a seen v
-      → TakesOf (HasOneHistory op allows) terms number v (λ v x w. TookAskedAt allows terms op v x w)
+      → TakesOf (IsOneHistory op limits allows) tt number v (λ v x w. TookAskedAt limits allows op v x w)
   takes_ask number a seen v is = λ x told words views long k at.
-      let q = takes_asked op.value terms.limits (allows terms.rule) StandsFor number (knowledge seen (a.task ∷ [])) a x told words views k (at ∙ ap some is) in (
+      let q = takes_asked op.value limits allows StandsFor number (knowledge seen (a.task ∷ [])) a x told words views k (at ∙ ap some is) in (
         q.0,
         q.1,
         λ f b e.
-            subst (λ (u : View). TookAsked op.value terms.limits (allows terms.rule) StandsFor (known_of u) (ask_in a u) x q.0) (sym is ∙ e) q.2,
+            subst (λ (u : View). TookAsked op.value limits allows StandsFor (known_of u) (ask_in a u) x q.0) (sym is ∙ e) q.2,
       )
 
   pub looks_ask : (number : ℕ) (a : Ask) (seen : History) (v : View) → IsAsking a seen v
-      → LooksOf (HasOneHistory op allows) terms number v (λ v told w. LookedAt allows terms v told w)
+      → LooksOf (IsOneHistory op limits allows) tt number v (λ v told w. LookedAt limits allows v told w)
   looks_ask number a seen v is = λ home told words views long k at.
-      let q = looks_asked op.value terms.limits (allows terms.rule) StandsFor number (knowledge seen (a.task ∷ [])) a home told words views k (at ∙ ap some is) in (
+      let q = looks_asked op.value limits allows StandsFor number (knowledge seen (a.task ∷ [])) a home told words views k (at ∙ ap some is) in (
         q.0,
         q.1,
         λ f b e.
-            subst (λ (u : View). Looked terms.limits (allows terms.rule) (ask_in a u) (known_of u) told q.0) (sym is ∙ e) q.2,
+            subst (λ (u : View). Looked limits allows (ask_in a u) (known_of u) told q.0) (sym is ∙ e) q.2,
       )
 
   -- ---- a look, and what is read then
 
-  pub asks_still : (a : Ask) (seen : History) (v : View) (told : ℕ) (w : View) → IsAsking a seen v → LookedAt allows terms v told w
+  pub asks_still : (a : Ask) (seen : History) (v : View) (told : ℕ) (w : View) → IsAsking a seen v → LookedAt limits allows v told w
       → (TellsAnswer told a.phase → ⊥) → w ≡ v
   asks_still a seen v told w is look none = (look (knowledge seen (a.task ∷ [])) a is).stays none ∙ sym is
 
-  pub was_answered : (a : Ask) (seen : History) (v : View) (told : ℕ) (w : View) → IsAsking a seen v → LookedAt allows terms v told w
-      → TellsAnswer told a.phase → Learnt terms.limits (allows terms.rule) a (knowledge seen (a.task ∷ [])) w
+  pub was_answered : (a : Ask) (seen : History) (v : View) (told : ℕ) (w : View) → IsAsking a seen v → LookedAt limits allows v told w
+      → TellsAnswer told a.phase → Learnt limits allows a (knowledge seen (a.task ∷ [])) w
   was_answered a seen v told w is look told_so = (look (knowledge seen (a.task ∷ [])) a is).answered told_so
 
-  pub is_read : (a : Ask) (f : Knowledge) (w : View) → Learnt terms.limits (allows terms.rule) a f w → IsReading w
+  pub is_read : (a : Ask) (f : Knowledge) (w : View) → Learnt limits allows a f w → IsReading w
   is_read a f w l = record { knows = knowledge (Waited a.task 1 ∷ l.middle) (a.task ∷ []); ask = a; is = l.is }
 
-  pub has_answer : (a : Ask) (seen : History) (w x : View) (o : Outcome) → Learnt terms.limits (allows terms.rule) a (knowledge seen (a.task ∷ [])) w
+  pub has_answer : (a : Ask) (seen : History) (w x : View) (o : Outcome) → Learnt limits allows a (knowledge seen (a.task ∷ [])) w
       → ((f : Knowledge) (b : Ask) → w ≡ Reading f b → (x ≡ Resting f) × (o ≡ value_of_phase op.value f.seen b.phase))
-      → HasAnswer op allows terms a seen o x
+      → HasAnswer op limits allows a seen o x
   has_answer a seen w x o l read =
       let r = read (knowledge (Waited a.task 1 ∷ l.middle) (a.task ∷ [])) a l.is in
       record { middle = l.middle; made = l.made; accepted = l.accepted; complete = l.complete; is = r.0; has = r.1; good = l.good }
 
   -- ---- a seat that was answered
 
-  pub answer_kind : (number : ℕ) (v : View) → IsReading v → ReadsOf (HasOneHistory op allows) terms number v 1 (λ v r w. ReadsKind op v r w)
+  pub answer_kind : (number : ℕ) (v : View) → IsReading v → ReadsOf (IsOneHistory op limits allows) tt number v 1 (λ v r w. ReadsKind op v r w)
   answer_kind number v r = λ home told words views long k at.
-      let q = reads_kind op.value terms.limits (allows terms.rule) StandsFor number r.knows r.ask home told words views k (at ∙ ap some r.is) in
+      let q = reads_kind op.value limits allows StandsFor number r.knows r.ask home told words views k (at ∙ ap some r.is) in
       let same : set views number v ≡ views = ap (λ (u : View). set views number u) r.is ∙ q.0 in (
         v,
-        subst (λ (l : List View). HasOneHistory op allows terms home told words l) (sym same) k,
+        subst (λ (l : List View). IsOneHistory op limits allows tt home told words l) (sym same) k,
         (
           refl,
           λ f a e.
@@ -89,10 +89,10 @@ module _ {A K : Type 0} (op : Operation A) (allows : K → Allows) (terms : Term
       asked d (Reading g a) = a
       asked d u = d
 
-  pub answer_number : (number : ℕ) (v w : View) → IsReading v → w ≡ v → ReadsOf (HasOneHistory op allows) terms number w 0 (λ v r w. ReadsNumber op v r w)
+  pub answer_number : (number : ℕ) (v w : View) → IsReading v → w ≡ v → ReadsOf (IsOneHistory op limits allows) tt number w 0 (λ v r w. ReadsNumber op v r w)
   answer_number number v w r stays = λ home told words views long k at.
       let is : w ≡ Reading r.knows r.ask = stays ∙ r.is in
-      let q = reads_number op.value terms.limits (allows terms.rule) StandsFor number r.knows r.ask home told words views k (at ∙ ap some is) in (
+      let q = reads_number op.value limits allows StandsFor number r.knows r.ask home told words views k (at ∙ ap some is) in (
         Resting r.knows,
         q.0,
         λ f a e.
@@ -105,21 +105,21 @@ module _ {A K : Type 0} (op : Operation A) (allows : K → Allows) (terms : Term
 
   -- ---- the holder
 
-  pub holder_kind : (number told : ℕ) (v : View) → IsHolder v → ReadsIn (HasOneHistory op allows) terms number v told 1 (λ v r w. BoardKind v r w)
+  pub holder_kind : (number told : ℕ) (v : View) → IsHolder v → ReadsIn (IsOneHistory op limits allows) tt number v told 1 (λ v r w. BoardKind v r w)
   holder_kind number told v h = λ words views long k at.
-      let q = board_read op.value terms.limits (allows terms.rule) StandsFor number h.knows h.claims h.said h.lane told words views k (at ∙ ap some h.is) in
+      let q = board_read op.value limits allows StandsFor number h.knows h.claims h.said h.lane told words views k (at ∙ ap some h.is) in
       let same : set views number v ≡ views = ap (λ (u : View). set views number u) h.is ∙ q.0 in (
         v,
-        subst (λ (l : List View). HasOneHistory op allows terms None told words l) (sym same) k,
+        subst (λ (l : List View). IsOneHistory op limits allows tt None told words l) (sym same) k,
         (refl, subst (λ (u : View). KindIs (slice_index words 1) (board_of u)) (sym h.is) q.1),
       )
 
-  pub holder_number : (number told : ℕ) (v w : View) → IsHolder v → w ≡ v → ReadsIn (HasOneHistory op allows) terms number w told 0 (λ v r w. BoardNumber v r w)
+  pub holder_number : (number told : ℕ) (v w : View) → IsHolder v → w ≡ v → ReadsIn (IsOneHistory op limits allows) tt number w told 0 (λ v r w. BoardNumber v r w)
   holder_number number told v w h stays = λ words views long k at.
       let is : w ≡ Turning h.knows h.claims h.said h.lane = stays ∙ h.is in
-      let q = board_read op.value terms.limits (allows terms.rule) StandsFor number h.knows h.claims h.said h.lane told words views k (at ∙ ap some is) in
+      let q = board_read op.value limits allows StandsFor number h.knows h.claims h.said h.lane told words views k (at ∙ ap some is) in
       let same : set views number w ≡ views = ap (λ (u : View). set views number u) is ∙ q.0 in (
         w,
-        subst (λ (l : List View). HasOneHistory op allows terms None told words l) (sym same) k,
+        subst (λ (l : List View). IsOneHistory op limits allows tt None told words l) (sym same) k,
         (refl, subst (λ (u : View). NumberIs (slice_index words 0) (board_of u)) (sym is) q.2),
       )

@@ -48,13 +48,13 @@ no_event_is_none e h none = cc
 module _ {A K : Type 0} (op : Operation A) (allows : K → Allows) (terms : Terms K) (r : Request) where
   -- a turn begins, of a seat at rest that may ask
   pub starting : (seen : History) (entry : Entry) (v : View) (x : CoreState A) (w : View)
-      → MayAsk allows terms (ask_of r) v → seen ≡ (known_of v).seen → IsAlive seen r.task × IsWaiterIn seen r.task
-      → AfterTake op allows terms r.task entry v x w → Starting op allows terms (ask_of r) seen w x
+      → MayAsk terms.limits (allows terms.rule) (ask_of r) v → seen ≡ (known_of v).seen → IsAlive seen r.task × IsWaiterIn seen r.task
+      → AfterTake op allows terms r.task entry v x w → Starting op terms.limits (allows terms.rule) (ask_of r) seen w x
   starting seen entry v x w may since waits e =
-      subst (λ (h : History). Starting op allows terms (ask_of r) h w x) (sym since)
+      subst (λ (h : History). Starting op terms.limits (allows terms.rule) (ask_of r) h w x) (sym since)
       (begun (subst (λ (h : History). IsWaiterIn h r.task) since waits.1))
     where
-      begun : IsWaiterIn (known_of v).seen r.task → Starting op allows terms (ask_of r) (known_of v).seen w x
+      begun : IsWaiterIn (known_of v).seen r.task → Starting op terms.limits (allows terms.rule) (ask_of r) (known_of v).seen w x
       begun waiter =
           let st : IsAtPhases (known_of v).seen r.task r.phase r.phase = may.stands in
           let there : entry_of (members_of e.now) r.task ≡ Some st.entry =
@@ -111,7 +111,7 @@ module _ {A K : Type 0} (op : Operation A) (allows : K → Allows) (terms : Term
 
   -- its seat may ask
   pub may_ask : (v : View) → v ≡ resting old.seen (old.number ∷ []) → (known_of v).seen ≡ old.seen → r.task < lanes_most
-      → MaySignal op allows terms old None → MayAsk allows terms (ask_of r) v
+      → MaySignal op allows terms old None → MayAsk terms.limits (allows terms.rule) (ask_of r) v
   may_ask v rests seen low may = record {
     rests = rests ∙ ap (λ (n : ℕ). resting old.seen (n ∷ [])) (sym q.task) ∙ ap (λ (h : History). resting h (r.task ∷ [])) (sym seen);
     low = low;
@@ -135,7 +135,7 @@ module _ {A K : Type 0} (op : Operation A) (allows : K → Allows) (terms : Term
   entry_then_is : waited 1 (signalled 1 old.entry) ≡ entry_then
   entry_then_is = λ i. record old.entry { signal_phase = q.signal_at i + 1; wait_phase = q.wait_at i + 1 }
 
-  module _ (outcome : Outcome) (w : View) (a : HasAnswer op allows terms (ask_of r) old.seen outcome w) where
+  module _ (outcome : Outcome) (w : View) (a : HasAnswer op terms.limits (allows terms.rule) (ask_of r) old.seen outcome w) where
     abbrev learnt : Learnt terms.limits (allows terms.rule) (ask_of r) (knowledge old.seen (r.task ∷ []))
         (Reading (knowledge (Waited r.task 1 ∷ a.middle) (r.task ∷ [])) (ask_of r))
     learnt = record {
@@ -205,7 +205,7 @@ module _ {A K : Type 0} (op : Operation A) (allows : K → Allows) (terms : Term
           known = λ none. cc;
         }
 
-  module _ (refusal : SignalRefusal) (w : View) (f : IsRefused op allows terms (ask_of r) old.seen refusal w) where
+  module _ (refusal : SignalRefusal) (w : View) (f : IsRefused op terms.limits (allows terms.rule) (ask_of r) old.seen refusal w) where
     -- its seat after a refusal
     pub refused_seat : IsSeatOfTask allows terms old.number old.entry w
     refused_seat =

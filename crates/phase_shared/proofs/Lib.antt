@@ -1,3 +1,4 @@
+pub mod CallSteps
 pub mod Later
 pub mod Opening
 pub mod NextSteps

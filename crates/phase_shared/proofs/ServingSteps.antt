@@ -29,13 +29,13 @@ use Rattle.phase_core.specs.phase_history.Others.{is_by, events_of, OthersCame}
 use Rattle.phase_core.specs.Cores.{CoreState, StandsFor}
 use Rattle.phase_core.proofs.phase_history_lemmas.MemberLemmas.{entry_of-changed_other}
 use Rattle.phase_core.proofs.phase_history_lemmas.Used.{entry_of-others, IsLegal-beginning}
-use Rattle.phase_shared.specs.declared.rule.Terms.{Terms}
+use Rattle.phase_shared.specs.declared.seats.request.Request.{Request}
 use Rattle.phase_shared.specs.declared.seats.view.View.{View}
 use Rattle.phase_shared.specs.Asks.{Ask, IsAtPhases, IsUnmade, IsMade, IsAnsweredAsk, Stage, IsOwn, SignalsFor, WaitsFor, Batch, IsOneOf, asks_for}
 use Rattle.phase_shared.specs.Desks.{IsPast}
 use Rattle.phase_shared.specs.Goods.{Allows}
 use Rattle.phase_shared.specs.Lanes.{sends_of}
-use Rattle.phase_shared.specs.Servings.{Serving, Finished, IsBefore, IsBetween, IsPhaseDone, IsWaiterIn}
+use Rattle.phase_shared.specs.Servings.{ask_of, Serving, ServingOpen, Finished, HasToSignal, IsBetween, IsPhaseDone, IsWaiterIn}
 use Rattle.phase_shared.specs.Tells.{IsClaim, MayBeMade}
 use Rattle.phase_shared.specs.Views.{knowledge, known_of}
 use Rattle.phase_shared.specs.WordTells.{IsOther, LaneReadAt, SendReadAt}
@@ -119,18 +119,18 @@ limits_of limits (Dropped task ∷ before) legal = limits_of limits before legal
 
 -- ---- a lane is read
 
-module _ {A K : Type 0} (op : Operation A) (allows : K → Allows) (terms : Terms K) (ask : Ask) (seen : History) where
+module _ {A : Type 0} (op : Operation A) (limits : Limits) (allows : Allows) (ask : Ask) (seen : History) where
   -- it has read what was asked in a lane
   pub record HasRead (serves : Bool) (k task r : ℕ) (w : View) (x : CoreState A) : Type 0 where
-    pub serving : Serving op allows terms ask seen serves k w x
+    pub serving : Serving op limits allows ask seen serves k w x
     pub read : (a : Ask) → IsOneOf serving.turned.claims a → a.task ≡ task → r ≡ a.phase + 1
     pub found : ((r ≡ 0) ⊎ IsPast serving.turned.now task r)
-        ⊎ ((a : Ask) × (a.task ≡ task) × IsClaim terms.limits (allows terms.rule) (knowledge serving.turned.now (ask.task ∷ [])) serving.turned.claims a)
+        ⊎ ((a : Ask) × (a.task ≡ task) × IsClaim limits allows (knowledge serving.turned.now (ask.task ∷ [])) serving.turned.claims a)
 
   -- an ask that was not read before has no events in the turn
   quiet_claim : (now later : History) (claims new : List Ask) → (now ≡ [] → ⊥) → Batch (IsOneOf claims) (ask.task ∷ []) later now
-      → IsLegal terms.limits (later ++ now) → (a : Ask)
-      → IsClaim terms.limits (allows terms.rule) (knowledge now (ask.task ∷ [])) (new ++ claims) a
+      → IsLegal limits (later ++ now) → (a : Ask)
+      → IsClaim limits allows (knowledge now (ask.task ∷ [])) (new ++ claims) a
       → ((b : Ask) → IsOneOf claims b → IsAtPhases (later ++ now) b.task (b.phase + 1) (b.phase + 1) → ⊥)
       → IsAtPhases (later ++ now) a.task (a.phase + 1) (a.phase + 1) → ⊥
   quiet_claim now later claims new some batch legal a c quiet st = elim (asks_for claims a.task) as (λ b. (asks_for claims a.task ≡ b) → ⊥) [
@@ -139,18 +139,18 @@ module _ {A K : Type 0} (op : Operation A) (allows : K → Allows) (terms : Term
         let same : f.0 ≡ a = c.only f.0 (in_more new claims f.0 f.1) f.2 in
         quiet f.0 f.1 (subst (λ (x : Ask). IsAtPhases (later ++ now) x.task (x.phase + 1) (x.phase + 1)) (sym same) st)
     | false ↦ λ n.
-        let none : events_of a.task later ≡ [] = none_of terms.limits claims (ask.task ∷ []) now some a.task c.theirs n later batch in
+        let none : events_of a.task later ≡ [] = none_of limits claims (ask.task ∷ []) now some a.task c.theirs n later batch in
         let waits : (s : ℕ) → IsAtPhases now a.task s a.phase → ⊥ = λ s here.
         apart_phases a.phase (sym (wait_is (later ++ now) a.task (a.phase + 1) (a.phase + 1) st)
-        ∙ wait_is (later ++ now) a.task s a.phase (stands_still terms.limits claims (ask.task ∷ []) now some a.task s a.phase later legal none here)) in
+        ∙ wait_is (later ++ now) a.task s a.phase (stands_still limits claims (ask.task ∷ []) now some a.task s a.phase later legal none here)) in
         ⊎_elim
-        (λ (u : IsAtPhases now a.task a.phase a.phase × MayBeMade terms.limits (allows terms.rule) now a). waits a.phase u.0)
+        (λ (u : IsAtPhases now a.task a.phase a.phase × MayBeMade limits allows now a). waits a.phase u.0)
         (λ (m : IsAtPhases now a.task (a.phase + 1) a.phase). waits (a.phase + 1) m)
         c.stands
   ] refl
 
-  pub reads_more : (serves : Bool) (k task r : ℕ) (v w : View) (x : CoreState A) → Serving op allows terms ask seen serves k v x
-      → LaneReadAt allows terms task v r w → k ≤ task → HasRead serves k task r w x
+  pub reads_more : (serves : Bool) (k task r : ℕ) (v w : View) (x : CoreState A) → Serving op limits allows ask seen serves k v x
+      → LaneReadAt limits allows task v r w → k ≤ task → HasRead serves k task r w x
   reads_more serves k task r v w x s read low =
       let t = s.turned in
       let l = read (knowledge t.now (ask.task ∷ [])) t.claims t.said t.lane t.is in
@@ -196,16 +196,16 @@ module _ {A K : Type 0} (op : Operation A) (allows : K → Allows) (terms : Term
   pub asked_there : (serves : Bool) (k task r : ℕ) (w : View) (x : CoreState A) (h : HasRead serves k task r w x) (entry : Entry)
       → r ≡ ask.phase + 1 → entry_of x.members task ≡ Some entry → entry.wait_phase ≡ ask.phase
       → (a : Ask) × (a.task ≡ task) × (a.phase ≡ ask.phase)
-      × IsClaim terms.limits (allows terms.rule) (knowledge h.serving.turned.now (ask.task ∷ [])) h.serving.turned.claims a
+      × IsClaim limits allows (knowledge h.serving.turned.now (ask.task ∷ [])) h.serving.turned.claims a
   asked_there serves k task r w x h entry is member waits =
       let t = h.serving.turned in
       let there : entry_of (members_of (t.later ++ t.now)) task ≡ Some entry = ap (λ ms. entry_of ms task) (sym t.stands.stands.members_are) ∙ member in
       ⊎_elim
       (λ (none : (r ≡ 0) ⊎ IsPast t.now task r). absurd (⊎_elim
       (λ (zero' : r ≡ 0). apart_zero zero')
-      (λ (past : IsPast t.now task r). apart_past (not_past terms.limits t.later t.now task r entry past t.good.legal there))
+      (λ (past : IsPast t.now task r). apart_past (not_past limits t.later t.now task r entry past t.good.legal there))
       none))
-      (λ (a : (a : Ask) × (a.task ≡ task) × IsClaim terms.limits (allows terms.rule) (knowledge t.now (ask.task ∷ [])) t.claims a).
+      (λ (a : (a : Ask) × (a.task ≡ task) × IsClaim limits allows (knowledge t.now (ask.task ∷ [])) t.claims a).
       let read : r ≡ a.0.phase + 1 = h.read a.0 a.2.one a.1 in
       (a.0, a.1, (omega arith), a.2))
       h.found
@@ -224,9 +224,9 @@ module _ {A K : Type 0} (op : Operation A) (allows : K → Allows) (terms : Term
   -- ---- a signal for another task
 
   pub signals_more : (task r n : ℕ) (w v : View) (x y : CoreState A) (h : HasRead false 0 task r w x) → r ≡ ask.phase + 1
-      → SendReadAt task w n v → IsBefore x.members task ask.phase → y.limits ≡ x.limits
+      → SendReadAt task w n v → HasToSignal x.members task ask.phase → y.limits ≡ x.limits
       → StandsFor op y (Signalled task (sends_of n ∷ []) None ∷ h.serving.turned.later ++ h.serving.turned.now)
-      → Serving op allows terms ask seen false 0 v y
+      → Serving op limits allows ask seen false 0 v y
   signals_more task r n w v x y h is sent before same_limits stands' =
       let s = h.serving in
       let t = s.turned in
@@ -236,20 +236,20 @@ module _ {A K : Type 0} (op : Operation A) (allows : K → Allows) (terms : Term
       let a : Ask = q.0 in
       let c = q.3 in
       let at_old : IsAtPhases old a.task a.phase a.phase = stands_at a before.entry q.1 q.2 there before.signals before.signal_at before.wait_at in
-      let legal_now : IsLegal terms.limits t.now = IsLegal-beginning terms.limits t.now old t.some t.good.legal (record { later = t.later; is = refl }) in
-      let claim : IsAtPhases t.now a.task a.phase a.phase × MayBeMade terms.limits (allows terms.rule) t.now a = ⊎_elim
-      (λ (u : IsAtPhases t.now a.task a.phase a.phase × MayBeMade terms.limits (allows terms.rule) t.now a). u)
+      let legal_now : IsLegal limits t.now = IsLegal-beginning limits t.now old t.some t.good.legal (record { later = t.later; is = refl }) in
+      let claim : IsAtPhases t.now a.task a.phase a.phase × MayBeMade limits allows t.now a = ⊎_elim
+      (λ (u : IsAtPhases t.now a.task a.phase a.phase × MayBeMade limits allows t.now a). u)
       (λ (m : IsAtPhases t.now a.task (a.phase + 1) a.phase).
-      absurd (let low = signals_grow terms.limits t.later t.now a.task (a.phase + 1) a.phase a.phase a.phase legal_now t.good.legal m at_old in omega arith))
+      absurd (let low = signals_grow limits t.later t.now a.task (a.phase + 1) a.phase a.phase a.phase legal_now t.good.legal m at_old in omega arith))
       c.stands in
       let sends_are : sends_of n ≡ a.sends = (sent (knowledge t.now (ask.task ∷ [])) t.claims t.said t.lane t.is).1 a c.one q.1 claim.0 in
       let e : Event = Signalled a.task (a.sends ∷ []) None in
       let event_is : Signalled task (sends_of n ∷ []) None ≡ e = λ i. Signalled (sym q.1 i) (sends_are i ∷ []) None in
       let stands'' : StandsFor op y (e ∷ old) = subst (λ (z : Event). StandsFor op y (z ∷ old)) event_is stands' in
-      let limits_are : y.limits ≡ terms.limits = same_limits ∙ t.stands.limits_are in
-      let legal' : IsLegal terms.limits (e ∷ old) = subst (λ (l : Limits). IsLegal l (e ∷ old)) limits_are stands''.legal in
-      let stage : Stage terms.limits a claim.1.seen old =
-      stage_goes terms.limits (IsOneOf t.claims) (ask.task ∷ []) t.now t.some a claim.1.seen c.theirs c.only t.later t.batch t.good.legal
+      let limits_are : y.limits ≡ limits = same_limits ∙ t.stands.limits_are in
+      let legal' : IsLegal limits (e ∷ old) = subst (λ (l : Limits). IsLegal l (e ∷ old)) limits_are stands''.legal in
+      let stage : Stage limits a claim.1.seen old =
+      stage_goes limits (IsOneOf t.claims) (ask.task ∷ []) t.now t.some a claim.1.seen c.theirs c.only t.later t.batch t.good.legal
       (inl record { others = claim.1.others; stands = claim.0 }) in
       let came : OthersCame (a.task ∷ []) claim.1.seen old = unmade_others a claim.1.seen old at_old stage in
       let mine : is_by ask.task e ≡ false = not_by_me a c.theirs in
@@ -272,8 +272,8 @@ module _ {A K : Type 0} (op : Operation A) (allows : K → Allows) (terms : Term
           complete = λ no'. absurd (not_both false no' refl);
           served = λ b one below. absurd (none_below b.task below);
         };
-        made = made_other terms.limits ask seen old e legal' mine s.made;
-        waits = waiter_other terms.limits old e ask.task (ask.phase + 1) ask.phase legal' mine was_stands s.waits;
+        made = made_other limits ask seen old e legal' mine s.made;
+        waits = waiter_other limits old e ask.task (ask.phase + 1) ask.phase legal' mine was_stands s.waits;
         may = s.may;
       }
     where
@@ -290,19 +290,19 @@ module _ {A K : Type 0} (op : Operation A) (allows : K → Allows) (terms : Term
         wait_at = wait_at ∙ sym same_phase;
       }
 
-      unmade_others : (a : Ask) (g old : History) → IsAtPhases old a.task a.phase a.phase → Stage terms.limits a g old → OthersCame (a.task ∷ []) g old
+      unmade_others : (a : Ask) (g old : History) → IsAtPhases old a.task a.phase a.phase → Stage limits a g old → OthersCame (a.task ∷ []) g old
       unmade_others a g old st stage = ⊎_elim
           (λ (u : IsUnmade a g old). u.others)
-          (λ (r : IsMade terms.limits a g old ⊎ IsAnsweredAsk terms.limits a g old). absurd (⊎_elim
-          (λ (m : IsMade terms.limits a g old).
+          (λ (r : IsMade limits a g old ⊎ IsAnsweredAsk limits a g old). absurd (⊎_elim
+          (λ (m : IsMade limits a g old).
           apart_phases a.phase (sym (signal_is old a.task (a.phase + 1) a.phase m.stands) ∙ signal_is old a.task a.phase a.phase st))
-          (λ (n : IsAnsweredAsk terms.limits a g old).
+          (λ (n : IsAnsweredAsk limits a g old).
           apart_phases a.phase (sym (signal_is old a.task (a.phase + 1) (a.phase + 1) n.stands) ∙ signal_is old a.task a.phase a.phase st))
           r))
           stage
 
       still_quiet : (claims : List Ask) (old : History) (a b : Ask) → IsAtPhases old a.task a.phase a.phase
-          → ((d : Ask) → IsOneOf claims d → d.task ≡ a.task → d ≡ a) → IsOneOf claims b → IsLegal terms.limits (Signalled a.task (a.sends ∷ []) None ∷ old)
+          → ((d : Ask) → IsOneOf claims d → d.task ≡ a.task → d ≡ a) → IsOneOf claims b → IsLegal limits (Signalled a.task (a.sends ∷ []) None ∷ old)
           → (IsAtPhases old b.task (b.phase + 1) (b.phase + 1) → ⊥)
           → IsAtPhases (Signalled a.task (a.sends ∷ []) None ∷ old) b.task (b.phase + 1) (b.phase + 1) → ⊥
       still_quiet claims old a b at_old only one legal quiet st = elim (eqb a.task b.task) as (λ c. (eqb a.task b.task ≡ c) → ⊥) [
@@ -329,7 +329,7 @@ module _ {A K : Type 0} (op : Operation A) (allows : K → Allows) (terms : Term
       → IsBetween x.members task ask.phase → y.limits ≡ x.limits
       → StandsFor op y (Waited task 1 ∷ h.serving.turned.later ++ h.serving.turned.now)
       → (j : ℕ) → ((b : Ask) → b.task < j → (b.task < k) ⊎ (b.task ≡ task))
-      → Serving op allows terms ask seen true j w y
+      → Serving op limits allows ask seen true j w y
   waits_more k task r w x y h is between same_limits stands' j cover =
       let s = h.serving in
       let t = s.turned in
@@ -348,8 +348,8 @@ module _ {A K : Type 0} (op : Operation A) (allows : K → Allows) (terms : Term
       let e : Event = Waited a.task 1 in
       let event_is : Waited task 1 ≡ e = λ i. Waited (sym q.1 i) 1 in
       let stands'' : StandsFor op y (e ∷ old) = subst (λ (z : Event). StandsFor op y (z ∷ old)) event_is stands' in
-      let limits_are : y.limits ≡ terms.limits = same_limits ∙ t.stands.limits_are in
-      let legal' : IsLegal terms.limits (e ∷ old) = subst (λ (l : Limits). IsLegal l (e ∷ old)) limits_are stands''.legal in
+      let limits_are : y.limits ≡ limits = same_limits ∙ t.stands.limits_are in
+      let legal' : IsLegal limits (e ∷ old) = subst (λ (l : Limits). IsLegal l (e ∷ old)) limits_are stands''.legal in
       let mine : is_by ask.task e ≡ false = not_by_me a c.theirs in
       record {
         turned = record {
@@ -378,8 +378,8 @@ module _ {A K : Type 0} (op : Operation A) (allows : K → Allows) (terms : Term
           complete = λ yes'. further_done old e legal' (some_longer t.later t.now t.some) (t.complete refl);
           served = λ b one below same. served_more t.claims old a b at_old c.only one legal' (t.served b one) (cover b below) q.1 same;
         };
-        made = made_other terms.limits ask seen old e legal' mine s.made;
-        waits = waiter_other terms.limits old e ask.task (ask.phase + 1) ask.phase legal' mine s.made.stands s.waits;
+        made = made_other limits ask seen old e legal' mine s.made;
+        waits = waiter_other limits old e ask.task (ask.phase + 1) ask.phase legal' mine s.made.stands s.waits;
         may = s.may;
       }
     where
@@ -387,11 +387,11 @@ module _ {A K : Type 0} (op : Operation A) (allows : K → Allows) (terms : Term
       some_longer [] now some none = some none
       some_longer (e ∷ later) now some none = cc
 
-      further_done : (old : History) (e : Event) → IsLegal terms.limits (e ∷ old) → (old ≡ [] → ⊥) → ask.phase < done_of old → ask.phase < done_of (e ∷ old)
-      further_done old e legal some low = let more = done_grows terms.limits (e ∷ []) old some legal in omega arith
+      further_done : (old : History) (e : Event) → IsLegal limits (e ∷ old) → (old ≡ [] → ⊥) → ask.phase < done_of old → ask.phase < done_of (e ∷ old)
+      further_done old e legal some low = let more = done_grows limits (e ∷ []) old some legal in omega arith
 
       served_more : (claims : List Ask) (old : History) (a b : Ask) → IsAtPhases old a.task (a.phase + 1) a.phase
-          → ((d : Ask) → IsOneOf claims d → d.task ≡ a.task → d ≡ a) → IsOneOf claims b → IsLegal terms.limits (Waited a.task 1 ∷ old)
+          → ((d : Ask) → IsOneOf claims d → d.task ≡ a.task → d ≡ a) → IsOneOf claims b → IsLegal limits (Waited a.task 1 ∷ old)
           → (b.task < k → b.phase ≡ ask.phase → IsAtPhases old b.task (b.phase + 1) (b.phase + 1))
           → ((b.task < k) ⊎ (b.task ≡ task)) → a.task ≡ task → b.phase ≡ ask.phase
           → IsAtPhases (Waited a.task 1 ∷ old) b.task (b.phase + 1) (b.phase + 1)
@@ -402,7 +402,7 @@ module _ {A K : Type 0} (op : Operation A) (allows : K → Allows) (terms : Term
                 subst (λ (z : Ask). IsAtPhases (Waited a.task 1 ∷ old) z.task (z.phase + 1) (z.phase + 1)) (sym is_a)
                 (stands_waited old a.task (a.phase + 1) a.phase at_old)
             | false ↦ λ n. ⊎_elim
-                (λ (below : b.task < k). stands_other terms.limits old (Waited a.task 1) b.task (b.phase + 1) (b.phase + 1) legal n (served below same))
+                (λ (below : b.task < k). stands_other limits old (Waited a.task 1) b.task (b.phase + 1) (b.phase + 1) legal n (served below same))
                 (λ (here : b.task ≡ task). absurd (not_both (eqb a.task b.task) (eq-eqb a.task b.task (a_is ∙ sym here)) n))
                 where'
           ] refl
@@ -410,22 +410,31 @@ module _ {A K : Type 0} (op : Operation A) (allows : K → Allows) (terms : Term
   -- ---- at a turn
 
   -- the same turn, seen in another way
-  pub same_turn : (serves : Bool) (k : ℕ) (v w : View) (x y : CoreState A) → w ≡ v → y ≡ x → Serving op allows terms ask seen serves k v x
-      → Serving op allows terms ask seen serves k w y
+  pub same_turn : (serves : Bool) (k : ℕ) (v w : View) (x y : CoreState A) → w ≡ v → y ≡ x → Serving op limits allows ask seen serves k v x
+      → Serving op limits allows ask seen serves k w y
   same_turn serves k v w x y same_view same_value s =
-      subst (λ (z : CoreState A). Serving op allows terms ask seen serves k w z) (sym same_value)
-      (subst (λ (u : View). Serving op allows terms ask seen serves k u x) (sym same_view) s)
+      subst (λ (z : CoreState A). Serving op limits allows ask seen serves k w z) (sym same_value)
+      (subst (λ (u : View). Serving op limits allows ask seen serves k u x) (sym same_view) s)
 
   -- what it knows stays where it reads a lane
-  pub reads_knows : (serves : Bool) (k task r : ℕ) (v w : View) (x : CoreState A) → Serving op allows terms ask seen serves k v x
-      → LaneReadAt allows terms task v r w → known_of w ≡ known_of v
+  pub reads_knows : (serves : Bool) (k task r : ℕ) (v w : View) (x : CoreState A) → Serving op limits allows ask seen serves k v x
+      → LaneReadAt limits allows task v r w → known_of w ≡ known_of v
   reads_knows serves k task r v w x s read =
       let t = s.turned in
       let l = read (knowledge t.now (ask.task ∷ [])) t.claims t.said t.lane t.is in
       ap known_of l.is ∙ sym (ap known_of t.is)
 
+  -- its phase was open, as what it knows says
+  pub stays_open : (serves : Bool) (v w : View) (x y : CoreState A) → known_of w ≡ known_of v → ServingOpen op limits allows ask seen serves v x
+      → Serving op limits allows ask seen serves 0 w y → ServingOpen op limits allows ask seen serves w y
+  stays_open serves v w x y same o s = record {
+    serving = s;
+    was_open = subst (λ f. done_of f.seen ≤ ask.phase) (sym same) o.was_open;
+    asks = o.asks;
+  }
+
   -- another's lane
-  pub is_other : (serves : Bool) (k task : ℕ) (v : View) (x : CoreState A) → task ≢ ask.task → Serving op allows terms ask seen serves k v x → IsOther task v
+  pub is_other : (serves : Bool) (k task : ℕ) (v : View) (x : CoreState A) → task ≢ ask.task → Serving op limits allows ask seen serves k v x → IsOther task v
   is_other serves k task v x apart s = record {
     knows = knowledge s.turned.now (ask.task ∷ []);
     claims = s.turned.claims;
@@ -435,14 +444,18 @@ module _ {A K : Type 0} (op : Operation A) (allows : K → Allows) (terms : Term
     theirs = not_true_is (is_in task (ask.task ∷ [])) (λ yes'. apart (sym (one_of ask.task task yes')));
   }
 
+  pub is_other_task : (serves : Bool) (r : Request) (task : ℕ) (v : View) (x : CoreState A) → ask ≡ ask_of r → task ≢ r.task
+      → Serving op limits allows ask seen serves 0 v x → IsOther task v
+  is_other_task serves r task v x asks apart s = is_other serves 0 task v x (λ same. apart (same ∙ ap (λ (a : Ask). a.task) asks)) s
+
   -- where it read what is sent
-  pub send_knows : (serves : Bool) (k task n : ℕ) (w v : View) (x : CoreState A) → Serving op allows terms ask seen serves k w x → SendReadAt task w n v → v ≡ w
+  pub send_knows : (serves : Bool) (k task n : ℕ) (w v : View) (x : CoreState A) → Serving op limits allows ask seen serves k w x → SendReadAt task w n v → v ≡ w
   send_knows serves k task n w v x s sent =
       (sent (knowledge s.turned.now (ask.task ∷ [])) s.turned.claims s.turned.said s.turned.lane s.turned.is).0
 
   -- the core stands for what it stood for
-  pub core_stays : (serves : Bool) (k : ℕ) (v : View) (x y : CoreState A) (s : Serving op allows terms ask seen serves k v x) → y.limits ≡ x.limits
-      → StandsFor op y (s.turned.later ++ s.turned.now) → Serving op allows terms ask seen serves k v y
+  pub core_stays : (serves : Bool) (k : ℕ) (v : View) (x y : CoreState A) (s : Serving op limits allows ask seen serves k v x) → y.limits ≡ x.limits
+      → StandsFor op y (s.turned.later ++ s.turned.now) → Serving op limits allows ask seen serves k v y
   core_stays serves k v x y s same_limits stands' = record {
     turned = record {
       now = s.turned.now;
@@ -467,10 +480,10 @@ module _ {A K : Type 0} (op : Operation A) (allows : K → Allows) (terms : Term
   }
 
   -- it has come as far as task k
-  pub serves_to : (serves : Bool) (k j : ℕ) (v : View) (x : CoreState A) (s : Serving op allows terms ask seen serves k v x)
+  pub serves_to : (serves : Bool) (k j : ℕ) (v : View) (x : CoreState A) (s : Serving op limits allows ask seen serves k v x)
       → ((a : Ask) → IsOneOf s.turned.claims a → a.task < j → a.phase ≡ ask.phase
       → IsAtPhases (s.turned.later ++ s.turned.now) a.task (a.phase + 1) (a.phase + 1))
-      → Serving op allows terms ask seen serves j v x
+      → Serving op limits allows ask seen serves j v x
   serves_to serves k j v x s served = record {
     turned = record {
       now = s.turned.now;
@@ -495,15 +508,15 @@ module _ {A K : Type 0} (op : Operation A) (allows : K → Allows) (terms : Term
   }
 
   -- it has served those below j, where it has served those below k
-  pub as_far : (k j : ℕ) (v : View) (x : CoreState A) → j ≤ k → Serving op allows terms ask seen true k v x → Serving op allows terms ask seen true j v x
+  pub as_far : (k j : ℕ) (v : View) (x : CoreState A) → j ≤ k → Serving op limits allows ask seen true k v x → Serving op limits allows ask seen true j v x
   as_far k j v x low s = serves_to true k j v x s (λ a one below same. s.turned.served a one (below_all a.task below) same)
     where
       below_all : (m : ℕ) → m < j → m < k
       below_all m here = omega arith
 
   -- no ask is its own task's
-  pub none_own : (k : ℕ) (v : View) (x : CoreState A) → k ≡ ask.task → Serving op allows terms ask seen true k v x
-      → Serving op allows terms ask seen true (k + 1) v x
+  pub none_own : (k : ℕ) (v : View) (x : CoreState A) → k ≡ ask.task → Serving op limits allows ask seen true k v x
+      → Serving op limits allows ask seen true (k + 1) v x
   none_own k v x own s = serves_to true k (k + 1) v x s (λ a one below same. ⊎_elim
       (λ (low : a.task < k). s.turned.served a one low same)
       (λ (here : a.task ≡ k). absurd (not_both (is_in a.task (ask.task ∷ []))
@@ -512,7 +525,7 @@ module _ {A K : Type 0} (op : Operation A) (allows : K → Allows) (terms : Term
 
   -- where the lane has no ask for the phase
   pub none_asked : (k r : ℕ) (v : View) (x : CoreState A) (h : HasRead true k k r v x) → (r ≡ ask.phase + 1 → ⊥)
-      → Serving op allows terms ask seen true (k + 1) v x
+      → Serving op limits allows ask seen true (k + 1) v x
   none_asked k r v x h other = serves_to true k (k + 1) v x h.serving (λ a one below same. ⊎_elim
       (λ (low : a.task < k). h.serving.turned.served a one low same)
       (λ (here : a.task ≡ k). absurd (other (h.read a one here ∙ ap (λ (n : ℕ). n + 1) same)))
@@ -521,21 +534,21 @@ module _ {A K : Type 0} (op : Operation A) (allows : K → Allows) (terms : Term
   -- ---- its own wait
 
   -- it is accepted, and gets the value
-  pub own_reply : (serves : Bool) (k : ℕ) (v : View) (x : CoreState A) (s : Serving op allows terms ask seen serves k v x) → IsPhaseDone s
-      → wait_reply op.value terms.limits (s.turned.later ++ s.turned.now) ask.task
+  pub own_reply : (serves : Bool) (k : ℕ) (v : View) (x : CoreState A) (s : Serving op limits allows ask seen serves k v x) → IsPhaseDone s
+      → wait_reply op.value limits (s.turned.later ++ s.turned.now) ask.task
       ≡ Ok (got.Value ask.phase (value_of_phase op.value (s.turned.later ++ s.turned.now) ask.phase))
   own_reply serves k v x s done =
       let h = s.turned.later ++ s.turned.now in
       let st = s.made.stands in
       let e = st.entry in
-      let bound : 1 ≤ terms.limits.bound = (limits_of terms.limits h s.turned.good.legal).bound_least in
+      let bound : 1 ≤ limits.bound = (limits_of limits h s.turned.good.legal).bound_least in
       let first : (mode_signals e.mode && eqb e.signal_phase e.wait_phase) ≡ false =
       ap (λ b. b && eqb e.signal_phase e.wait_phase) st.signals ∙ ne_eqb e.signal_phase e.wait_phase (later_than e.signal_phase e.wait_phase st.signal_at st.wait_at) in
       let yet : (leb (done_of h) e.wait_phase && is_some (least (signal_phases (members_of h)))) ≡ false =
       ap (λ b. b && is_some (least (signal_phases (members_of h)))) (not_leb (done_of h) e.wait_phase (let at : e.wait_phase ≡ ask.phase = st.wait_at in let d : ask.phase < done_of h = done in omega arith)) in
-      let none : wait_refusal terms.limits h ask.task 1 ≡ None =
-      ap (λ o. refusal_at o wait.NoTask (wait_rows terms.limits (positions_of h) 1)) st.member
-      ∙ first_row_none (wait_rows terms.limits (positions_of h) 1 e) (ap not (s.waits e st.member), (le-ltb terms.limits.bound 1 bound, (first, (yet, tt)))) in
+      let none : wait_refusal limits h ask.task 1 ≡ None =
+      ap (λ o. refusal_at o wait.NoTask (wait_rows limits (positions_of h) 1)) st.member
+      ∙ first_row_none (wait_rows limits (positions_of h) 1 e) (ap not (s.waits e st.member), (le-ltb limits.bound 1 bound, (first, (yet, tt)))) in
       ap (λ o. refused_or o (got_at op.value h (wait_phase h ask.task))) none
       ∙ ap (λ (n : ℕ). refused_or None (got_at op.value h n)) (wait_is h ask.task (ask.phase + 1) ask.phase st)
       ∙ ap (λ (b : Bool). Ok (cond b (got.Value ask.phase (value_of_phase op.value h ask.phase)) got.Ended)) (lt-ltb ask.phase (done_of h) done)
@@ -550,16 +563,16 @@ module _ {A K : Type 0} (op : Operation A) (allows : K → Allows) (terms : Term
       ] refl
 
   -- the turn with it
-  pub own_waited : (serves : Bool) (k : ℕ) (outcome : Outcome) (phase : ℕ) (v : View) (x y : CoreState A) (s : Serving op allows terms ask seen serves k v x)
-      → IsPhaseDone s → Ok (got.Value phase outcome) ≡ wait_reply op.value terms.limits (s.turned.later ++ s.turned.now) ask.task → y.limits ≡ x.limits
+  pub own_waited : (serves : Bool) (k : ℕ) (outcome : Outcome) (phase : ℕ) (v : View) (x y : CoreState A) (s : Serving op limits allows ask seen serves k v x)
+      → IsPhaseDone s → Ok (got.Value phase outcome) ≡ wait_reply op.value limits (s.turned.later ++ s.turned.now) ask.task → y.limits ≡ x.limits
       → StandsFor op y (Waited ask.task 1 ∷ s.turned.later ++ s.turned.now)
-      → Finished op allows terms ask seen serves k outcome v y
+      → Finished op limits allows ask seen serves k outcome v y
   own_waited serves k outcome phase v x y s done reply same_limits stands' =
       let t = s.turned in
       let h : History = t.later ++ t.now in
       let e : Event = Waited ask.task 1 in
-      let limits_are : y.limits ≡ terms.limits = same_limits ∙ t.stands.limits_are in
-      let legal' : IsLegal terms.limits (e ∷ h) = subst (λ (l : Limits). IsLegal l (e ∷ h)) limits_are stands'.legal in
+      let limits_are : y.limits ≡ limits = same_limits ∙ t.stands.limits_are in
+      let legal' : IsLegal limits (e ∷ h) = subst (λ (l : Limits). IsLegal l (e ∷ h)) limits_are stands'.legal in
       let others : (a : Ask) → IsOneOf t.claims a → is_by a.task e ≡ false = λ a one. not_mine a (t.theirs a one) in
       record {
         turned = record {
@@ -583,7 +596,7 @@ module _ {A K : Type 0} (op : Operation A) (allows : K → Allows) (terms : Term
             wait_at = st.wait_at;
           });
           complete = λ _. further h e legal' (some_later t.later t.now t.some) done;
-          served = λ a one below same. stands_other terms.limits h e a.task (a.phase + 1) (a.phase + 1) legal' (others a one) (t.served a one below same);
+          served = λ a one below same. stands_other limits h e a.task (a.phase + 1) (a.phase + 1) legal' (others a one) (t.served a one below same);
         };
         middle = h;
         last = refl;
@@ -591,7 +604,7 @@ module _ {A K : Type 0} (op : Operation A) (allows : K → Allows) (terms : Term
         accepted = legal'.1.0;
         complete = done;
         has = same_value_of (reply ∙ own_reply serves k v x s done)
-            ∙ sym (same_value terms.limits t.claims (ask.task ∷ []) h (some_later t.later t.now t.some) op.value ask.phase (e ∷ []) legal' done).1;
+            ∙ sym (same_value limits t.claims (ask.task ∷ []) h (some_later t.later t.now t.some) op.value ask.phase (e ∷ []) legal' done).1;
       }
     where
       not_mine : (a : Ask) → is_in a.task (ask.task ∷ []) ≡ false → eqb ask.task a.task ≡ false
@@ -606,8 +619,8 @@ module _ {A K : Type 0} (op : Operation A) (allows : K → Allows) (terms : Term
       some_later [] now some none = some none
       some_later (e ∷ later) now some none = cc
 
-      further : (h : History) (e : Event) → IsLegal terms.limits (e ∷ h) → (h ≡ [] → ⊥) → ask.phase < done_of h → ask.phase < done_of (e ∷ h)
-      further h e legal some low = let more = done_grows terms.limits (e ∷ []) h some legal in omega arith
+      further : (h : History) (e : Event) → IsLegal limits (e ∷ h) → (h ≡ [] → ⊥) → ask.phase < done_of h → ask.phase < done_of (e ∷ h)
+      further h e legal some low = let more = done_grows limits (e ∷ []) h some legal in omega arith
 
       same_value_of : {p : ℕ} {o q : Outcome} → ◌≡◌ {A = Result Got WaitRefusal} (Ok (got.Value p o)) (Ok (got.Value ask.phase q)) → o ≡ q
       same_value_of e = cc

@@ -2,6 +2,7 @@
 use Rattle.std.proofs.Common.{◌≡◌, ℕ, ◌+◌, ◌*◌, ◌<◌, ◌≤◌, Bool, true, false, [], ◌∷◌, ◌++◌, ◌⊎◌, Option, Some, None, refl, sym, ap, subst, ◌∙◌, inl, inr, ⊎_elim, arith}
 use Rattle.std.specs.Prelude.{◌/◌, ◌%◌}
 use Rattle.turn_lock.specs.WordSteps.{GivesOf}
+use Rattle.phase_core.specs.phase_base.Limits.{Limits}
 use Rattle.phase_core.specs.phase_accum.Operations.{Operation}
 use Rattle.phase_core.specs.phase_accum.declared.outcome.Outcome.{Outcome}
 use Rattle.phase_core.specs.phase_history.declared.event.Event.TheVariants.{Waited}
@@ -15,13 +16,12 @@ use Rattle.phase_core.specs.Cores.{CoreState}
 use Rattle.phase_core.specs.Cores as core
 use Rattle.phase_core.proofs.phase_history_lemmas.OthersEvents.{OthersCame-refl}
 use Rattle.phase_core.proofs.phase_history_lemmas.Used.{IsLegal-beginning}
-use Rattle.phase_shared.specs.declared.rule.Terms.{Terms}
 use Rattle.phase_shared.specs.declared.seats.view.Knowledge.{Knowledge}
 use Rattle.phase_shared.specs.Asks.{Ask, IsAtPhases, IsAnsweredAsk, IsOneOf}
 use Rattle.phase_shared.specs.Desks.{View, Resting, Asking, IsPast}
-use Rattle.phase_shared.specs.Goods.{Allows, IsGoodAt, Keeps}
+use Rattle.phase_shared.specs.Goods.{Allows, IsGood, Keeps}
 use Rattle.phase_shared.specs.Lanes.{lanes_most}
-use Rattle.phase_shared.specs.Rule.{HasOneHistory, StandsWithin}
+use Rattle.phase_shared.specs.Rule.{IsOneHistory, StandsWithin}
 use Rattle.phase_shared.specs.Servings.{Turned, Starting, Serving, Finished, IsAnsweredIn, HasAnswer, IsRefused, WasOpen}
 use Rattle.phase_shared.specs.Tells.{EndsTurn, StillAsks, LaneIsPast, Leaves}
 use Rattle.phase_shared.specs.Views.{knowledge, known_of, resting, turning, board_of}
@@ -44,36 +44,36 @@ rests : (f g : Knowledge) (a : Ask) → Resting f ≡ Asking g a → ⊥
 rests f g a e = cc
 
 -- a give of the same turn, in other words
-pub gives_told : {A K : Type 0} (op : Operation A) (allows : K → Allows) (terms : Terms K) (goes : View → View → Type 0) (n m : ℕ) (v u : View) (y z : CoreState A) (told other next : ℕ)
+pub gives_told : {A : Type 0} (op : Operation A) (limits : Limits) (allows : Allows) (goes : View → View → Type 0) (n m : ℕ) (v u : View) (y z : CoreState A) (told other next : ℕ)
     → m ≡ n → u ≡ v → z ≡ y → other ≡ told → next ≡ told
-    → GivesOf (HasOneHistory op allows) terms n v y told told (λ p q r. goes p r) → GivesOf (HasOneHistory op allows) terms m u z other next (λ p q r. goes p r)
-gives_told {A} op allows terms goes n m v u y z told other next e1 e2 e3 e4 e5 gives =
-    let rule : ℕ → View → CoreState A → ℕ → ℕ → Type 0 = λ j x c t s. GivesOf (HasOneHistory op allows) terms j x c t s (λ p q r. goes p r) in
+    → GivesOf (IsOneHistory op limits allows) tt n v y told told (λ p q r. goes p r) → GivesOf (IsOneHistory op limits allows) tt m u z other next (λ p q r. goes p r)
+gives_told {A} op limits allows goes n m v u y z told other next e1 e2 e3 e4 e5 gives =
+    let rule : ℕ → View → CoreState A → ℕ → ℕ → Type 0 = λ j x c t s. GivesOf (IsOneHistory op limits allows) tt j x c t s (λ p q r. goes p r) in
     subst (λ (j : ℕ). rule j u z other next) (sym e1)
     (subst (λ (x : View). rule n x z other next) (sym e2)
     (subst (λ (c : CoreState A). rule n v c other next) (sym e3)
     (subst (λ (t : ℕ). rule n v y t next) (sym e4)
     (subst (λ (s : ℕ). rule n v y told s) (sym e5) gives))))
 
-module _ {A K : Type 0} (op : Operation A) (allows : K → Allows) (terms : Terms K) (ask : Ask) where
+module _ {A : Type 0} (op : Operation A) (limits : Limits) (allows : Allows) (ask : Ask) where
   abbrev StandsFor : CoreState A → History → Type 0
-  StandsFor = StandsWithin op terms.limits
+  StandsFor = StandsWithin op limits
 
   abbrev mine : History → Knowledge
   mine now = knowledge now (ask.task ∷ [])
 
   -- a give that tells what was told, where no ask that was read was answered
   gives_same : (then : View → Type 0) (number told k : ℕ) (v u : View) (x y : CoreState A) (lane : Option ℕ) (w : View)
-      → (t : Turned op allows terms ask false k v x) → u ≡ turning t.now (ask.task ∷ []) t.claims t.said lane → y ≡ x
-      → EndsTurn terms.limits (allows terms.rule) 0 (t.later ++ t.now) (mine t.now) lane w
-      → ((s : StillAsks terms.limits (allows terms.rule) 0 (t.later ++ t.now) (mine t.now) lane w) → done_of t.now ≤ s.ask.phase)
-      → then w → GivesOf (HasOneHistory op allows) terms number u y told told (λ p q r. then r)
+      → (t : Turned op limits allows ask false k v x) → u ≡ turning t.now (ask.task ∷ []) t.claims t.said lane → y ≡ x
+      → EndsTurn limits allows 0 (t.later ++ t.now) (mine t.now) lane w
+      → ((s : StillAsks limits allows 0 (t.later ++ t.now) (mine t.now) lane w) → done_of t.now ≤ s.ask.phase)
+      → then w → GivesOf (IsOneHistory op limits allows) tt number u y told told (λ p q r. then r)
   gives_same then number told k v u x y lane w t is same ends open' goes =
-      subst (λ (z : View). GivesOf (HasOneHistory op allows) terms number z y told told (λ p q r. then r)) (sym is)
+      subst (λ (z : View). GivesOf (IsOneHistory op limits allows) tt number z y told told (λ p q r. then r)) (sym is)
       (λ words views long kept at. (
         w,
-        asks.gives_same op.value terms.limits (allows terms.rule) StandsFor number (mine t.now) t.claims t.said lane y t.later
-            told w t.batch t.good (subst (λ (z : CoreState A). StandsWithin op terms.limits z (t.later ++ t.now)) (sym same) t.stands)
+        asks.gives_same op.value limits allows StandsFor number (mine t.now) t.claims t.said lane y t.later
+            told w t.batch t.good (subst (λ (z : CoreState A). StandsWithin op limits z (t.later ++ t.now)) (sym same) t.stands)
             (λ a one low st. absurd (t.quiet refl a one st)) ends open' words views kept at,
         goes,
       ))
@@ -89,32 +89,32 @@ module _ {A K : Type 0} (op : Operation A) (allows : K → Allows) (terms : Term
   module _ (seen : History) where
     -- ---- its signal is refused
 
-    pub gives_refused : (number told : ℕ) (refusal : SignalRefusal) (v u : View) (x y : CoreState A) → (s : Starting op allows terms ask seen v x)
+    pub gives_refused : (number told : ℕ) (refusal : SignalRefusal) (v u : View) (x y : CoreState A) → (s : Starting op limits allows ask seen v x)
         → u ≡ with_lane None v → y ≡ x
-        → signal_refusal terms.limits (known_of v).seen ask.task (ask.sends ∷ []) None ≡ Some refusal
-        → GivesOf (HasOneHistory op allows) terms number u y told told (λ p q r. IsRefused op allows terms ask seen refusal r)
+        → signal_refusal limits (known_of v).seen ask.task (ask.sends ∷ []) None ≡ Some refusal
+        → GivesOf (IsOneHistory op limits allows) tt number u y told told (λ p q r. IsRefused op limits allows ask seen refusal r)
     gives_refused number told refusal v u x y s is same refused =
         let t = s.turned in
-        gives_same (λ r. IsRefused op allows terms ask seen refusal r) number told 0 v u x y None (resting t.now (ask.task ∷ [])) t
+        gives_same (λ r. IsRefused op limits allows ask seen refusal r) number told 0 v u x y None (resting t.now (ask.task ∷ [])) t
         (is ∙ ap (with_lane None) t.is) same
         (inl (t.now, refl, subst (λ (l : History). OthersCame (ask.task ∷ []) t.now (l ++ t.now)) (sym s.first) (OthersCame-refl (ask.task ∷ []) t.now), tt))
         (λ q. absurd (asks.no_lane (q.ask.phase + 1) q.posts))
         (record {
           now = t.now;
           others = s.unmade.others;
-          refused = subst (λ (h : History). signal_refusal terms.limits h ask.task (ask.sends ∷ []) None ≡ Some refusal) (seen_is op allows terms ask false 0 v x t) refused;
+          refused = subst (λ (h : History). signal_refusal limits h ask.task (ask.sends ∷ []) None ≡ Some refusal) (seen_is op limits allows ask false 0 v x t) refused;
           is = refl;
-          good = good_first op allows terms ask seen v x s;
+          good = good_first op limits allows ask seen v x s;
         })
 
     -- ---- its phase is open
 
-    pub gives_asking : (number told : ℕ) (v u : View) (x y : CoreState A) → (s : Serving op allows terms ask seen false 0 v x)
+    pub gives_asking : (number told : ℕ) (v u : View) (x y : CoreState A) → (s : Serving op limits allows ask seen false 0 v x)
         → u ≡ with_lane (Some (ask.phase + 1)) v → y ≡ x → WasOpen v ask.phase
-        → GivesOf (HasOneHistory op allows) terms number u y told told (λ p q r. r ≡ Asking (knowledge seen (ask.task ∷ [])) ask)
+        → GivesOf (IsOneHistory op limits allows) tt number u y told told (λ p q r. r ≡ Asking (knowledge seen (ask.task ∷ [])) ask)
     gives_asking number told v u x y s is same open' =
         let t = s.turned in
-        let low : done_of t.now ≤ ask.phase = subst (λ (h : History). done_of h ≤ ask.phase) (seen_is op allows terms ask false 0 v x t) open' in
+        let low : done_of t.now ≤ ask.phase = subst (λ (h : History). done_of h ≤ ask.phase) (seen_is op limits allows ask false 0 v x t) open' in
         gives_same (λ r. r ≡ Asking (knowledge seen (ask.task ∷ [])) ask) number told 0 v u x y (Some (ask.phase + 1)) (Asking (knowledge seen (ask.task ∷ [])) ask) t
         (is ∙ ap (with_lane (Some (ask.phase + 1))) t.is) same
         (inr record {
@@ -133,29 +133,29 @@ module _ {A K : Type 0} (op : Operation A) (allows : K → Allows) (terms : Term
 
     -- ---- its wait is made
 
-    module _ (serves : Bool) (k : ℕ) (outcome : Outcome) (v : View) (x : CoreState A) (f : Finished op allows terms ask seen serves k outcome v x) where
+    module _ (serves : Bool) (k : ℕ) (outcome : Outcome) (v : View) (x : CoreState A) (f : Finished op limits allows ask seen serves k outcome v x) where
       abbrev last : History
       last = Waited ask.task 1 ∷ f.middle
 
-      good_last : IsGoodAt allows terms (Waited ask.task 1 ∷ f.middle)
-      good_last = subst (λ (h : History). IsGoodAt allows terms h) f.last f.turned.good
+      good_last : IsGood limits allows (Waited ask.task 1 ∷ f.middle)
+      good_last = subst (λ (h : History). IsGood limits allows h) f.last f.turned.good
 
-      answered_last : IsAnsweredAsk terms.limits ask seen (Waited ask.task 1 ∷ f.middle)
-      answered_last = stage_waited terms.limits ask seen f.middle good_last.legal.0 good_last.legal.1
+      answered_last : IsAnsweredAsk limits ask seen (Waited ask.task 1 ∷ f.middle)
+      answered_last = stage_waited limits ask seen f.middle good_last.legal.0 good_last.legal.1
           (signal_is f.middle ask.task (ask.phase + 1) ask.phase f.made.stands) (wait_is f.middle ask.task (ask.phase + 1) ask.phase f.made.stands) (inr (inl f.made))
 
       -- the view that the turn ends with
-      ends_last : (told : ℕ) → EndsTurn terms.limits (allows terms.rule) told (f.turned.later ++ f.turned.now) (mine f.turned.now) f.turned.lane (resting (Waited ask.task 1 ∷ f.middle) (ask.task ∷ []))
-      ends_last told = subst (λ (h : History). EndsTurn terms.limits (allows terms.rule) told h (mine f.turned.now) f.turned.lane (resting (Waited ask.task 1 ∷ f.middle) (ask.task ∷ []))) (sym f.last)
+      ends_last : (told : ℕ) → EndsTurn limits allows told (f.turned.later ++ f.turned.now) (mine f.turned.now) f.turned.lane (resting (Waited ask.task 1 ∷ f.middle) (ask.task ∷ []))
+      ends_last told = subst (λ (h : History). EndsTurn limits allows told h (mine f.turned.now) f.turned.lane (resting (Waited ask.task 1 ∷ f.middle) (ask.task ∷ []))) (sym f.last)
           (inl (
             Waited ask.task 1 ∷ f.middle,
             refl,
             OthersCame-refl (ask.task ∷ []) (Waited ask.task 1 ∷ f.middle),
             lane_past f.turned.lane f.turned.now (Waited ask.task 1 ∷ f.middle) f.turned.own
-                (answered_past terms.limits ask seen (Waited ask.task 1 ∷ f.middle) good_last.legal answered_last),
+                (answered_past limits ask seen (Waited ask.task 1 ∷ f.middle) good_last.legal answered_last),
           ))
 
-      has_last : HasAnswer op allows terms ask seen outcome (resting (Waited ask.task 1 ∷ f.middle) (ask.task ∷ []))
+      has_last : HasAnswer op limits allows ask seen outcome (resting (Waited ask.task 1 ∷ f.middle) (ask.task ∷ []))
       has_last = record {
         middle = f.middle;
         made = f.made;
@@ -173,17 +173,17 @@ module _ {A K : Type 0} (op : Operation A) (allows : K → Allows) (terms : Term
         answered_last.below,
       )
 
-    pub gives_late : (number told : ℕ) (outcome : Outcome) (v : View) (x y : CoreState A) → Finished op allows terms ask seen false 0 outcome v x → y ≡ x
-        → GivesOf (HasOneHistory op allows) terms number v y told told (λ p q r. HasAnswer op allows terms ask seen outcome r)
+    pub gives_late : (number told : ℕ) (outcome : Outcome) (v : View) (x y : CoreState A) → Finished op limits allows ask seen false 0 outcome v x → y ≡ x
+        → GivesOf (IsOneHistory op limits allows) tt number v y told told (λ p q r. HasAnswer op limits allows ask seen outcome r)
     gives_late number told outcome v x y f same =
         let t = f.turned in
-        gives_same (λ r. HasAnswer op allows terms ask seen outcome r) number told 0 v v x y t.lane (resting (Waited ask.task 1 ∷ f.middle) (ask.task ∷ [])) t t.is same
+        gives_same (λ r. HasAnswer op limits allows ask seen outcome r) number told 0 v v x y t.lane (resting (Waited ask.task 1 ∷ f.middle) (ask.task ∷ [])) t t.is same
         (ends_last false 0 outcome v x f 0)
         (λ q. absurd (rests (knowledge (Waited ask.task 1 ∷ f.middle) (ask.task ∷ [])) q.knows q.ask q.is))
         (has_last false 0 outcome v x f)
 
     -- what it knows of each ask that it read, where those for its phase are answered
-    leaves : (k next : ℕ) (outcome : Outcome) (v : View) (x : CoreState A) (f : Finished op allows terms ask seen true k outcome v x)
+    leaves : (k next : ℕ) (outcome : Outcome) (v : View) (x : CoreState A) (f : Finished op limits allows ask seen true k outcome v x)
         → (next % 2 ≡ 1 → (k ≡ 16) × (next / 2 ≡ done_of (f.turned.later ++ f.turned.now)))
         → (a : Ask) → IsOneOf f.turned.claims a → a.task < lanes_most → Leaves op.value (f.turned.later ++ f.turned.now) next outcome a
     leaves k next outcome v x f tells a one low =
@@ -203,33 +203,33 @@ module _ {A K : Type 0} (op : Operation A) (allows : K → Allows) (terms : Term
               omega arith;
           has = λ st.
               let most : done_of (t.later ++ t.now) ≤ a.phase + 1 = done_within (t.later ++ t.now) a.task (a.phase + 1) (a.phase + 1) st in
-              let least : st.entry.wait_phase ≤ done_of (t.later ++ t.now) = waits_low terms.limits (t.later ++ t.now) a.task st.entry t.good.legal st.member in
+              let least : st.entry.wait_phase ≤ done_of (t.later ++ t.now) = waits_low limits (t.later ++ t.now) a.task st.entry t.good.legal st.member in
               let at : st.entry.wait_phase ≡ a.phase + 1 = st.wait_at in
               let low' = d.0 in let high = d.1 in
               let same : ask.phase ≡ a.phase = omega arith in
               f.has ∙ ap (λ (h : History). value_of_phase op.value h ask.phase) (sym f.last) ∙ ap (λ (n : ℕ). value_of_phase op.value (t.later ++ t.now) n) same;
         }
 
-    pub gives_finished : (number told next k : ℕ) (outcome : Outcome) (v u : View) (x y : CoreState A) → (f : Finished op allows terms ask seen true k outcome v x)
+    pub gives_finished : (number told next k : ℕ) (outcome : Outcome) (v u : View) (x y : CoreState A) → (f : Finished op limits allows ask seen true k outcome v x)
         → u ≡ with_board outcome v → y ≡ x
         → (next % 2 ≡ 1 → (k ≡ 16) × (next / 2 ≡ done_of (f.turned.later ++ f.turned.now)))
-        → GivesOf (HasOneHistory op allows) terms number u y told next (λ p q r. HasAnswer op allows terms ask seen outcome r)
+        → GivesOf (IsOneHistory op limits allows) tt number u y told next (λ p q r. HasAnswer op limits allows ask seen outcome r)
     gives_finished number told next k outcome v u x y f is same tells =
         let t = f.turned in
         let w : View = resting (Waited ask.task 1 ∷ f.middle) (ask.task ∷ []) in
         let here : u ≡ turning t.now (ask.task ∷ []) t.claims outcome t.lane = is ∙ ap (with_board outcome) t.is in
-        subst (λ (z : View). GivesOf (HasOneHistory op allows) terms number z y told next (λ p q r. HasAnswer op allows terms ask seen outcome r)) (sym here)
+        subst (λ (z : View). GivesOf (IsOneHistory op limits allows) tt number z y told next (λ p q r. HasAnswer op limits allows ask seen outcome r)) (sym here)
         (λ words views long kept at. (
           w,
-          asks.gives_asks op.value terms.limits (allows terms.rule) StandsFor number (mine t.now) t.claims outcome t.lane y t.later
-              told next w t.batch t.good (subst (λ (z : CoreState A). StandsWithin op terms.limits z (t.later ++ t.now)) (sym same) t.stands)
+          asks.gives_asks op.value limits allows StandsFor number (mine t.now) t.claims outcome t.lane y t.later
+              told next w t.batch t.good (subst (λ (z : CoreState A). StandsWithin op limits z (t.later ++ t.now)) (sym same) t.stands)
               (λ odd. let p = tells odd in let is' : next / 2 ≡ done_of (t.later ++ t.now) = p.1 in omega arith)
               (leaves k next outcome v x f tells) (ends_last true k outcome v x f next) words views kept at,
           has_last true k outcome v x f,
         ))
 
     -- what is told then: each ask for the phase was answered, or only how many phases are complete
-    pub tells_odd : (k : ℕ) (outcome : Outcome) (v : View) (x y : CoreState A) (f : Finished op allows terms ask seen true k outcome v x) (done next : ℕ)
+    pub tells_odd : (k : ℕ) (outcome : Outcome) (v : View) (x y : CoreState A) (f : Finished op limits allows ask seen true k outcome v x) (done next : ℕ)
         → y ≡ x → ((h : History) → core.StandsFor op y h → done ≡ done_of h) → next ≡ done * 2 + 1
         → next % 2 ≡ 1 → (k ≡ k) × (next / 2 ≡ done_of (f.turned.later ++ f.turned.now))
     tells_odd k outcome v x y f done next same says is odd =
@@ -238,25 +238,25 @@ module _ {A K : Type 0} (op : Operation A) (allows : K → Allows) (terms : Term
         let half : next / 2 ≡ done = omega arith in
         (refl, half ∙ all)
 
-    pub tells_even : (k : ℕ) (outcome : Outcome) (v : View) (x : CoreState A) (f : Finished op allows terms ask seen true k outcome v x) (done next : ℕ)
+    pub tells_even : (k : ℕ) (outcome : Outcome) (v : View) (x : CoreState A) (f : Finished op limits allows ask seen true k outcome v x) (done next : ℕ)
         → next ≡ done * 2 → next % 2 ≡ 1 → (k ≡ 16) × (next / 2 ≡ done_of (f.turned.later ++ f.turned.now))
     tells_even k outcome v x f done next is odd = absurd (omega arith)
 
     -- ---- others have answered
 
-    pub gives_answered : (number told : ℕ) (outcome : Outcome) (v u : View) (x y : CoreState A) → IsAnsweredIn op allows terms ask seen v x → u ≡ v → y ≡ x
+    pub gives_answered : (number told : ℕ) (outcome : Outcome) (v u : View) (x y : CoreState A) → IsAnsweredIn op limits allows ask seen v x → u ≡ v → y ≡ x
         → outcome ≡ board_of v
-        → GivesOf (HasOneHistory op allows) terms number u y told told (λ p q r. HasAnswer op allows terms ask seen outcome r)
+        → GivesOf (IsOneHistory op limits allows) tt number u y told told (λ p q r. HasAnswer op limits allows ask seen outcome r)
     gives_answered number told outcome v u x y n is same read =
         let t = n.turned in
         let m = n.answered.middle in
-        let good_now : IsGoodAt allows terms t.now = subst (λ (l : History). IsGoodAt allows terms (l ++ t.now)) n.first t.good in
-        let first : IsLegal terms.limits (Waited ask.task 1 ∷ m) = IsLegal-beginning terms.limits (Waited ask.task 1 ∷ m) t.now (λ none. cc) good_now.legal
+        let good_now : IsGood limits allows t.now = subst (λ (l : History). IsGood limits allows (l ++ t.now)) n.first t.good in
+        let first : IsLegal limits (Waited ask.task 1 ∷ m) = IsLegal-beginning limits (Waited ask.task 1 ∷ m) t.now (λ none. cc) good_now.legal
         (record { later = n.answered.since.later; is = n.answered.since.is }) in
-        let past : IsPast t.now ask.task (ask.phase + 1) = answered_past terms.limits ask seen t.now good_now.legal n.answered in
-        gives_same (λ r. HasAnswer op allows terms ask seen outcome r) number told 0 v u x y t.lane (resting (Waited ask.task 1 ∷ m) (ask.task ∷ [])) t
+        let past : IsPast t.now ask.task (ask.phase + 1) = answered_past limits ask seen t.now good_now.legal n.answered in
+        gives_same (λ r. HasAnswer op limits allows ask seen outcome r) number told 0 v u x y t.lane (resting (Waited ask.task 1 ∷ m) (ask.task ∷ [])) t
         (is ∙ t.is) same
-        (subst (λ (l : History). EndsTurn terms.limits (allows terms.rule) 0 (l ++ t.now) (mine t.now) t.lane (resting (Waited ask.task 1 ∷ m) (ask.task ∷ []))) (sym n.first)
+        (subst (λ (l : History). EndsTurn limits allows 0 (l ++ t.now) (mine t.now) t.lane (resting (Waited ask.task 1 ∷ m) (ask.task ∷ []))) (sym n.first)
         (inl (Waited ask.task 1 ∷ m, refl, n.answered.since, lane_past t.lane t.now t.now t.own past)))
         (λ q. absurd (rests (knowledge (Waited ask.task 1 ∷ m) (ask.task ∷ [])) q.knows q.ask q.is))
         (record {
@@ -266,10 +266,10 @@ module _ {A K : Type 0} (op : Operation A) (allows : K → Allows) (terms : Term
           complete = n.answered.complete;
           is = refl;
           has = read ∙ ap board_of t.is ∙ n.has
-              ∙ later_value op.value terms.limits ask n.answered.since.later m t.now n.answered.since.is good_now.legal first n.answered.complete;
+              ∙ later_value op.value limits ask n.answered.since.later m t.now n.answered.since.is good_now.legal first n.answered.complete;
           good = record {
             legal = first;
-            keeps = keeps_before (allows terms.rule) n.answered.since.later (Waited ask.task 1 ∷ m)
-                (subst (λ (h : History). Keeps (allows terms.rule) h) n.answered.since.is good_now.keeps);
+            keeps = keeps_before allows n.answered.since.later (Waited ask.task 1 ∷ m)
+                (subst (λ (h : History). Keeps allows h) n.answered.since.is good_now.keeps);
           };
         })

@@ -12,7 +12,6 @@ use Rattle.phase_core.specs.phase_history.Legal.{IsLegal}
 use Rattle.phase_core.specs.Cores.{CoreState, StandsFor}
 use Rattle.phase_core.proofs.phase_history_lemmas.MemberLemmas.{entry_of-changed_same}
 use Rattle.phase_core.proofs.phase_history_lemmas.Used.{IsLegal-beginning}
-use Rattle.phase_shared.specs.declared.rule.Terms.{Terms}
 use Rattle.phase_shared.specs.Asks.{Ask, IsAtPhases, IsUnmade, IsMade, IsAnsweredAsk, Stage}
 use Rattle.phase_shared.specs.Desks.{View, MayMakeAsk}
 use Rattle.phase_shared.specs.Goods.{Allows}
@@ -103,29 +102,29 @@ module _ (limits : Limits) (a : Ask) (seen h : History) (e : Entry) (member : en
       r)
       stage
 
-module _ {A K : Type 0} (op : Operation A) (allows : K → Allows) (terms : Terms K) (ask : Ask) (seen : History) where
+module _ {A : Type 0} (op : Operation A) (limits : Limits) (allows : Allows) (ask : Ask) (seen : History) where
   -- ---- in other words
 
   pub open_still : (v u : View) → known_of u ≡ known_of v → WasOpen v ask.phase → WasOpen u ask.phase
   open_still v u same open' = subst (λ f. done_of f.seen ≤ ask.phase) (sym same) open'
 
   abbrev Took : View → CoreState A → Type 0
-  Took v x = TookAsked op.value terms.limits (allows terms.rule) (StandsWithin op terms.limits) (knowledge seen (ask.task ∷ [])) ask x v
+  Took v x = TookAsked op.value limits allows (StandsWithin op limits) (knowledge seen (ask.task ∷ [])) ask x v
 
   -- the core that was lent is the turn's
   pub took_still : (v : View) (x y : CoreState A) → y ≡ x
-      → TookAsked op.value terms.limits (allows terms.rule) (StandsWithin op terms.limits) (knowledge seen (ask.task ∷ [])) ask x v
-      → TookAsked op.value terms.limits (allows terms.rule) (StandsWithin op terms.limits) (knowledge seen (ask.task ∷ [])) ask y v
+      → TookAsked op.value limits allows (StandsWithin op limits) (knowledge seen (ask.task ∷ [])) ask x v
+      → TookAsked op.value limits allows (StandsWithin op limits) (knowledge seen (ask.task ∷ [])) ask y v
   took_still v x y same k = subst (λ (z : CoreState A). Took v z) (sym same) k
 
   module _ (v : View) (x : CoreState A)
-      (k : TookAsked op.value terms.limits (allows terms.rule) (StandsWithin op terms.limits) (knowledge seen (ask.task ∷ [])) ask x v) where
+      (k : TookAsked op.value limits allows (StandsWithin op limits) (knowledge seen (ask.task ∷ [])) ask x v) where
     -- ---- the turn that it took
 
     pub legal_some : k.now ≡ [] → ⊥
-    legal_some none = let never : IsLegal terms.limits [] = subst (λ (h : History). IsLegal terms.limits h) none k.good.legal in never
+    legal_some none = let never : IsLegal limits [] = subst (λ (h : History). IsLegal limits h) none k.good.legal in never
 
-    pub took_turn : Turned op allows terms ask false 0 v x
+    pub took_turn : Turned op limits allows ask false 0 v x
     took_turn = record {
       now = k.now;
       claims = k.claims;
@@ -152,9 +151,9 @@ module _ {A K : Type 0} (op : Operation A) (allows : K → Allows) (terms : Term
     pub stage_found : (o : Option Entry) → o ≡ entry_of x.members ask.task → o ≡ None → ⊥
     stage_found o viewed none = ⊎_elim
         (λ (u : IsUnmade ask seen k.now). no u.stands.entry u.stands.member)
-        (λ (r : IsMade terms.limits ask seen k.now ⊎ IsAnsweredAsk terms.limits ask seen k.now). ⊎_elim
-        (λ (m : IsMade terms.limits ask seen k.now). no m.stands.entry m.stands.member)
-        (λ (n : IsAnsweredAsk terms.limits ask seen k.now). no n.stands.entry n.stands.member)
+        (λ (r : IsMade limits ask seen k.now ⊎ IsAnsweredAsk limits ask seen k.now). ⊎_elim
+        (λ (m : IsMade limits ask seen k.now). no m.stands.entry m.stands.member)
+        (λ (n : IsAnsweredAsk limits ask seen k.now). no n.stands.entry n.stands.member)
         r)
         k.stage
       where
@@ -168,28 +167,28 @@ module _ {A K : Type 0} (op : Operation A) (allows : K → Allows) (terms : Term
     open_now n done low = subst (λ (u : View). done_of (known_of u).seen ≤ ask.phase) (sym k.is) (subst (λ (m : ℕ). m ≤ ask.phase) (done k.now k.stands.stands) low)
 
     module _ (e : Entry) (member : entry_of (members_of k.now) ask.task ≡ Some e) where
-      pub answered_in : ask.phase < e.wait_phase → IsAnsweredIn op allows terms ask seen v x
+      pub answered_in : ask.phase < e.wait_phase → IsAnsweredIn op limits allows ask seen v x
       unfolding took_turn
       answered_in more =
-          let n : IsAnsweredAsk terms.limits ask seen k.now = is_answered terms.limits ask seen k.now e member k.stage more in
+          let n : IsAnsweredAsk limits ask seen k.now = is_answered limits ask seen k.now e member k.stage more in
           record { turned = took_turn; first = refl; lane_is = refl; answered = n; has = k.has n }
 
-      module _ (alive : IsAlive seen ask.task) (waits : IsWaiterIn seen ask.task) (may : MayMakeAsk terms.limits (allows terms.rule) seen ask) where
-        pub starting : e.signal_phase ≡ ask.phase → Starting op allows terms ask seen v x
+      module _ (alive : IsAlive seen ask.task) (waits : IsWaiterIn seen ask.task) (may : MayMakeAsk limits allows seen ask) where
+        pub starting : e.signal_phase ≡ ask.phase → Starting op limits allows ask seen v x
         unfolding took_turn
         starting at = record {
           turned = took_turn;
           first = refl;
-          unmade = is_unmade terms.limits ask seen k.now e member k.stage at;
-          waits = still_waits terms.limits ask seen k.now k.good.legal k.stage alive waits;
+          unmade = is_unmade limits ask seen k.now e member k.stage at;
+          waits = still_waits limits ask seen k.now k.good.legal k.stage alive waits;
           may = may;
         }
 
-        pub serving : e.wait_phase ≤ ask.phase → (e.signal_phase ≡ ask.phase → ⊥) → Serving op allows terms ask seen false 0 v x
+        pub serving : e.wait_phase ≤ ask.phase → (e.signal_phase ≡ ask.phase → ⊥) → Serving op limits allows ask seen false 0 v x
         unfolding took_turn
         serving low apart = record {
           turned = took_turn;
-          made = is_made terms.limits ask seen k.now e member k.stage low apart;
-          waits = still_waits terms.limits ask seen k.now k.good.legal k.stage alive waits;
+          made = is_made limits ask seen k.now e member k.stage low apart;
+          waits = still_waits limits ask seen k.now k.good.legal k.stage alive waits;
           may = may;
         }

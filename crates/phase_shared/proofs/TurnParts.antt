@@ -1,26 +1,32 @@
 -- The parts of a turn of a seat that asks: how it begins, its own signal, and what it ends with.
-use Rattle.std.proofs.Common.{◌≡◌, ℕ, ◌+◌, ◌<◌, ◌≤◌, Bool, true, false, eqb, [], ◌∷◌, ◌++◌, None, refl, sym, ap, subst, ◌∙◌, inl, arith}
+use Rattle.std.proofs.Common.{◌≡◌, ℕ, ◌+◌, ◌<◌, ◌≤◌, Bool, true, false, eqb, [], ◌∷◌, ◌++◌, None, Some, refl, sym, ap, subst, ◌∙◌, inl, arith}
+use Rattle.std.specs.Prelude.{Err}
 use Rattle.phase_core.specs.phase_base.Lists.{is_in}
 use Rattle.phase_core.specs.phase_base.Modes.{mode_waits}
 use Rattle.phase_core.specs.phase_base.Members.{signalled}
 use Rattle.phase_core.specs.phase_base.declared.entry.Entry.{Entry}
+use Rattle.phase_core.specs.phase_base.Limits.{Limits}
 use Rattle.phase_core.specs.phase_accum.Operations.{Operation}
 use Rattle.phase_core.specs.phase_history.declared.event.Event.TheVariants.{Signalled}
-use Rattle.phase_core.specs.phase_history.Histories.{History, members_of, done_of}
+use Rattle.phase_core.specs.phase_history.Histories.{History, members_of, done_of, signal_phase}
+use Rattle.phase_core.specs.phase_history.Refusals.{signal_refusal}
+use Rattle.phase_core.specs.phase_history.Replies.{signal_reply}
+use Rattle.phase_core.specs.phase_history.declared.refusal.SignalRefusal.{SignalRefusal}
 use Rattle.phase_core.specs.phase_history.Legal.{IsLegal}
 use Rattle.phase_core.specs.Cores.{CoreState, StandsFor}
 use Rattle.phase_core.proofs.phase_history_lemmas.MemberLemmas.{entry_of-changed_same, entry_of-changed_other}
-use Rattle.phase_shared.specs.declared.rule.Terms.{Terms}
 use Rattle.phase_shared.specs.Asks.{Ask, IsAtPhases, IsMade, IsOneOf}
 use Rattle.phase_shared.specs.Desks.{View}
-use Rattle.phase_shared.specs.Goods.{Allows, IsGoodAt}
+use Rattle.phase_shared.specs.Goods.{Allows, IsGood}
+use Rattle.phase_shared.specs.Lanes.{sends_of}
 use Rattle.phase_shared.specs.Rule.{StandsWithin}
-use Rattle.phase_shared.specs.Servings.{Turned, Starting, Serving, IsPhaseDone, IsCompleteIn, WasOpen}
+use Rattle.phase_shared.specs.declared.seats.request.Request.{Request}
+use Rattle.phase_shared.specs.Servings.{ask_of, Turned, Starting, Serving, IsPhaseDone, IsCompleteIn, WasOpen}
 use Rattle.phase_shared.specs.Views.{knowledge, known_of}
 use Rattle.phase_shared.specs.WordTells.{IsOwnLane, IsHolder, Completes}
+use Rattle.phase_shared.proofs.Answering.{refused_is}
 use Rattle.phase_shared.proofs.Small.{same_some, or_false}
 use Rattle.phase_shared.proofs.Stages.{signal_is, done_within, stage_signalled}
-use Rattle.phase_shared.proofs.Giving.{legal_at}
 
 -- another task stood before the signal where it stands after it
 stood : (h : History) (task s w : ℕ) (ask : Ask) → is_in task (ask.task ∷ []) ≡ false → IsAtPhases (Signalled ask.task (ask.sends ∷ []) None ∷ h) task s w
@@ -42,20 +48,20 @@ false_true e = cc
 true_false : true ≡ false → ⊥
 true_false e = cc
 
-module _ {A K : Type 0} (op : Operation A) (allows : K → Allows) (terms : Terms K) (ask : Ask) where
+module _ {A : Type 0} (op : Operation A) (limits : Limits) (allows : Allows) (ask : Ask) where
   -- ---- what it knows
 
-  pub own_lane : (serves : Bool) (k : ℕ) (v : View) (x : CoreState A) → Turned op allows terms ask serves k v x → IsOwnLane ask.task v
+  pub own_lane : (serves : Bool) (k : ℕ) (v : View) (x : CoreState A) → Turned op limits allows ask serves k v x → IsOwnLane ask.task v
   own_lane serves k v x t = record { knows = knowledge t.now (ask.task ∷ []); claims = t.claims; said = t.said; lane = t.lane; is = t.is; speaks = refl }
 
-  pub holder : (serves : Bool) (k : ℕ) (v : View) (x : CoreState A) → Turned op allows terms ask serves k v x → IsHolder v
+  pub holder : (serves : Bool) (k : ℕ) (v : View) (x : CoreState A) → Turned op limits allows ask serves k v x → IsHolder v
   holder serves k v x t = record { knows = knowledge t.now (ask.task ∷ []); claims = t.claims; said = t.said; lane = t.lane; is = t.is }
 
-  pub seen_is : (serves : Bool) (k : ℕ) (v : View) (x : CoreState A) (t : Turned op allows terms ask serves k v x) → (known_of v).seen ≡ t.now
+  pub seen_is : (serves : Bool) (k : ℕ) (v : View) (x : CoreState A) (t : Turned op limits allows ask serves k v x) → (known_of v).seen ≡ t.now
   seen_is serves k v x t = ap (λ (u : View). (known_of u).seen) t.is
 
   -- the phase was open when the turn was taken, as the turn says
-  pub was_open : (serves : Bool) (k : ℕ) (u v : View) (x : CoreState A) (t : Turned op allows terms ask serves k v x)
+  pub was_open : (serves : Bool) (k : ℕ) (u v : View) (x : CoreState A) (t : Turned op limits allows ask serves k v x)
       → known_of v ≡ known_of u → WasOpen u ask.phase → done_of t.now ≤ ask.phase
   was_open serves k u v x t same open' =
       subst (λ (h : History). done_of h ≤ ask.phase) (sym (ap (λ f. f.seen) same) ∙ seen_is serves k v x t) open'
@@ -63,12 +69,12 @@ module _ {A K : Type 0} (op : Operation A) (allows : K → Allows) (terms : Term
   module _ (seen : History) where
     -- ---- its own signal
 
-    module _ (v : View) (x : CoreState A) (s : Starting op allows terms ask seen v x) where
-      pub good_first : IsGoodAt allows terms s.turned.now
-      good_first = subst (λ (l : History). IsGoodAt allows terms (l ++ s.turned.now)) s.first s.turned.good
+    module _ (v : View) (x : CoreState A) (s : Starting op limits allows ask seen v x) where
+      pub good_first : IsGood limits allows s.turned.now
+      good_first = subst (λ (l : History). IsGood limits allows (l ++ s.turned.now)) s.first s.turned.good
 
-      pub stands_first : StandsWithin op terms.limits x s.turned.now
-      stands_first = subst (λ (l : History). StandsWithin op terms.limits x (l ++ s.turned.now)) s.first s.turned.stands
+      pub stands_first : StandsWithin op limits x s.turned.now
+      stands_first = subst (λ (l : History). StandsWithin op limits x (l ++ s.turned.now)) s.first s.turned.stands
 
       -- no other's ask is answered then
       pub quiet_first : (a : Ask) → IsOneOf s.turned.claims a → IsAtPhases s.turned.now a.task (a.phase + 1) (a.phase + 1) → ⊥
@@ -79,15 +85,25 @@ module _ {A K : Type 0} (op : Operation A) (allows : K → Allows) (terms : Term
       open_first = subst (λ (h : History). done_of h ≤ ask.phase) (sym (seen_is false 0 v x s.turned))
           (done_within s.turned.now ask.task ask.phase ask.phase s.unmade.stands)
 
+      -- the core's refusal of it
+      pub is_refused : (r : Request) → ask ≡ ask_of r → (told : Limits) (refusal : SignalRefusal) → told ≡ limits
+          → signal_reply told s.turned.now r.task (sends_of r.send ∷ []) None ≡ Err refusal
+          → signal_refusal limits (known_of v).seen ask.task (ask.sends ∷ []) None ≡ Some refusal
+      is_refused r asks told refusal same reply =
+          subst (λ (h : History). signal_refusal limits h ask.task (ask.sends ∷ []) None ≡ Some refusal) (sym (seen_is false 0 v x s.turned))
+          (subst (λ (a : Ask). signal_refusal limits s.turned.now a.task (a.sends ∷ []) None ≡ Some refusal) (sym asks)
+          (subst (λ (l : Limits). signal_refusal l s.turned.now r.task (sends_of r.send ∷ []) None ≡ Some refusal) same
+          (refused_is (signal_refusal told s.turned.now r.task (sends_of r.send ∷ []) None) (signal_phase s.turned.now r.task) refusal reply)))
+
       pub signs : (y : CoreState A) → y.limits ≡ x.limits → StandsFor op y (Signalled ask.task (ask.sends ∷ []) None ∷ s.turned.now)
-          → Serving op allows terms ask seen false 0 v y
+          → Serving op limits allows ask seen false 0 v y
       signs y same after =
           let t = s.turned in
           let now : History = t.now in
           let new : History = Signalled ask.task (ask.sends ∷ []) None ∷ now in
-          let stands' : StandsWithin op terms.limits y new = record { stands = after; limits_are = same ∙ stands_first.limits_are } in
-          let legal : IsLegal terms.limits new = legal_at op allows terms ask.task y new stands' in
-          let made : IsMade terms.limits ask seen new = stage_signalled terms.limits ask seen now legal.0 legal.1
+          let stands' : StandsWithin op limits y new = record { stands = after; limits_are = same ∙ stands_first.limits_are } in
+          let legal : IsLegal limits new = subst (λ (l : Limits). IsLegal l new) stands'.limits_are stands'.stands.legal in
+          let made : IsMade limits ask seen new = stage_signalled limits ask seen now legal.0 legal.1
           (signal_is now ask.task ask.phase ask.phase s.unmade.stands) (inl s.unmade) in
           let first : Entry = s.unmade.stands.entry in
           record {
@@ -118,8 +134,8 @@ module _ {A K : Type 0} (op : Operation A) (allows : K → Allows) (terms : Term
 
     -- ---- its phase is complete
 
-    pub serves_now : (v : View) (x : CoreState A) → Serving op allows terms ask seen false 0 v x → IsCompleteIn op x ask.phase
-        → Serving op allows terms ask seen true 0 v x
+    pub serves_now : (v : View) (x : CoreState A) → Serving op limits allows ask seen false 0 v x → IsCompleteIn op x ask.phase
+        → Serving op limits allows ask seen true 0 v x
     serves_now v x s done =
         let t = s.turned in
         record {
@@ -145,11 +161,11 @@ module _ {A K : Type 0} (op : Operation A) (allows : K → Allows) (terms : Term
           may = s.may;
         }
 
-    pub is_done : (v : View) (x : CoreState A) (s : Serving op allows terms ask seen false 0 v x) → IsCompleteIn op x ask.phase → IsPhaseDone s
+    pub is_done : (v : View) (x : CoreState A) (s : Serving op limits allows ask seen false 0 v x) → IsCompleteIn op x ask.phase → IsPhaseDone s
     is_done v x s done = done (s.turned.later ++ s.turned.now) s.turned.stands.stands
 
-    pub completes : (k : ℕ) (u v : View) (x : CoreState A) (t : Turned op allows terms ask true k v x)
-        → known_of v ≡ known_of u → WasOpen u ask.phase → Completes terms v
+    pub completes : (k : ℕ) (u v : View) (x : CoreState A) (t : Turned op limits allows ask true k v x)
+        → known_of v ≡ known_of u → WasOpen u ask.phase → Completes limits v
     completes k u v x t same open' = record {
       now = t.now;
       speaks = ask.task ∷ [];

@@ -1,5 +1,5 @@
 -- Which signals a phaser allows, and the histories that keep its rule.
-use Rattle.std.specs.Prelude.{ℕ, ℤ, List, [], ◌∷◌, Option}
+use Rattle.std.specs.Prelude.{ℕ, ℤ, List, [], ◌∷◌, Option, Some, None}
 use Rattle.phase_core.specs.phase_base.Limits.{Limits}
 use Rattle.phase_core.specs.phase_accum.declared.single.Single.{Single}
 use Rattle.phase_core.specs.phase_history.declared.event.Event.TheVariants.{Signalled}
@@ -10,6 +10,11 @@ use Rattle.phase_shared.specs.declared.rule.Terms.{Terms}
 -- which signals are allowed after a history
 abbrev pub Allows : Type 1
 Allows = History → ℕ → List (List ℤ) → Option Single → Type 0
+
+-- what a rule allows, and everything where there is none
+abbrev pub allows_or : {K : Type 0} → (K → Allows) → Option K → Allows
+allows_or allows None = λ h task lists single. Unit {0}
+allows_or allows (Some rule) = allows rule
 
 -- each signal was allowed after the history before it
 abbrev pub Keeps : Allows → History → Type 0

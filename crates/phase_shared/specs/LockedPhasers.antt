@@ -1,8 +1,34 @@
 -- What contracts see of a phaser under a lock.
+use Rattle.std.specs.Prelude.{Option, Some, None, []}
 use Rattle.turn_lock.specs.Seats.{Place, word_lock_name, word_lock_place}
 use Rattle.phase_core.specs.phase_base.Limits.{Limits}
 use Rattle.phase_shared.specs.declared.rule.Terms.{Terms}
 use Rattle.phase_shared.specs.declared.seats.locked.LockedPhaser.{LockedPhaser}
+
+-- for the code: the place of no lock, and terms without a rule
+abbrev pub no_place : {N : Type 0} → Place N
+no_place = (
+  record {
+    words = 0;
+    slots = 0;
+    views_name = 0;
+    atom = 0;
+    block = 0;
+    offset = 0;
+    slot_names = [];
+  },
+  None,
+)
+
+abbrev pub no_terms : {K : Type 0} → Terms (Option K)
+no_terms = record {
+  limits = record { bound = 0; phases_max = 0 };
+  rule = None;
+}
+
+-- the same terms, with the rule that there is
+abbrev pub some_terms : {K : Type 0} → Terms K → Terms (Option K)
+some_terms terms = record { limits = terms.limits; rule = Some terms.rule }
 
 module _ {A K : Type 0} where
   -- which phaser it is

@@ -1,5 +1,5 @@
 -- What contracts see of a phaser, a registration and a past.
-use Rattle.std.specs.Prelude.{◌≡◌, ℕ, List, [], Option, Some, None, true, is_some}
+use Rattle.std.specs.Prelude.{◌≡◌, ℕ, List, Option, Some, None, true, is_some}
 use Rattle.turn_lock.specs.declared.seat.Seat.{Seat}
 use Rattle.turn_lock.specs.Seats.{Place, seat_place, seat_view}
 use Rattle.phase_core.specs.phase_base.Limits.{Limits}
@@ -12,7 +12,7 @@ use Rattle.phase_shared.specs.declared.seats.view.View.TheVariants.{Spent}
 use Rattle.phase_shared.specs.Views.{resting, known_of}
 use Rattle.phase_shared.specs.declared.rule.Terms.{Terms}
 use Rattle.phase_shared.specs.Rule.{Allows, IsGoodAt, IsSeatOfTask}
-use Rattle.phase_shared.specs.LockedPhasers.{locked_place, locked_terms}
+use Rattle.phase_shared.specs.LockedPhasers.{locked_place, locked_terms, no_place}
 use Rattle.phase_shared.specs.declared.phaser.Phaser.{Phaser}
 
 -- a registration: its phaser, its number, its mode and phases, the sends that it holds, and the
@@ -51,18 +51,7 @@ module _ {A K : Type 0} where
 module _ {T K : Type 0} where
   -- for the code: the place of a seat that is there
   abbrev pub index_in : Option (Seat T (Terms K) View) → Place (Terms K)
-  index_in None = (
-    record {
-      words = 0;
-      slots = 0;
-      views_name = 0;
-      atom = 0;
-      block = 0;
-      offset = 0;
-      slot_names = [];
-    },
-    None,
-  )
+  index_in None = no_place
   index_in (Some s) = seat_place s
 
   -- for the code: the view of a seat that is there

@@ -25,12 +25,16 @@ pub record StandsWithin {A : Type 0} (op : Operation A) (limits : Limits) (core 
   pub stands : StandsFor op core h
   pub limits_are : core.limits ≡ limits
 
-module _ {A K : Type 0} (op : Operation A) (allows : K → Allows) where
-  -- the rule of a phaser's lock
-  abbrev pub HasOneHistory : Terms K → Option (CoreState A) → ℕ → List ℕ → List View → Type 0
-  HasOneHistory terms home told words views =
-      Kept op.value terms.limits (allows terms.rule) (StandsWithin op terms.limits) home told words
-      views
+-- the rule of a phaser's lock, by its limits and the signals that are allowed
+abbrev pub IsOneHistory : {A : Type 0} → Operation A → Limits → Allows → Unit {0}
+    → Option (CoreState A) → ℕ → List ℕ → List View → Type 0
+IsOneHistory op limits allows name home told words views =
+    Kept op.value limits allows (StandsWithin op limits) home told words views
+
+-- the same at a phaser's terms
+abbrev pub HasOneHistory : {A K : Type 0} → Operation A → (K → Allows) → Terms K
+    → Option (CoreState A) → ℕ → List ℕ → List View → Type 0
+HasOneHistory op allows terms = IsOneHistory op terms.limits (allows terms.rule) tt
 
 -- the view of the first seat: its task 0 made the phaser
 abbrev pub founding : View

@@ -1,5 +1,7 @@
 -- A turn of a seat that asked: what it read of others' asks, and what it did so far.
 use Rattle.std.specs.Prelude.{◌≡◌, ℕ, ◌+◌, ◌<◌, ◌≤◌, List, [], ◌∷◌, ◌++◌, ◌⊎◌, Bool, true, false, Option, Some, None, Result, Ok, Err}
+use Rattle.turn_lock.specs.Seats.{Place}
+use Rattle.phase_core.specs.phase_base.Limits.{Limits}
 use Rattle.phase_core.specs.phase_base.Modes.{mode_signals, mode_waits}
 use Rattle.phase_core.specs.phase_base.Members.{Members, entry_of}
 use Rattle.phase_core.specs.phase_base.declared.entry.Entry.{Entry}
@@ -9,7 +11,7 @@ use Rattle.phase_shared.specs.Regs.{RegState}
 use Rattle.phase_core.specs.phase_accum.declared.outcome.Outcome.{Outcome}
 use Rattle.phase_core.specs.phase_history.declared.event.Event.TheVariants.{Waited}
 use Rattle.phase_core.specs.phase_history.declared.refusal.SignalRefusal.{SignalRefusal}
-use Rattle.phase_core.specs.phase_history.Histories.{History, members_of, done_of}
+use Rattle.phase_core.specs.phase_history.Histories.{History, IsAlive, members_of, done_of}
 use Rattle.phase_core.specs.phase_history.Phases.{value_of_phase}
 use Rattle.phase_core.specs.phase_history.Refusals.{signal_refusal, wait_refusal}
 use Rattle.phase_core.specs.phase_history.Others.{OthersCame}
@@ -18,14 +20,14 @@ use Rattle.phase_core.specs.phase_base.Lists.{is_in}
 use Rattle.phase_shared.specs.declared.seats.view.View.{View}
 use Rattle.phase_shared.specs.declared.seats.view.View.TheVariants.{Asking}
 use Rattle.phase_shared.specs.declared.seats.request.Request.{Request}
-use Rattle.phase_shared.specs.declared.seats.request.Came.{Came}
-use Rattle.phase_shared.specs.declared.seats.request.Came.TheVariants.{Got, Refused, Asked}
 use Rattle.phase_shared.specs.declared.rule.Terms.{Terms}
+use Rattle.phase_shared.specs.declared.seats.locked.LockedPhaser.{LockedPhaser}
 use Rattle.phase_shared.specs.Asks.{Ask, IsAtPhases, IsUnmade, IsMade, IsAnsweredAsk, Batch, IsOneOf}
 use Rattle.phase_shared.specs.Desks.{MayMakeAsk}
-use Rattle.phase_shared.specs.Goods.{Allows, IsGoodAt}
+use Rattle.phase_shared.specs.Goods.{Allows, IsGood}
 use Rattle.phase_shared.specs.Lanes.{lanes_most, sends_of}
-use Rattle.phase_shared.specs.Rule.{StandsWithin}
+use Rattle.phase_shared.specs.LockedPhasers.{locked_place, locked_terms, some_terms}
+use Rattle.phase_shared.specs.Rule.{IsSeatOfTask, StandsWithin}
 use Rattle.phase_shared.specs.Views.{knowledge, known_of, resting, turning}
 
 -- what is asked for
@@ -42,19 +44,46 @@ pub record IsRequestOf {A K : Type 0} (op : Operation A) (r : Request) (reg : Re
 
 -- a seat at rest of a task that stands before its next phase and has a lane. Whatever the others
 -- do, the phaser's rule allows its signal
-pub record MayAsk {K : Type 0} (allows : K → Allows) (terms : Terms K) (ask : Ask) (v : View)
-    : Type 0 where
+pub record MayAsk (limits : Limits) (allows : Allows) (ask : Ask) (v : View) : Type 0 where
   pub rests : v ≡ resting (known_of v).seen (ask.task ∷ [])
   pub low : ask.task < lanes_most
   pub stands : IsAtPhases (known_of v).seen ask.task ask.phase ask.phase
-  pub may : MayMakeAsk terms.limits (allows terms.rule) (known_of v).seen ask
+  pub may : MayMakeAsk limits allows (known_of v).seen ask
+
+-- the task is a waiter
+abbrev pub IsWaiterIn : History → ℕ → Type 0
+IsWaiterIn h task =
+    (e : Entry) → entry_of (members_of h) task ≡ Some e → mode_waits e.mode ≡ true
+
+-- a call for the next phase of a task, on this phaser: what is asked for, and what had been seen
+-- when it began
+pub record IsCallAt {A K : Type 0} (phaser : LockedPhaser A K) (request : Request)
+    (place : Place (Terms K)) (terms : Terms (Option K)) (ask : Ask) : Type 0 where
+  pub place_is : locked_place phaser ≡ place
+  pub terms_is : terms ≡ some_terms (locked_terms phaser)
+  pub ask_is : ask ≡ ask_of request
+
+-- its task waits, and whatever the others do, the phaser's rule allows its signal
+pub record MayWait (limits : Limits) (allows : Allows) (ask : Ask) (seen : History) : Type 0 where
+  pub alive : IsAlive seen ask.task
+  pub waits : IsWaiterIn seen ask.task
+  pub may : MayMakeAsk limits allows seen ask
+
+-- its seat at rest, where the call begins
+pub record MayGoNext {K : Type 0} (allows : K → Allows) (terms : Terms K) (limits : Limits)
+    (signals : Allows) (request : Request) (entry : Entry) (ask : Ask) (seen : History) (v : View)
+    : Type 0 where
+  pub at : IsSeatOfTask allows terms request.task entry v
+  pub may : MayAsk limits signals ask v
+  pub seen_is : seen ≡ (known_of v).seen
+  pub waits : MayWait limits signals ask seen
 
 -- a seat that asks
 abbrev pub IsAsking : Ask → History → View → Type 0
 IsAsking ask seen v = v ≡ Asking (knowledge seen (ask.task ∷ [])) ask
 
 -- the task is registered as one that signals, and stands before the phase
-pub record IsBefore (members : Members) (task phase : ℕ) : Type 0 where
+pub record HasToSignal (members : Members) (task phase : ℕ) : Type 0 where
   pub entry : Entry
   pub member : entry_of members task ≡ Some entry
   pub signals : mode_signals entry.mode ≡ true
@@ -69,12 +98,7 @@ pub record IsBetween (members : Members) (task phase : ℕ) : Type 0 where
   pub signal_at : entry.signal_phase ≡ phase + 1
   pub wait_at : entry.wait_phase ≡ phase
 
--- the task is a waiter
-abbrev pub IsWaiterIn : History → ℕ → Type 0
-IsWaiterIn h task =
-    (e : Entry) → entry_of (members_of h) task ≡ Some e → mode_waits e.mode ≡ true
-
-module _ {A K : Type 0} (op : Operation A) (allows : K → Allows) (terms : Terms K) (ask : Ask) where
+module _ {A : Type 0} (op : Operation A) (limits : Limits) (allows : Allows) (ask : Ask) where
   -- a turn: what the seat read, and the events of the turn. Where it has not begun to serve, none
   -- of the asks that it read is answered; else its phase is complete, and those for it, of tasks
   -- below k, are
@@ -87,8 +111,8 @@ module _ {A K : Type 0} (op : Operation A) (allows : K → Allows) (terms : Term
     pub is : v ≡ turning now (ask.task ∷ []) claims said lane
     pub some : now ≡ [] → ⊥
     pub batch : Batch (IsOneOf claims) (ask.task ∷ []) later now
-    pub good : IsGoodAt allows terms (later ++ now)
-    pub stands : StandsWithin op terms.limits x (later ++ now)
+    pub good : IsGood limits allows (later ++ now)
+    pub stands : StandsWithin op limits x (later ++ now)
     pub theirs : (a : Ask) → IsOneOf claims a → is_in a.task (ask.task ∷ []) ≡ false
     pub own : (lane ≡ None) ⊎ (lane ≡ Some (ask.phase + 1))
     pub quiet : serves ≡ false → (a : Ask) → IsOneOf claims a
@@ -97,75 +121,75 @@ module _ {A K : Type 0} (op : Operation A) (allows : K → Allows) (terms : Term
     pub served : (a : Ask) → IsOneOf claims a → a.task < k → a.phase ≡ ask.phase
         → IsAtPhases (later ++ now) a.task (a.phase + 1) (a.phase + 1)
 
-module _ {A K : Type 0} (op : Operation A) (allows : K → Allows) (terms : Terms K) (ask : Ask)
+module _ {A : Type 0} (op : Operation A) (limits : Limits) (allows : Allows) (ask : Ask)
     (seen : History) where
   -- at the beginning of a turn: nothing of what it asked for is made
   pub record Starting (v : View) (x : CoreState A) : Type 0 where
-    pub turned : Turned op allows terms ask false 0 v x
+    pub turned : Turned op limits allows ask false 0 v x
     pub first : turned.later ≡ []
     pub unmade : IsUnmade ask seen turned.now
     pub waits : IsWaiterIn turned.now ask.task
-    pub may : MayMakeAsk terms.limits (allows terms.rule) seen ask
+    pub may : MayMakeAsk limits allows seen ask
 
   -- its signal is made, and its wait is still to be made
   pub record Serving (serves : Bool) (k : ℕ) (v : View) (x : CoreState A) : Type 0 where
-    pub turned : Turned op allows terms ask serves k v x
-    pub made : IsMade terms.limits ask seen (turned.later ++ turned.now)
+    pub turned : Turned op limits allows ask serves k v x
+    pub made : IsMade limits ask seen (turned.later ++ turned.now)
     pub waits : IsWaiterIn (turned.later ++ turned.now) ask.task
-    pub may : MayMakeAsk terms.limits (allows terms.rule) seen ask
+    pub may : MayMakeAsk limits allows seen ask
+
+  -- the same, where its phase was open when the turn was taken
+  pub record ServingOpen (serves : Bool) (v : View) (x : CoreState A) : Type 0 where
+    pub serving : Serving serves 0 v x
+    pub was_open : done_of (known_of v).seen ≤ ask.phase
+    pub asks : MayWait limits allows ask seen
 
   -- its wait is made, last of all
   pub record Finished (serves : Bool) (k : ℕ) (outcome : Outcome) (v : View) (x : CoreState A)
       : Type 0 where
-    pub turned : Turned op allows terms ask serves k v x
+    pub turned : Turned op limits allows ask serves k v x
     pub middle : History
     pub last : turned.later ++ turned.now ≡ Waited ask.task 1 ∷ middle
-    pub made : IsMade terms.limits ask seen middle
-    pub accepted : wait_refusal terms.limits middle ask.task 1 ≡ None
+    pub made : IsMade limits ask seen middle
+    pub accepted : wait_refusal limits middle ask.task 1 ≡ None
     pub complete : ask.phase < done_of middle
     pub has : outcome ≡ value_of_phase op.value (Waited ask.task 1 ∷ middle) ask.phase
 
   -- at the beginning of a turn: others have answered, and the board has the value
   pub record IsAnsweredIn (v : View) (x : CoreState A) : Type 0 where
-    pub turned : Turned op allows terms ask false 0 v x
+    pub turned : Turned op limits allows ask false 0 v x
     pub first : turned.later ≡ []
     pub lane_is : turned.lane ≡ Some (ask.phase + 1)
-    pub answered : IsAnsweredAsk terms.limits ask seen turned.now
+    pub answered : IsAnsweredAsk limits ask seen turned.now
     pub has : turned.said ≡ value_of_phase op.value turned.now ask.phase
 
   -- the answer: its signal, others' events, and its wait
   pub record HasAnswer (outcome : Outcome) (w : View) : Type 0 where
     pub middle : History
-    pub made : IsMade terms.limits ask seen middle
-    pub accepted : wait_refusal terms.limits middle ask.task 1 ≡ None
+    pub made : IsMade limits ask seen middle
+    pub accepted : wait_refusal limits middle ask.task 1 ≡ None
     pub complete : ask.phase < done_of middle
     pub is : w ≡ resting (Waited ask.task 1 ∷ middle) (ask.task ∷ [])
     pub has : outcome ≡ value_of_phase op.value (Waited ask.task 1 ∷ middle) ask.phase
-    pub good : IsGoodAt allows terms (Waited ask.task 1 ∷ middle)
+    pub good : IsGood limits allows (Waited ask.task 1 ∷ middle)
 
   -- its signal is refused
   pub record IsRefused (refusal : SignalRefusal) (w : View) : Type 0 where
     pub now : History
     pub others : OthersCame (ask.task ∷ []) seen now
-    pub refused : signal_refusal terms.limits now ask.task (ask.sends ∷ []) None ≡ Some refusal
+    pub refused : signal_refusal limits now ask.task (ask.sends ∷ []) None ≡ Some refusal
     pub is : w ≡ resting now (ask.task ∷ [])
-    pub good : IsGoodAt allows terms now
+    pub good : IsGood limits allows now
 
   -- how it ends: with the answer, or with a refusal
   abbrev pub HasEnded : Result Outcome SignalRefusal → View → Type 0
   HasEnded (Ok outcome) w = HasAnswer outcome w
   HasEnded (Err refusal) w = IsRefused refusal w
 
-  -- what came of a turn: the answer, a refusal, or that it asks still
-  abbrev pub CameTo : Came → View → Type 0
-  CameTo (Got outcome) w = HasAnswer outcome w
-  CameTo (Refused refusal) w = IsRefused refusal w
-  CameTo Asked w = IsAsking ask seen w
-
 -- its phase is complete
-abbrev pub IsPhaseDone : {A K : Type 0} {op : Operation A} {allows : K → Allows} {terms : Terms K}
+abbrev pub IsPhaseDone : {A : Type 0} {op : Operation A} {limits : Limits} {allows : Allows}
     {ask : Ask} {seen : History} {serves : Bool} {k : ℕ} {v : View} {x : CoreState A}
-    → Serving op allows terms ask seen serves k v x → Type 0
+    → Serving op limits allows ask seen serves k v x → Type 0
 IsPhaseDone {ask = ask} s = ask.phase < done_of (s.turned.later ++ s.turned.now)
 
 -- the phase is complete in whatever the core stands for

@@ -1,5 +1,6 @@
 -- What steps on words tell, over views.
 use Rattle.std.specs.Prelude.{◌≡◌, ℕ, ◌<◌, List, [], ◌∷◌, ◌++◌, false, Option}
+use Rattle.phase_core.specs.phase_base.Limits.{Limits}
 use Rattle.phase_core.specs.phase_base.Lists.{is_in}
 use Rattle.phase_core.specs.phase_accum.Operations.{Operation}
 use Rattle.phase_core.specs.phase_accum.declared.outcome.Outcome.{Outcome}
@@ -10,7 +11,6 @@ use Rattle.phase_core.specs.Cores.{CoreState}
 use Rattle.phase_shared.specs.declared.seats.view.Knowledge.{Knowledge}
 use Rattle.phase_shared.specs.declared.seats.view.View.{View}
 use Rattle.phase_shared.specs.declared.seats.view.View.TheVariants.{Resting, Turning, Posting, Asking, Reading}
-use Rattle.phase_shared.specs.declared.rule.Terms.{Terms}
 use Rattle.phase_shared.specs.Asks.{Ask, Batch, IsOneOf}
 use Rattle.phase_shared.specs.Goods.{Allows}
 use Rattle.phase_shared.specs.Lanes.{sends_of, KindIs, NumberIs, with_number}
@@ -59,7 +59,7 @@ with_lane n (Turning f claims said lane) = Turning f claims said n
 with_lane n v = v
 
 -- the events of the turn so far complete a phase
-pub record Completes {K : Type 0} (terms : Terms K) (v : View) : Type 0 where
+pub record Completes (limits : Limits) (v : View) : Type 0 where
   pub now : History
   pub speaks : List ℕ
   pub claims : List Ask
@@ -68,7 +68,7 @@ pub record Completes {K : Type 0} (terms : Terms K) (v : View) : Type 0 where
   pub later : History
   pub is : v ≡ turning now speaks claims said lane
   pub batch : Batch (IsOneOf claims) speaks later now
-  pub legal : IsLegal terms.limits (later ++ now)
+  pub legal : IsLegal limits (later ++ now)
   pub some : now ≡ [] → ⊥
   pub more : done_of now < done_of (later ++ now)
 
@@ -79,25 +79,25 @@ HasKind kind v w = (w ≡ with_board (board_of w) v) × KindIs kind (board_of w)
 abbrev pub HasNumber : ℕ → View → View → Type 0
 HasNumber number v w = w ≡ with_board (with_number number (board_of v)) v
 
-module _ {K : Type 0} (allows : K → Allows) (terms : Terms K) where
+module _ (limits : Limits) (allows : Allows) where
   -- a lane is read
   abbrev pub LaneReadAt : ℕ → View → ℕ → View → Type 0
   LaneReadAt i v r w =
       (f : Knowledge) (claims : List Ask) (said : Outcome) (lane : Option ℕ)
       → v ≡ Turning f claims said lane
-      → LaneRead terms.limits (allows terms.rule) i f claims said lane r w
+      → LaneRead limits allows i f claims said lane r w
 
   -- a look of a seat that asks
   abbrev pub LookedAt : View → ℕ → View → Type 0
   LookedAt v told w =
       (f : Knowledge) (a : Ask) → v ≡ Asking f a
-      → Looked terms.limits (allows terms.rule) a f told w
+      → Looked limits allows a f told w
 
   -- a take of one
   abbrev pub TookAskedAt : {A : Type 0} → Operation A → View → CoreState A → View → Type 0
   TookAskedAt op v x w =
       (f : Knowledge) (a : Ask) → v ≡ Asking f a
-      → TookAsked op.value terms.limits (allows terms.rule) (StandsWithin op terms.limits) f a x w
+      → TookAsked op.value limits allows (StandsWithin op limits) f a x w
 
 -- the second word of a lane is read
 abbrev pub SendReadAt : ℕ → View → ℕ → View → Type 0

@@ -116,6 +116,10 @@
 //! the turn taken, and then nothing changed. The rule also says of each lane that its registration
 //! may signal with what stands there, so a turn that read it may; and of the board that it has the
 //! value of the phase that was told, until each whose events were made so has read it.
+//!
+//! A call of `next` goes from `nexts` to `turns`, to `serving` and to `lanes`, and its answers come
+//! back as results. Its seat and its turns are the types of `desk`: each has its phaser with it,
+//! and says how far the call is.
 #![tactic(auto)]
 
 mod blocks;

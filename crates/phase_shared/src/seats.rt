@@ -2,6 +2,7 @@
 
 pub mod asking;
 pub mod block_steps;
+pub mod desk;
 pub mod ghost_steps;
 pub mod hints;
 pub mod join_steps;

@@ -71,11 +71,11 @@ module _ {T N V : Type 0} where
 module _ {T R N V : Type 0} where
   -- what the lock was told when it was made
   abbrev pub lock_name : TurnLock T R N V → N
-  lock_name l = l.table.shared.key
+  lock_name l = l.words.table.shared.key
 
   -- which lock it is
   abbrev pub lock_place : TurnLock T R N V → Place N
-  lock_place l = (l.table.shared.table_id, Some (lock_name l))
+  lock_place l = (l.words.table.shared.table_id, Some (lock_name l))
 
   -- the seat belongs to the lock
   abbrev pub IsSeatOf : TurnLock T R N V → Seat T N V → Type 0

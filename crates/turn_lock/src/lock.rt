@@ -1,27 +1,23 @@
 //! The lock.
-ghost use Rattle.std.specs.Prelude.{◌≡◌};
-
-use crate::rule::TurnRule;
-use crate::seat::Doing;
-use atomic_table::{Table, TableRule};
-use std::alloc::Global;
+use crate::rule::{TurnRule, WordRule};
+use crate::words::WordLock;
 use std::marker::PhantomData;
 
-pub(crate) mod ghost_steps;
 mod steps;
 
-// The rule of the table that a lock stands on.
-pub struct Ruled<R> {
+// The rule of a lock, which sees neither words nor the number that is told.
+pub struct Wordless<R> {
     rule: PhantomData<R>,
 }
 
-impl<T, R: TurnRule<T>> TableRule<T, Doing<R::Name, R::View>, R::Name> for Ruled<R> {
-    ghost use Rattle.std.specs.Prelude.{Some, false};
-    ghost use Rattle.turn_lock.specs.Word.{Locked, doing};
+impl<T, R: TurnRule<T>> WordRule<T> for Wordless<R> {
+    type Name = R::Name;
 
-    ghost holds = { λ name. Locked R.holds name };
+    type View = R::View;
 
-    ghost first = { λ name. doing (Some name) false (R.first name) };
+    ghost holds = { λ name home told words views. R.holds name home views };
+
+    ghost first = { R.first };
 }
 
 /// One value of type `T`, at which one seat at a time has the turn, under the rule `R`.
@@ -45,7 +41,8 @@ impl<T, R: TurnRule<T>> TableRule<T, Doing<R::Name, R::View>, R::Name> for Ruled
 /// yields.
 ///
 /// **Cost.** A take that wins is a look and one atomic step, and a give is one step. The value
-/// stays where it lies. A split is one step, and a join two.
+/// stays where it lies. A split is one step, and a join two. The lock has the words of a
+/// `WordLock`, which stay 0.
 ///
 /// **Limits.** Any number of seats.
 ///
@@ -57,6 +54,5 @@ impl<T, R: TurnRule<T>> TableRule<T, Doing<R::Name, R::View>, R::Name> for Ruled
 /// order seats get it, and that a turn ends.
 #[derive(Drop)]
 pub struct TurnLock<T, R: TurnRule<T>> {
-    pub(crate) table: Table<T, Doing<R::Name, R::View>, R::Name, Ruled<R>, Global>,
-    ghost sized: { (table.shared.table_id.words ≡ 17) × (table.shared.table_id.slots ≡ 1) },
+    pub(crate) words: WordLock<T, Wordless<R>>,
 }

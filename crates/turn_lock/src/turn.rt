@@ -20,6 +20,6 @@ impl<T, N, V> Turn<T, N, V> {
             self.entry.ghost_name result.ghost_name (turn_with self.old)) }
         ensures value { result.now ≡ turn_value self.old }
     {
-        self.inner.slot_mut(&lock.table.shared, 0)
+        self.inner.slot_mut(&lock.words.table.shared, 0)
     }
 }

@@ -112,15 +112,6 @@ impl<K, E: Report> Reads<Terms<K>, View> for OnReport<E> {
     ghost then = { λ terms v r w. E.tells v r w };
 }
 
-// A seat whose send is posted posts its phase.
-pub struct OnPost;
-
-impl<K> Learns<Terms<K>, View> for OnPost {
-    ghost use Rattle.phase_shared.specs.WordTells.{asking_of};
-
-    ghost then = { λ terms v w. w ≡ asking_of v };
-}
-
 // A look of a seat that asks.
 pub struct OnAsked<K> {
     marker: PhantomData<K>,
@@ -129,7 +120,7 @@ pub struct OnAsked<K> {
 impl<K: SignalRule> Reads<Terms<K>, View> for OnAsked<K> {
     ghost use Rattle.phase_shared.specs.WordTells.{LookedAt};
 
-    ghost then = { LookedAt K.allows };
+    ghost then = { λ terms v r w. LookedAt terms.limits (K.allows terms.rule) v r w };
 }
 
 // A take of one.
@@ -140,7 +131,8 @@ pub struct OnTakeAsked<A, K> {
 impl<A: Accumulate, K: SignalRule> Tells<Terms<K>, PhaserCore<A>, View> for OnTakeAsked<A, K> {
     ghost use Rattle.phase_shared.specs.WordTells.{TookAskedAt};
 
-    ghost then = { λ terms v x w. TookAskedAt K.allows terms A.operation v x w };
+    ghost then = { λ terms v x w.
+        TookAskedAt terms.limits (K.allows terms.rule) A.operation v x w };
 }
 
 // Who was answered reads the value's kind.
@@ -183,15 +175,34 @@ impl<K> Reads<Terms<K>, View> for OnBoardNumber {
     ghost then = { λ terms v r w. BoardNumber v r w };
 }
 
-// What a seat had seen when its call began.
-pub trait Since {
+// A call that goes to the next phase of a task, as the proofs name it.
+pub trait Since<K> {
+    ghost use Rattle.std.specs.Prelude.{Option};
+    ghost use Rattle.turn_lock.specs.Seats.{Place};
     ghost use Rattle.phase_core.specs.phase_history.Histories.{History};
+    ghost use Rattle.phase_shared.specs.declared.rule.Terms.{Terms};
+    ghost use Rattle.phase_shared.specs.declared.seats.view.Ask.{Ask};
+
+    // Which phaser it is on, and what that was told.
+    ghost place: { Place (Terms K) };
+
+    ghost terms: { Terms (Option K) };
+
+    // What is asked for, and what its seat had seen when it began.
+    ghost ask: { Ask };
 
     ghost seen: { History };
 }
 
-impl Since for Brand {
+impl<K> Since<K> for Brand {
     ghost use Rattle.std.specs.Prelude.{[]};
+    ghost use Rattle.phase_shared.specs.LockedPhasers.{no_place, no_terms};
+
+    ghost place = { no_place };
+
+    ghost terms = { no_terms };
+
+    ghost ask = { record { task = 0; phase = 0; sends = [] } };
 
     ghost seen = { [] };
 }

@@ -1,26 +1,21 @@
 //! A next phase of a task, which others may take it to.
-ghost use Rattle.std.specs.Prelude.{◌≡◌, false};
 ghost use Rattle.turn_lock.specs.Seats.{IsSeatAt, seat_view};
-ghost use Rattle.phase_core.specs.phase_history.Histories.{IsAlive};
-ghost use Rattle.phase_shared.specs.Desks.{MayMakeAsk};
-ghost use Rattle.phase_shared.specs.LockedPhasers.{locked_place, locked_terms};
-ghost use Rattle.phase_shared.specs.Rule.{IsSeatOfTask};
-ghost use Rattle.phase_shared.specs.Servings.{ask_of, MayAsk, IsAsking, IsWaiterIn, HasEnded, CameTo};
-ghost use Rattle.phase_shared.specs.Views.{known_of};
+ghost use Rattle.phase_shared.specs.Goods.{allows_or};
+ghost use Rattle.phase_shared.specs.LockedPhasers.{locked_terms};
+ghost use Rattle.phase_shared.specs.Servings.{IsCallAt, MayGoNext, HasEnded};
 
 use crate::rule::SignalRule;
-use crate::seats::asking::{look, take_asked};
+use crate::seats::desk::{AskingDesk, Call, Came, Desk, EndedDesk, FirstTurn, OnTurn, ReadyDesk};
 use crate::seats::ghost_steps::Since;
-use crate::seats::lanes::post;
 use crate::seats::locked::LockedPhaser;
-use crate::seats::request::{Came, Request};
+use crate::seats::request::Request;
 use crate::seats::spins::Spins;
 use crate::seats::steps::enter;
-use crate::seats::turns::{go_on, start};
 use crate::seats::view::PhaserSeat;
 use phase_core::SignalRefusal;
 use phase_core::phase_accum::{Accumulate, Outcome};
 use phase_core::phase_base::Entry;
+use std::marker::PhantomData;
 use std::sync::Wait;
 use std::{hint, thread};
 
@@ -44,274 +39,166 @@ fn pause(times: u32) {
     }
 }
 
-// Looks for its answer once.
-fn look_once<A: Accumulate, K: SignalRule, S: Since>(
-    phaser: &LockedPhaser<A, K>,
-    seat: PhaserSeat<A, K>,
-    request: Request,
-) -> (PhaserSeat<A, K>, Came)
-    requires seat { IsSeatAt (locked_place phaser.now) seat }
-    requires asks { IsAsking (ask_of request) S.seen (seat_view seat) }
-    ensures seat { IsSeatAt (locked_place phaser.now) result.0 }
-    ensures came { CameTo A.operation K.allows (locked_terms phaser.now) (ask_of request)
-        S.seen result.1 (seat_view result.0) }
-{
-    let (seat, found) = look(phaser, seat, request);
-    match found {
-        Some(outcome) => (seat, Came::Got(outcome)),
-        None => (seat, Came::Asked),
-    }
-}
-
-// Looks for its answer so often.
-fn look_for<A: Accumulate, K: SignalRule, S: Since>(
-    phaser: &LockedPhaser<A, K>,
-    seat: PhaserSeat<A, K>,
-    request: Request,
-    times: u32,
-) -> (PhaserSeat<A, K>, Came)
-    requires seat { IsSeatAt (locked_place phaser.now) seat }
-    requires asks { IsAsking (ask_of request) S.seen (seat_view seat) }
-    ensures seat { IsSeatAt (locked_place phaser.now) result.0 }
-    ensures came { CameTo A.operation K.allows (locked_terms phaser.now) (ask_of request)
-        S.seen result.1 (seat_view result.0) }
-{
-    let mut seat = seat;
-    for _ in 0..times {
-        let (next, found) = look(phaser, seat, request);
-        if let Some(outcome) = found {
-            return (next, Came::Got(outcome));
+impl<'a, A: Accumulate, K: SignalRule, S: Since<K>> AskingDesk<'a, A, K, S> {
+    // Looks for its answer, once and so often before.
+    fn look_for(self, times: u32) -> Came<'a, A, K, S> {
+        let mut asking = self;
+        for _ in 0..times {
+            asking = match asking.look() {
+                Came::Ended(ended) => return Came::Ended(ended),
+                Came::Asked(next) => next,
+            };
+            hint::spin_loop();
         }
-        seat = next;
-        hint::spin_loop();
+        asking.look()
     }
-    look_once::<A, K, S>(phaser, seat, request)
-}
 
-// Takes the turn, where it is free, and goes on under it. It tells whether it had the turn.
-fn try_turn<A: Accumulate, K: SignalRule, S: Since>(
-    phaser: &LockedPhaser<A, K>,
-    seat: PhaserSeat<A, K>,
-    request: Request,
-    looks: u32,
-) -> (PhaserSeat<A, K>, Came, bool)
-    requires seat { IsSeatAt (locked_place phaser.now) seat }
-    requires asks { IsAsking (ask_of request) S.seen (seat_view seat) }
-    requires waits { IsAlive S.seen request.task × IsWaiterIn S.seen request.task }
-    requires may { MayMakeAsk (locked_terms phaser.now).limits
-        (K.allows (locked_terms phaser.now).rule) S.seen (ask_of request) }
-    ensures seat { IsSeatAt (locked_place phaser.now) result.0 }
-    ensures came { CameTo A.operation K.allows (locked_terms phaser.now) (ask_of request)
-        S.seen result.1 (seat_view result.0) }
-    ensures free { result.2 ≡ false
-        → IsAsking (ask_of request) S.seen (seat_view result.0) }
-{
-    match take_asked(phaser, seat, request) {
-        Ok(turn) => {
-            let (seat, came) = go_on::<A, K, S>(phaser, turn, request, looks);
-            (seat, came, true)
+    // Takes the turn, where it is free, and goes on under it.
+    fn try_turn(self, looks: u32) -> Came<'a, A, K, S> {
+        match self.take() {
+            Ok(taken) => taken.go_on(looks),
+            Err(asking) => Came::Asked(asking),
         }
-        Err(back) => (back, Came::Asked, false),
     }
-}
 
-// Sleeps for some time, or until a phase is complete.
-fn sleep<A: Accumulate, K: SignalRule, W: Wait>(rt: &W, phaser: &LockedPhaser<A, K>, phase: u64) {
-    let bell = &phaser.hints.phases;
-    let found = bell.lie_down();
-    if phaser.told() <= phase {
-        bell.sleep(rt, found);
-    }
-    bell.get_up();
-}
-
-// Whether it is time to take the turn: its phase is complete, or, where its signal may be a post
-// alone, the turn is free.
-fn is_time<A: Accumulate, K: SignalRule>(
-    phaser: &LockedPhaser<A, K>,
-    phase: u64,
-    is_made: bool,
-    round: u32,
-) -> bool {
-    phaser.told() > phase || (!is_made && round % 4 == 0 && phaser.lock.is_free())
-}
-
-// Looks for its answer, and takes the turn where it is time, while it yields so often. It tells
-// whether it had the turn.
-fn yield_for<A: Accumulate, K: SignalRule, S: Since>(
-    phaser: &LockedPhaser<A, K>,
-    seat: PhaserSeat<A, K>,
-    request: Request,
-    is_made: bool,
-) -> (PhaserSeat<A, K>, Came, bool)
-    requires seat { IsSeatAt (locked_place phaser.now) seat }
-    requires asks { IsAsking (ask_of request) S.seen (seat_view seat) }
-    requires waits { IsAlive S.seen request.task × IsWaiterIn S.seen request.task }
-    requires may { MayMakeAsk (locked_terms phaser.now).limits
-        (K.allows (locked_terms phaser.now).rule) S.seen (ask_of request) }
-    ensures seat { IsSeatAt (locked_place phaser.now) result.0 }
-    ensures came { CameTo A.operation K.allows (locked_terms phaser.now) (ask_of request)
-        S.seen result.1 (seat_view result.0) }
-{
-    let mut seat = seat;
-    let mut is_made = is_made;
-    for round in 0..YIELDS {
-        let (next, found) = look(phaser, seat, request);
-        if let Some(outcome) = found {
-            return (next, Came::Got(outcome), is_made);
+    // Sleeps for some time, or until its phase is complete.
+    fn sleep<W: Wait>(&self, rt: &W) {
+        let phaser = self.desk.of.phaser;
+        let bell = &phaser.hints.phases;
+        let found = bell.lie_down();
+        if phaser.told() <= self.desk.of.request.phase {
+            bell.sleep(rt, found);
         }
-        seat = next;
-        if is_time(phaser, request.phase, is_made, round) {
-            let (next, came, had_turn) = try_turn::<A, K, S>(phaser, seat, request, 0);
-            if !matches!(came, Came::Asked) {
-                return (next, came, true);
+        bell.get_up();
+    }
+
+    // Whether it is time to take the turn: its phase is complete, or, where its signal may be a
+    // post alone, the turn is free.
+    fn is_time(&self, round: u32) -> bool {
+        let phaser = self.desk.of.phaser;
+        phaser.told() > self.desk.of.request.phase
+            || (!self.is_made && round % 4 == 0 && phaser.lock.is_free())
+    }
+
+    // Looks for its answer, and takes the turn where it is time, while it yields so often.
+    fn yield_for(self) -> Came<'a, A, K, S> {
+        let mut asking = self;
+        for round in 0..YIELDS {
+            asking = match asking.look() {
+                Came::Ended(ended) => return Came::Ended(ended),
+                Came::Asked(next) => next,
+            };
+            if asking.is_time(round) {
+                asking = match asking.try_turn(0) {
+                    Came::Ended(ended) => return Came::Ended(ended),
+                    Came::Asked(next) => next,
+                };
             }
-            seat = next;
-            is_made = is_made || had_turn;
+            thread::yield_now();
         }
-        thread::yield_now();
+        asking.look()
     }
-    let (seat, came) = look_once::<A, K, S>(phaser, seat, request);
-    (seat, came, is_made)
-}
 
-// Waits for its answer, or for a refusal.
-fn wait_for<A: Accumulate, K: SignalRule, S: Since, W: Wait>(
-    rt: &W,
-    phaser: &LockedPhaser<A, K>,
-    seat: PhaserSeat<A, K>,
-    request: Request,
-    is_made: bool,
-) -> (PhaserSeat<A, K>, Result<Outcome, SignalRefusal>)
-    requires seat { IsSeatAt (locked_place phaser.now) seat }
-    requires asks { IsAsking (ask_of request) S.seen (seat_view seat) }
-    requires waits { IsAlive S.seen request.task × IsWaiterIn S.seen request.task }
-    requires may { MayMakeAsk (locked_terms phaser.now).limits
-        (K.allows (locked_terms phaser.now).rule) S.seen (ask_of request) }
-    ensures seat { IsSeatAt (locked_place phaser.now) result.0 }
-    ensures ended { HasEnded A.operation K.allows (locked_terms phaser.now) (ask_of request)
-        S.seen result.1 (seat_view result.0) }
-{
-    let mut seat = seat;
-    let mut is_made = is_made;
-    for _ in rt.forever() {
-        let (next, came, had_turn) = yield_for::<A, K, S>(phaser, seat, request, is_made);
-        match came {
-            Came::Got(outcome) => return (next, Ok(outcome)),
-            Came::Refused(refusal) => return (next, Err(refusal)),
-            Came::Asked => seat = next,
+    // Waits for its answer, or for a refusal.
+    fn wait_for<W: Wait>(self, rt: &W) -> EndedDesk<'a, A, K, S> {
+        let mut asking = self;
+        for _ in rt.forever() {
+            asking = match asking.yield_for() {
+                Came::Ended(ended) => return ended,
+                Came::Asked(next) => next,
+            };
+            // Nobody may be left to wake who sleeps while its signal is a post alone.
+            if asking.is_made {
+                asking.sleep(rt);
+                asking.is_made = false;
+            }
         }
-        is_made = had_turn;
-        // Nobody may be left to wake who sleeps while its signal is a post alone.
-        if is_made {
-            sleep(rt, phaser, request.phase);
-            is_made = false;
-        }
+        unreachable!()
     }
-    unreachable!()
-}
 
-// Has its answer, or waits for it.
-fn after_turn<A: Accumulate, K: SignalRule, S: Since, W: Wait>(
-    rt: &W,
-    phaser: &LockedPhaser<A, K>,
-    seat: PhaserSeat<A, K>,
-    came: Came,
-    request: Request,
-    spins: &mut Spins,
-) -> (PhaserSeat<A, K>, Result<Outcome, SignalRefusal>)
-    requires seat { IsSeatAt (locked_place phaser.now) seat }
-    requires came { CameTo A.operation K.allows (locked_terms phaser.now) (ask_of request)
-        S.seen came (seat_view seat) }
-    requires waits { IsAlive S.seen request.task × IsWaiterIn S.seen request.task }
-    requires may { MayMakeAsk (locked_terms phaser.now).limits
-        (K.allows (locked_terms phaser.now).rule) S.seen (ask_of request) }
-    ensures seat { IsSeatAt (locked_place phaser.now) result.0 }
-    ensures ended { HasEnded A.operation K.allows (locked_terms phaser.now) (ask_of request)
-        S.seen result.1 (seat_view result.0) }
-{
-    match came {
-        Came::Got(outcome) => {
-            spins.served();
-            (seat, Ok(outcome))
-        }
-        Came::Refused(refusal) => (seat, Err(refusal)),
-        Came::Asked => wait_longer::<A, K, S, W>(rt, phaser, seat, request, spins, true),
-    }
-}
-
-// Looks for its answer once more, and then waits for it.
-fn wait_longer<A: Accumulate, K: SignalRule, S: Since, W: Wait>(
-    rt: &W,
-    phaser: &LockedPhaser<A, K>,
-    seat: PhaserSeat<A, K>,
-    request: Request,
-    spins: &mut Spins,
-    is_made: bool,
-) -> (PhaserSeat<A, K>, Result<Outcome, SignalRefusal>)
-    requires seat { IsSeatAt (locked_place phaser.now) seat }
-    requires asks { IsAsking (ask_of request) S.seen (seat_view seat) }
-    requires waits { IsAlive S.seen request.task × IsWaiterIn S.seen request.task }
-    requires may { MayMakeAsk (locked_terms phaser.now).limits
-        (K.allows (locked_terms phaser.now).rule) S.seen (ask_of request) }
-    ensures seat { IsSeatAt (locked_place phaser.now) result.0 }
-    ensures ended { HasEnded A.operation K.allows (locked_terms phaser.now) (ask_of request)
-        S.seen result.1 (seat_view result.0) }
-{
-    let times = if spins.is_slow() { FEW } else { LOOKS };
-    let (seat, came) = look_for::<A, K, S>(phaser, seat, request, times);
-    match came {
-        Came::Got(outcome) => {
-            spins.quick();
-            (seat, Ok(outcome))
-        }
-        Came::Refused(refusal) => (seat, Err(refusal)),
-        Came::Asked => {
-            spins.slow();
-            spins.answered();
-            wait_for::<A, K, S, W>(rt, phaser, seat, request, is_made)
+    // Looks for its answer once more, and then waits for it.
+    fn wait_longer<W: Wait>(self, rt: &W, spins: &mut Spins) -> EndedDesk<'a, A, K, S> {
+        let times = if spins.is_slow() { FEW } else { LOOKS };
+        match self.look_for(times) {
+            Came::Ended(ended) => {
+                spins.quick();
+                ended
+            }
+            Came::Asked(asking) => {
+                spins.slow();
+                spins.answered();
+                asking.wait_for(rt)
+            }
         }
     }
 }
 
-// Posts what it asks for, looks for its answer, and else for the turn.
-fn ask<A: Accumulate, K: SignalRule, S: Since, W: Wait>(
-    rt: &W,
-    phaser: &LockedPhaser<A, K>,
-    seat: PhaserSeat<A, K>,
-    request: Request,
-    spins: &mut Spins,
-) -> (PhaserSeat<A, K>, Result<Outcome, SignalRefusal>)
-    requires seat { IsSeatAt (locked_place phaser.now) seat }
-    requires may { MayAsk K.allows (locked_terms phaser.now) (ask_of request) (seat_view seat) }
-    requires since { S.seen ≡ (known_of (seat_view seat)).seen }
-    requires waits { IsAlive S.seen request.task × IsWaiterIn S.seen request.task }
-    ensures seat { IsSeatAt (locked_place phaser.now) result.0 }
-    ensures ended { HasEnded A.operation K.allows (locked_terms phaser.now) (ask_of request)
-        S.seen result.1 (seat_view result.0) }
-{
-    let seat = post(phaser, seat, request);
-    if spins.first() != 0 {
-        pause(HOLD);
-    }
-    let (seat, came) = look_for::<A, K, S>(phaser, seat, request, spins.first());
-    match came {
-        Came::Got(outcome) => {
-            spins.quick();
-            return (seat, Ok(outcome));
+impl<'a, A: Accumulate, K: SignalRule, S: Since<K>> Came<'a, A, K, S> {
+    // After a turn, or a try to take one: has its answer, or waits for it.
+    fn after_turn<W: Wait>(self, rt: &W, spins: &mut Spins) -> EndedDesk<'a, A, K, S> {
+        match self {
+            Came::Ended(ended) => {
+                if ended.answer.is_ok() {
+                    spins.served();
+                }
+                ended
+            }
+            Came::Asked(asking) => asking.wait_longer(rt, spins),
         }
-        Came::Refused(refusal) => return (seat, Err(refusal)),
-        Came::Asked => {}
     }
-    let (seat, came, had_turn) = try_turn::<A, K, S>(phaser, seat, request, spins.serve());
-    if had_turn {
-        return after_turn::<A, K, S, W>(rt, phaser, seat, came, request, spins);
+}
+
+impl<'a, A: Accumulate, K: SignalRule, S: Since<K>> ReadyDesk<'a, A, K, S> {
+    // Takes the turn, where it is free.
+    fn take(self) -> Result<FirstTurn<'a, A, K, S>, ReadyDesk<'a, A, K, S>> {
+        let ReadyDesk { desk, entry } = self;
+        let Desk { of, seat } = desk;
+        match enter(of.phaser, seat, of.request.task, entry) {
+            Ok(turn) => {
+                let on = OnTurn { of, turn };
+                Ok(FirstTurn { on })
+            }
+            Err(seat) => {
+                let desk = Desk { of, seat };
+                Err(ReadyDesk { desk, entry })
+            }
+        }
     }
-    wait_longer::<A, K, S, W>(rt, phaser, seat, request, spins, false)
+
+    // Posts what it asks for, looks for its answer, and else for the turn.
+    fn ask<W: Wait>(self, rt: &W, spins: &mut Spins) -> EndedDesk<'a, A, K, S> {
+        let ReadyDesk { desk, .. } = self;
+        let asking = desk.post();
+        if spins.first() != 0 {
+            pause(HOLD);
+        }
+        match asking.look_for(spins.first()) {
+            Came::Ended(ended) => {
+                spins.quick();
+                ended
+            }
+            Came::Asked(asking) => asking.try_turn(spins.serve()).after_turn(rt, spins),
+        }
+    }
+
+    // Goes to its next phase, or is refused, as a signal is.
+    fn go<W: Wait>(self, rt: &W, spins: &mut Spins) -> EndedDesk<'a, A, K, S> {
+        spins.begin(self.desk.of.request.phase);
+        if !spins.takes_first() {
+            return self.ask(rt, spins);
+        }
+        if spins.rests_first() {
+            pause(REST);
+        }
+        match self.take() {
+            Ok(first) => first.start(spins.serve()).after_turn(rt, spins),
+            Err(ready) => ready.ask(rt, spins),
+        }
+    }
 }
 
 /// Goes to its next phase, or is refused, as a signal is.
-pub fn next<A: Accumulate, K: SignalRule, S: Since, W: Wait>(
+pub fn next<A: Accumulate, K: SignalRule, S: Since<K>, W: Wait>(
     rt: &W,
     phaser: &LockedPhaser<A, K>,
     seat: PhaserSeat<A, K>,
@@ -319,28 +206,24 @@ pub fn next<A: Accumulate, K: SignalRule, S: Since, W: Wait>(
     request: Request,
     spins: &mut Spins,
 ) -> (PhaserSeat<A, K>, Result<Outcome, SignalRefusal>)
-    requires seat { IsSeatAt (locked_place phaser.now) seat }
-    requires at { IsSeatOfTask K.allows (locked_terms phaser.now) request.task entry
-        (seat_view seat) }
-    requires may { MayAsk K.allows (locked_terms phaser.now) (ask_of request) (seat_view seat) }
-    requires since { S.seen ≡ (known_of (seat_view seat)).seen }
-    requires waits { IsAlive S.seen request.task × IsWaiterIn S.seen request.task }
-    ensures seat { IsSeatAt (locked_place phaser.now) result.0 }
-    ensures ended { HasEnded A.operation K.allows (locked_terms phaser.now) (ask_of request)
+    requires seat { IsSeatAt S.place seat }
+    requires call { IsCallAt phaser.now request S.place S.terms S.ask }
+    requires ready { MayGoNext K.allows (locked_terms phaser.now) S.terms.limits
+        (allows_or K.allows S.terms.rule) request entry S.ask S.seen (seat_view seat) }
+    ensures seat { IsSeatAt S.place result.0 }
+    ensures ended { HasEnded A.operation S.terms.limits (allows_or K.allows S.terms.rule) S.ask
         S.seen result.1 (seat_view result.0) }
 {
-    spins.begin(request.phase);
-    if !spins.takes_first() {
-        return ask::<A, K, S, W>(rt, phaser, seat, request, spins);
-    }
-    if spins.rests_first() {
-        pause(REST);
-    }
-    match enter(phaser, seat, request.task, entry) {
-        Ok(turn) => {
-            let (seat, came) = start::<A, K, S>(phaser, turn, request, spins.serve());
-            after_turn::<A, K, S, W>(rt, phaser, seat, came, request, spins)
-        }
-        Err(seat) => ask::<A, K, S, W>(rt, phaser, seat, request, spins),
-    }
+    let since = PhantomData::<S>;
+    let of = Call {
+        phaser,
+        request,
+        since,
+    };
+    let desk = Desk { of, seat };
+    let ready = ReadyDesk { desk, entry };
+    let ended = ready.go(rt, spins);
+    let EndedDesk { desk, answer } = ended;
+    let Desk { seat, .. } = desk;
+    (seat, answer)
 }

@@ -1,25 +1,22 @@
 //! The turn of a seat that asks: it signals for others, and waits for all where that completes its
 //! phase.
-ghost use Rattle.std.specs.Prelude.{◌≡◌, ◌<◌, ◌+◌, ◌^◌, ℕ, Bool, true, false};
-ghost use Rattle.turn_lock.specs.Seats.{IsTurnAt, turn_view, turn_value};
-ghost use Rattle.phase_shared.specs.LockedPhasers.{locked_place, locked_terms};
-ghost use Rattle.phase_shared.specs.Servings.{ask_of, IsBefore, IsBetween, Serving, Finished, IsCompleteIn, IsPhaseDone};
+ghost use Rattle.std.specs.Prelude.{◌≡◌, ◌<◌, ◌+◌, ◌^◌, ℕ, Bool, true};
+ghost use Rattle.turn_lock.specs.Seats.{turn_view, turn_value};
+ghost use Rattle.phase_shared.specs.Goods.{allows_or};
+ghost use Rattle.phase_shared.specs.Servings.{HasToSignal, IsBetween, Serving, ServingOpen, Finished, IsPhaseDone};
 ghost use Rattle.phase_shared.specs.Views.{known_of};
 
 use crate::lane_words::{LANES, sends_of};
 use crate::rule::SignalRule;
+use crate::seats::desk::{FullTurn, OnTurn, OpenTurn};
 use crate::seats::ghost_steps::Since;
-use crate::seats::lanes::{read_lane, read_send};
-use crate::seats::locked::LockedPhaser;
-use crate::seats::request::Request;
-use crate::seats::view::PhaserTurn;
 use phase_core::phase_accum::{Accumulate, Outcome};
 use phase_core::{Got, PhaserCore};
 use std::hint;
 
 // Whether the task stands before the phase, which it has neither signalled nor waited for.
 fn is_before<A: Accumulate>(core: &PhaserCore<A>, task: u64, phase: u64) -> bool
-    ensures { result ≡ true → IsBefore core.now.members task phase }
+    ensures { result ≡ true → HasToSignal core.now.members task phase }
 {
     match core.view(task) {
         Some(entry) => {
@@ -42,206 +39,163 @@ fn is_between<A: Accumulate>(core: &PhaserCore<A>, task: u64, phase: u64) -> boo
     }
 }
 
-// Makes the signal that another task asks for in this phase, where it does, and tells whether it
-// made one.
-fn signal_for<A: Accumulate, K: SignalRule, S: Since>(
-    phaser: &LockedPhaser<A, K>,
-    turn: PhaserTurn<A, K>,
-    request: Request,
-    task: u64,
-) -> (PhaserTurn<A, K>, bool)
-    requires low { task < LANES }
-    requires turn { IsTurnAt (locked_place phaser.now) turn }
-    requires serving { Serving A.operation K.allows (locked_terms phaser.now) (ask_of request)
-        S.seen false 0 (turn_view turn) (turn_value turn) }
-    ensures turn { IsTurnAt (locked_place phaser.now) result.0 }
-    ensures knows { known_of (turn_view result.0) ≡ known_of (turn_view turn) }
-    ensures serving { Serving A.operation K.allows (locked_terms phaser.now) (ask_of request)
-        S.seen false 0 (turn_view result.0) (turn_value result.0) }
-{
-    if task == request.task {
-        return (turn, false);
-    }
-    let (turn, found) = read_lane(phaser, turn, task);
-    if found != request.phase + 1 {
-        return (turn, false);
-    }
-    let (mut turn, send) = read_send(phaser, turn, task);
-    let core = turn.value_in(&phaser.lock);
-    if !is_before(core, task, request.phase) {
-        return (turn, false);
-    }
-    match core.signal(task, sends_of(send), None) {
-        Ok(_phase) => (turn, true),
-        Err(_refused) => (turn, false),
-    }
-}
-
-// Makes the signals that others ask for in this phase, and tells whether it made one.
-fn signal_all<A: Accumulate, K: SignalRule, S: Since>(
-    phaser: &LockedPhaser<A, K>,
-    turn: PhaserTurn<A, K>,
-    request: Request,
-) -> (PhaserTurn<A, K>, bool)
-    requires turn { IsTurnAt (locked_place phaser.now) turn }
-    requires serving { Serving A.operation K.allows (locked_terms phaser.now) (ask_of request)
-        S.seen false 0 (turn_view turn) (turn_value turn) }
-    ensures turn { IsTurnAt (locked_place phaser.now) result.0 }
-    ensures knows { known_of (turn_view result.0) ≡ known_of (turn_view turn) }
-    ensures serving { Serving A.operation K.allows (locked_terms phaser.now) (ask_of request)
-        S.seen false 0 (turn_view result.0) (turn_value result.0) }
-{
-    let mut turn = turn;
-    let mut has_made = false;
-    for task in 0..phaser.hints.lanes() {
-        let (next, is_made) = signal_for::<A, K, S>(phaser, turn, request, task);
-        turn = next;
-        has_made |= is_made;
-    }
-    (turn, has_made)
-}
-
-// Whether the phase is complete.
-fn is_complete<A: Accumulate, K: SignalRule>(
-    phaser: &LockedPhaser<A, K>,
-    turn: PhaserTurn<A, K>,
-    phase: u64,
-) -> (PhaserTurn<A, K>, bool)
-    requires turn { IsTurnAt (locked_place phaser.now) turn }
-    ensures turn { IsTurnAt (locked_place phaser.now) result.0 }
-    ensures view { turn_view result.0 ≡ turn_view turn }
-    ensures value { turn_value result.0 ≡ turn_value turn }
-    ensures complete { result.1 ≡ true
-        → IsCompleteIn A.operation (turn_value result.0) phase }
-{
-    let mut turn = turn;
-    let is_done = turn.value_in(&phaser.lock).done() > phase;
-    (turn, is_done)
-}
-
-// Makes the signals that others ask for while the phase is not complete, for one look and so many
-// more. It tells whether the phase is complete.
-pub fn gather<A: Accumulate, K: SignalRule, S: Since>(
-    phaser: &LockedPhaser<A, K>,
-    turn: PhaserTurn<A, K>,
-    request: Request,
-    looks: u32,
-) -> (PhaserTurn<A, K>, bool)
-    requires turn { IsTurnAt (locked_place phaser.now) turn }
-    requires serving { Serving A.operation K.allows (locked_terms phaser.now) (ask_of request)
-        S.seen false 0 (turn_view turn) (turn_value turn) }
-    ensures turn { IsTurnAt (locked_place phaser.now) result.0 }
-    ensures knows { known_of (turn_view result.0) ≡ known_of (turn_view turn) }
-    ensures serving { Serving A.operation K.allows (locked_terms phaser.now) (ask_of request)
-        S.seen false 0 (turn_view result.0) (turn_value result.0) }
-    ensures complete { result.1 ≡ true
-        → IsCompleteIn A.operation (turn_value result.0) request.phase }
-{
-    let mut turn = turn;
-    for _ in 0..looks.saturating_add(1) {
-        let (next, is_done) = is_complete(phaser, turn, request.phase);
-        if is_done {
-            return (next, true);
+impl<'a, A: Accumulate, K: SignalRule, S: Since<K>> OpenTurn<'a, A, K, S> {
+    // Makes the signal that another task asks for in this phase, where it does, and tells whether
+    // it made one.
+    fn signal_for(self, task: u64) -> (OpenTurn<'a, A, K, S>, bool)
+        requires low { task < LANES }
+    {
+        let OpenTurn { on } = self;
+        let request = on.of.request;
+        if task == request.task {
+            return (OpenTurn { on }, false);
         }
-        let (next, has_made) = signal_all::<A, K, S>(phaser, next, request);
-        turn = next;
-        if !has_made {
-            hint::spin_loop();
+        let (on, found) = on.read_lane(task);
+        if found != request.phase + 1 {
+            return (OpenTurn { on }, false);
+        }
+        let (on, send) = on.read_send(task);
+        let OnTurn { of, mut turn } = on;
+        let core = turn.value_in(&of.phaser.lock);
+        if !is_before(core, task, request.phase) {
+            let on = OnTurn { of, turn };
+            return (OpenTurn { on }, false);
+        }
+        match core.signal(task, sends_of(send), None) {
+            Ok(_phase) => {
+                let on = OnTurn { of, turn };
+                (OpenTurn { on }, true)
+            }
+            Err(_refused) => {
+                let on = OnTurn { of, turn };
+                (OpenTurn { on }, false)
+            }
         }
     }
-    is_complete(phaser, turn, request.phase)
+
+    // Makes the signals that others ask for in this phase, and tells whether it made one.
+    fn signal_all(self) -> (OpenTurn<'a, A, K, S>, bool) {
+        let lanes = self.on.of.phaser.hints.lanes();
+        let mut open = self;
+        let mut has_made = false;
+        for task in 0..lanes {
+            let (next, is_made) = open.signal_for(task);
+            open = next;
+            has_made |= is_made;
+        }
+        (open, has_made)
+    }
+
+    // The same turn, where its phase is complete.
+    fn complete(self) -> Result<FullTurn<'a, A, K, S>, OpenTurn<'a, A, K, S>> {
+        let OpenTurn { on } = self;
+        let OnTurn { of, mut turn } = on;
+        let done = turn.value_in(&of.phaser.lock).done();
+        let phase = of.request.phase;
+        let on = OnTurn { of, turn };
+        if done > phase {
+            Ok(FullTurn { on })
+        } else {
+            Err(OpenTurn { on })
+        }
+    }
+
+    /// Makes the signals that others ask for while the phase is not complete, for one look and so
+    /// many more.
+    pub fn gather(self, looks: u32) -> Result<FullTurn<'a, A, K, S>, OpenTurn<'a, A, K, S>> {
+        let mut open = self;
+        for _ in 0..looks.saturating_add(1) {
+            let next = match open.complete() {
+                Ok(full) => return Ok(full),
+                Err(next) => next,
+            };
+            let (next, has_made) = next.signal_all();
+            open = next;
+            if !has_made {
+                hint::spin_loop();
+            }
+        }
+        open.complete()
+    }
 }
 
-// Makes the wait of another task that asked for this phase, where its signal was made. It tells
-// whether no ask of this task for the phase is left.
-fn wait_for<A: Accumulate, K: SignalRule, S: Since>(
-    phaser: &LockedPhaser<A, K>,
-    turn: PhaserTurn<A, K>,
-    request: Request,
-    task: u64,
-) -> (PhaserTurn<A, K>, bool)
-    requires low { task < LANES }
-    requires turn { IsTurnAt (locked_place phaser.now) turn }
-    requires serving { Serving A.operation K.allows (locked_terms phaser.now) (ask_of request)
-        S.seen true 0 (turn_view turn) (turn_value turn) }
-    ensures turn { IsTurnAt (locked_place phaser.now) result.0 }
-    ensures knows { known_of (turn_view result.0) ≡ known_of (turn_view turn) }
-    ensures serving { Serving A.operation K.allows (locked_terms phaser.now) (ask_of request)
-        S.seen true 0 (turn_view result.0) (turn_value result.0) }
-    ensures served { result.1 ≡ true
-        → Serving A.operation K.allows (locked_terms phaser.now) (ask_of request)
-        S.seen true task (turn_view turn) (turn_value turn)
-        → Serving A.operation K.allows (locked_terms phaser.now) (ask_of request)
-        S.seen true (task + 1) (turn_view result.0) (turn_value result.0) }
-{
-    if task == request.task {
-        return (turn, true);
+impl<'a, A: Accumulate, K: SignalRule, S: Since<K>> OnTurn<'a, A, K, S> {
+    // Makes the wait of another task that asked for this phase, where its signal was made. It tells
+    // whether no ask of this task for the phase is left.
+    fn wait_for(self, task: u64) -> (OnTurn<'a, A, K, S>, bool)
+        requires low { task < LANES }
+        requires serving { ServingOpen A.operation S.terms.limits
+            (allows_or K.allows S.terms.rule) S.ask S.seen true (turn_view self.turn)
+            (turn_value self.turn) }
+        ensures serving { ServingOpen A.operation S.terms.limits (allows_or K.allows S.terms.rule)
+            S.ask S.seen true (turn_view result.0.turn) (turn_value result.0.turn) }
+        ensures served { result.1 ≡ true
+            → Serving A.operation S.terms.limits (allows_or K.allows S.terms.rule) S.ask S.seen
+            true task (turn_view self.entry.turn) (turn_value self.entry.turn)
+            → Serving A.operation S.terms.limits (allows_or K.allows S.terms.rule) S.ask S.seen
+            true (task + 1) (turn_view result.0.turn) (turn_value result.0.turn) }
+    {
+        let request = self.of.request;
+        if task == request.task {
+            return (self, true);
+        }
+        let (on, found) = self.read_lane(task);
+        if found != request.phase + 1 {
+            return (on, true);
+        }
+        let OnTurn { of, mut turn } = on;
+        let core = turn.value_in(&of.phaser.lock);
+        if !is_between(core, task, request.phase) {
+            return (OnTurn { of, turn }, false);
+        }
+        match core.wait(task) {
+            Ok(Got::Value { .. }) => (OnTurn { of, turn }, true),
+            Ok(Got::Ended) => (OnTurn { of, turn }, false),
+            Err(_refusal) => (OnTurn { of, turn }, false),
+        }
     }
-    let (mut turn, found) = read_lane(phaser, turn, task);
-    if found != request.phase + 1 {
-        return (turn, true);
-    }
-    let core = turn.value_in(&phaser.lock);
-    if !is_between(core, task, request.phase) {
-        return (turn, false);
-    }
-    match core.wait(task) {
-        Ok(Got::Value { .. }) => (turn, true),
-        Ok(Got::Ended) => (turn, false),
-        Err(_refusal) => (turn, false),
-    }
-}
 
-// Makes the waits of all others that asked for this phase, and tells whether none of them is left.
-pub fn wait_all<A: Accumulate, K: SignalRule, S: Since>(
-    phaser: &LockedPhaser<A, K>,
-    turn: PhaserTurn<A, K>,
-    request: Request,
-) -> (PhaserTurn<A, K>, bool)
-    requires turn { IsTurnAt (locked_place phaser.now) turn }
-    requires serving { Serving A.operation K.allows (locked_terms phaser.now) (ask_of request)
-        S.seen true 0 (turn_view turn) (turn_value turn) }
-    ensures turn { IsTurnAt (locked_place phaser.now) result.0 }
-    ensures knows { known_of (turn_view result.0) ≡ known_of (turn_view turn) }
-    ensures serving { Serving A.operation K.allows (locked_terms phaser.now) (ask_of request)
-        S.seen true 0 (turn_view result.0) (turn_value result.0) }
-    ensures all { result.1 ≡ true
-        → Serving A.operation K.allows (locked_terms phaser.now) (ask_of request)
-        S.seen true LANES (turn_view result.0) (turn_value result.0) }
-{
-    let mut turn = turn;
-    let mut is_all = true;
-    for task in 0..LANES {
-        let (next, is_made) = wait_for::<A, K, S>(phaser, turn, request, task);
-        turn = next;
-        is_all &= is_made;
+    /// Makes the waits of all others that asked for this phase, and tells whether none of them is
+    /// left.
+    pub fn wait_all(self) -> (OnTurn<'a, A, K, S>, bool)
+        requires serving { ServingOpen A.operation S.terms.limits
+            (allows_or K.allows S.terms.rule) S.ask S.seen true (turn_view self.turn)
+            (turn_value self.turn) }
+        ensures serving { ServingOpen A.operation S.terms.limits (allows_or K.allows S.terms.rule)
+            S.ask S.seen true (turn_view result.0.turn) (turn_value result.0.turn) }
+        ensures all { result.1 ≡ true
+            → Serving A.operation S.terms.limits (allows_or K.allows S.terms.rule) S.ask S.seen
+            true LANES (turn_view result.0.turn) (turn_value result.0.turn) }
+    {
+        let mut on = self;
+        let mut is_all = true;
+        for task in 0..LANES {
+            let (next, is_made) = on.wait_for(task);
+            on = next;
+            is_all &= is_made;
+        }
+        (on, is_all)
     }
-    (turn, is_all)
-}
 
-// Makes its own wait, for its phase, which is complete, and answers the value.
-pub fn wait_own<A: Accumulate, K: SignalRule, S: Since>(
-    phaser: &LockedPhaser<A, K>,
-    turn: PhaserTurn<A, K>,
-    request: Request,
-) -> (PhaserTurn<A, K>, Outcome)
-    requires turn { IsTurnAt (locked_place phaser.now) turn }
-    requires serving { (serves : Bool) × (k : ℕ)
-        × (s : Serving A.operation K.allows (locked_terms phaser.now) (ask_of request)
-        S.seen serves k (turn_view turn) (turn_value turn)) × IsPhaseDone s }
-    ensures turn { IsTurnAt (locked_place phaser.now) result.0 }
-    ensures knows { known_of (turn_view result.0) ≡ known_of (turn_view turn) }
-    ensures finished { (serves : Bool) (k : ℕ)
-        (s : Serving A.operation K.allows (locked_terms phaser.now) (ask_of request)
-        S.seen serves k (turn_view turn) (turn_value turn)) → IsPhaseDone s
-        → Finished A.operation K.allows (locked_terms phaser.now) (ask_of request)
-        S.seen serves k result.1 (turn_view result.0) (turn_value result.0) }
-{
-    let mut turn = turn;
-    let core = turn.value_in(&phaser.lock);
-    match core.wait(request.task) {
-        Ok(Got::Value { outcome, .. }) => (turn, outcome),
-        Ok(Got::Ended) => unreachable!(),
-        Err(_refusal) => unreachable!(),
+    /// Makes its own wait, for its phase, which is complete, and answers the value.
+    pub fn wait_own(self) -> (OnTurn<'a, A, K, S>, Outcome)
+        requires serving { (serves : Bool) × (k : ℕ)
+            × (s : Serving A.operation S.terms.limits (allows_or K.allows S.terms.rule) S.ask
+            S.seen serves k (turn_view self.turn) (turn_value self.turn)) × IsPhaseDone s }
+        ensures knows { known_of (turn_view result.0.turn)
+            ≡ known_of (turn_view self.entry.turn) }
+        ensures finished { (serves : Bool) (k : ℕ)
+            (s : Serving A.operation S.terms.limits (allows_or K.allows S.terms.rule) S.ask S.seen
+            serves k (turn_view self.entry.turn) (turn_value self.entry.turn)) → IsPhaseDone s
+            → Finished A.operation S.terms.limits (allows_or K.allows S.terms.rule) S.ask S.seen
+            serves k result.1 (turn_view result.0.turn) (turn_value result.0.turn) }
+    {
+        let OnTurn { of, mut turn } = self;
+        let core = turn.value_in(&of.phaser.lock);
+        match core.wait(of.request.task) {
+            Ok(Got::Value { outcome, .. }) => (OnTurn { of, turn }, outcome),
+            Ok(Got::Ended) => unreachable!(),
+            Err(_refusal) => unreachable!(),
+        }
     }
 }

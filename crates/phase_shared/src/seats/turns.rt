@@ -1,290 +1,192 @@
 //! The turns of a seat that asks, from the take to the give.
-ghost use Rattle.std.specs.Prelude.{◌≡◌, ◌<◌, ◌≤◌, ◌∷◌, [], ◌^◌, ◌*◌, Some, None, true, false, IfErr, OnOk};
-ghost use Rattle.turn_lock.specs.Seats.{IsSeatAt, IsTurnAt, seat_view, turn_number, turn_view, turn_value, turn_told};
+ghost use Rattle.std.specs.Prelude.{◌<◌, ◌^◌, false};
+ghost use Rattle.turn_lock.specs.Seats.{seat_view, turn_number, turn_view, turn_value, turn_told};
 ghost use Rattle.turn_lock.specs.WordSteps.{GivesOf};
-ghost use Rattle.phase_core.specs.phase_history.Histories.{IsAlive};
-ghost use Rattle.phase_core.specs.phase_history.Refusals.{signal_refusal};
-ghost use Rattle.phase_shared.specs.Desks.{MayMakeAsk};
-ghost use Rattle.phase_shared.specs.LockedPhasers.{locked_place, locked_terms};
-ghost use Rattle.phase_shared.specs.Rule.{HasOneHistory, StandsWithin};
-ghost use Rattle.phase_shared.specs.Servings.{ask_of, IsAsking, IsWaiterIn, Starting, Serving, HasAnswer, IsRefused, CameTo, IsAnsweredIn, IsCompleteIn, WasOpen};
-ghost use Rattle.phase_shared.specs.Tells.{TookAsked};
-ghost use Rattle.phase_shared.specs.Views.{known_of, knowledge};
+ghost use Rattle.phase_shared.specs.Goods.{allows_or};
+ghost use Rattle.phase_shared.specs.Rule.{HasOneHistory};
+ghost use Rattle.phase_shared.specs.Servings.{Serving, IsAnsweredIn, IsCompleteIn};
 
 use crate::lane_words::sends_of;
 use crate::rule::SignalRule;
-use crate::seats::asking::read_board;
+use crate::seats::desk::{
+    AskingDesk, Came, Desk, EndedDesk, FirstTurn, FullTurn, OnTurn, OpenTurn, RefusedTurn,
+    TakenTurn,
+};
 use crate::seats::ghost_steps::{OnGive, Plan, Since};
 use crate::seats::hints::Hints;
-use crate::seats::lanes::{clear_in, post_in, write_board};
-use crate::seats::locked::LockedPhaser;
-use crate::seats::request::{Came, Request};
-use crate::seats::serving::{gather, wait_all, wait_own};
-use crate::seats::view::{PhaserSeat, PhaserTurn};
-use phase_core::SignalRefusal;
-use phase_core::phase_accum::{Accumulate, Outcome};
+use phase_core::phase_accum::Accumulate;
 use std::marker::Brand;
 
 // The numbers of complete phases that a lock tells are below it.
 const TOLD_END: u64 = 1 << 62;
 
-// Gives the turn back, and the lock tells this number. What the give tells is picked by its caller,
-// and may speak of `with`.
-fn end_as<A: Accumulate, K: SignalRule, E: Plan, X: Copy>(
-    phaser: &LockedPhaser<A, K>,
-    turn: PhaserTurn<A, K>,
-    told: u64,
-    with: X,
-) -> PhaserSeat<A, K>
-    requires told { told < 2 ^ 63 }
-    requires turn { IsTurnAt (locked_place phaser.now) turn }
-    requires rule { GivesOf (HasOneHistory A.operation K.allows) (locked_terms phaser.now)
-        (turn_number turn) (turn_view turn) (turn_value turn) (turn_told turn) told
-        (λ v y w. E.goes v w) }
-    ensures seat { IsSeatAt (locked_place phaser.now) result }
-    ensures rule { E.goes (turn_view turn) (seat_view result) }
-{
-    let _ = with;
-    phaser.lock.give::<OnGive<E>>(turn, told)
-}
+impl<'a, A: Accumulate, K: SignalRule, S: Since<K>> OnTurn<'a, A, K, S> {
+    // Gives the turn back, and the lock tells this number. What the give tells is picked by its
+    // caller, and may speak of `with`.
+    fn give<E: Plan, X: Copy>(self, told: u64, with: X) -> Desk<'a, A, K, S>
+        requires told { told < 2 ^ 63 }
+        requires rule { GivesOf (HasOneHistory A.operation (allows_or K.allows)) S.terms
+            (turn_number self.turn) (turn_view self.turn) (turn_value self.turn)
+            (turn_told self.turn) told (λ v y w. E.goes v w) }
+        ensures rule { E.goes (turn_view self.entry.turn) (seat_view result.seat) }
+    {
+        let _ = with;
+        let OnTurn { of, turn } = self;
+        let seat = of.phaser.lock.give::<OnGive<E>>(turn, told);
+        Desk { of, seat }
+    }
 
-// Gives the turn back, and the lock tells what it told.
-fn end_same_as<A: Accumulate, K: SignalRule, E: Plan, X: Copy>(
-    phaser: &LockedPhaser<A, K>,
-    turn: PhaserTurn<A, K>,
-    with: X,
-) -> PhaserSeat<A, K>
-    requires turn { IsTurnAt (locked_place phaser.now) turn }
-    requires rule { GivesOf (HasOneHistory A.operation K.allows) (locked_terms phaser.now)
-        (turn_number turn) (turn_view turn) (turn_value turn) (turn_told turn) (turn_told turn)
-        (λ v y w. E.goes v w) }
-    ensures seat { IsSeatAt (locked_place phaser.now) result }
-    ensures rule { E.goes (turn_view turn) (seat_view result) }
-{
-    let _ = with;
-    let (turn, told) = phaser.lock.told_in(turn);
-    phaser.lock.give::<OnGive<E>>(turn, told)
-}
+    // Gives the turn back, and the lock tells what it told.
+    fn give_same<E: Plan, X: Copy>(self, with: X) -> Desk<'a, A, K, S>
+        requires rule { GivesOf (HasOneHistory A.operation (allows_or K.allows)) S.terms
+            (turn_number self.turn) (turn_view self.turn) (turn_value self.turn)
+            (turn_told self.turn) (turn_told self.turn) (λ v y w. E.goes v w) }
+        ensures rule { E.goes (turn_view self.entry.turn) (seat_view result.seat) }
+    {
+        let _ = with;
+        let OnTurn { of, turn } = self;
+        let (turn, told) = of.phaser.lock.told_in(turn);
+        let seat = of.phaser.lock.give::<OnGive<E>>(turn, told);
+        Desk { of, seat }
+    }
 
-// Makes its own signal.
-fn signal_own<A: Accumulate, K: SignalRule, S: Since>(
-    phaser: &LockedPhaser<A, K>,
-    turn: PhaserTurn<A, K>,
-    request: Request,
-) -> (PhaserTurn<A, K>, Result<(), SignalRefusal>)
-    requires turn { IsTurnAt (locked_place phaser.now) turn }
-    requires starting { Starting A.operation K.allows (locked_terms phaser.now) (ask_of request)
-        S.seen (turn_view turn) (turn_value turn) }
-    ensures turn { IsTurnAt (locked_place phaser.now) result.0 }
-    ensures view { turn_view result.0 ≡ turn_view turn }
-    ensures serving { OnOk result.1 (Serving A.operation K.allows (locked_terms phaser.now)
-        (ask_of request) S.seen false 0 (turn_view result.0) (turn_value result.0)) }
-    ensures same { IfErr result.1 (λ refusal. turn_value result.0 ≡ turn_value turn) }
-    ensures refused { IfErr result.1 (λ refusal. signal_refusal (locked_terms phaser.now).limits
-        (known_of (turn_view turn)).seen request.task ((ask_of request).sends ∷ []) None
-        ≡ Some refusal) }
-{
-    let mut turn = turn;
-    let core = turn.value_in(&phaser.lock);
-    match core.signal(request.task, sends_of(request.send), None) {
-        Ok(_phase) => (turn, Ok(())),
-        Err(refused) => (turn, Err(refused.0)),
+    // Gives the turn back where others have answered, and reads the value before.
+    fn take_answer(self) -> EndedDesk<'a, A, K, S>
+        requires answered { IsAnsweredIn A.operation S.terms.limits
+            (allows_or K.allows S.terms.rule) S.ask S.seen (turn_view self.turn)
+            (turn_value self.turn) }
+    {
+        let (on, outcome) = self.read_board();
+        let desk = on.give_same::<Brand, _>(outcome);
+        let answer = Ok(outcome);
+        EndedDesk { desk, answer }
+    }
+
+    // Waits for its phase, which is complete, and gives the turn back: others go on by themselves.
+    fn wait_late(self) -> EndedDesk<'a, A, K, S>
+        requires serving { Serving A.operation S.terms.limits (allows_or K.allows S.terms.rule)
+            S.ask S.seen false 0 (turn_view self.turn) (turn_value self.turn) }
+        requires complete { IsCompleteIn A.operation (turn_value self.turn) S.ask.phase }
+    {
+        let (on, outcome) = self.wait_own();
+        let OnTurn { of, mut turn } = on;
+        let news = of.phaser.news(Hints::look(turn.value_in(&of.phaser.lock)));
+        let on = OnTurn { of, turn };
+        let desk = on.give_same::<Brand, _>(outcome);
+        desk.of.phaser.hints.tell::<K>(news);
+        let answer = Ok(outcome);
+        EndedDesk { desk, answer }
     }
 }
 
-// Gives the turn back after its signal was refused: it asks no more.
-fn refuse<A: Accumulate, K: SignalRule, S: Since>(
-    phaser: &LockedPhaser<A, K>,
-    turn: PhaserTurn<A, K>,
-    request: Request,
-    refusal: SignalRefusal,
-) -> PhaserSeat<A, K>
-    requires turn { IsTurnAt (locked_place phaser.now) turn }
-    requires starting { Starting A.operation K.allows (locked_terms phaser.now) (ask_of request)
-        S.seen (turn_view turn) (turn_value turn) }
-    requires refused { signal_refusal (locked_terms phaser.now).limits
-        (known_of (turn_view turn)).seen request.task ((ask_of request).sends ∷ []) None
-        ≡ Some refusal }
-    ensures seat { IsSeatAt (locked_place phaser.now) result }
-    ensures refused { IsRefused A.operation K.allows (locked_terms phaser.now) (ask_of request)
-        S.seen refusal (seat_view result) }
-{
-    let mut turn = turn;
-    let reached = Hints::look(turn.value_in(&phaser.lock));
-    let wants = phaser.hints.wants(request.phase, 1);
-    phaser.hints.want(Some(refusal), wants, reached);
-    let turn = clear_in(phaser, turn, request);
-    end_same_as::<A, K, Brand, _>(phaser, turn, (request, refusal))
-}
-
-// Gives the turn back while its phase is not complete: it asks that others go on.
-fn give_up<A: Accumulate, K: SignalRule, S: Since>(
-    phaser: &LockedPhaser<A, K>,
-    turn: PhaserTurn<A, K>,
-    request: Request,
-) -> PhaserSeat<A, K>
-    requires turn { IsTurnAt (locked_place phaser.now) turn }
-    requires serving { Serving A.operation K.allows (locked_terms phaser.now) (ask_of request)
-        S.seen false 0 (turn_view turn) (turn_value turn) }
-    requires open { WasOpen (turn_view turn) request.phase }
-    ensures seat { IsSeatAt (locked_place phaser.now) result }
-    ensures asks { IsAsking (ask_of request) S.seen (seat_view result) }
-{
-    let turn = post_in(phaser, turn, request);
-    end_same_as::<A, K, Brand, _>(phaser, turn, request)
-}
-
-// Makes all waits for its phase, which is complete, writes its value for those that asked, and
-// gives the turn back, which tells them.
-fn finish<A: Accumulate, K: SignalRule, S: Since>(
-    phaser: &LockedPhaser<A, K>,
-    turn: PhaserTurn<A, K>,
-    request: Request,
-) -> (PhaserSeat<A, K>, Outcome)
-    requires turn { IsTurnAt (locked_place phaser.now) turn }
-    requires serving { Serving A.operation K.allows (locked_terms phaser.now) (ask_of request)
-        S.seen false 0 (turn_view turn) (turn_value turn) }
-    requires open { WasOpen (turn_view turn) request.phase }
-    requires complete { IsCompleteIn A.operation (turn_value turn) request.phase }
-    ensures seat { IsSeatAt (locked_place phaser.now) result.0 }
-    ensures answer { HasAnswer A.operation K.allows (locked_terms phaser.now) (ask_of request)
-        S.seen result.1 (seat_view result.0) }
-{
-    let (turn, is_all) = wait_all::<A, K, S>(phaser, turn, request);
-    let (turn, outcome) = wait_own::<A, K, S>(phaser, turn, request);
-    let mut turn = write_board(phaser, turn, outcome);
-    let core = turn.value_in(&phaser.lock);
-    let done = core.done();
-    let news = phaser.news(Hints::look(core));
-    let told = if is_all && done < TOLD_END {
-        done * 2 + 1
-    } else {
-        news.done * 2
-    };
-    let seat = end_as::<A, K, Brand, _>(phaser, turn, told, (request, outcome));
-    phaser.hints.tell::<K>(news);
-    (seat, outcome)
-}
-
-// Goes on under the turn, its signal made: for so many looks.
-fn serve<A: Accumulate, K: SignalRule, S: Since>(
-    phaser: &LockedPhaser<A, K>,
-    turn: PhaserTurn<A, K>,
-    request: Request,
-    looks: u32,
-) -> (PhaserSeat<A, K>, Came)
-    requires turn { IsTurnAt (locked_place phaser.now) turn }
-    requires serving { Serving A.operation K.allows (locked_terms phaser.now) (ask_of request)
-        S.seen false 0 (turn_view turn) (turn_value turn) }
-    requires open { WasOpen (turn_view turn) request.phase }
-    ensures seat { IsSeatAt (locked_place phaser.now) result.0 }
-    ensures came { CameTo A.operation K.allows (locked_terms phaser.now) (ask_of request)
-        S.seen result.1 (seat_view result.0) }
-{
-    let (turn, is_done) = gather::<A, K, S>(phaser, turn, request, looks);
-    if !is_done {
-        return (give_up::<A, K, S>(phaser, turn, request), Came::Asked);
+impl<'a, A: Accumulate, K: SignalRule, S: Since<K>> FirstTurn<'a, A, K, S> {
+    // Makes its own signal.
+    fn signal_own(self) -> Result<OpenTurn<'a, A, K, S>, RefusedTurn<'a, A, K, S>> {
+        let FirstTurn { on } = self;
+        let OnTurn { of, mut turn } = on;
+        let request = of.request;
+        let core = turn.value_in(&of.phaser.lock);
+        match core.signal(request.task, sends_of(request.send), None) {
+            Ok(_phase) => {
+                let on = OnTurn { of, turn };
+                Ok(OpenTurn { on })
+            }
+            Err(refused) => {
+                let on = OnTurn { of, turn };
+                let refusal = refused.0;
+                Err(RefusedTurn { on, refusal })
+            }
+        }
     }
-    let (seat, outcome) = finish::<A, K, S>(phaser, turn, request);
-    (seat, Came::Got(outcome))
+
+    /// Signals, and goes on under the turn for so many looks.
+    pub fn start(self, looks: u32) -> Came<'a, A, K, S> {
+        match self.signal_own() {
+            Ok(open) => open.serve(looks),
+            Err(refused) => Came::Ended(refused.refuse()),
+        }
+    }
 }
 
-/// Signals, and goes on under the turn for so many looks.
-pub fn start<A: Accumulate, K: SignalRule, S: Since>(
-    phaser: &LockedPhaser<A, K>,
-    turn: PhaserTurn<A, K>,
-    request: Request,
-    looks: u32,
-) -> (PhaserSeat<A, K>, Came)
-    requires turn { IsTurnAt (locked_place phaser.now) turn }
-    requires starting { Starting A.operation K.allows (locked_terms phaser.now) (ask_of request)
-        S.seen (turn_view turn) (turn_value turn) }
-    ensures seat { IsSeatAt (locked_place phaser.now) result.0 }
-    ensures came { CameTo A.operation K.allows (locked_terms phaser.now) (ask_of request)
-        S.seen result.1 (seat_view result.0) }
-{
-    let (turn, answer) = signal_own::<A, K, S>(phaser, turn, request);
-    if let Err(refusal) = answer {
-        let seat = refuse::<A, K, S>(phaser, turn, request, refusal);
-        return (seat, Came::Refused(refusal));
+impl<'a, A: Accumulate, K: SignalRule, S: Since<K>> RefusedTurn<'a, A, K, S> {
+    // Gives the turn back after its signal was refused: it asks no more.
+    fn refuse(self) -> EndedDesk<'a, A, K, S> {
+        let RefusedTurn { on, refusal } = self;
+        let OnTurn { of, mut turn } = on;
+        let reached = Hints::look(turn.value_in(&of.phaser.lock));
+        let wants = of.phaser.hints.wants(of.request.phase, 1);
+        of.phaser.hints.want(Some(refusal), wants, reached);
+        let on = OnTurn { of, turn };
+        let desk = on.clear_in().give_same::<Brand, _>(refusal);
+        let answer = Err(refusal);
+        EndedDesk { desk, answer }
     }
-    serve::<A, K, S>(phaser, turn, request, looks)
 }
 
-// Gives the turn back where others have answered, and reads the value before.
-fn take_answer<A: Accumulate, K: SignalRule, S: Since>(
-    phaser: &LockedPhaser<A, K>,
-    turn: PhaserTurn<A, K>,
-    request: Request,
-) -> (PhaserSeat<A, K>, Outcome)
-    requires turn { IsTurnAt (locked_place phaser.now) turn }
-    requires answered { IsAnsweredIn A.operation K.allows (locked_terms phaser.now)
-        (ask_of request) S.seen (turn_view turn) (turn_value turn) }
-    ensures seat { IsSeatAt (locked_place phaser.now) result.0 }
-    ensures answer { HasAnswer A.operation K.allows (locked_terms phaser.now) (ask_of request)
-        S.seen result.1 (seat_view result.0) }
-{
-    let (turn, outcome) = read_board(phaser, turn);
-    let seat = end_same_as::<A, K, Brand, _>(phaser, turn, (request, outcome));
-    (seat, outcome)
+impl<'a, A: Accumulate, K: SignalRule, S: Since<K>> OpenTurn<'a, A, K, S> {
+    // Goes on under the turn: for so many looks.
+    fn serve(self, looks: u32) -> Came<'a, A, K, S> {
+        match self.gather(looks) {
+            Ok(full) => Came::Ended(full.finish()),
+            Err(open) => Came::Asked(open.give_up()),
+        }
+    }
+
+    // Gives the turn back while its phase is not complete: it asks that others go on.
+    fn give_up(self) -> AskingDesk<'a, A, K, S> {
+        let OpenTurn { on } = self;
+        let desk = on.post_in().give_same::<Brand, _>(());
+        let is_made = true;
+        AskingDesk { desk, is_made }
+    }
 }
 
-// Waits for its phase, which is complete, and gives the turn back: others go on by themselves.
-fn wait_late<A: Accumulate, K: SignalRule, S: Since>(
-    phaser: &LockedPhaser<A, K>,
-    turn: PhaserTurn<A, K>,
-    request: Request,
-) -> (PhaserSeat<A, K>, Outcome)
-    requires turn { IsTurnAt (locked_place phaser.now) turn }
-    requires serving { Serving A.operation K.allows (locked_terms phaser.now) (ask_of request)
-        S.seen false 0 (turn_view turn) (turn_value turn) }
-    requires complete { IsCompleteIn A.operation (turn_value turn) request.phase }
-    ensures seat { IsSeatAt (locked_place phaser.now) result.0 }
-    ensures answer { HasAnswer A.operation K.allows (locked_terms phaser.now) (ask_of request)
-        S.seen result.1 (seat_view result.0) }
-{
-    let (mut turn, outcome) = wait_own::<A, K, S>(phaser, turn, request);
-    let news = phaser.news(Hints::look(turn.value_in(&phaser.lock)));
-    let seat = end_same_as::<A, K, Brand, _>(phaser, turn, (request, outcome));
-    phaser.hints.tell::<K>(news);
-    (seat, outcome)
+impl<'a, A: Accumulate, K: SignalRule, S: Since<K>> FullTurn<'a, A, K, S> {
+    // Makes all waits for its phase, which is complete, writes its value for those that asked, and
+    // gives the turn back, which tells them.
+    fn finish(self) -> EndedDesk<'a, A, K, S> {
+        let FullTurn { on } = self;
+        let (on, is_all) = on.wait_all();
+        let (on, outcome) = on.wait_own();
+        let on = on.write_board(outcome);
+        let OnTurn { of, mut turn } = on;
+        let core = turn.value_in(&of.phaser.lock);
+        let done = core.done();
+        let news = of.phaser.news(Hints::look(core));
+        let told = if is_all && done < TOLD_END {
+            done * 2 + 1
+        } else {
+            news.done * 2
+        };
+        let on = OnTurn { of, turn };
+        let desk = on.give::<Brand, _>(told, outcome);
+        desk.of.phaser.hints.tell::<K>(news);
+        let answer = Ok(outcome);
+        EndedDesk { desk, answer }
+    }
 }
 
-/// Goes on under the turn of a seat that asked: with what others left to do, for so many looks.
-pub fn go_on<A: Accumulate, K: SignalRule, S: Since>(
-    phaser: &LockedPhaser<A, K>,
-    turn: PhaserTurn<A, K>,
-    request: Request,
-    looks: u32,
-) -> (PhaserSeat<A, K>, Came)
-    requires turn { IsTurnAt (locked_place phaser.now) turn }
-    requires took { let terms = locked_terms phaser.now in
-        TookAsked A.operation.value terms.limits (K.allows terms.rule)
-        (StandsWithin A.operation terms.limits) (knowledge S.seen (request.task ∷ []))
-        (ask_of request) (turn_value turn) (turn_view turn) }
-    requires waits { IsAlive S.seen request.task × IsWaiterIn S.seen request.task }
-    requires may { MayMakeAsk (locked_terms phaser.now).limits
-        (K.allows (locked_terms phaser.now).rule) S.seen (ask_of request) }
-    ensures seat { IsSeatAt (locked_place phaser.now) result.0 }
-    ensures came { CameTo A.operation K.allows (locked_terms phaser.now) (ask_of request)
-        S.seen result.1 (seat_view result.0) }
-{
-    let mut turn = turn;
-    let core = turn.value_in(&phaser.lock);
-    let is_done = core.done() > request.phase;
-    let Some(entry) = core.view(request.task) else {
-        unreachable!()
-    };
-    if entry.wait_phase > request.phase {
-        let (seat, outcome) = take_answer::<A, K, S>(phaser, turn, request);
-        return (seat, Came::Got(outcome));
+impl<'a, A: Accumulate, K: SignalRule, S: Since<K>> TakenTurn<'a, A, K, S> {
+    /// Goes on with what others left to do, for so many looks.
+    pub fn go_on(self, looks: u32) -> Came<'a, A, K, S> {
+        let TakenTurn { on } = self;
+        let OnTurn { of, mut turn } = on;
+        let request = of.request;
+        let core = turn.value_in(&of.phaser.lock);
+        let is_done = core.done() > request.phase;
+        let Some(entry) = core.view(request.task) else {
+            unreachable!()
+        };
+        let on = OnTurn { of, turn };
+        if entry.wait_phase > request.phase {
+            return Came::Ended(on.take_answer());
+        }
+        if entry.signal_phase == request.phase {
+            return FirstTurn { on }.start(looks);
+        }
+        if is_done {
+            return Came::Ended(on.wait_late());
+        }
+        OpenTurn { on }.serve(looks)
     }
-    if entry.signal_phase == request.phase {
-        return start::<A, K, S>(phaser, turn, request, looks);
-    }
-    if is_done {
-        let (seat, outcome) = wait_late::<A, K, S>(phaser, turn, request);
-        return (seat, Came::Got(outcome));
-    }
-    serve::<A, K, S>(phaser, turn, request, looks)
 }

@@ -5,20 +5,13 @@ ghost use Rattle.turn_lock.specs.Seats.{seat_number, seat_view, turn_number, tur
 ghost use Rattle.turn_lock.specs.Steps.{Takes, GivesBack, Looks, Forks, Merges, Busy};
 
 use super::TurnLock;
-use super::ghost_steps::{OnGive, OnJoin, OnLook, OnSight, OnSplit, OnTake};
 use crate::rule::{Learns, Tells, TurnRule};
 use crate::seat::{Seat, Turn};
-use atomic_table::{Join, Split, Table};
+use crate::words::WordLock;
+use atomic_table::{Join, Split};
 use crossbeam_utils::Backoff;
 use std::alloc::{AllocError, Global};
 use std::sync::Wait;
-
-// The word is twice the number that the last give told, and one more while a seat has the turn.
-const TAKEN: u64 = 1;
-
-// The word, and spare ones behind it: then no line of memory has the word and the value, and who
-// tries in vain leaves the lines of the value where they are.
-const WORDS: [u64; 17] = [0; 17];
 
 impl<T, R: TurnRule<T>> TurnLock<T, R> {
     /// Makes a lock and its first seat, which has the number 0.
@@ -36,12 +29,8 @@ impl<T, R: TurnRule<T>> TurnLock<T, R> {
         ensures seat { IfOk result (λ made. IsSeatOf made.0 made.1 × (seat_number made.1 ≡ 0)) }
         ensures view { IfOk result (λ made. seat_view made.1 ≡ R.first name.now) }
     {
-        let mut slots = Vec::with_capacity(alloc, 1)?;
-        slots.push(value)?;
-        let Ok((table, inner)) = Table::new(alloc, &WORDS, slots, name) else {
-            return Err(AllocError);
-        };
-        Ok((TurnLock { table }, Seat { inner }))
+        let (words, seat) = WordLock::new(alloc, name, value)?;
+        Ok((TurnLock { words }, seat))
     }
 
     /// Takes the turn, or hands the seat back where another seat has it. It takes no memory.
@@ -60,18 +49,7 @@ impl<T, R: TurnRule<T>> TurnLock<T, R> {
         ensures err { IfErr result (λ back. IsSameSeat seat back) }
         ensures busy { OnErr result (Busy R.holds (lock_name self.now) (seat_view seat)) }
     {
-        let Seat { mut inner } = seat;
-        let shared = &self.table.shared;
-        // Who finds the turn taken leaves the word's line of memory where it is.
-        let seen = shared.load::<OnSight<R>>(&mut inner, 0);
-        if seen % 2 == TAKEN {
-            return Err(Seat { inner });
-        }
-        let found = shared.fetch_or::<OnTake<M, R>>(&mut inner, 0, TAKEN);
-        if found % 2 == TAKEN {
-            return Err(Seat { inner });
-        }
-        Ok(Turn { inner })
+        self.words.try_take::<M>(seat)
     }
 
     /// Ends a turn: the value is at home as the turn left it, and the lock tells this number. It
@@ -89,9 +67,7 @@ impl<T, R: TurnRule<T>> TurnLock<T, R> {
         ensures rule { M.then (lock_name self.now) (turn_view turn) (turn_value turn)
             (seat_view result) }
     {
-        let Turn { mut inner } = turn;
-        self.table.shared.swap::<OnGive<M>>(&mut inner, 0, told * 2);
-        Seat { inner }
+        self.words.give::<M>(turn, told)
     }
 
     /// Returns the number that the last give told, and 0 before the first. It needs no seat, and
@@ -101,7 +77,7 @@ impl<T, R: TurnRule<T>> TurnLock<T, R> {
     pub fn told(&self) -> u64
         ensures { result < 2 ^ 63 }
     {
-        self.table.shared.peek(0) / 2
+        self.words.told()
     }
 
     /// Cuts a seat's view in two: the first seat of the answer keeps the number, and the second is
@@ -118,9 +94,7 @@ impl<T, R: TurnRule<T>> TurnLock<T, R> {
         ensures left { seat_view result.0 ≡ M.left (seat_view seat) }
         ensures right { seat_view result.1 ≡ M.right (seat_view seat) }
     {
-        let Seat { mut inner } = seat;
-        let other = self.table.shared.split_seat::<OnSplit<M>>(&mut inner);
-        (Seat { inner }, Seat { inner: other })
+        self.words.split::<M>(seat)
     }
 
     /// Makes one seat of two, which keeps the first one's number, and looks at the rule with what
@@ -140,12 +114,7 @@ impl<T, R: TurnRule<T>> TurnLock<T, R> {
         ensures rule { L.then (lock_name self.now) (M.both (seat_view seat) (seat_view other))
             (seat_view result) }
     {
-        let Seat { mut inner } = seat;
-        let Seat { inner: other } = other;
-        let shared = &self.table.shared;
-        shared.join_seat::<OnJoin<M>>(&mut inner, other);
-        shared.load::<OnLook<L>>(&mut inner, 0);
-        Seat { inner }
+        self.words.join::<M, L>(seat, other)
     }
 
     /// Takes the turn. It may wait, while another seat has it, and takes no memory.

@@ -1,10 +1,11 @@
 //! What each step of a lock with words tells. These types are for the proofs alone.
+ghost use Rattle.turn_lock.specs.Word.{gave, doing};
 ghost use Rattle.turn_lock.specs.Words.{saw_word, tried_word, knew, acted};
-ghost use Rattle.std.specs.Prelude.{◌/◌};
+ghost use Rattle.std.specs.Prelude.{◌/◌, None, false};
 
 use crate::rule::{Learns, Reads, Tells, WordRule};
 use crate::seat::Doing;
-use atomic_table::Play;
+use atomic_table::{Join, Play, Split};
 use std::marker::PhantomData;
 
 pub struct OnWordSight<R> {
@@ -52,4 +53,32 @@ pub struct OnWrite<L> {
 
 impl<T, N, V, L: Learns<N, V>> Play<T, Doing<N, V>> for OnWrite<L> {
     ghost then = { acted (λ name v r w. L.then name v w) };
+}
+
+pub struct OnGive<M> {
+    marker: PhantomData<M>,
+}
+
+impl<T, N, V, M: Tells<N, T, V>> Play<T, Doing<N, V>> for OnGive<M> {
+    ghost then = { gave M.then };
+}
+
+pub struct OnSplit<M> {
+    marker: PhantomData<M>,
+}
+
+impl<N, V, M: Split<V>> Split<Doing<N, V>> for OnSplit<M> {
+    ghost left = { λ d. doing d.name false (M.left d.client) };
+
+    ghost right = { λ d. doing d.name false (M.right d.client) };
+}
+
+pub struct OnJoin<M> {
+    marker: PhantomData<M>,
+}
+
+impl<N, V, M: Join<V>> Join<Doing<N, V>> for OnJoin<M> {
+    ghost both = { λ d e. doing d.name false (M.both d.client e.client) };
+
+    ghost spent = { doing None false M.spent };
 }

@@ -7,8 +7,7 @@ ghost use Rattle.turn_lock.specs.WordSteps.{TakesOf, LooksOf, ReadsOf, WritesOf,
 ghost use Rattle.turn_lock.specs.WordSteps.{MergesOf, BusyOf};
 
 use super::WordLock;
-use super::ghost_steps::{OnRead, OnWordLook, OnWordSight, OnWordTake, OnWrite};
-use crate::lock::ghost_steps::{OnJoin, OnSplit};
+use super::ghost_steps::{OnJoin, OnRead, OnSplit, OnWordLook, OnWordSight, OnWordTake, OnWrite};
 use crate::rule::{Learns, Reads, Tells, WordRule};
 use crate::seat::{Seat, Turn};
 use atomic_table::{Join, Split, Table};

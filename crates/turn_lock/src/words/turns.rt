@@ -6,8 +6,7 @@ ghost use Rattle.turn_lock.specs.Seats.{turn_told};
 ghost use Rattle.turn_lock.specs.WordSteps.{GivesOf, ReadsIn, WritesIn};
 
 use super::WordLock;
-use super::ghost_steps::{OnRead, OnTold, OnWrite};
-use crate::lock::ghost_steps::OnGive;
+use super::ghost_steps::{OnGive, OnRead, OnTold, OnWrite};
 use crate::rule::{Learns, Reads, Tells, WordRule};
 use crate::seat::{Seat, Turn};
 

@@ -34,12 +34,17 @@ next-seat-requires g c =
     subst (λ (r : RegState g.row.A.Denot g.row.K.Denot). (mode_signals r.entry.mode ≡ true) × (mode_waits r.entry.mode ≡ true)) (sym is) c.requires.both in
     let may : MaySignal op allows terms old None =
     subst (λ (r : RegState g.row.A.Denot g.row.K.Denot). MaySignal op allows terms r None) (sym is) c.requires.rule in
+    let mine = may_ask op allows terms old request q both.0 both.1 o.station.member (seat_view seat) o.station.rests refl request.low may in
+    let waits = alive op allows terms old request q both.0 both.1 o.station.member in
     record {
       seat = o.at;
-      at = subst (λ n. IsSeatOfTask allows terms n inside.entry (seat_view seat)) (sym q.task) o.station;
-      may = may_ask op allows terms old request q both.0 both.1 o.station.member (seat_view seat) o.station.rests refl request.low may;
-      since = refl {a = (known_of (seat_view seat)).seen};
-      waits = alive op allows terms old request q both.0 both.1 o.station.member;
+      call = record { place_is = refl; terms_is = refl; ask_is = refl };
+      ready = record {
+        at = subst (λ n. IsSeatOfTask allows terms n inside.entry (seat_view seat)) (sym q.task) o.station;
+        may = mine;
+        seen_is = refl {a = (known_of (seat_view seat)).seen};
+        waits = record { alive = waits.0; waits = waits.1; may = mine.may };
+      };
     }
 
 -- its signal is refused
@@ -61,8 +66,8 @@ invariant_of-self g c =
     let both : (mode_signals old.entry.mode ≡ true) × (mode_waits old.entry.mode ≡ true) =
     subst (λ (r : RegState g.row.A.Denot g.row.K.Denot). (mode_signals r.entry.mode ≡ true) × (mode_waits r.entry.mode ≡ true)) (sym is) c.requires.both in
     let w = seat_view c.next-seat.result.0 in
-    let f : IsRefused op allows terms (ask_of request) old.seen c.in-Err.refused w =
-    subst (λ r. HasEnded op allows terms (ask_of request) old.seen r w) c.in-Err.is c.next-seat.ensures.ended in
+    let f : IsRefused op terms.limits (allows terms.rule) (ask_of request) old.seen c.in-Err.refused w =
+    subst (λ r. HasEnded op terms.limits (allows terms.rule) (ask_of request) old.seen r w) c.in-Err.is c.next-seat.ensures.ended in
     closed allows p.0 terms inside.number inside.entry c.next-seat.result.0 c.next-seat.ensures.seat
     (refused_seat op allows terms old request q both.0 both.1 o.station.member c.in-Err.refused w f)
 
@@ -84,8 +89,8 @@ returns-in-Err-clause-call g c =
     let both : (mode_signals old.entry.mode ≡ true) × (mode_waits old.entry.mode ≡ true) =
     subst (λ (r : RegState g.row.A.Denot g.row.K.Denot). (mode_signals r.entry.mode ≡ true) × (mode_waits r.entry.mode ≡ true)) (sym is) c.requires.both in
     let w = seat_view c.next-seat.result.0 in
-    let f : IsRefused op allows terms (ask_of request) old.seen c.in-Err.refused w =
-    subst (λ r. HasEnded op allows terms (ask_of request) old.seen r w) c.in-Err.is c.next-seat.ensures.ended in
+    let f : IsRefused op terms.limits (allows terms.rule) (ask_of request) old.seen c.in-Err.refused w =
+    subst (λ r. HasEnded op terms.limits (allows terms.rule) (ask_of request) old.seen r w) c.in-Err.is c.next-seat.ensures.ended in
     let new : RegState g.row.A.Denot g.row.K.Denot = reg_state (Some c.next-seat.result.0) inside.number inside.entry inside.pending in
     subst (λ (r : RegState g.row.A.Denot g.row.K.Denot). IsCall {X = Next} allows terms NoTask entry_after_next
     (GoesOrRefuses op terms.limits None r new.seen (Err c.in-Err.refused)) r new (Err c.in-Err.refused)) is
@@ -110,8 +115,8 @@ invariant_of-self-2 g c =
     let both : (mode_signals old.entry.mode ≡ true) × (mode_waits old.entry.mode ≡ true) =
     subst (λ (r : RegState g.row.A.Denot g.row.K.Denot). (mode_signals r.entry.mode ≡ true) × (mode_waits r.entry.mode ≡ true)) (sym is) c.requires.both in
     let w = seat_view c.next-seat.result.0 in
-    let a : HasAnswer op allows terms (ask_of request) old.seen c.in-Ok.outcome w =
-    subst (λ r. HasEnded op allows terms (ask_of request) old.seen r w) c.in-Ok.is c.next-seat.ensures.ended in
+    let a : HasAnswer op terms.limits (allows terms.rule) (ask_of request) old.seen c.in-Ok.outcome w =
+    subst (λ r. HasEnded op terms.limits (allows terms.rule) (ask_of request) old.seen r w) c.in-Ok.is c.next-seat.ensures.ended in
     closed allows p.0 terms inside.number (record inside.entry { signal_phase = request.phase + 1; wait_phase = request.phase + 1 }) c.next-seat.result.0
     c.next-seat.ensures.seat (answered_seat op allows terms old request q both.0 both.1 o.station.member c.in-Ok.outcome w a)
 
@@ -133,8 +138,8 @@ returns-clause-call g c =
     let both : (mode_signals old.entry.mode ≡ true) × (mode_waits old.entry.mode ≡ true) =
     subst (λ (r : RegState g.row.A.Denot g.row.K.Denot). (mode_signals r.entry.mode ≡ true) × (mode_waits r.entry.mode ≡ true)) (sym is) c.requires.both in
     let w = seat_view c.next-seat.result.0 in
-    let a : HasAnswer op allows terms (ask_of request) old.seen c.in-Ok.outcome w =
-    subst (λ r. HasEnded op allows terms (ask_of request) old.seen r w) c.in-Ok.is c.next-seat.ensures.ended in
+    let a : HasAnswer op terms.limits (allows terms.rule) (ask_of request) old.seen c.in-Ok.outcome w =
+    subst (λ r. HasEnded op terms.limits (allows terms.rule) (ask_of request) old.seen r w) c.in-Ok.is c.next-seat.ensures.ended in
     let new : RegState g.row.A.Denot g.row.K.Denot = reg_state (Some c.next-seat.result.0) inside.number
     (record inside.entry { signal_phase = request.phase + 1; wait_phase = request.phase + 1 }) c.new-self-inside.result in
     let next : Next = record { signalled = Some request.phase; got = Some (Value request.phase c.in-Ok.outcome) } in

@@ -1,14 +1,8 @@
-use Rattle.std.proofs.Common.{arith, ap}
-use Rattle.turn_lock.specs.Seats.{lock_name, turn_value}
-use Rattle.turn_lock.proofs.Keeping.{alone_is, gives_back}
+use Rattle.turn_lock.specs.Seats.{lock_name, turn_number, turn_view, turn_value, turn_told}
+use Rattle.turn_lock.proofs.Wordless.{gives}
 use Rattle.turn_lock.proofs.lock.TurnLock.give.Goals as goal
 
--- the value lies in the slot, as the turn left it
-pub swap-requires : goal.swap-requires
-swap-requires g c = (
-  ap (λ p. p.0) c.requires.turn,
-  (let sized = c.args.self.now.sized in omega arith),
-  gives_back g.R.TurnRule.holds (lock_name c.args.self.now) c.args.told _ c.args.turn.inner.id c.args.turn.inner.me
-      (turn_value c.args.turn) g.M.Tells.then (alone_is c.args.turn.inner.me.1 c.args.turn.out)
-      c.args.turn.turns (ap (λ p. p.1) c.requires.turn) c.requires.rule,
-)
+pub give-requires-clause-rule : goal.give-requires-clause-rule
+give-requires-clause-rule g c =
+    gives g.R.TurnRule.holds (lock_name c.args.self.now) (turn_number c.args.turn) (turn_view c.args.turn) (turn_value c.args.turn)
+    (turn_told c.args.turn) c.args.told (g.M.Tells.then (lock_name c.args.self.now)) c.requires.rule

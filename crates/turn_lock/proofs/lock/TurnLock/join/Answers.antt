@@ -1,27 +1,12 @@
-use Rattle.std.proofs.Common.{false, arith, ap, refl, ◌∙◌}
 use Rattle.turn_lock.specs.Seats.{lock_name, seat_number, seat_view}
-use Rattle.turn_lock.specs.Word.{doing}
-use Rattle.turn_lock.proofs.Keeping.{joins, looks}
+use Rattle.turn_lock.proofs.Wordless.{merges, looks}
 use Rattle.turn_lock.proofs.lock.TurnLock.join.Goals as goal
 
--- both seats rest, so the turn stays where it is
-pub join_seat-requires : goal.join_seat-requires
-join_seat-requires g c = (
-  ap (λ p. p.0) c.requires.seats.0,
-  ap (λ p. p.0) c.requires.seats.1,
-  c.args.other.rests.1,
-  (let sized = c.args.self.now.sized in omega arith),
-  joins g.R.TurnRule.holds c.args.self.now.table.shared.key c.args.seat.inner.id c.args.other.inner.id c.args.seat.inner.me.0 c.args.other.inner.me.0 _ _
-      c.args.seat.rests.0 c.args.other.rests.0 c.requires.merges,
-)
+pub join-requires-clause-merges : goal.join-requires-clause-merges
+join-requires-clause-merges g c =
+    merges g.R.TurnRule.holds (lock_name c.args.self.now) (seat_number c.args.seat) (seat_view c.args.seat) (seat_number c.args.other) (seat_view c.args.other) _ _ c.requires.merges
 
--- the joined seat looks
-pub load-requires : goal.load-requires
-load-requires g c = (
-  c.join_seat.ensures.0 ∙ ap (λ p. p.0) c.requires.seats.0,
-  (let sized = c.args.self.now.sized in omega arith),
-  looks g.R.TurnRule.holds (lock_name c.args.self.now) c.args.self.now.table.shared.table_id.slots c.join_seat.new.seat.id (seat_number c.args.seat)
-      c.join_seat.new.seat.me (doing c.args.seat.inner.me.0.name false (g.M.Join.both (seat_view c.args.seat) (seat_view c.args.other)))
-      c.args.seat.inner.me.1 g.L.Learns.then c.join_seat.ensures.1 c.join_seat.ensures.2 refl (ap (λ p. p.1) c.requires.seats.0)
-      c.requires.looks,
-)
+pub join-requires-clause-looks : goal.join-requires-clause-looks
+join-requires-clause-looks g c =
+    looks g.R.TurnRule.holds (lock_name c.args.self.now) (seat_number c.args.seat) (g.M.Join.both (seat_view c.args.seat) (seat_view c.args.other))
+    (g.L.Learns.then (lock_name c.args.self.now)) c.requires.looks

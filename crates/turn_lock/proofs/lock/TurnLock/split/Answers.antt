@@ -1,11 +1,6 @@
-use Rattle.std.proofs.Common.{arith, ap}
-use Rattle.turn_lock.proofs.Keeping.{splits}
+use Rattle.turn_lock.specs.Seats.{lock_name, seat_number, seat_view}
+use Rattle.turn_lock.proofs.Wordless.{forks}
 use Rattle.turn_lock.proofs.lock.TurnLock.split.Goals as goal
 
--- the seat rests, so the turn stays where it is
-pub split_seat-other-requires : goal.split_seat-other-requires
-split_seat-other-requires g c = (
-  ap (λ p. p.0) c.requires.seat,
-  (let sized = c.args.self.now.sized in omega arith),
-  splits g.R.TurnRule.holds c.args.self.now.table.shared.key c.args.seat.inner.id c.args.seat.inner.me.0 _ _ c.args.seat.rests.0 c.requires.rule,
-)
+pub split-requires-clause-rule : goal.split-requires-clause-rule
+split-requires-clause-rule g c = forks g.R.TurnRule.holds (lock_name c.args.self.now) (seat_number c.args.seat) (seat_view c.args.seat) _ _ c.requires.rule

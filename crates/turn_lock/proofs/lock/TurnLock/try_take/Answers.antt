@@ -1,22 +1,10 @@
-use Rattle.std.proofs.Common.{arith, ap, ◌∙◌}
-use Rattle.turn_lock.proofs.Keeping.{sees, tries_after}
+use Rattle.std.proofs.lemmas.Result.{on_err_weaker}
+use Rattle.turn_lock.specs.Seats.{lock_name, seat_number, seat_view}
+use Rattle.turn_lock.proofs.Wordless.{takes, busy}
 use Rattle.turn_lock.proofs.lock.TurnLock.try_take.Goals as goal
 
--- the seat rests, so it may look
-pub load-seen-requires : goal.load-seen-requires
-load-seen-requires g c = (
-  ap (λ p. p.0) c.requires.seat,
-  (let sized = c.args.self.now.sized in omega arith),
-  sees g.R.TurnRule.holds c.args.self.now.table.shared.key c.args.self.now.table.shared.table_id.slots c.args.seat.inner.id c.args.seat.inner.me
-      c.args.seat.rests.0 c.args.seat.rests.1 (ap (λ p. p.1) c.requires.seat),
-)
+pub try_take-requires-clause-rule : goal.try_take-requires-clause-rule
+try_take-requires-clause-rule g c = takes g.R.TurnRule.holds (lock_name c.args.self.now) (seat_number c.args.seat) (seat_view c.args.seat) (g.M.Tells.then (lock_name c.args.self.now)) c.requires.rule
 
--- and try after that, since it is as it was
-pub fetch_or-found-requires : goal.fetch_or-found-requires
-fetch_or-found-requires g c = (
-  c.load-seen.ensures.0 ∙ ap (λ p. p.0) c.requires.seat,
-  (let sized = c.args.self.now.sized in omega arith),
-  tries_after g.R.TurnRule.holds c.args.self.now.table.shared.key c.args.self.now.table.shared.table_id.slots c.load-seen.new.seat.id c.args.seat.inner.id
-      c.load-seen.new.seat.me c.args.seat.inner.me g.M.Tells.then c.load-seen.ensures.1 c.load-seen.ensures.2.0
-      c.args.seat.rests.0 c.args.seat.rests.1 (ap (λ p. p.1) c.requires.seat) c.requires.rule,
-)
+pub returns-clause-busy : goal.returns-clause-busy
+returns-clause-busy g c = on_err_weaker c.try_take.result (busy g.R.TurnRule.holds (lock_name c.args.self.now) (seat_view c.args.seat)) c.try_take.ensures.busy
