@@ -6,7 +6,7 @@ use phase_core::phase_base::Mode;
 use phase_core::{PhaserCore, RegisterRefusal, SignalRefusal, WaitRefusal};
 use std::test::Fail;
 
-const CASES: [Case; 11] = [
+const CASES: [Case; 12] = [
     Case {
         name: "a block is signalled and taken by others",
         bound: 4,
@@ -130,6 +130,45 @@ const CASES: [Case; 11] = [
                 Call::Places,
                 Answer::Holds(TooBig, Value(3), UNWRITTEN, UNWRITTEN, UNWRITTEN),
             ),
+        ],
+    },
+    Case {
+        name: "a wait in range stops before a value that is too big",
+        bound: 8,
+        phases: 100,
+        calls: &[
+            (Call::Add(0, 1, Mode::Sig), Answer::Done),
+            (Call::Add(0, 2, Mode::Sig), Answer::Done),
+            (Call::Add(0, 3, Mode::Wait), Answer::Done),
+            (Call::Leave(0), Answer::Done),
+            (
+                Call::Block(1, &[1, 1, 9223372036854775807, 1]),
+                Answer::Joined(0),
+            ),
+            (Call::Block(2, &[0, 1, 1, 2]), Answer::Joined(0)),
+            (
+                Call::TakeInRange(3, 0),
+                Answer::GetsNot(WaitRefusal::BadBlock),
+            ),
+            (Call::TakeInRange(3, 4), Answer::Values(0, 2)),
+            (
+                Call::Places,
+                Answer::Holds(Value(1), Value(2), UNWRITTEN, UNWRITTEN, UNWRITTEN),
+            ),
+            (Call::TakeInRange(3, 4), Answer::Values(2, 0)),
+            (Call::Wait(3), Answer::TooBig(2)),
+            (Call::TakeInRange(3, 4), Answer::Values(3, 1)),
+            (
+                Call::Places,
+                Answer::Holds(Value(3), Value(2), UNWRITTEN, UNWRITTEN, UNWRITTEN),
+            ),
+            (
+                Call::TakeInRange(3, 4),
+                Answer::GetsNot(WaitRefusal::NotYet),
+            ),
+            (Call::Leave(1), Answer::Done),
+            (Call::Leave(2), Answer::Done),
+            (Call::TakeInRange(3, 1), Answer::Ended),
         ],
     },
     Case {

@@ -22,6 +22,8 @@ pub enum Call {
     Wait(u64),
     /// A wait for as many phases as this many places hold, the first of the phaser's `places`.
     Take(u64, usize),
+    /// The same, no further than the values in range.
+    TakeInRange(u64, usize),
     /// What stands in the places.
     Places,
     Leave(u64),
@@ -124,6 +126,14 @@ fn got(res: Result<Got, WaitRefusal>) -> Answer {
     }
 }
 
+fn got_block(res: Result<GotBlock, WaitRefusal>) -> Answer {
+    match res {
+        Ok(GotBlock::Values { phase, count }) => Answer::Values(phase, count),
+        Ok(GotBlock::Ended) => Answer::Ended,
+        Err(refusal) => Answer::GetsNot(refusal),
+    }
+}
+
 impl Phaser {
     pub fn new(alloc: Global, bound: u64, phases: u64) -> Result<Phaser, Fail> {
         Ok(Phaser {
@@ -179,11 +189,19 @@ impl Phaser {
     fn take(&mut self, task: u64, count: usize) -> Answer {
         let places = &mut self.places[..];
         let count = count.min(places.len());
-        match self.core.wait_block(task, &mut places[..count]) {
-            Ok(GotBlock::Values { phase, count }) => Answer::Values(phase, count),
-            Ok(GotBlock::Ended) => Answer::Ended,
-            Err(refusal) => Answer::GetsNot(refusal),
+        got_block(self.core.wait_block(task, &mut places[..count]))
+    }
+
+    // Only what was got is kept: what stands behind it is not promised.
+    fn take_in_range(&mut self, task: u64, count: usize) -> Answer {
+        let mut got = [UNWRITTEN; 5];
+        let count = count.min(got.len());
+        let reply = self.core.wait_in_range(task, &mut got[..count]);
+        if let Ok(GotBlock::Values { count, .. }) = reply {
+            let count = count as usize;
+            self.places[..count].copy_from_slice(&got[..count]);
         }
+        got_block(reply)
     }
 
     fn held(&self) -> Answer {
@@ -204,6 +222,7 @@ impl Phaser {
             Call::BothNeg(task, send) => self.both(task, Some(send), Some(Single::Neg))?,
             Call::Wait(task) => got(core.wait(task)),
             Call::Take(task, count) => self.take(task, count),
+            Call::TakeInRange(task, count) => self.take_in_range(task, count),
             Call::Places => self.held(),
             Call::Leave(task) => match core.drop_task(task) {
                 Ok(()) => Answer::Done,

@@ -1,5 +1,5 @@
 //! A phaser under any of the five operations.
-ghost use Rattle.std.specs.Prelude.{◌≡◌, ◌≢◌, ◌≤◌, ℕ, [], ◌∷◌, Ok, Some, None, is_some, length, IfOk, IfErr, OnOk, OnErr};
+ghost use Rattle.std.specs.Prelude.{◌≡◌, ◌≢◌, ◌<◌, ◌≤◌, ◌+◌, ℕ, [], ◌∷◌, Ok, Some, None, is_some, length, take, slice_range, IfOk, IfErr, OnOk, OnErr};
 ghost use Rattle.phase_core.specs.phase_base.Limits.{Limits};
 ghost use Rattle.phase_core.specs.phase_base.Members.{entry_of, signal_phases, wait_phases, least};
 ghost use Rattle.phase_core.specs.phase_accum.Sends.{AreSends, IsSend};
@@ -9,7 +9,7 @@ ghost use Rattle.phase_core.specs.phase_history.Histories.{History, members_of, 
 ghost use Rattle.phase_core.specs.phase_history.Refusals.{register_refusal, register_now_refusal, drop_refusal};
 ghost use Rattle.phase_core.specs.phase_history.Phases.{stream_of};
 ghost use Rattle.phase_core.specs.phase_history.Replies.{wait_block_reply, after_wait_block, signal_reply, wait_reply, after_signal, after_wait};
-ghost use Rattle.phase_core.specs.Blocks.{one_each, written};
+ghost use Rattle.phase_core.specs.Blocks.{one_each, written, before_too_big, after_in_range};
 ghost use Rattle.phase_core.specs.phase_registry.Rosters.{next_after};
 ghost use Rattle.phase_core.specs.phase_base.declared.limits.TheConstants.{SENDS_MAX};
 
@@ -210,6 +210,40 @@ impl AnyPhaser {
         ensures err { OnErr result (self.new ≡ self.old) }
     {
         each!(self, core => core.wait_block(task, out))
+    }
+
+    /// Waits for a block as `wait_block` does, but goes no further than the values in range: it
+    /// gets those before the first that is too big, and none where the task's own phase has it.
+    /// What stands in the places behind them is not promised. It never blocks, and takes no memory.
+    pub fn wait_in_range(&mut self, task: u64, out: &mut [Outcome]) -> Result<GotBlock, WaitRefusal>
+        ensures reply { (op : Op) (limits : Limits) (h : History)
+            → PhaserStandsFor self.old op limits h
+            → before_too_big (stream_of (value_by op) h)
+            (wait_block_reply limits h task (length out.old)) ≡ result }
+        ensures after { (op : Op) (limits : Limits) (h : History)
+            → PhaserStandsFor self.old op limits h
+            → PhaserStandsFor self.new op limits (after_in_range result task h) }
+        ensures out { (phase count : ℕ) → result ≡ Ok (GotBlock.Values phase count)
+            → (op : Op) (limits : Limits) (h : History)
+            → PhaserStandsFor self.old op limits h
+            → take count out.new ≡ slice_range (stream_of (value_by op) h) phase (phase + count) }
+        ensures few { (phase count : ℕ) → result ≡ Ok (GotBlock.Values phase count)
+            → count ≤ length out.old }
+        // Where it got values, it is a wait for just so many.
+        ensures block { (phase count : ℕ) → result ≡ Ok (GotBlock.Values phase count)
+            → 0 < count → (op : Op) (limits : Limits) (h : History)
+            → PhaserStandsFor self.old op limits h
+            → wait_block_reply limits h task count ≡ result }
+        // Where it got none, the value of the task's phase is too big.
+        ensures too_big { (phase : ℕ) → result ≡ Ok (GotBlock.Values phase 0)
+            → (op : Op) (limits : Limits) (h : History)
+            → PhaserStandsFor self.old op limits h
+            → (wait_block_reply limits h task 1 ≡ Ok (GotBlock.Values phase 1))
+            × (slice_range (stream_of (value_by op) h) phase (phase + 1) ≡ Outcome.TooBig ∷ [])
+            × (self.new ≡ self.old) }
+        ensures err { OnErr result (self.new ≡ self.old) }
+    {
+        each!(self, core => core.wait_in_range(task, out))
     }
 
     /// Registers the task `child` in `Wait`, which the mode of `parent` has to hold, at the first

@@ -1,6 +1,8 @@
 pub mod Admitting
 pub mod Boarded
 pub mod CoreSteps
+pub mod InRangeBlocks
+mod InRangeExamples
 pub mod Joining
 pub mod JoiningNow
 pub mod LeastCounts

@@ -1,11 +1,14 @@
 -- Sends that join phases in a row.
 use Rattle.std.proofs.Common.{◌≡◌, ◌≢◌, ℕ, ℤ, ◌+◌, ◌-◌, ◌<◌, ◌≤◌, true, false, cond, ltb, Bool, zero, suc, drop, slice_index_or, map, ◌++◌, append_assoc, List, [], ◌∷◌, Option, Some, None, max, length, refl, sym, ◌∙◌, ap, ap₂, arith, ⊎_elim}
 use Rattle.std.specs.Prelude.{slice_set}
-use Rattle.std.specs.List.{range_with_len}
+use Rattle.std.specs.List.{range_with_len, take_while}
 use Rattle.std.proofs.Math.Seq.{set-append_seam}
 use Rattle.std.proofs.lemmas.List.{drop_more}
-use Rattle.std.proofs.lemmas.List.FromFn.{length-map-range_with_len, map-range_with_len_more}
+use Rattle.std.proofs.lemmas.List.FromFn.{length-map-range_with_len, map-range_with_len_more, get_or-map-range_with_len}
+use Rattle.std.proofs.lemmas.List.Folds.{length-prefix_len}
+use Rattle.std.proofs.lemmas.List.Sums.{prefix_len_is}
 use Rattle.phase_accum.specs.declared.outcome.Outcome.{Outcome}
+use Rattle.phase_accum.specs.declared.outcome.Outcome.TheVariants.{Value, Empty, TooBig}
 use Rattle.std.proofs.lemmas.Bool.{cases_eq, cases_lt, ltb-false}
 use Rattle.phase_accum.specs.declared.single.Single.{Single}
 use Rattle.phase_accum.specs.Singles.{differs}
@@ -23,7 +26,7 @@ use Rattle.phase_ring.specs.Rings.{Ring, IsWithin, slot_at, with_slot, standing,
 use Rattle.phase_ring.specs.Slots.{Slot, with_standing, standing_of, joined, first_of, merge_refusal, slot_value, IsHeld, IsUnused}
 use Rattle.phase_ring.specs.Standings.{one_if_same, other}
 use Rattle.phase_ring.specs.Boards.{IsRingAt}
-use Rattle.phase_ring.specs.Blocks.{joined_in, block_joined, BlockFits, value_in, value_at}
+use Rattle.phase_ring.specs.Blocks.{joined_in, block_joined, BlockFits, value_in, value_at, is_not_too_big}
 use Rattle.phase_ring.proofs.Kept.{standing-within}
 use Rattle.phase_ring.proofs.Slots.{slot_at-some, slot_at-with_other, standing-with_same, merges}
 use Rattle.phase_ring.proofs.Moves.{Moves, one-same, one-other, leaves, enters}
@@ -255,6 +258,34 @@ fills f phase i old out v inside is value =
     ∙ set-append_seam front d rest v
     ∙ sym (append_assoc front (v ∷ []) rest)
     ∙ ap (λ xs. xs ++ rest) (ap (λ x. front ++ x ∷ []) value ∙ sym (map-range_with_len_more f phase i (phase + i) refl))
+
+-- so many values are in range, and then there is none or one that is too big
+pub counts_in_range : (f : ℕ → Outcome) (phase most i : ℕ) → i ≤ most
+    → ((k : ℕ) → k < i → is_not_too_big (f (phase + k)) ≡ true)
+    → (i < most → is_not_too_big (f (phase + i)) ≡ false)
+    → i ≡ length (take_while is_not_too_big (map f (range_with_len phase most)))
+counts_in_range f phase most i few fit stops =
+    let xs = map f (range_with_len phase most) in
+    let long : length xs ≡ most = length-map-range_with_len f phase most in
+    let at : (k : ℕ) → k < most → slice_index_or xs k (f phase) ≡ f (phase + k) =
+    λ k inside. get_or-map-range_with_len f phase most k (phase + k) (f phase) inside refl in
+    sym (length-prefix_len is_not_too_big xs ∙ prefix_len_is is_not_too_big xs i (f phase) (omega arith)
+    (λ k below. ap is_not_too_big (at k (omega arith)) ∙ fit k below)
+    (λ more. ap is_not_too_big (at i (omega arith)) ∙ stops (omega arith)))
+
+pub not_too_big : (o : Outcome) → (o ≡ TooBig → ⊥) → is_not_too_big o ≡ true
+not_too_big (Value v) other = refl
+not_too_big Empty other = refl
+not_too_big TooBig other = absurd (other refl)
+
+-- one more value is in range
+pub fits_one_more : (f : ℕ → Outcome) (phase i : ℕ)
+    → ((k : ℕ) → k < i → is_not_too_big (f (phase + k)) ≡ true)
+    → is_not_too_big (f (phase + i)) ≡ true
+    → (k : ℕ) → k < i + 1 → is_not_too_big (f (phase + k)) ≡ true
+fits_one_more f phase i fit next k below =
+    ⊎_elim (λ before. fit k before) (λ past. let e : k ≡ i = omega arith in
+    ap (λ n. is_not_too_big (f (phase + n))) e ∙ next) (cases_lt k i)
 
 -- the value of a slot that is there
 pub value_at-slot : {A : Type 0} (op : Operation A) (r : Ring A) (p : ℕ) (v : Outcome) → IsWithin r p

@@ -1,5 +1,6 @@
 //! A ring with the first phase that is not complete, and the top.
 ghost use Rattle.std.specs.Prelude.{◌≡◌, ℕ, ◌<◌, ◌≤◌, ◌+◌, ◌⊎◌, max, true, false, OnOk, OnErr, IfOk, IfErr, Some, None, [], ◌∷◌, length, drop, ◌++◌};
+ghost use Rattle.std.specs.List.{take_while};
 ghost use Rattle.phase_accum.specs.Values.{applied};
 ghost use Rattle.phase_ring.specs.declared.role.Role.{Role};
 ghost use Rattle.phase_ring.specs.declared.role.Role.TheVariants.{Signaller, Waiter};
@@ -7,7 +8,7 @@ ghost use Rattle.phase_ring.specs.Slots.{Slot, slot_value, joined, merge_refusal
 ghost use Rattle.phase_ring.specs.Rings.{standing, sents, slot_at, with_slot, is_sealed, cleared, IsWithin, KeepsSlots};
 ghost use Rattle.phase_ring.specs.Standings.{one_if_same, other, takes_part, phase_for, counted};
 ghost use Rattle.phase_ring.specs.Boards.{IsBoard};
-ghost use Rattle.phase_ring.specs.Blocks.{block_joined, block_values, BlockFits};
+ghost use Rattle.phase_ring.specs.Blocks.{block_joined, block_values, is_not_too_big, BlockFits};
 ghost use Rattle.phase_ring.specs.Calls.{MaySignal, MayWait, IsSettled, KeepsBounds, HasMoved, HasSignalled, HasWaited, HasPassed, StandsAlone, HasLeftBoard};
 ghost use Rattle.phase_ring.specs.GoingOn.{MayGoOn};
 
@@ -166,6 +167,21 @@ impl<A: Accumulate> Board<A> {
         self.go_on(phase, next);
     }
 
+    /// Moves a waiter on from a phase to a later one, at most the first that is not complete, and
+    /// gives up the phases that no waiter has still to get.
+    pub fn move_waiter(&mut self, from: u64, to: u64)
+        requires invariant { IsBoard A.operation self.old }
+        requires may { MayWait from to self.old }
+        ensures invariant { IsBoard A.operation self.new }
+        ensures waited { HasWaited from to self.old self.new }
+        ensures slots { KeepsSlots (sents self.old.ring) (sents self.new.ring) }
+        ensures stops { 0 < standing self.new.ring Waiter self.new.ring.base }
+    {
+        self.ring.leave(from, Role::Waiter);
+        self.ring.enter(to, Role::Waiter);
+        self.give_up();
+    }
+
     /// Returns the value of a waiter's phase, which is complete, and moves the waiter on to the
     /// next one.
     pub fn wait(&mut self, phase: u64) -> Outcome
@@ -179,9 +195,7 @@ impl<A: Accumulate> Board<A> {
         ensures stops { 0 < standing self.new.ring Waiter self.new.ring.base }
     {
         let outcome = self.ring.value(phase);
-        self.ring.leave(phase, Role::Waiter);
-        self.ring.enter(phase + 1, Role::Waiter);
-        self.give_up();
+        self.move_waiter(phase, phase + 1);
         outcome
     }
 
@@ -201,9 +215,29 @@ impl<A: Accumulate> Board<A> {
         for i in 0..count {
             out[i] = self.ring.value(phase + i as u64);
         }
-        self.ring.leave(phase, Role::Waiter);
-        self.ring.enter(phase + count as u64, Role::Waiter);
-        self.give_up();
+        self.move_waiter(phase, phase + count as u64);
+    }
+
+    /// Writes the values of phases in a row before the first that is too big, and returns how many
+    /// there are. At most so many phases are looked at, the first this one of a waiter and all
+    /// complete. The places behind the values stay.
+    pub fn write_in_range(&self, phase: u64, most: usize, out: &mut [Outcome]) -> usize
+        requires invariant { IsBoard A.operation self.now }
+        requires may { MayWait phase (phase + most) self.now }
+        requires room { most ≤ length out.old }
+        ensures count { let values = block_values A.operation self.now.ring phase most in
+            result ≡ length (take_while is_not_too_big values) }
+        ensures out { out.new
+            ≡ block_values A.operation self.now.ring phase result ++ drop result out.old }
+    {
+        for i in 0..most {
+            let outcome = self.ring.value(phase + i as u64);
+            if let Outcome::TooBig = outcome {
+                return i;
+            }
+            out[i] = outcome;
+        }
+        most
     }
 
     /// Passes a phase of the only task, whose signal and wait both are for the base and which no
