@@ -23,7 +23,8 @@ use std::thread::Threads;
 /// `stream` on the words behind its name, or that of the other commands on all the words.
 /// `help run` asks for what `run --help` does, and `help stream` for what `stream --help` does.
 ///
-/// A run and a stream wait, and it is not promised that they come back.
+/// A run waits, and it is not promised that it comes back. A stream comes back where each call of
+/// its readers and writers does.
 pub fn run_cli<
     H: Threads + Wait + Sync,
     R: Read,
@@ -61,7 +62,7 @@ pub fn run_cli<
 {
     match way_of(words) {
         Way::Run(own) => run_own(rt, alloc, own, streams),
-        Way::Stream(own) => stream_own(rt, alloc, own, streams),
+        Way::Stream(own) => stream_own(alloc, own, streams),
         Way::Others => phase_commands::run_cli(alloc, words, input, streams),
     }
 }
@@ -89,8 +90,7 @@ fn run_own<H: Threads + Wait + Sync, W: Write, E: Write, F: Opens + Refuses + Lo
 }
 
 /// Streams a graph by the words of `stream`.
-fn stream_own<H: Wait, W: Write, E: Write, F: Opens + Refuses + LooksBeside>(
-    rt: &H,
+fn stream_own<W: Write, E: Write, F: Opens + Refuses + LooksBeside>(
     alloc: Global,
     own: Own<'_>,
     streams: &mut Streams<W, E, F>,
@@ -102,9 +102,9 @@ fn stream_own<H: Wait, W: Write, E: Write, F: Opens + Refuses + LooksBeside>(
     ensures quiet { result ≡ Status.Done → streams.new.faults ≡ streams.old.faults }
 {
     match own {
-        Own::Behind(words) => phase_stream::run_cli(rt, alloc, words, streams),
+        Own::Behind(words) => phase_stream::run_cli(alloc, words, streams),
         Own::Help => match help_word(alloc) {
-            Ok(words) => phase_stream::run_cli(rt, alloc, words.as_slice(), streams),
+            Ok(words) => phase_stream::run_cli(alloc, words.as_slice(), streams),
             Err(_) => out_of_memory(streams),
         },
     }

@@ -9,6 +9,7 @@ mod laws;
 mod way;
 
 use cli::run_cli;
+use phase_commands::hold_closed_streams;
 use phase_commands::phase_replay::Watched;
 use phase_commands::phase_replay::watched_io::{Streams, own_words, refuse_words};
 use phase_stream::StreamFiles;
@@ -21,6 +22,7 @@ const READS: &[u8] = b"phase: reads a script from here, a call a line, until Con
 phase --help shows one\n";
 
 fn main(rt: HostRuntime) -> ExitCode {
+    hold_closed_streams(&rt);
     let mut faults = Watched::new(rt.stderr());
     let words = match own_words(&rt) {
         Ok(words) => words,

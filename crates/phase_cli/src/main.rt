@@ -6,10 +6,11 @@
 use phase_commands::graph_commands::TellingFiles;
 use phase_commands::phase_replay::Watched;
 use phase_commands::phase_replay::watched_io::{Streams, own_words, refuse_words};
-use phase_commands::run_cli;
+use phase_commands::{hold_closed_streams, run_cli};
 use std::process::ExitCode;
 
 fn main(rt: HostRuntime) -> ExitCode {
+    hold_closed_streams(&rt);
     let mut faults = Watched::new(rt.stderr());
     let words = match own_words(&rt) {
         Ok(words) => words,

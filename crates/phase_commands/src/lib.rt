@@ -2,13 +2,16 @@
 //! phaser, and checks, evaluates and draws graphs of filters over phasers.
 //!
 //! `run_cli` does what the words ask for, over any input, outputs and files, and answers the
-//! program's status; `laws` says which statuses never come.
+//! program's status; `laws` says which statuses never come. A program calls `hold_closed_streams`
+//! before it.
 #![tactic(auto)]
 
 mod cli;
+mod held;
 pub mod laws;
 
 pub use cli::run_cli;
 pub use graph_commands;
+pub use held::hold_closed_streams;
 pub use phase_replay;
 pub use phase_words;

@@ -9,9 +9,10 @@ use Rattle.std.proofs.lemmas.Bool.{eq-eqb, eqb-true, ltb-false, ltb-true}
 use Rattle.std.proofs.lemmas.List.{length-take-le}
 use Rattle.graph_commands.specs.FileJobs.{Known}
 use Rattle.stream_job.specs.Streams.{FeedTakes, IsSameBut, IsSourceAt, IsStreamAt, StreamState, ended_with, fed, has_ended}
+use Rattle.stream_job.specs.declared.stopped.Stopped.TheVariants.{Hungry}
 use Rattle.stream_job.specs.graph_base.Graphs.{Graph, file_at, sources_of}
 use Rattle.stream_job.specs.graph_runs.Moments.{Moment}
-use Rattle.phase_stream.specs.Sessions.{AreCome, AreSources, IsKnownAs, Reaches, StandsBy, StandsLacking}
+use Rattle.phase_stream.specs.Sessions.{AreCome, AreSources, IsKnownAs, KeptStill, Reaches, StandsBy, StandsLacking, StandsStopped}
 use Rattle.phase_stream.specs.Sources.{GivesSource, HasComeOf, IsSource, Lacks}
 use Rattle.phase_stream.specs.declared.source.Lack.{Lack}
 use Rattle.phase_stream.specs.declared.session.Session.{Session}
@@ -87,6 +88,7 @@ fed_short {R} remaining held old now before after k took one other room piece st
       written = subst (λ t. Appends old now (flat_map value_text (st.given t))) (sym task) st.written;
       there = λ source got. here source (set_get before.sources.items k k one source
           (ap (λ l. slice_get l k) (sym items) ∙ got));
+      still = λ number is. absurd (cc);
       lacks = tt;
     }
   where
@@ -231,12 +233,16 @@ fed_last remaining held old now before after mid k took one other room piece st 
 -- no more came
 pub lacks_so : {R : Type 0} (remaining : R → Option (List ℕ)) (held : Known)
     (old now : Option (List ℕ)) (before after : Session R) (k : ℕ) (one other : Source R) (why : Lack)
-    (st : StandsBy remaining held old now before) → slice_get before.sources.items k ≡ Some other
+    (hungry : ℕ) (stopped : StandsStopped remaining held old now before (Hungry hungry))
+    → slice_get before.sources.items k ≡ Some other
     → one.task ≡ other.task → after.sources.items ≡ set before.sources.items k one
     → after.stream ≡ before.stream → after.task ≡ before.task
-    → Lacks (held (file_at before.stream.job.graph k)) (length (get_or st.samples k [])) why
+    → Lacks (held (file_at before.stream.job.graph k)) (length (get_or stopped.stands.samples k []))
+    why
     → StandsLacking held old now after k why
-lacks_so {R} remaining held old now before after k one other why st there task items stream sink lacks =
+lacks_so {R} remaining held old now before after k one other why hungry stopped there task items stream sink
+    lacks =
+    let st = stopped.stands in
     record {
       samples = st.samples;
       moment = st.moment;
@@ -245,6 +251,10 @@ lacks_so {R} remaining held old now before after k one other why st there task i
       written = subst (λ t. Appends old now (flat_map value_text (st.given t))) (sym sink) st.written;
       there = λ source got. here source (set_get before.sources.items k k one source
           (ap (λ l. slice_get l k) (sym items) ∙ got));
+      still = λ number is.
+          subst (λ (w : StreamState). KeptStill w after.task st.samples st.moment st.given)
+          (sym stream) (subst (λ t. KeptStill before.stream t st.samples st.moment st.given)
+          (sym sink) (record { whole = stopped.whole; rest = stopped.stopped_is }));
       lacks = subst (λ (w : StreamState). Lacks (held (file_at w.job.graph k))
           (length (get_or st.samples k [])) why) (sym stream) lacks;
     }
@@ -255,7 +265,7 @@ lacks_so {R} remaining held old now before after k one other why st there task i
     here source (inl is) =
         subst (λ (w : StreamState). IsSourceAt w.job source.task k) (sym stream)
         (subst (λ t. IsSourceAt before.stream.job t k) (sym (ap (λ w. w.task) is.1 ∙ task))
-        (st.sources k other there).0)
+        (stopped.stands.sources k other there).0)
     here source (inr never) = absurd (never.0 refl)
 
 -- what is known of the file of a source
@@ -318,6 +328,7 @@ lacks_none remaining held old now session k st = record {
   reaches = st.reaches;
   written = st.written;
   there = λ source got. (st.sources k source got).0;
+  still = λ number is. absurd (cc);
   lacks = tt;
 }
 

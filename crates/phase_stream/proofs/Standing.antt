@@ -9,6 +9,7 @@ use Rattle.stream_job.specs.Machines.{kept_behind}
 use Rattle.stream_job.specs.SinkLines.{kept_by}
 use Rattle.stream_job.specs.Stepping.{is_at_rest}
 use Rattle.stream_job.specs.Streams.{IsSourceAt, IsStreamAt, StreamState, StreamStopsAt, all_tasks, ended_at, first_full, first_hungry, has_ended, is_full, is_hungry, is_some_live, stop_by}
+use Rattle.stream_job.specs.declared.input.Input.{Input}
 use Rattle.stream_job.specs.declared.stopped.Stopped.{Stopped}
 use Rattle.stream_job.specs.declared.stopped.Stopped.TheVariants as stopped
 use Rattle.stream_job.specs.graph_base.Graphs.{file_at, sources_of}
@@ -19,7 +20,7 @@ use Rattle.stream_job.specs.graph_runs.Settled.{IsFaultAt, IsReady}
 use Rattle.stream_job.specs.stream_lists.Jobs.{Job, with_samples}
 use Rattle.stream_job.specs.stream_lists.Lists.{sinks_of}
 use Rattle.stream_job.specs.stream_lists.Ranges.{answer_of}
-use Rattle.phase_stream.specs.Sessions.{AreCome, AreSources, HasStopped, IsSameSession}
+use Rattle.phase_stream.specs.Sessions.{AllWait, AreCome, AreSources, HasStopped, IsSameSession}
 use Rattle.phase_stream.specs.Sources.{HasComeOf, IsSource}
 use Rattle.phase_stream.specs.declared.session.Session.{Session}
 use Rattle.phase_stream.specs.declared.source.Source.{Source}
@@ -62,6 +63,28 @@ still a b c (t ∷ ts) all none free = by (a t) (b t) (c t) refl refl refl (stil
     by true false false ea eb ec rest =
         rw ea (rest (rw ea at all) (rw eb at none) (rw ec at free))
 
+-- where each rests, and none is of the third kind, each is of one of the others
+waiting : (a b c : ℕ → Bool) (ts : List ℕ) → list_all (λ t. a t || b t || c t) ts ≡ true
+    → find c ts ≡ None → list_all (λ t. a t || b t) ts ≡ true
+waiting a b c [] all free = refl
+waiting a b c (t ∷ ts) all free = by (a t) (b t) (c t) refl refl refl (waiting a b c ts)
+  where
+    by : (x y z : Bool) → a t ≡ x → b t ≡ y → c t ≡ z
+        → (list_all (λ t. a t || b t || c t) ts ≡ true → find c ts ≡ None
+        → list_all (λ t. a t || b t) ts ≡ true)
+        → list_all (λ t. a t || b t) (t ∷ ts) ≡ true
+    by x y true ea eb ec rest = let bad : Some t ≡ None = rw ec at free in search rules
+    by false false false ea eb ec rest =
+        let bad : false ≡ true = rw (ea, eb, ec) at all in search rules
+    by true y false ea eb ec rest = rw ea (rest (rw ea at all) (rw ec at free))
+    by false true false ea eb ec rest = rw (ea, eb) (rest (rw (ea, eb) at all) (rw ec at free))
+
+-- where a source is hungry, no sink is without room
+hungry_so : (job : Job) (full hungry : Option ℕ) (live : Bool) (source : ℕ)
+    → stop_by job full hungry live (stopped.Hungry source) → full ≡ None
+hungry_so job (Some t) hungry live source e = absurd e
+hungry_so job None hungry live source e = refl
+
 -- a stall has a live task, and no sink without room and no hungry source
 stalled_so : (job : Job) (full hungry : Option ℕ) (live : Bool)
     → stop_by job full hungry live stopped.Stalled
@@ -94,7 +117,12 @@ stop_means stream s m given stopped.Stalled at stops done big =
       still (is_at_rest job m) (is_hungry job (ended_at stream) m) (is_full job m given)
           (all_tasks job) stops.0.rest so.1 so.0,
     )
-stop_means stream s m given (stopped.Hungry source) at stops done big = tt
+stop_means stream s m given (stopped.Hungry source) at stops done big =
+    let job = with_samples s stream.job in
+    waiting (is_at_rest job m) (is_hungry job (ended_at stream) m) (is_full job m given)
+    (all_tasks job) stops.0.rest
+    (hungry_so job (first_full job m given) (first_hungry job (ended_at stream) m)
+    (is_some_live job m) source stops.1)
 stop_means stream s m given (stopped.Full sink) at stops done big = tt
 stop_means stream s m given stopped.Paused at stops done big = tt
 
@@ -125,7 +153,9 @@ stopped_same old new s m (stopped.TooBig place n) job inputs is = λ more fed re
 stopped_same old new s m stopped.Stalled job inputs is =
     subst (λ (j : Job). (is_some_live j m ≡ true)
     × (list_all (is_at_rest (with_samples s j) m) (all_tasks j) ≡ true)) (sym job) is
-stopped_same old new s m (stopped.Hungry source) job inputs is = tt
+stopped_same old new s m (stopped.Hungry source) job inputs is =
+    subst (λ (i : List Input). AllWait new.job (has_ended i) s m) (sym inputs)
+    (subst (λ j. AllWait j (has_ended old.inputs) s m) (sym job) is)
 stopped_same old new s m (stopped.Full sink) job inputs is = tt
 stopped_same old new s m stopped.Paused job inputs is = tt
 

@@ -1,15 +1,13 @@
 -- How a session ends, by the one that it began as.
-use Rattle.std.proofs.Common.{◌≡◌, ℕ, ℤ, Bool, List, [], Option, append-nil, refl, sym, subst, ◌∙◌}
+use Rattle.std.proofs.Common.{◌≡◌, ℕ, ℤ, Bool, List, [], Option, append-nil, refl, sym, subst, ◌∙◌, true}
 use Rattle.std.specs.Prelude.{⊤}
-use Rattle.std.specs.List.{flat_map}
-use mathlib.Core.List.{IsPrefix}
 use Rattle.graph_commands.specs.FileJobs.{Known}
-use Rattle.graph_commands.specs.OutputTexts.{value_text}
 use Rattle.graph_commands.specs.declared.failure.Failure.{Failure}
 use Rattle.graph_commands.specs.declared.failure.Failure.TheVariants as failure
 use Rattle.graph_commands.specs.watched_io.States.{WriterState}
-use Rattle.stream_job.specs.SinkLines.{kept_by}
+use Rattle.stream_job.specs.Gone.{has_gone}
 use Rattle.stream_job.specs.Streams.{IsStreamAt, ended_at}
+use Rattle.stream_job.specs.declared.stopped.Stopped.{Stopped}
 use Rattle.stream_job.specs.declared.stopped.Stopped.TheVariants as stopped
 use Rattle.stream_job.specs.graph_base.Graphs.{IsPlace}
 use Rattle.stream_job.specs.graph_base.declared.place.Place.{Place}
@@ -19,11 +17,10 @@ use Rattle.stream_job.specs.graph_runs.Moments.{Moment, started}
 use Rattle.stream_job.specs.graph_runs.Settled.{IsFaultAt, IsPlaceThere}
 use Rattle.stream_job.specs.stream_lists.Jobs.{Job, samples_in, with_samples}
 use Rattle.stream_job.specs.stream_lists.Ranges.{Where}
-use Rattle.phase_stream.specs.Sessions.{IsKnownAs, IsKeptRight, IsSameSession, IsSinkNumber, StandsPart, StandsStopped}
-use Rattle.phase_stream.specs.Streams.{IsStandstill, StopsBehind, StopsOf, WritesPart, WritesWhole}
+use Rattle.phase_stream.specs.Sessions.{IsKnownAs, IsKeptRight, IsKeptWhole, IsSameSession, IsSinkNumber, StandsPart, StandsStopped}
+use Rattle.phase_stream.specs.Streams.{IsStandstill, StopsBehind, StopsKept, StopsOf, WritesKept, WritesWhole}
 use Rattle.phase_stream.specs.declared.session.Session.{Session}
-use Rattle.phase_stream.proofs.Handing.{whole_part}
-use Rattle.phase_stream.proofs.Writing.{part_of, whole_of}
+use Rattle.phase_stream.proofs.Writing.{kept_of, left_of, part_of, whole_of}
 
 pub sink_same : {R : Type 0} (old new : Session R) → IsSameSession old new
     → IsSinkNumber old.stream.job old.task old.sink → IsSinkNumber new.stream.job new.task new.sink
@@ -58,52 +55,57 @@ done_writes remaining held old now first session same sink st =
     moved (λ j t. WritesWhole held j t old now) first session same
     (whole_of remaining held old now session sink st)
 
+pub left_writes : {R : Type 0} (remaining : R → Option (List ℕ)) (held : Known)
+    (old now : Option (List ℕ)) (first session : Session R) (stop : Stopped)
+    → IsSameSession first session
+    → IsSinkNumber session.stream.job session.task session.sink
+    → ((s : List (List ℤ)) (m : Moment) (given : ℕ → List ℤ) → IsStreamAt session.stream s m given
+    → has_gone session.stream.job m session.task ≡ true)
+    → IsKeptWhole session.stream session.task
+    → StandsStopped remaining held old now session stop
+    → WritesWhole held first.stream.job first.task old now
+left_writes remaining held old now first session stop same sink gone whole st =
+    moved (λ j t. WritesWhole held j t old now) first session same
+    (left_of remaining held old now session stop sink gone whole st)
+
+-- what a session that stopped has written
+abbrev stopped_kept : {R : Type 0} (remaining : R → Option (List ℕ)) (held : Known)
+    (old now : Option (List ℕ)) (session : Session R) (stop : Stopped)
+    → IsKeptRight session.stream session.task → StandsStopped remaining held old now session stop
+    → WritesKept held session.stream.job session.task old now
+stopped_kept remaining held old now session stop right st =
+    kept_of held session.stream session.task old now st.stands.samples st.stands.moment
+    st.stands.given st.stands.reaches st.whole right st.stands.written
+
 pub stall_stops : {R : Type 0} (remaining : R → Option (List ℕ)) (held : Known)
     (old new : WriterState) (first session : Session R) → IsSameSession first session
-    → ((s : List (List ℤ)) (m : Moment) (given : ℕ → List ℤ) → IsStreamAt session.stream s m given
-    → IsPrefix (given session.task) (kept_by session.stream.job m session.task))
     → IsKeptRight session.stream session.task
     → StandsStopped remaining held old.written new.written session stopped.Stalled
-    → StopsBehind held first.stream.job first.task old new
-    (λ samples ended starts. IsStandstill first.stream.job samples)
-stall_stops remaining held old new first session same begins right st =
-    let stands = st.stands in
-    moved (λ j t. StopsBehind held j t old new (λ samples ended starts. IsStandstill j samples)) first
+    → StopsKept held first.stream.job first.task old new
+    (λ samples ended m. IsStandstill first.stream.job samples m)
+stall_stops remaining held old new first session same right st =
+    moved (λ j t. StopsKept held j t old new (λ samples ended m. IsStandstill j samples m)) first
     session same (record {
-      part = part_of held session.stream session.task old.written new.written stands.samples
-          stands.moment stands.given (stands.given session.task) stands.reaches
-          (begins stands.samples stands.moment stands.given stands.reaches.at) right
-          (whole_part old.written new.written (flat_map value_text (stands.given session.task))
-          stands.written);
-      cause = record {
-        moment = stands.moment;
-        reached = stands.reaches.at.machine.reached;
-        live = st.stopped_is.0;
-        rest = st.stopped_is.1;
-      };
+      kept = stopped_kept remaining held old.written new.written session stopped.Stalled right st;
+      cause = record { live = st.stopped_is.0; rest = st.stopped_is.1 };
     })
 
 pub too_big_stops : {R : Type 0} (remaining : R → Option (List ℕ)) (held : Known)
     (old new : WriterState) (first session : Session R) (at : Place) (n : ℕ)
     → IsSameSession first session
-    → ((s : List (List ℤ)) (m : Moment) (given : ℕ → List ℤ) → IsStreamAt session.stream s m given
-    → IsPrefix (given session.task) (kept_by session.stream.job m session.task))
     → IsKeptRight session.stream session.task
     → StandsStopped remaining held old.written new.written session (stopped.TooBig at n)
     → StopsOf held first.stream.job first.task old new (failure.TooBig session.stream.job at n)
-too_big_stops {R} remaining held old new first session at n same begins right st =
+too_big_stops remaining held old new first session at n same right st =
     moved (λ j t. StopsOf held j t old new (failure.TooBig session.stream.job at n)) first session
     same (
       refl,
-      record { part = part; cause = λ more goes. st.stopped_is more goes.feeds goes.ready },
+      record {
+        kept = stopped_kept remaining held old.written new.written session (stopped.TooBig at n)
+            right st;
+        cause = λ more goes. st.stopped_is more goes.feeds goes.ready;
+      },
     )
-  where
-    part : WritesPart held session.stream.job session.task old.written new.written
-    part = part_of held session.stream session.task old.written new.written st.stands.samples
-        st.stands.moment st.stands.given (st.stands.given session.task) st.stands.reaches
-        (begins st.stands.samples st.stands.moment st.stands.given st.stands.reaches.at) right
-        (whole_part old.written new.written (flat_map value_text (st.stands.given session.task))
-        st.stands.written)
 
 -- and it stands on a line of the graph
 pub too_big_there : {R : Type 0} (remaining : R → Option (List ℕ)) (held : Known)

@@ -2,6 +2,7 @@
 use Rattle.std.proofs.Common.{◌≡◌, ◌<◌, ◌++◌, ℕ, ℤ, Bool, true, false, eqb, List, [], ◌∷◌, Option, Some, None, Ok, Err, length, get_or, map, zero, suc, refl, sym, ap, subst, ◌∙◌, append_assoc, rules, arith}
 use Rattle.std.proofs.lemmas.Bool.{eq-eqb, eqb-true}
 use Rattle.std.specs.List.{flat_map}
+use Rattle.std.specs.Io.KnownBytes.{Appends}
 use mathlib.Core.List.{IsPrefix}
 use Rattle.graph_commands.specs.FileJobs.{Known}
 use Rattle.graph_commands.specs.GraphRuns.{sinks_text}
@@ -12,6 +13,7 @@ use Rattle.graph_commands.specs.declared.fault.JobFault.{JobFault}
 use Rattle.graph_commands.specs.declared.fault.JobFault.TheVariants as faults
 use Rattle.graph_commands.specs.watched_io.Prefix.{AppendsPrefix}
 use Rattle.graph_commands.specs.watched_io.States.{WriterState}
+use Rattle.stream_job.specs.Gone.{has_gone}
 use Rattle.stream_job.specs.SinkLines.{kept_by}
 use Rattle.std.specs.Prelude.{◌⊎◌, string_bytes}
 use Rattle.std.specs.Global.{Global}
@@ -21,6 +23,7 @@ use Rattle.phase_stream.specs.declared.source.Lack.{Lack}
 use Rattle.phase_stream.specs.declared.source.Lack.TheVariants as lack
 use Rattle.stream_job.specs.graph_base.declared.place.Place.TheVariants as place
 use Rattle.stream_job.specs.Streams.{IsSourceAt, IsStreamAt, StreamState, has_ended}
+use Rattle.stream_job.specs.declared.stopped.Stopped.{Stopped}
 use Rattle.stream_job.specs.declared.stopped.Stopped.TheVariants as stopped
 use Rattle.stream_job.specs.graph_base.Graphs.{name_at, task_at}
 use Rattle.stream_job.specs.graph_runs.Moments.{Moment, started}
@@ -28,8 +31,8 @@ use Rattle.stream_job.specs.stream_lists.Jobs.{Job, with_samples}
 use Rattle.stream_job.specs.stream_lists.Lists.{lines_of, numbers_of, sinks_of, start_in, taken_from, with_start}
 use Rattle.stream_job.specs.stream_lists.Ranges.{Fits, Where, answer_of, first_too_big}
 use Rattle.stream_job.specs.stream_lists.Spans.{span_in}
-use Rattle.phase_stream.specs.Sessions.{IsKeptRight, IsSinkNumber, IsFaultWithoutText, Reaches, StandsLacking, StandsStopped, sink_list}
-use Rattle.phase_stream.specs.Streams.{StopsOf, WritesPart, WritesWhole}
+use Rattle.phase_stream.specs.Sessions.{IsKeptRight, IsKeptWhole, IsSinkNumber, IsFaultWithoutText, Reaches, StandsLacking, StandsStopped, sink_list}
+use Rattle.phase_stream.specs.Streams.{GoesOnBehind, StopsOf, WritesKept, WritesPart, WritesWhole}
 use Rattle.phase_stream.specs.declared.session.Session.{Session}
 
 -- ---- a part
@@ -67,6 +70,21 @@ part_of held stream t old now s m given values reaches begins right written = re
       (sink_list (started (with_samples more stream.job) m) t) begins
       (right s m given more reaches.at goes.feeds goes.ready);
   written = written;
+}
+
+-- all that the sink has kept
+abbrev pub kept_of : (held : Known) (stream : StreamState) (t : ℕ) (old now : Option (List ℕ))
+    (s : List (List ℤ)) (m : Moment) (given : ℕ → List ℤ) → Reaches held stream s m given
+    → given t ≡ kept_by stream.job m t → IsKeptRight stream t
+    → Appends old now (flat_map value_text (given t)) → WritesKept held stream.job t old now
+kept_of held stream t old now s m given reaches whole right written = record {
+  samples = s;
+  ended = has_ended stream.inputs;
+  came = reaches.came;
+  moment = m;
+  reached = reaches.at.machine.reached;
+  right = λ more goes. right s m given more reaches.at goes.feeds goes.ready;
+  written = subst (λ l. Appends old now (flat_map value_text l)) whole written;
 }
 
 -- ---- all
@@ -113,6 +131,14 @@ map_map : (start : ℕ → Option ℕ) (f : ℕ → List ℤ) (ts : List ℕ)
 map_map start f [] = refl
 map_map start f (u ∷ ts) = cc (map_map start f ts)
 
+-- the text of a sink is of its list
+text_of_list : (job : Job) (sink t : ℕ) → sink < length (sinks_of job)
+    → get_or (sinks_of job) sink 0 ≡ t
+    → sinks_text job (Some t) ≡ flat_map value_text (sink_list job t)
+text_of_list job sink t there is =
+    ap (flat_map value_text) (ap (values_of_sink t) (map_map (start_in job) (sink_list job) (sinks_of job))
+    ∙ found_values (sink_list job) (start_in job) (sinks_of job) sink t there is)
+
 -- where a job's answer is what its sinks kept, its values fit, and the text of a sink is of those
 whole_by : (job : Job) (kept : ℕ → List ℤ) (sink t : ℕ) → sink < length (sinks_of job)
     → get_or (sinks_of job) sink 0 ≡ t
@@ -144,11 +170,55 @@ whole_of remaining held old now session sink st =
       ready = record { graph = machine.graph; apart = machine.apart };
       starts = (started stream.job m).starts;
       values = stands.given session.task;
+      whole = λ more goes. (by more goes).1 ∙ ap (flat_map value_text) (sym st.whole);
+      ends = inl (λ more goes. (by more goes).0);
+      written = stands.written;
+    }
+  where
+    by : (more : List (List ℤ))
+        → GoesOnBehind session.stream.job (has_ended session.stream.inputs) st.stands.samples more
+        → Fits (started (with_samples more session.stream.job) st.stands.moment)
+        × (sinks_text (started (with_samples more session.stream.job) st.stands.moment)
+        (Some session.task)
+        ≡ flat_map value_text (kept_by session.stream.job st.stands.moment session.task))
+    by more goes =
+        whole_by (started (with_samples more session.stream.job) st.stands.moment)
+        (kept_by session.stream.job st.stands.moment) session.sink session.task sink.there sink.task
+        (st.stopped_is more goes.feeds goes.ready)
+
+-- where the sink has left, whatever the others do
+pub left_of : {R : Type 0} (remaining : R → Option (List ℕ)) (held : Known)
+    (old now : Option (List ℕ)) (session : Session R) (stop : Stopped)
+    → IsSinkNumber session.stream.job session.task session.sink
+    → ((s : List (List ℤ)) (m : Moment) (given : ℕ → List ℤ) → IsStreamAt session.stream s m given
+    → has_gone session.stream.job m session.task ≡ true)
+    → IsKeptWhole session.stream session.task
+    → StandsStopped remaining held old now session stop
+    → WritesWhole held session.stream.job session.task old now
+left_of remaining held old now session stop sink gone whole st =
+    let stands = st.stands in
+    let stream = session.stream in
+    let m = stands.moment in
+    let machine = stands.reaches.at.machine in
+    record {
+      samples = stands.samples;
+      ended = has_ended stream.inputs;
+      came = stands.reaches.came;
+      ready = record { graph = machine.graph; apart = machine.apart };
+      starts = (started stream.job m).starts;
+      values = stands.given session.task;
       whole = λ more goes.
-          let whole = whole_by (started (with_samples more stream.job) m) (kept_by stream.job m)
-          session.sink session.task sink.there sink.task
-          (st.stopped_is more goes.feeds goes.ready) in
-          (whole.0, whole.1 ∙ ap (flat_map value_text) (sym st.whole));
+          text_of_list (started (with_samples more stream.job) m) session.sink session.task
+          sink.there sink.task
+          ∙ ap (flat_map value_text) (sym (st.whole ∙ whole stands.samples m stands.given more
+          stands.reaches.at goes.feeds goes.ready));
+      ends = inr (record {
+        moment = m;
+        reached = machine.reached;
+        starts_are = refl;
+        gone = gone stands.samples m stands.given stands.reaches.at;
+        kept = st.whole;
+      });
       written = stands.written;
     }
 
@@ -195,22 +265,18 @@ lacking_stops held old new session k lack fault found begins right st is which =
 -- a record is none
 pub bad_stops : {R : Type 0} (held : Known) (old new : WriterState) (session : Session R)
     (k number task : ℕ) (name : String Global) (found : Failure)
-    → ((s : List (List ℤ)) (m : Moment) (given : ℕ → List ℤ) → IsStreamAt session.stream s m given
-    → IsPrefix (given session.task) (kept_by session.stream.job m session.task))
     → IsKeptRight session.stream session.task
     → (st : StandsLacking held old.written new.written session k (lack.BadRecord number))
     → IsFaultWithoutText (faults.BadSample name number) found
     → IsSourceAt session.stream.job task k
     → string_bytes name ≡ name_at session.stream.job.graph (place.Task task)
     → StopsOf held session.stream.job session.task old new found
-bad_stops held old new session k number task name found begins right st is there named =
+bad_stops held old new session k number task name found right st is there named =
     unread_stops (faults.BadSample name number) found
     (StopsOf held session.stream.job session.task old new) is
     (λ text. record {
-      part = part_of held session.stream session.task old.written new.written st.samples st.moment
-          st.given (st.given session.task) st.reaches
-          (begins st.samples st.moment st.given st.reaches.at) right
-          (whole_part old.written new.written (flat_map value_text (st.given session.task)) st.written);
+      kept = kept_of held session.stream session.task old.written new.written st.samples st.moment
+          st.given st.reaches (st.still number refl).whole right st.written;
       cause = record {
         task = task;
         source = k;
@@ -218,5 +284,6 @@ bad_stops held old new session k number task name found begins right st is there
         named_is = named;
         number_is = st.lacks.0;
         bad = st.lacks.1;
+        rest = (st.still number refl).rest;
       };
     })

@@ -1,5 +1,5 @@
 -- A run of a graph over the files of its sources, and what of one sink was written.
-use Rattle.std.specs.Prelude.{◌≡◌, ◌<◌, ◌++◌, ℕ, ℤ, List, [], Option, Some, Ok, length, get_or, map, slice_get, false, true}
+use Rattle.std.specs.Prelude.{◌≡◌, ◌<◌, ◌++◌, ◌||◌, Bool, ℕ, ℤ, List, [], Option, Some, Ok, length, get_or, map, slice_get, false, true}
 use Rattle.std.specs.List.{flat_map, list_all}
 use Rattle.std.specs.Io.KnownBytes.{Appends}
 use mathlib.Core.List.{IsPrefix}
@@ -11,12 +11,12 @@ use Rattle.graph_commands.specs.declared.failure.Failure.TheVariants as failure
 use Rattle.graph_commands.specs.declared.fault.JobFault.{JobFault}
 use Rattle.stream_job.specs.Machines.{none_given}
 use Rattle.stream_job.specs.graph_runs.Beginnings.{opening}
-use Rattle.stream_job.specs.Streams.{IsSourceAt, IsStreamAt, StreamState, all_tasks, ended_at, has_ended, is_some_live, none_came}
+use Rattle.stream_job.specs.Streams.{IsSourceAt, IsStreamAt, StreamState, all_tasks, ended_at, has_ended, is_hungry, is_some_live, none_came}
 use Rattle.stream_job.specs.SinkLines.{kept_by}
 use Rattle.stream_job.specs.Stepping.{is_at_rest}
 use Rattle.stream_job.specs.declared.stopped.Stopped.{Stopped}
 use Rattle.stream_job.specs.declared.stopped.Stopped.TheVariants as stopped
-use Rattle.stream_job.specs.graph_base.Graphs.{file_at, sources_of, task_at}
+use Rattle.stream_job.specs.graph_base.Graphs.{file_at, source_number, sources_of, task_at}
 use Rattle.stream_job.specs.graph_runs.Feeds.{IsFed}
 use Rattle.stream_job.specs.graph_runs.Moments.{Moment, started}
 use Rattle.stream_job.specs.graph_runs.Settled.{IsFaultAt, IsReady}
@@ -28,6 +28,7 @@ use Rattle.phase_stream.specs.Sources.{HasComeOf, IsSource, Lacks}
 use Rattle.phase_stream.specs.declared.session.Session.{Session}
 use Rattle.phase_stream.specs.declared.source.Source.{Source}
 use Rattle.phase_stream.specs.declared.source.Lack.{Lack}
+use Rattle.phase_stream.specs.declared.source.Lack.TheVariants as lacks
 
 -- a stream at its opening: no samples came, and no source has ended
 pub record IsStreamAtOpening (stream : StreamState) : Type 0 where
@@ -46,6 +47,14 @@ IsKeptRight stream t = (s : List (List ℤ)) (m : Moment) (given : ℕ → List 
     → IsReady (with_samples more stream.job)
     → IsPrefix (kept_by stream.job m t)
     (sink_list (started (with_samples more stream.job) m) t)
+
+-- it is all of them in every such run
+abbrev pub IsKeptWhole : StreamState → ℕ → Type 0
+IsKeptWhole stream t = (s : List (List ℤ)) (m : Moment) (given : ℕ → List ℤ)
+    (more : List (List ℤ)) → IsStreamAt stream s m given
+    → IsFed (with_samples s stream.job) (ended_at stream) more
+    → IsReady (with_samples more stream.job)
+    → kept_by stream.job m t ≡ sink_list (started (with_samples more stream.job) m) t
 
 -- a fault of the files with no text
 abbrev pub IsFaultWithoutText : JobFault → Failure → Type 0
@@ -88,9 +97,18 @@ pub record StandsBy {R : Type 0} (remaining : R → Option (List ℕ)) (held : K
 
 -- ---- a stop
 
+-- each task makes no event now: it is not live, its turn would be blocked, or it is a source that
+-- waits for a sample and has not ended
+abbrev pub AllWait : Job → (ℕ → Bool) → List (List ℤ) → Moment → Type 0
+AllWait job ended s m =
+    let came = with_samples s job in
+    list_all (λ t. is_at_rest came m t
+    || is_hungry came (λ u. ended (source_number job.graph.tasks u)) m t) (all_tasks job) ≡ true
+
 -- what a stop tells of samples and a moment, whatever was handed over: where it is done, what each
 -- sink has kept is its whole list in every run whose samples go on so; a value too big is one of
--- every such run; and a stalled run has a live task, and no task can move, whatever samples come
+-- every such run; where a source is hungry, no task makes an event without more samples; and a
+-- stalled run has a live task, and no task can move
 abbrev pub HasStopped : StreamState → List (List ℤ) → Moment → Stopped → Type 0
 HasStopped stream s m stopped.Done = (more : List (List ℤ))
     → IsFed (with_samples s stream.job) (ended_at stream) more
@@ -101,6 +119,7 @@ HasStopped stream s m (stopped.TooBig place n) = (more : List (List ℤ))
     → IsFed (with_samples s stream.job) (ended_at stream) more
     → IsReady (with_samples more stream.job)
     → IsFaultAt (started (with_samples more stream.job) m) (place, n)
+HasStopped stream s m (stopped.Hungry source) = AllWait stream.job (has_ended stream.inputs) s m
 HasStopped stream s m stopped.Stalled =
     (is_some_live stream.job m ≡ true)
     × (list_all (is_at_rest (with_samples s stream.job) m) (all_tasks stream.job) ≡ true)
@@ -124,8 +143,14 @@ pub record StandsPart {R : Type 0} (held : Known) (old now : Option (List ℕ))
   pub begins : IsPrefix values (kept_by session.stream.job moment session.task)
   pub written : AppendsPrefix old now (flat_map value_text values)
 
+-- all that task t has kept was handed over, and no task makes an event now
+pub record KeptStill (stream : StreamState) (t : ℕ) (s : List (List ℤ)) (m : Moment)
+    (given : ℕ → List ℤ) : Type 0 where
+  pub whole : given t ≡ kept_by stream.job m t
+  pub rest : AllWait stream.job (has_ended stream.inputs) s m
+
 -- the writer got what was handed over, and the source of this number got no more samples, of this
--- cause
+-- cause: where that is its file's, all that the sink had
 pub record StandsLacking {R : Type 0} (held : Known) (old now : Option (List ℕ))
     (session : Session R) (k : ℕ) (lack : Lack) : Type 0 where
   pub samples : List (List ℤ)
@@ -135,6 +160,8 @@ pub record StandsLacking {R : Type 0} (held : Known) (old now : Option (List ℕ
   pub written : Appends old now (flat_map value_text (given session.task))
   pub there : (source : Source R) → slice_get session.sources.items k ≡ Some source
       → IsSourceAt session.stream.job source.task k
+  pub still : (number : ℕ) → lack ≡ lacks.BadRecord number
+      → KeptStill session.stream session.task samples moment given
   pub lacks : Lacks (held (file_at session.stream.job.graph k)) (length (get_or samples k [])) lack
 
 -- the files hold what is known of them

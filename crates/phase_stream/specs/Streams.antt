@@ -23,6 +23,8 @@ use Rattle.graph_commands.specs.watched_io.declared.fault.IoFault.TheVariants as
 use Rattle.graph_commands.specs.watched_io.declared.status.Status.{Status}
 use Rattle.graph_commands.specs.watched_io.declared.status.Status.TheVariants.{Done}
 use Rattle.graph_commands.specs.watched_io.declared.watched.Watched.{Watched}
+use Rattle.stream_job.specs.Gone.{has_gone}
+use Rattle.stream_job.specs.SinkLines.{kept_by}
 use Rattle.stream_job.specs.Stepping.{is_at_rest}
 use Rattle.stream_job.specs.Streams.{IsSourceAt, all_tasks, is_some_live, most_of}
 use Rattle.stream_job.specs.graph_base.Graphs.{file_at, name_at, source_number, sources_of}
@@ -30,14 +32,14 @@ use Rattle.stream_job.specs.graph_base.declared.place.Place.TheVariants as place
 use Rattle.sample_pieces.specs.graph_lang.declared.fault.FaultKind.{FaultKind}
 use Rattle.sample_pieces.specs.graph_lang.declared.fault.FaultKind.TheVariants.{AnyMeets}
 use Rattle.stream_job.specs.graph_runs.Feeds.{IsFed}
-use Rattle.stream_job.specs.graph_runs.Moments.{Moment}
+use Rattle.stream_job.specs.graph_runs.Moments.{Moment, started}
 use Rattle.stream_job.specs.graph_runs.Reached.{IsReachable}
 use Rattle.stream_job.specs.graph_runs.Settled.{IsFaultAt, IsReady}
 use Rattle.stream_job.specs.stream_lists.Jobs.{Job, counted, with_samples, with_starts}
 use Rattle.stream_job.specs.stream_lists.Lists.{sinks_of}
 use Rattle.stream_job.specs.stream_lists.Meetings.{meeting_line}
 use Rattle.stream_job.specs.stream_lists.Ranges.{Fits}
-use Rattle.phase_stream.specs.Sessions.{sink_list}
+use Rattle.phase_stream.specs.Sessions.{AllWait, sink_list}
 use Rattle.phase_stream.specs.Sources.{HasBadFrom, HasComeOf}
 
 -- ---- what came
@@ -67,8 +69,34 @@ pub record WritesPart (held : Known) (job : Job) (t : ℕ) (old now : Option (Li
       → IsPrefix values (sink_list (with_starts starts (with_samples more job)) t)
   pub written : AppendsPrefix old now (flat_map value_text values)
 
+-- every value is in range in every run whose samples go on so
+abbrev pub AllFit : Job → (ℕ → Bool) → List (List ℤ) → List ℕ → Type 0
+AllFit job ended samples starts = (more : List (List ℤ)) → GoesOnBehind job ended samples more
+    → Fits (with_starts starts (with_samples more job))
+
+-- at a moment of the samples that came the sink has left, and has got these values, all in range
+pub record LeavesWith (job : Job) (samples : List (List ℤ)) (starts : List ℕ) (t : ℕ)
+    (values : List ℤ) : Type 0 where
+  pub moment : Moment
+  pub reached : IsReachable (with_samples samples job) moment
+  pub starts_are : starts ≡ (started job moment).starts
+  pub gone : has_gone job moment t ≡ true
+  pub kept : values ≡ kept_by job moment t
+
+-- what was written is all that the sink had kept at a moment of the samples that came, and begins
+-- its values in every run whose samples go on behind those
+pub record WritesKept (held : Known) (job : Job) (t : ℕ) (old now : Option (List ℕ)) : Type 0 where
+  pub samples : List (List ℤ)
+  pub ended : ℕ → Bool
+  pub came : CameOf held job ended samples
+  pub moment : Moment
+  pub reached : IsReachable (with_samples samples job) moment
+  pub right : (more : List (List ℤ)) → GoesOnBehind job ended samples more
+      → IsPrefix (kept_by job moment t) (sink_list (started (with_samples more job) moment) t)
+  pub written : Appends old now (flat_map value_text (kept_by job moment t))
+
 -- what was written is all values of the sink in every run whose samples go on behind those that
--- came, and they are in range
+-- came: every value of the run is in range, or the sink has left
 pub record WritesWhole (held : Known) (job : Job) (t : ℕ) (old now : Option (List ℕ)) : Type 0 where
   pub samples : List (List ℤ)
   pub ended : ℕ → Bool
@@ -77,9 +105,9 @@ pub record WritesWhole (held : Known) (job : Job) (t : ℕ) (old now : Option (L
   pub starts : List ℕ
   pub values : List ℤ
   pub whole : (more : List (List ℤ)) → GoesOnBehind job ended samples more
-      → Fits (with_starts starts (with_samples more job))
-      × (sinks_text (with_starts starts (with_samples more job)) (Some t)
-      ≡ flat_map value_text values)
+      → sinks_text (with_starts starts (with_samples more job)) (Some t)
+      ≡ flat_map value_text values
+  pub ends : AllFit job ended samples starts ⊎ LeavesWith job samples starts t values
   pub written : Appends old now (flat_map value_text values)
 
 -- ---- which sink
@@ -111,22 +139,28 @@ pub record StopsBehind (held : Known) (job : Job) (sink : ℕ) (old new : Writer
   pub part : WritesPart held job sink old.written new.written
   pub cause : Cause part.samples part.ended part.starts
 
+-- it stopped behind all that the sink had kept, of a cause
+pub record StopsKept (held : Known) (job : Job) (sink : ℕ) (old new : WriterState)
+    (Cause : List (List ℤ) → (ℕ → Bool) → Moment → Type 0) : Type 0 where
+  pub kept : WritesKept held job sink old.written new.written
+  pub cause : Cause kept.samples kept.ended kept.moment
+
 -- ---- causes
 
--- the record behind the samples that came of the source of this name is none
+-- the record behind the samples that came of the source of this name is none, and without more
+-- samples no task makes an event
 pub record EndsInRecord (held : Known) (job : Job) (named : List ℕ) (number : ℕ)
-    (samples : List (List ℤ)) : Type 0 where
+    (samples : List (List ℤ)) (ended : ℕ → Bool) (moment : Moment) : Type 0 where
   pub task : ℕ
   pub source : ℕ
   pub there : IsSourceAt job task source
   pub named_is : named ≡ name_at job.graph (place.Task task)
   pub number_is : number ≡ length (get_or samples source []) + 1
   pub bad : HasBadFrom (held (file_at job.graph source)) number
+  pub rest : AllWait job ended samples moment
 
 -- some task is live, and no task can move
-pub record IsStandstill (job : Job) (samples : List (List ℤ)) : Type 0 where
-  pub moment : Moment
-  pub reached : IsReachable (with_samples samples job) moment
+pub record IsStandstill (job : Job) (samples : List (List ℤ)) (moment : Moment) : Type 0 where
   pub live : is_some_live job moment ≡ true
   pub rest : list_all (is_at_rest (with_samples samples job) moment) (all_tasks job) ≡ true
 
@@ -134,27 +168,27 @@ pub record IsStandstill (job : Job) (samples : List (List ℤ)) : Type 0 where
 abbrev pub StopsOf : Known → Job → ℕ → WriterState → WriterState → Failure → Type 0
 StopsOf held job sink old new (failure.Graph (fault.Graph found) text) = ⊥
 StopsOf held job sink old new (failure.Graph (fault.BadSample named number) text) =
-    StopsBehind held job sink old new
-    (λ samples ended starts. EndsInRecord held job (string_bytes named) number samples)
+    StopsKept held job sink old new
+    (λ samples ended m. EndsInRecord held job (string_bytes named) number samples ended m)
 StopsOf held job sink old new (failure.Graph fault.ReadFault text) =
     StopsBehind held job sink old new (λ samples ended starts. ⊤)
 StopsOf held job sink old new (failure.Graph fault.OutOfMemory text) =
     StopsBehind held job sink old new (λ samples ended starts. ⊤)
 StopsOf held job sink old new (failure.NoSink other wanted) = ⊥
 StopsOf held job sink old new (failure.TooBig other at phase) =
-    (other ≡ job) × StopsBehind held job sink old new
-    (λ samples ended starts. (more : List (List ℤ)) → GoesOnBehind job ended samples more
-    → IsFaultAt (with_starts starts (with_samples more job)) (at, phase))
+    (other ≡ job) × StopsKept held job sink old new
+    (λ samples ended m. (more : List (List ℤ)) → GoesOnBehind job ended samples more
+    → IsFaultAt (started (with_samples more job) m) (at, phase))
 StopsOf held job sink old new (failure.Stalled further) =
-    AreFurtherLines further.items × StopsBehind held job sink old new
-    (λ samples ended starts. IsStandstill job samples)
+    AreFurtherLines further.items × StopsKept held job sink old new
+    (λ samples ended m. IsStandstill job samples m)
 StopsOf held job sink old new (failure.Io found) =
     (found ≡ io_fault.WriteFault → new.failed ≡ true)
     × StopsBehind held job sink old new (λ samples ended starts. ⊤)
 
--- the graph of the file has tasks that would meet, were there samples enough: the first is on this
--- line
-pub record MayMeetOf (known : Known) (name : List ℕ) (line : ℕ) : Type 0 where
+-- the file tells a graph of which the task of this line meets one of an earlier line, with as many
+-- samples of each source as there may be
+pub record MayMeetOnLine (known : Known) (name : List ℕ) (line : ℕ) : Type 0 where
   pub job : Job
   pub graph_of : IsGraphOf known name job.graph
   pub meets : meeting_line (counted job.graph (most_of job.graph)) ≡ Some line
@@ -162,7 +196,7 @@ pub record MayMeetOf (known : Known) (name : List ℕ) (line : ℕ) : Type 0 whe
 -- why the file gives no run
 abbrev pub GivesNoRun : Known → List ℕ → JobFault → Type 0
 GivesNoRun known name (fault.Graph found) =
-    IsFaultOf known name found ⊎ ((found.kind ≡ AnyMeets) × MayMeetOf known name found.line)
+    IsFaultOf known name found ⊎ ((found.kind ≡ AnyMeets) × MayMeetOnLine known name found.line)
 GivesNoRun known name (fault.BadSample named number) = ⊥
 GivesNoRun known name fault.ReadFault = MayBeRefused GRAPH_MAX (known name)
 GivesNoRun known name fault.OutOfMemory = MayNeedMemory GRAPH_MAX (known name)

@@ -17,7 +17,6 @@ use phase_words::{StreamCall, answer, read_stream_words};
 use sample_pieces::graph_lang::{FaultKind, GraphFault};
 use std::alloc::Global;
 use std::io::Write;
-use std::sync::Wait;
 
 /// Runs the program on its words, those behind `phase stream`, and answers its status: `Done` where
 /// the run is over, or help or the version was shown, `GraphRefused` where the graph or a sample is
@@ -26,10 +25,8 @@ use std::sync::Wait;
 /// `Failed` after a fault.
 ///
 /// A refusal's text goes to the fault stream, and so does a fault's line. Where that stream fails
-/// too, the status stands alone. It waits where a reader waits, and it is not promised that it
-/// comes back.
-pub fn run_cli<H: Wait, W: Write, E: Write, F: Opens + Refuses + LooksBeside>(
-    rt: &H,
+/// too, the status stands alone. It comes back where each call of its readers and writers does.
+pub fn run_cli<W: Write, E: Write, F: Opens + Refuses + LooksBeside>(
     alloc: Global,
     words: &[String],
     streams: &mut Streams<W, E, F>,
@@ -59,14 +56,13 @@ pub fn run_cli<H: Wait, W: Write, E: Write, F: Opens + Refuses + LooksBeside>(
     ensures quiet { result ≡ Status.Done → streams.new.faults ≡ streams.old.faults }
 {
     match read_stream_words(alloc, words) {
-        Ok(call) => run_call(rt, alloc, call, streams),
+        Ok(call) => run_call(alloc, call, streams),
         Err(none) => answer(&none, &mut streams.output, &mut streams.faults),
     }
 }
 
 /// Streams a graph as a call asks for it, reports why it stopped, and answers the status.
-fn run_call<H: Wait, W: Write, E: Write, F: Opens + Refuses + LooksBeside>(
-    rt: &H,
+fn run_call<W: Write, E: Write, F: Opens + Refuses + LooksBeside>(
     alloc: Global,
     call: StreamCall<'_>,
     streams: &mut Streams<W, E, F>,
@@ -80,7 +76,7 @@ fn run_call<H: Wait, W: Write, E: Write, F: Opens + Refuses + LooksBeside>(
 {
     let (graph, explain) = (call.graph, call.explain);
     look_by(alloc, &mut streams.files, call.beside, graph);
-    let done = stream(rt, alloc, call, &mut streams.output, &mut streams.files);
+    let done = stream(alloc, call, &mut streams.output, &mut streams.files);
     end(
         alloc,
         done,

@@ -5,9 +5,10 @@
 //! of its sources, a piece of a source that waits for some at a time, and writes what comes out
 //! before it reads again; or answers why not. `StreamFiles` are the files of the disk.
 //!
-//! Proved: what is written at status 0 is what `eval` writes of the samples that came, and of all
-//! that may follow them; whatever the status it begins that, and each status has its cause. Only
-//! tested: when bytes are read and written, that a stream comes back, and what is told of a stall.
+//! Proved: what is written at status 0 is all values of the sink, of the samples that came and of
+//! all that may follow them; whatever the status it begins that, each status has its cause, and
+//! where that is in the samples or the graph, all that the sink had by then was written. Only
+//! tested: when bytes are read and written, and what is told of a stall.
 #![tactic(auto)]
 
 mod cli;

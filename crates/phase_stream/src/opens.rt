@@ -40,7 +40,8 @@ impl<F: Read, I: Read> Read for Samples<F, I> {
 }
 
 /// The files of the disk: a graph's is read whole, as `TellingFiles` reads it, and those of its
-/// sources piece by piece, this input as the one of the name `-`, once.
+/// sources piece by piece, this input as the one of the name `-`, once: not at all where the graph
+/// has that name.
 #[derive(Drop)]
 pub struct StreamFiles<'a, R, I> {
     rt: &'a R,
@@ -111,13 +112,16 @@ impl<R: std::rt::Files, I: Read + Drop> Opens for StreamFiles<'_, R, I> {
     }
 }
 
-impl<R: std::rt::Files, I> Files for StreamFiles<'_, R, I> {
+impl<R: std::rt::Files, I: Drop> Files for StreamFiles<'_, R, I> {
     fn read(&mut self, alloc: Global, name: &str, limit: usize) -> Result<Vec<u8>, FileFault> {
+        if name == "-" {
+            self.input = None;
+        }
         self.files.read(alloc, name, limit)
     }
 }
 
-impl<R: std::rt::Files, I> LooksBeside for StreamFiles<'_, R, I> {
+impl<R: std::rt::Files, I: Drop> LooksBeside for StreamFiles<'_, R, I> {
     fn look_beside(&mut self, alloc: Global, file: &str) {
         self.files.look_beside(alloc, file);
     }

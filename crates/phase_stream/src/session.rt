@@ -6,9 +6,12 @@ ghost use Rattle.graph_commands.specs.watched_io.declared.fault.IoFault.TheVaria
 ghost use Rattle.stream_job.specs.graph_base.Graphs.{sources_of};
 ghost use Rattle.stream_job.specs.graph_runs.Moments.{Moment};
 ghost use mathlib.Core.List.{IsPrefix};
+ghost use Rattle.stream_job.specs.Gone.{has_gone};
 ghost use Rattle.stream_job.specs.SinkLines.{kept_by};
 ghost use Rattle.stream_job.specs.Streams.{IsStreamAt};
-ghost use Rattle.phase_stream.specs.Sessions.{HandsOverAll, HandsPart, IsForgetful, IsKeptRight, IsStreamAtOpening, IsFaultWithoutText, MayStand, HasStopped, IsKnownAs, IsSameSession, IsSinkNumber, StandsBy, StandsLacking, StandsPart, StandsStopped};
+ghost use Rattle.stream_job.specs.declared.stopped.Stopped.{Stopped as StoppedValue};
+ghost use Rattle.stream_job.specs.declared.stopped.Stopped.TheVariants.{Hungry};
+ghost use Rattle.phase_stream.specs.Sessions.{HandsOverAll, HandsPart, IsForgetful, IsKeptRight, IsKeptWhole, IsStreamAtOpening, IsFaultWithoutText, MayStand, HasStopped, IsKnownAs, IsSameSession, IsSinkNumber, StandsBy, StandsLacking, StandsPart, StandsStopped};
 ghost use Rattle.phase_stream.specs.Sources.{AreUnopened};
 ghost use Rattle.phase_stream.specs.Streams.{StopsOf};
 ghost use Rattle.graph_commands.specs.Explained.{AreFurtherLines};
@@ -131,7 +134,8 @@ impl<R: Read + Drop> Session<R> {
             → IsKnownAs held (F.file files.old) → StandsBy R.remaining held old now self.old
             → StandsBy R.remaining held old now self.new) }
         ensures err { IfErr result (λ lack. (held : Known) (old now : Option (List ℕ))
-            → IsKnownAs held (F.file files.old) → StandsBy R.remaining held old now self.old
+            (hungry : ℕ) → IsKnownAs held (F.file files.old)
+            → StandsStopped R.remaining held old now self.old (Hungry hungry)
             → StandsLacking held old now self.new k lack) }
         ensures same { IsSameSession self.old self.new }
         ensures files { (other : List ℕ) → F.file files.new other ≡ F.file files.old other }
@@ -154,6 +158,17 @@ impl<R: Read + Drop> Session<R> {
             self.stream.finish(k);
         }
         Ok(())
+    }
+
+    /// Returns whether the sink has left: it gets no more values.
+    pub fn has_left(&self) -> bool
+        requires { IsSinkNumber self.now.stream.job self.now.task self.now.sink }
+        ensures gone { (s : List (List ℤ)) (m : Moment) (given : ℕ → List ℤ)
+            → IsStreamAt self.now.stream s m given
+            → has_gone self.now.stream.job m self.now.task ≡ result }
+        ensures whole { result ≡ true → IsKeptWhole self.now.stream self.now.task }
+    {
+        self.stream.has_left(self.sink)
     }
 
     /// Returns why it stops, where a source got no more samples of this cause.
@@ -217,9 +232,9 @@ impl<R: Read + Drop> Session<R> {
 
     /// Closes the files of the sources that have left.
     pub fn close_left(&mut self)
-        ensures stands { (held : Known) (old now : Option (List ℕ))
-            → StandsBy R.remaining held old now self.old
-            → StandsBy R.remaining held old now self.new }
+        ensures stands { (held : Known) (old now : Option (List ℕ)) (stop : StoppedValue)
+            → StandsStopped R.remaining held old now self.old stop
+            → StandsStopped R.remaining held old now self.new stop }
         ensures same { IsSameSession self.old self.new }
     {
         for k in 0..self.sources.len() {
@@ -231,9 +246,9 @@ impl<R: Read + Drop> Session<R> {
 
     /// Closes the file of a source, where it is open.
     fn close(&mut self, k: usize)
-        ensures stands { (held : Known) (old now : Option (List ℕ))
-            → StandsBy R.remaining held old now self.old
-            → StandsBy R.remaining held old now self.new }
+        ensures stands { (held : Known) (old now : Option (List ℕ)) (stop : StoppedValue)
+            → StandsStopped R.remaining held old now self.old stop
+            → StandsStopped R.remaining held old now self.new stop }
         ensures same { IsSameSession self.old self.new }
     {
         if let Some(source) = self.sources.get_mut(k) {

@@ -14,14 +14,13 @@ ghost use Rattle.phase_stream.specs.Streams.{GivesNoRun, IsNoStream, StopsOf, St
 use crate::opens::Opens;
 use crate::session::Session;
 use crate::sink::asked_sink;
-use crate::source::Room;
+use crate::source::{Lack, Room};
 use graph_commands::watched_io::{Explain, Files, IoFault, Watched};
 use graph_commands::{Failure, GRAPH_MAX, JobFault};
 use phase_words::StreamCall;
 use sample_pieces::graph_lang::{FaultKind, GraphFault, read_graph};
 use std::alloc::Global;
 use std::io::Write;
-use std::sync::Wait;
 use stream_job::graph_base::Place;
 use stream_job::graph_runs::outcomes;
 use stream_job::{Job, JobRefusal, Stopped, Stream};
@@ -34,9 +33,8 @@ const UNNAMED: &str = "is named";
 ///
 /// It reads of the source that waits for samples and is the first in the order of the lines, at
 /// most `PIECE` bytes, feeds them, goes on, writes what the sink has, and only then reads again. It
-/// waits where a reader waits, and it is not promised that it comes back.
-pub fn stream<'a, H: Wait, W: Write, F: Opens>(
-    rt: &H,
+/// comes back where each call of its readers and its writer does.
+pub fn stream<'a, W: Write, F: Opens>(
     alloc: Global,
     call: StreamCall<'a>,
     output: &mut Watched<W>,
@@ -62,7 +60,7 @@ pub fn stream<'a, H: Wait, W: Write, F: Opens>(
         });
     };
     match Session::new(alloc, stream, sink.task, sink.number) {
-        Ok(session) => go(rt, alloc, session, call.explain, output, files),
+        Ok(session) => go(alloc, session, call.explain, output, files),
         Err(_) => Err(Failure::Io(IoFault::OutOfMemory)),
     }
 }
@@ -111,9 +109,9 @@ fn stream_of_text(alloc: Global, text: &[u8]) -> Result<Stream, JobFault>
     }
 }
 
-/// Goes on until the run is done, or a cause stops it.
-fn go<'a, H: Wait, W: Write, F: Opens>(
-    rt: &H,
+/// Goes on until the sink has left, the run is over, or a cause stops it: a read fault after
+/// 2^64 - 1 rounds.
+fn go<'a, W: Write, F: Opens>(
     alloc: Global,
     mut session: Session<F::Reader>,
     explain: Explain,
@@ -137,11 +135,14 @@ fn go<'a, H: Wait, W: Write, F: Opens>(
     ensures same { (other : List ℕ) → F.file files.new other ≡ F.file files.old other }
 {
     let mut room = Room::empty();
-    for _ in rt.forever() {
+    for _ in 0..u64::MAX {
         let stop = match session.turn(output) {
             Ok(stop) => stop,
             Err(fault) => return Err(Failure::Io(fault)),
         };
+        if session.has_left() {
+            return Ok(());
+        }
         match stop {
             Stopped::Done => return Ok(()),
             Stopped::Hungry { source } => {
@@ -163,7 +164,7 @@ fn go<'a, H: Wait, W: Write, F: Opens>(
             }
         }
     }
-    unreachable!()
+    Err(session.lacking(alloc, 0, Lack::ReadFault))
 }
 
 /// A value of a job that is out of range.

@@ -1,4 +1,5 @@
 pub mod Events
+pub mod Gone
 pub mod Leaving
 pub mod LinesAfter
 pub mod LinesBegin

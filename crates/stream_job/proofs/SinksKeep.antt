@@ -413,7 +413,7 @@ opened_kept job t = by (root_number job q t)
 
 -- ---- where no wait was answered a value that is too big
 
-all_in_range : (outcomes : List Outcome) → All (λ outcome. is_too_big outcome ≡ false) outcomes
+pub all_in_range : (outcomes : List Outcome) → All (λ outcome. is_too_big outcome ≡ false) outcomes
     → kept_of outcomes ≡ map number outcomes
 all_in_range [] all = refl
 all_in_range (outcome ∷ rest) all =

@@ -1,5 +1,6 @@
 pub mod Blocking
 pub mod Buffers
+pub mod Gone
 pub mod Stepping
 pub mod Machines
 pub mod Parking

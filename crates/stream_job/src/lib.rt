@@ -28,6 +28,7 @@ mod standing;
 mod step;
 mod stopped;
 mod stream;
+mod stream_gone;
 mod stream_stands;
 mod stream_stops;
 mod stream_turns;

@@ -6,9 +6,11 @@ use Rattle.stream_job.specs.graph_base.Graphs.{IsPlace}
 use Rattle.stream_job.specs.stream_lists.Jobs.{Job}
 use Rattle.phase_stream.specs.Sessions.{StandsStopped}
 use Rattle.phase_stream.specs.Streams.{StopsOf}
+use Rattle.phase_stream.proofs.Refilling.{lacks_none}
 use Rattle.phase_stream.proofs.Standing.{same_session}
-use Rattle.phase_stream.proofs.Stopping.{done_writes, held_later, io_stops, lack_stops, sink_same, stall_stops, too_big_stops, too_big_there}
+use Rattle.phase_stream.proofs.Stopping.{done_writes, held_later, io_stops, lack_stops, left_writes, sink_same, stall_stops, too_big_stops, too_big_there}
 use Rattle.phase_stream.proofs.streamed.go.Goals as goal
+use Rattle.phase_stream.proofs.streamed.go.Goals.{in-Full, in-Hungry+in_default}
 
 pub loop-init : goal.loop-init
 loop-init g c = (
@@ -30,6 +32,22 @@ returns-in-Err-clause-failed g c = λ held old is st. (
       (c.in-Err.ensures.err held old.written (c.loop.invariant.2 held old.written is st)),
 )
 
+pub has_left-requires : goal.has_left-requires
+has_left-requires g c =
+    sink_same c.args.session c.turn.new.self
+    (same_session c.args.session c.loop.session c.turn.new.self c.loop.invariant.0 c.turn.ensures.same)
+    c.requires.sink
+
+pub returns-then-has_left-clause-done : goal.returns-then-has_left-clause-done
+returns-then-has_left-clause-done g c = λ held old is st.
+    (let same = same_session c.args.session c.loop.session c.turn.new.self c.loop.invariant.0
+    c.turn.ensures.same in
+    left_writes g.F.Reader.Read.remaining held old _ c.args.session c.turn.new.self _ same
+    (sink_same c.args.session c.turn.new.self same c.requires.sink)
+    (λ s m given at. c.has_left.ensures.gone s m given at ∙ c.if-has_left.true)
+    (c.has_left.ensures.whole c.if-has_left.true)
+    (c.in-Ok.ensures.ok held old (c.loop.invariant.2 held old is st)))
+
 pub returns-in-Done-clause-done : goal.returns-in-Done-clause-done
 returns-in-Done-clause-done g c = λ held old is st.
     (let same = same_session c.args.session c.loop.session c.turn.new.self c.loop.invariant.0
@@ -48,7 +66,7 @@ refill-requires g c =
       _,
       held_later held (g.F.Files.file c.args.files.now) (g.F.Files.file c.loop.files)
           c.loop.invariant.1 is,
-      c.close_left.ensures.stands held old _ stopped.stands,
+      (c.close_left.ensures.stands held old _ _ stopped).stands,
     )
 
 pub lacking-requires : goal.lacking-requires
@@ -69,30 +87,36 @@ returns-in-Err-refill-clause-failed g c = λ held old is st.
     (same_session c.args.session c.loop.session c.turn.new.self c.loop.invariant.0 c.turn.ensures.same)
     c.close_left.ensures.same) c.refill.ensures.same)
     (c.lacking.ensures.stops held old _
-    (c.in-Err-refill.ensures.err held old.written _
+    (c.in-Err-refill.ensures.err held old.written _ c.in-Hungry.source
     (held_later held (g.F.Files.file c.args.files.now) (g.F.Files.file c.loop.files)
-    c.loop.invariant.1 is) (c.close_left.ensures.stands held old.written _ stopped.stands))))
-
-pub loop-preserved-in_default : goal.loop-preserved-in_default
-loop-preserved-in_default g c = (
-  same_session c.args.session c.close_left.new.self c.refill.new.self
-      (same_session c.args.session c.turn.new.self c.close_left.new.self
-      (same_session c.args.session c.loop.session c.turn.new.self c.loop.invariant.0
-      c.turn.ensures.same) c.close_left.ensures.same) c.refill.ensures.same,
-  λ other. c.refill.ensures.files other ∙ c.loop.invariant.1 other,
-  λ held old is st.
-      (let stopped = c.in-Ok.ensures.ok held old (c.loop.invariant.2 held old is st) in
-      c.in_default.ensures.ok held old _
-      (held_later held (g.F.Files.file c.args.files.now) (g.F.Files.file c.loop.files)
-      c.loop.invariant.1 is) (c.close_left.ensures.stands held old _ stopped.stands)),
-)
+    c.loop.invariant.1 is) (c.close_left.ensures.stands held old.written _ _
+    (subst (StandsStopped g.F.Reader.Read.remaining held old.written _ c.turn.new.self) c.in-Hungry.is
+    stopped)))))
 
 pub loop-preserved : goal.loop-preserved
-loop-preserved g c = (
-  same_session c.args.session c.loop.session c.turn.new.self c.loop.invariant.0 c.turn.ensures.same,
-  c.loop.invariant.1,
-  λ held old is st. (c.in-Ok.ensures.ok held old (c.loop.invariant.2 held old is st)).stands,
-)
+loop-preserved g c = elim c.match-stop.branch [
+  | in-Hungry+in_default w ↦
+      rw (w.files-is, w.session-is) (
+        same_session c.args.session w.close_left.new.self w.refill.new.self
+            (same_session c.args.session c.turn.new.self w.close_left.new.self
+            (same_session c.args.session c.loop.session c.turn.new.self c.loop.invariant.0
+            c.turn.ensures.same) w.close_left.ensures.same) w.refill.ensures.same,
+        λ other. w.refill.ensures.files other ∙ c.loop.invariant.1 other,
+        λ held old is st.
+            (let stopped = c.in-Ok.ensures.ok held old (c.loop.invariant.2 held old is st) in
+            w.in_default.ensures.ok held old _
+            (held_later held (g.F.Files.file c.args.files.now) (g.F.Files.file c.loop.files)
+            c.loop.invariant.1 is) (w.close_left.ensures.stands held old _ _ stopped).stands),
+      )
+  | in-Full w ↦
+      rw (w.files-is, w.session-is) (
+        same_session c.args.session c.loop.session c.turn.new.self c.loop.invariant.0
+            c.turn.ensures.same,
+        c.loop.invariant.1,
+        λ held old is st.
+            (c.in-Ok.ensures.ok held old (c.loop.invariant.2 held old is st)).stands,
+      )
+]
 
 pub kept_is_right-requires : goal.kept_is_right-requires
 kept_is_right-requires g c =
@@ -106,7 +130,7 @@ returns-in-Stalled-clause-failed g c = λ held old is st. (
   stall_stops g.F.Reader.Read.remaining held old _ c.args.session c.turn.new.self
       (same_session c.args.session c.loop.session c.turn.new.self c.loop.invariant.0
       c.turn.ensures.same)
-      c.kept_is_right.ensures.given c.kept_is_right.ensures.right
+      c.kept_is_right.ensures.right
       (subst (StandsStopped g.F.Reader.Read.remaining held old.written _ c.turn.new.self)
       c.in-Stalled.is
       (c.in-Ok.ensures.ok held old.written (c.loop.invariant.2 held old.written is st))),
@@ -126,7 +150,7 @@ returns-in-TooBig-clause-failed g c = λ held old is st.
     (too_big_stops g.F.Reader.Read.remaining held old _ c.args.session c.turn.new.self
     c.in-TooBig.place c.in-TooBig.phase
     (same_session c.args.session c.loop.session c.turn.new.self c.loop.invariant.0 c.turn.ensures.same)
-    c.kept_is_right-in-TooBig.ensures.given c.kept_is_right-in-TooBig.ensures.right
+    c.kept_is_right-in-TooBig.ensures.right
     (subst (StandsStopped g.F.Reader.Read.remaining held old.written _ c.turn.new.self) c.in-TooBig.is
     (c.in-Ok.ensures.ok held old.written (c.loop.invariant.2 held old.written is st))))
 
@@ -143,3 +167,14 @@ returns-in-TooBig-clause-place g c =
     (c.in-Ok.ensures.ok held old (c.loop.invariant.2 held old is st))) in
     subst HasPlace (sym c.too_big.ensures)
     (subst (λ (j : Job). IsPlace j.graph c.in-TooBig.place) (sym c.into_job.ensures) there)
+
+-- So many rounds: more samples than a stream may have.
+pub lacking-requires-2 : goal.lacking-requires-2
+lacking-requires-2 g c = sink_same c.args.session c.loop.session c.loop.invariant.0 c.requires.sink
+
+pub returns-clause-failed : goal.returns-clause-failed
+returns-clause-failed g c = λ held old is st.
+    lack_stops held old _ c.args.session c.loop.session c.lacking-2.result c.loop.invariant.0
+    (c.lacking-2.ensures.stops held old _
+    (lacks_none g.F.Reader.Read.remaining held old.written _ c.loop.session 0
+    (c.loop.invariant.2 held old.written is st)))

@@ -6,7 +6,8 @@ use Rattle.phase_stream.proofs.Standing.{sources_set}
 use Rattle.phase_stream.proofs.session.Session.close.Goals as goal
 
 pub returns-in-Some-clause-stands : goal.returns-in-Some-clause-stands
-returns-in-Some-clause-stands g c = λ held old now st.
+returns-in-Some-clause-stands g c = λ held old now stop stopped.
+    let st = stopped.stands in
     let other = c.in-Some.source.now in
     let one = record other { file = None } in
     let lt = c.in-Some.ensures.variant.0 refl in
@@ -15,14 +16,18 @@ returns-in-Some-clause-stands g c = λ held old now st.
     slice_get_read c.args.self.now.sources.items (length c.args.self.now.sources.items) c.args.k other
     refl (omega (arith, lt, long)) c.in-Some.ensures.value in
     record {
-      samples = st.samples;
-      moment = st.moment;
-      given = st.given;
-      reaches = st.reaches;
-      sources = sources_set g.R.Read.remaining held c.args.self.now
-          (record c.args.self.now { sources = with_item c.args.self.now.sources c.args.k one })
-          st.samples st.samples c.args.k one other st.sources refl refl there refl
-          (λ j apart. refl)
-          (record { file = tt; unopened = (st.sources c.args.k other there).1.unopened });
-      written = st.written;
+      stands = record {
+        samples = st.samples;
+        moment = st.moment;
+        given = st.given;
+        reaches = st.reaches;
+        sources = sources_set g.R.Read.remaining held c.args.self.now
+            (record c.args.self.now { sources = with_item c.args.self.now.sources c.args.k one })
+            st.samples st.samples c.args.k one other st.sources refl refl there refl
+            (λ j apart. refl)
+            (record { file = tt; unopened = (st.sources c.args.k other there).1.unopened });
+        written = st.written;
+      };
+      whole = stopped.whole;
+      stopped_is = stopped.stopped_is;
     }

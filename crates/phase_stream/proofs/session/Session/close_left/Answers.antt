@@ -5,7 +5,7 @@ use Rattle.phase_stream.proofs.session.Session.close_left.Goals as goal
 use Rattle.phase_stream.proofs.session.Session.close_left.Goals.{then-k-sources+then-not-has_live, else-k-sources}
 
 pub loop-k-init : goal.loop-k-init
-loop-k-init g c = (λ held old now st. st, record { job = refl; task = refl; sink = refl })
+loop-k-init g c = (λ held old now stop st. st, record { job = refl; task = refl; sink = refl })
 
 pub returns-clause-stands : goal.returns-clause-stands
 returns-clause-stands g c = c.loop-k.invariant.0
@@ -17,7 +17,8 @@ pub loop-k-preserved : goal.loop-k-preserved
 loop-k-preserved g c = elim c.if-k-sources.branch [
   | then-k-sources+then-not-has_live w ↦
       rw w.self-is (
-        (λ held old now st. w.close.ensures.stands held old now (c.loop-k.invariant.0 held old now st)),
+        (λ held old now stop st. w.close.ensures.stands held old now stop
+            (c.loop-k.invariant.0 held old now stop st)),
         same_session c.args.self.now c.loop-k.self w.close.new.self c.loop-k.invariant.1
             w.close.ensures.same,
       )

@@ -1,10 +1,12 @@
 use Rattle.std.proofs.Common.{Option, List, ℕ}
 use Rattle.graph_commands.specs.FileJobs.{Known}
-use Rattle.phase_stream.specs.Sessions.{IsSameSession, StandsBy}
+use Rattle.stream_job.specs.declared.stopped.Stopped.{Stopped}
+use Rattle.phase_stream.specs.Sessions.{IsSameSession, StandsStopped}
 use Rattle.phase_stream.proofs.session.Session.close_left.Given as goal
 
 -- the session stands as before
 abbrev pub invariant-loop-k : goal.invariant-loop-k
-invariant-loop-k g l = ((held : Known) (old now : Option (List ℕ))
-    → StandsBy g.R.Read.remaining held old now l.fn.self → StandsBy g.R.Read.remaining held old now l.self)
+invariant-loop-k g l = ((held : Known) (old now : Option (List ℕ)) (stop : Stopped)
+    → StandsStopped g.R.Read.remaining held old now l.fn.self stop
+    → StandsStopped g.R.Read.remaining held old now l.self stop)
     × IsSameSession l.fn.self l.self

@@ -40,5 +40,5 @@ returns-in-Ok-clause-stops g c = λ held old new st.
     slice_get_read c.args.self.now.sources.items (length c.args.self.now.sources.items) c.args.k
     c.index.result.now refl (omega (arith, lt, many, long)) c.index.ensures in
     bad_stops held old new c.args.self.now c.args.k c.in-BadRecord.number c.index.result.now.task
-    c.in-Ok.name c.unread-in-Ok.result c.kept_is_right.ensures.given c.kept_is_right.ensures.right
+    c.in-Ok.name c.unread-in-Ok.result c.kept_is_right.ensures.right
     bad c.unread-in-Ok.ensures (bad.there c.index.result.now there) (search rules)

@@ -42,8 +42,9 @@ feed-requires-clause-sends g c =
     gives.sends
 
 pub returns-then-feed-piece-clause-err : goal.returns-then-feed-piece-clause-err
-returns-then-feed-piece-clause-err g c = λ held old now is st.
-    (let other = c.in-Some.source.now in
+returns-then-feed-piece-clause-err g c = λ held old now hungry is stopped.
+    (let st = stopped.stands in
+    let other = c.in-Some.source.now in
     let items = c.args.self.now.sources.items in
     let lt = c.in-Some.ensures.variant.0 refl in
     let long = c.args.self.now.sources.ok.0 in
@@ -136,8 +137,9 @@ returns-else-piece-clause-ok g c = λ held old now is st.
     (not_less c.feed.result c.in-Ok.piece.count c.if-feed-piece.false) c.if-piece.false refl refl)
 
 pub returns-in-Err-clause-err : goal.returns-in-Err-clause-err
-returns-in-Err-clause-err g c = λ held old now is st.
-    (let other = c.in-Some.source.now in
+returns-in-Err-clause-err g c = λ held old now hungry is stopped.
+    (let st = stopped.stands in
+    let other = c.in-Some.source.now in
     let items = c.args.self.now.sources.items in
     let lt = c.in-Some.ensures.variant.0 refl in
     let long = c.args.self.now.sources.ok.0 in
@@ -151,14 +153,14 @@ returns-in-Err-clause-err g c = λ held old now is st.
     (record c.args.self.now {
       sources = with_item c.args.self.now.sources c.args.k c.read.new.self;
     })
-    c.args.k c.read.new.self other c.in-Err.lack st there c.read.ensures.task refl refl refl
+    c.args.k c.read.new.self other c.in-Err.lack hungry stopped there c.read.ensures.task refl refl refl
     (lacks_as g.R.Read.remaining _ _ (get_or st.samples c.args.k []) other c.in-Err.lack known
     c.in-Err.ensures.lacks (st.sources c.args.k other there).1))
 
 pub returns-in_default-clause-err : goal.returns-in_default-clause-err
-returns-in_default-clause-err g c = λ held old now is st.
-    lacks_none g.R.Read.remaining held old now c.args.self.now c.args.k st
+returns-in_default-clause-err g c = λ held old now hungry is stopped.
+    lacks_none g.R.Read.remaining held old now c.args.self.now c.args.k stopped.stands
 
 pub returns-then-k-sources-clause-err : goal.returns-then-k-sources-clause-err
-returns-then-k-sources-clause-err g c = λ held old now is st.
-    lacks_none g.R.Read.remaining held old now c.args.self.now c.args.k st
+returns-then-k-sources-clause-err g c = λ held old now hungry is stopped.
+    lacks_none g.R.Read.remaining held old now c.args.self.now c.args.k stopped.stands

@@ -1,0 +1,44 @@
+//! A sink of a run that is fed, once it has left.
+ghost use Rattle.std.specs.Prelude.{◌≡◌, ◌<◌, ℕ, ℤ, List, length, get_or, true};
+ghost use Rattle.graph_lang.specs.graph_base.Graphs.{task_at};
+ghost use Rattle.stream_eval.specs.stream_lists.Jobs.{with_samples};
+ghost use Rattle.stream_eval.specs.stream_lists.Lists.{numbers_of, sinks_of, taken_from};
+ghost use Rattle.stream_eval.specs.stream_lists.Spans.{span_in};
+ghost use Rattle.graph_runs.specs.Feeds.{IsFed};
+ghost use Rattle.graph_runs.specs.Moments.{Moment, started};
+ghost use Rattle.graph_runs.specs.Settled.{IsReady};
+ghost use Rattle.stream_job.specs.Gone.{has_gone};
+ghost use Rattle.stream_job.specs.SinkLines.{kept_by};
+ghost use Rattle.stream_job.specs.Streams.{IsStreamAt, ended_at};
+
+use crate::stream::Stream;
+use graph_runs::{feeds, moments};
+
+impl Stream {
+    /// Returns whether a sink has left: it came, and gets no more values. It takes no memory.
+    ///
+    /// Then what it has kept is all that it gets in every run whose samples go on behind those that
+    /// came.
+    pub fn has_left(&self, sink: usize) -> bool
+        requires { sink < length (sinks_of self.now.job) }
+        ensures left { (s : List (List ℤ)) (m : Moment) (given : ℕ → List ℤ)
+            → IsStreamAt self.now s m given
+            → has_gone self.now.job m (get_or (sinks_of self.now.job) sink 0) ≡ result }
+        ensures whole { result ≡ true → (s : List (List ℤ)) (m : Moment) (given : ℕ → List ℤ)
+            (more : List (List ℤ)) → IsStreamAt self.now s m given
+            → IsFed (with_samples s self.now.job) (ended_at self.now) more
+            → IsReady (with_samples more self.now.job)
+            → let t = get_or (sinks_of self.now.job) sink 0 in
+            let job = started (with_samples more self.now.job) m in
+            kept_by self.now.job m t
+            ≡ taken_from (numbers_of job) (task_at job.graph t) (span_in job t) 0 }
+    {
+        feeds::feeds_go_on();
+        feeds::runs_go_on();
+        moments::takes();
+        moments::members();
+        let task = self.machine.lines[sink].task;
+        let state = &self.machine.tasks[task];
+        state.is_registered(&self.job, task) && !state.is_live(&self.job, task)
+    }
+}
