@@ -7,7 +7,7 @@ use Rattle.graph_commands.specs.FileJobs.{Known, file_of}
 use Rattle.graph_commands.specs.declared.fault.JobFault.{JobFault}
 use Rattle.graph_commands.specs.declared.fault.JobFault.TheVariants as fault
 use Rattle.graph_commands.specs.declared.graph_file.TheConstants.{GRAPH_MAX}
-use Rattle.graph_commands.specs.Records.{IsStart, line_at}
+use Rattle.graph_commands.specs.Records.{IsStart, line_at, shown_at}
 use Rattle.graph_show.specs.Explanations.{ExplainsFault, shown}
 use Rattle.graph_show.specs.graph_base.Graphs.{Graph, is_source, name_at, task_at}
 use Rattle.graph_show.specs.graph_base.declared.place.Place.TheVariants as place
@@ -46,14 +46,14 @@ abbrev pub record_wanted : List ℕ
 record_wanted =
     codes "  expected: one whole number, from -9223372036854775807 to 9223372036854775807\n"
 
--- the line of the record of this number in a file, and what is shown of the record
+-- the line of the record of this number in a file, and the front of the record
 pub record TellsLine (known : Option (List ℕ)) (number : ℕ) (place : List ℕ) : Type 0 where
   pub samples : List ℕ
   pub bytes : HasBytes known samples
   pub at : ℕ
   pub start : IsStart samples number at
-  pub shown : List ℕ
-  pub is : place ≡ codes ", line " ++ decimal (line_at samples at) ++ codes ": " ++ shown
+  pub is : place ≡ codes ", line " ++ decimal (line_at samples at) ++ codes ": "
+      ++ shown_at samples at
 
 -- a file has no record of this number
 pub record HasNoRecord (known : Option (List ℕ)) (number : ℕ) : Type 0 where

@@ -1,8 +1,11 @@
 -- Which file is opened of a name, where files are opened beside another.
-use Rattle.std.specs.Prelude.{ℕ, ◌==◌, ◌||◌, Bool, true, false, List, [], ◌∷◌, ◌++◌, codes, get_or, if◌then◌else◌}
+use Rattle.std.specs.Prelude.{◌≡◌, ℕ, ◌==◌, ◌||◌, Bool, true, false, List, [], ◌∷◌, ◌++◌, Option, None, String, codes, get_or, option_map, string_bytes, unwrap_or, if◌then◌else◌}
 use Rattle.std.specs.List.{list_any}
 use Rattle.std.specs.Str.{bytes_eq}
+use Rattle.std.specs.Global.{Global}
 use Rattle.graph_commands.specs.FileJobs.{Known}
+use Rattle.graph_commands.specs.declared.refused.Origin.{Origin}
+use Rattle.graph_commands.specs.declared.refused.Origin.TheVariants as origin
 
 -- the byte is a `/`
 abbrev pub is_slash : ℕ → Bool
@@ -27,3 +30,10 @@ beside file name =
 abbrev pub known_by : Bool → List ℕ → Known → Known
 known_by true file known = λ name. known (beside file name)
 known_by false file known = known
+
+-- the name under which a file of this name is opened by where files are opened: another, or its own
+abbrev pub IsOpenedAs : Origin → List ℕ → Option (String Global) → Type 0
+IsOpenedAs origin.Here name path = path ≡ None
+IsOpenedAs (origin.Beside file) name path =
+    unwrap_or (option_map string_bytes path) name ≡ beside (string_bytes file) name
+IsOpenedAs origin.Lost name path = ⊥

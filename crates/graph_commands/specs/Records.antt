@@ -1,7 +1,7 @@
 -- Where the records of a text of samples stand. A sample has no line end within, so up to the first
 -- record that is none, line ends stand between records alone.
-use Rattle.std.specs.Prelude.{◌≡◌, ◌<◌, ◌+◌, ◌-◌, ◌==◌, ◌&&◌, ◌||◌, not, ℕ, Bool, true, List, length, get_or, take}
-use Rattle.std.specs.List.{count_by, filter, range_with_len}
+use Rattle.std.specs.Prelude.{◌≡◌, ◌<◌, ◌+◌, ◌-◌, ◌==◌, ◌&&◌, ◌||◌, not, ℕ, Bool, true, List, length, get_or, take, drop, unwrap_or}
+use Rattle.std.specs.List.{count_by, filter, position_from, range_with_len}
 
 -- the byte ends a record: it is an LF or a CR
 abbrev pub is_end : ℕ → Bool
@@ -21,3 +21,11 @@ pub record IsStart (text : List ℕ) (number at : ℕ) : Type 0 where
 -- the number of the line of a byte, counted from 1: one for each LF before it, and one
 abbrev pub line_at : List ℕ → ℕ → ℕ
 line_at text at = count_by (λ b. b == 10) (take at text) + 1
+
+-- how many bytes a text has before the first that ends a record, or in all
+abbrev pub up_to_end : List ℕ → ℕ
+up_to_end text = unwrap_or (position_from is_end 0 text) (length text)
+
+-- what is shown of the record that begins at this byte: its first 60 bytes at most
+abbrev pub shown_at : List ℕ → ℕ → List ℕ
+shown_at text at = take 60 (take (up_to_end (drop at text)) (drop at text))

@@ -136,15 +136,15 @@ fn further<F: Files + Refuses>(
     }
 }
 
-/// The name of a file, without control bytes, and why it was refused.
+/// The name of a file, without control characters, and why it was refused.
 fn refusal_explained(alloc: Global, name: &str, why: FileRefusal) -> Result<Vec<u8>, AllocError>
     ensures { IfOk result (λ more. TellsRefusal more.items) }
 {
-    let file = without_controls(alloc, name.as_bytes())?;
+    let file = without_controls(alloc, name)?;
     let why = why_text(alloc, why)?;
     let mut more = Vec::new(alloc);
     more.extend_from_slice(b"  ")?;
-    more.extend_from_slice(&file)?;
+    more.extend_from_slice(file.as_bytes())?;
     more.extend_from_slice(b": ")?;
     more.extend_from_slice(&why)?;
     more.extend_from_slice(b"\n")?;

@@ -81,13 +81,13 @@ fn input_ends<'a>(
     Ok(ends)
 }
 
-/// Where the sources that signal phaser number `p` end.
+/// Where the sources that signal phaser number `p` end, but for those that never begin.
 fn source_ends<'a>(alloc: Global, job: &'a Job, p: usize) -> Result<Vec<End<'a>>, AllocError> {
     let graph = job.graph();
     let mut ends = Vec::new(alloc);
     for t in 0..graph.tasks() {
-        if graph.is_source(t) && signals(graph.task(t), p) {
-            let span = job.span(t);
+        let span = job.span(t);
+        if span.live && graph.is_source(t) && signals(graph.task(t), p) {
             ends.push(End {
                 name: graph.name(Place::Task(t)),
                 length: span.offset.saturating_add(span.steps),

@@ -1,10 +1,11 @@
 //! What is said of a record that is no sample, from the text that it stands in.
-ghost use Rattle.std.specs.Prelude.{◌≡◌, ◌⊎◌, ◌<◌, ◌≤◌, ◌++◌, ◌&&◌, ℕ, List, [], Option, length, codes, decimal, IfOk, IfSome, OnOk, None};
+ghost use Rattle.std.specs.Prelude.{◌≡◌, ◌⊎◌, ◌<◌, ◌≤◌, ◌++◌, ◌&&◌, ℕ, List, [], Option, length, take, codes, decimal, IfOk, IfSome, OnOk, None};
 ghost use Rattle.graph_commands.specs.Explained.{HasNoSource, IsSourceFile, TellsPlace, TellsRecord, TellsSource, further_line, record_wanted, source_named};
-ghost use Rattle.graph_commands.specs.Records.{IsStart, begins_at, is_end, line_at};
+ghost use Rattle.graph_commands.specs.Records.{IsStart, begins_at, is_end, line_at, up_to_end};
 ghost use Rattle.graph_show.specs.graph_base.Graphs.{is_source, name_at, task_at};
 ghost use Rattle.graph_show.specs.graph_base.declared.place.Place.TheVariants as place;
 ghost use Rattle.graph_show.specs.watched_io.Files.{HasBytes};
+ghost use Rattle.std.specs.List.{position_from};
 ghost use Rattle.std.specs.Str.{bytes_eq};
 
 use crate::further::put_line;
@@ -18,8 +19,10 @@ use std::alloc::{AllocError, Global};
 const SHOWN_MAX: usize = 60;
 
 /// The front of a text that is shown.
-pub(crate) fn front_of(text: &[u8]) -> &[u8] {
-    let end = text.len().min(SHOWN_MAX);
+pub(crate) fn front_of(text: &[u8]) -> &[u8]
+    ensures { result.now ≡ take 60 text.now }
+{
+    let end = SHOWN_MAX.min(text.len());
     &text[..end]
 }
 
@@ -71,16 +74,20 @@ fn line_at(text: &[u8], at: usize) -> usize
     line
 }
 
+/// Which byte of a text is the first that ends a record.
+fn first_end(text: &[u8]) -> Option<usize>
+    ensures first { result ≡ position_from is_end 0 text.now }
+    ensures within { IfSome result (λ at. at < length text.now) }
+{
+    text.iter().position(|b| is_end(*b))
+}
+
 /// How many bytes a text has before the first that ends a record.
 fn up_to_end(text: &[u8]) -> usize
-    ensures { result ≤ length text.now }
+    ensures within { result ≤ length text.now }
+    ensures end { result ≡ up_to_end text.now }
 {
-    for at in 0..text.len() {
-        if is_end(text[at]) {
-            return at;
-        }
-    }
-    text.len()
+    first_end(text).unwrap_or(text.len())
 }
 
 /// The fields of the record that a text begins with, as `csv` reads them.

@@ -52,6 +52,8 @@ pub struct TellingFiles<'a, R> {
 }
 
 impl<'a, R> TellingFiles<'a, R> {
+    ghost use Rattle.graph_commands.specs.Folders.{IsOpenedAs};
+
     /// Reads files by this runtime.
     pub fn new(rt: &'a R) -> TellingFiles<'a, R> {
         TellingFiles {
@@ -63,7 +65,9 @@ impl<'a, R> TellingFiles<'a, R> {
     }
 
     /// The name under which a file is opened, where it is another than its own.
-    pub fn path(&self, alloc: Global, name: &str) -> Result<Option<String>, AllocError> {
+    pub fn path(&self, alloc: Global, name: &str) -> Result<Option<String>, AllocError>
+        ensures { IfOk result (λ path. IsOpenedAs self.now.origin name.now path) }
+    {
         match &self.origin {
             Origin::Here => Ok(None),
             Origin::Beside(file) => Ok(Some(path_beside(alloc, file.as_str(), name)?)),

@@ -107,16 +107,17 @@ fn waited(alloc: Global, job: &Job, stands: &[Stand], at: Stand) -> Result<Vec<u
     put(&mut line, &[task_name(job, at.task), " waits for phase "])?;
     put_number(&mut line, phase)?;
     put(&mut line, &[" of ", phaser_name(job, at.phaser), ", which"])?;
-    let mut is_first = true;
+    let mut late = 0usize;
     for stand in stands {
         let signals = stand.phaser == at.phaser && stand.entry.mode.signals();
         if signals && stand.entry.signal_phase <= phase {
-            let before = if is_first { " " } else { " and " };
+            let before = if late == 0 { " " } else { " and " };
             put(&mut line, &[before, task_name(job, stand.task)])?;
-            is_first = false;
+            late = late.saturating_add(1);
         }
     }
-    put(&mut line, &[" has not signalled"])?;
+    let have = if late > 1 { " have" } else { " has" };
+    put(&mut line, &[have, " not signalled"])?;
     Ok(line)
 }
 

@@ -80,12 +80,18 @@ pub record StrictRefusal (script : List ℕ) (old new before after : WriterState
   pub written : Appends old.written new.written (replies_of front)
   pub says : Says (script_line number) before after
 
--- a fault was told, behind a prefix of the replies, through the line that is refused where there is
--- one
+-- what of a script is replayed strictly: all of it, where no line is refused, or what goes through
+-- the first line that is; nothing, where memory ran out over the search for that line
+abbrev pub IsReplayedFront : List ℕ → List ℕ → ℕ → Type 0
+IsReplayedFront script front number =
+    ((front ≡ script) × AreLinesTaken start (lines_of script))
+    ⊎ (ScriptStopsAt script front number ⊎ (front ≡ []))
+
+-- a fault was told, behind a prefix of the replies to what is replayed
 pub record StrictStops (script : List ℕ) (old new before after : WriterState) : Type 0 where
   pub front : List ℕ
   pub number : ℕ
-  pub through : (front ≡ script) ⊎ ScriptStopsAt script front number
+  pub through : IsReplayedFront script front number
   pub stops : TextStops (replies_of front) old new before after
 
 -- how a strict replay of a text ends, by its status

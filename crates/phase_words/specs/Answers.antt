@@ -1,13 +1,15 @@
 -- How a run of the program may end, by the kinds of answer that clap may give in place of taking
 -- its words, and how words that are not taken are answered.
-use Rattle.std.specs.Prelude.{◌≡◌, ◌⊎◌, [], ◌∷◌, true}
+use Rattle.std.specs.Prelude.{◌≡◌, ◌⊎◌, [], ◌∷◌, ℕ, List, true, string_bytes}
+use Rattle.std.specs.Io.KnownBytes.{Appends}
 use Rattle.clap.specs.Words.{Kinds}
 use Rattle.clap.specs.declared.error.kind.ErrorKind.TheVariants.{DisplayHelp, DisplayVersion}
 use Rattle.phase_words.specs.CommandLine.{Refuse}
 use Rattle.phase_words.specs.declared.call.NoCall.{NoCall}
 use Rattle.phase_words.specs.declared.call.NoCall.TheVariants as no_call
+use Rattle.watched_io.specs.Prefix.{AppendsPrefix}
 use Rattle.watched_io.specs.States.{WriterState}
-use Rattle.watched_io.specs.Statuses.{Reports}
+use Rattle.watched_io.specs.Statuses.{Reports, Says}
 use Rattle.watched_io.specs.Watched.{has_failed_of}
 use Rattle.watched_io.specs.declared.fault.IoFault.TheVariants.{OutOfMemory, WriteFault}
 use Rattle.watched_io.specs.declared.status.Status.{Status}
@@ -38,6 +40,19 @@ IsAnswer (no_call.Shown text) status old new before after = (status ≡ Done) �
 IsAnswer (no_call.Refused text) status old new before after = (status ≡ Refused) × (new ≡ old)
 IsAnswer no_call.OutOfMemory status old new before after =
     (status ≡ Failed) × ((new ≡ old) × Reports OutOfMemory before after)
+
+-- a text was shown: the output grew by it where all went well, and else by a prefix of it
+pub record ShowsText (text : List ℕ) (status : Status) (old new : WriterState) : Type 0 where
+  pub whole : status ≡ Done → Appends old.written new.written text
+  pub prefix : AppendsPrefix old.written new.written text
+
+-- the text of help, of the version or of a refusal stands on its stream
+abbrev pub TellsText : NoCall → Status → WriterState → WriterState → WriterState → WriterState
+    → Type 0
+TellsText (no_call.Shown text) status old new before after =
+    ShowsText (string_bytes text) status old new
+TellsText (no_call.Refused text) status old new before after = Says (string_bytes text) before after
+TellsText no_call.OutOfMemory status old new before after = Reports OutOfMemory before after
 
 -- the answer to words that are not taken stopped: memory ran out before anything was written, or
 -- help or the version could not be written; that was told

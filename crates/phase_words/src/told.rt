@@ -1,6 +1,6 @@
 //! What is told of words that give no call.
 ghost use Rattle.std.specs.Prelude.{◌≡◌};
-ghost use Rattle.phase_words.specs.Answers.{AnswerStops, IsAnswer};
+ghost use Rattle.phase_words.specs.Answers.{AnswerStops, IsAnswer, TellsText};
 ghost use Rattle.watched_io.specs.States.{writer_state};
 
 use crate::NoCall;
@@ -15,6 +15,9 @@ pub fn answer<W: Write, E: Write>(
     faults: &mut Watched<E>,
 ) -> Status
     ensures answer { IsAnswer none.now result output.old output.new
+        (writer_state E.contents faults.old) (writer_state E.contents faults.new) }
+    ensures text { TellsText none.now result
+        (writer_state W.contents output.old) (writer_state W.contents output.new)
         (writer_state E.contents faults.old) (writer_state E.contents faults.new) }
     ensures quiet { result ≡ Status.Done → faults.new ≡ faults.old }
     ensures stops { result ≡ Status.Failed → AnswerStops output.old output.new

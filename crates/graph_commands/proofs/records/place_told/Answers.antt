@@ -1,4 +1,5 @@
 use Rattle.std.proofs.Common.{◌++◌, ◌∙◌, ◌∷◌, [], ap, sym, inl, append-nil}
+use Rattle.std.proofs.lemmas.List.{take_rest}
 use Rattle.graph_commands.specs.Explained.{TellsLine, further_line}
 use Rattle.graph_commands.proofs.records.place_told.Goals as goal
 
@@ -14,8 +15,8 @@ returns c = λ known bytes.
       bytes = bytes;
       at = at;
       start = c.in-Some.ensures.some;
-      shown = c.front_of.result.now;
-      is = rw c.line_at.ensures at c.in_ok-place.ensures;
+      is = rw (c.line_at.ensures, c.front_of.ensures, c.up_to_end-end.ensures.end, take_rest samples at)
+          at c.in_ok-place.ensures;
     } in
     record {
       place = place;

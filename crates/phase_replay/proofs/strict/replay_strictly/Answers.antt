@@ -29,7 +29,7 @@ returns-in-Ok-Some-clause-ends g c =
       stops = λ failed. record {
         front = take end script;
         number = number;
-        through = inr stops;
+        through = inr (inl stops);
         stops = c.replay_front.ensures.stops failed;
       };
     }
@@ -40,13 +40,13 @@ returns-in-Err-clause-ends g c = record {
   done = λ done. absurd (cc (done, c.report.ensures.status));
   refused = λ refused. absurd (cc (refused, c.report.ensures.status));
   stops = λ failed. record {
-    front = c.args.script.now;
+    front = [];
     number = 0;
-    through = inl refl;
+    through = inr (inr refl);
     stops = record {
       fault = OutOfMemory;
       noted = refl;
-      prefix = ([], replies_of c.args.script.now, refl, Appends-nil _);
+      prefix = ([], replies_of [], refl, Appends-nil _);
       says = c.report.ensures.line;
     };
   };
