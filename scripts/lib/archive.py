@@ -12,6 +12,7 @@ import shutil
 import subprocess
 import tarfile
 
+import licences
 import project
 
 TOP = project.TOP
@@ -44,6 +45,9 @@ LINKS = {
 }
 # The library that stands with the crate, too.
 PACKED = "share/phase/rust/phase-sys/lib/libphase.a"
+# What the program and the libraries are made of, and the folders that tell whose work they have.
+MADE = ("phase", "phase_c", "phase_handle", "shared_handle", "stream_handle")
+TELL_WHOSE = ("share/doc/phase", "share/phase/rust/phase-sys")
 
 
 def git(*words):
@@ -94,8 +98,12 @@ def lay_files(folder):
         os.symlink(to, os.path.join(folder, name))
 
 
-def lay_made(folder):
-    """Puts what is made of the program and of the version into the folder of the archive."""
+def lay_made(folder, epoch):
+    """Puts what is made of the program, of the version and of the kit into the folder of the
+    archive."""
+    for name, text in licences.gathered(MADE, version(), epoch).items():
+        for place in TELL_WHOSE:
+            put(text, os.path.join(folder, place, name))
     program = os.path.join(folder, "bin/phase")
     put(bytes_of(project.built("phase")), program, 0o755)
     page = subprocess.check_output([os.path.join(TOP, "scripts/lib/man-page"), program])
@@ -156,6 +164,8 @@ def make_wheel(folder, work, epoch):
         put(bytes_of(os.path.join(TOP, name)), os.path.join(source, name.split("/", 2)[2]))
     for name in ("LICENSE-MIT", "LICENSE-APACHE"):
         put(bytes_of(os.path.join(TOP, name)), os.path.join(source, name))
+    for name, text in licences.gathered(MADE, version(), epoch).items():
+        put(text, os.path.join(source, "phase", name))
     put(bytes_of(library), os.path.join(source, "phase/libphase.so"), 0o755)
     platform = "manylinux_%d_%d_x86_64" % lowest_glibc(library)
     options = {"--build-option": [f"--plat-name={platform}"]}

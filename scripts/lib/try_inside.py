@@ -12,6 +12,7 @@ import sys
 import time
 
 sys.path.insert(0, os.path.dirname(os.path.realpath(__file__)))
+import licences
 import project
 
 HOME = os.environ["HOME"]
@@ -84,6 +85,16 @@ def unpacked():
         wants(len(sums.readlines()) == len(names), "there are files without a sum")
     print(f"{os.path.getsize(archive)} bytes, {len(names)} files")
     wants(os.path.getsize(archive) < 3_000_000, "that is too much")
+
+
+def tells_whose():
+    """Archive, crate and wheel have the licence of each work of others that they are made of."""
+    [wheel] = glob.glob("/tried/*.whl")
+    said(f"mkdir wheel && cd wheel && unzip -q {wheel}")
+    crate = os.path.join(SHARE, "phase/rust/phase-sys")
+    for folder in (PAGES, crate, os.path.join(HOME, "wheel/phase")):
+        lacking = list(licences.lacks(folder))
+        wants(not lacking, f"{folder} lacks {', '.join(lacking)}")
 
 
 def links_little():
@@ -212,8 +223,8 @@ def begins_soon():
 
 
 LOOKS = (
-    nothing_else, unpacked, links_little, readme, man, completion, in_c, in_rust, in_python, rows,
-    begins_soon,
+    nothing_else, unpacked, tells_whose, links_little, readme, man, completion, in_c, in_rust,
+    in_python, rows, begins_soon,
 )
 
 
