@@ -17,7 +17,10 @@
  * PHASE_E_AHEAD nor PHASE_E_NOT_YET. The one with _for tries for so many nanoseconds, or a little
  * longer, and then the answer is that of its last try, which may be one of these. The one with try_
  * tries once: it may be answered so, too, and it alone PHASE_E_BUSY, while another call on the
- * phaser is in the middle. A thread that has waited for more than some microseconds sleeps.
+ * phaser is in the middle. Where others are in the middle all the time, the form with _for answers
+ * PHASE_E_AHEAD of a signal and PHASE_E_NOT_YET of a wait; phase_shared_next_for has made its
+ * signal by then or has not: PHASE_SIGNALLED says that it has. A thread that has waited for more
+ * than some microseconds sleeps.
  *
  * What a thread did before its signal is seen by every thread that got the phase: each call is a
  * sequentially consistent exchange on one word of the phaser.

@@ -249,21 +249,27 @@ static void yield(phase_registration *registration)
         registration->crowded = CROWDED_PAUSES;
 }
 
-/* Pauses after a try whose turn was another's, longer each time. It sleeps in the end, so that one
- * that has the turn goes on where it gets no processor beside those that yield. */
-static void snooze(phase_registration *registration, struct patience *patience)
+/* Pauses after a try whose turn was another's, longer each time, and answers whether time is left.
+ * It sleeps in the end, so that one that has the turn goes on where it gets no processor beside
+ * those that yield. The clock is read when it no longer spins. */
+static bool snooze(phase_registration *registration, struct patience *patience)
 {
     const struct timespec time = {0, SNOOZE};
     if (patience->turns <= SPINS) {
         for (uint32_t spins = 1u << patience->turns; spins > 0; spins--)
             relax();
-    } else if (patience->turns <= SPINS + YIELDS && registration->crowded == 0) {
+        patience->turns++;
+        return true;
+    }
+    if (left(patience) == 0)
+        return false;
+    if (patience->turns <= SPINS + YIELDS && registration->crowded == 0) {
         yield(registration);
+        patience->turns++;
     } else {
         nanosleep(&time, NULL);
-        return;
     }
-    patience->turns++;
+    return true;
 }
 
 /* ---- Pauses. */
@@ -313,15 +319,18 @@ static void pause_for(const struct aim *aim, struct patience *patience)
     atomic_fetch_sub(&aim->bell->sleepers, 1);
 }
 
-/* Whether a signal of so many phases that was answered so is tried again; it pauses first. */
-static bool signals_again(phase_registration *registration, uint64_t count, int32_t status,
+/* Whether a signal of so many phases that was answered so is tried again; it pauses first. Where
+ * the turn was another's until no time was left, the answer is that it is ahead. */
+static bool signals_again(phase_registration *registration, uint64_t count, int32_t *status,
                           struct patience *patience)
 {
-    if (status == PHASE_E_BUSY) {
-        snooze(registration, patience);
-        return true;
+    if (*status == PHASE_E_BUSY) {
+        if (snooze(registration, patience))
+            return true;
+        *status = PHASE_E_AHEAD;
+        return false;
     }
-    if (status != PHASE_E_AHEAD || left(patience) == 0)
+    if (*status != PHASE_E_AHEAD || left(patience) == 0)
         return false;
     uint64_t next = registration->signal_phase + count, bound = registration->bound;
     struct aim room = {registration, &registration->gate->base, next > bound ? next - bound : 0};
@@ -343,15 +352,18 @@ static void pause_for_phase(phase_registration *registration, uint64_t count,
     pause_for(&phase, patience);
 }
 
-/* Whether a wait that was answered so is tried again. */
-static bool waits_again(phase_registration *registration, int32_t status,
+/* Whether a wait that was answered so is tried again. Where the turn was another's until no time
+ * was left, the answer is that the phase is not complete yet. */
+static bool waits_again(phase_registration *registration, int32_t *status,
                         struct patience *patience)
 {
-    if (status == PHASE_E_BUSY) {
-        snooze(registration, patience);
-        return true;
+    if (*status == PHASE_E_BUSY) {
+        if (snooze(registration, patience))
+            return true;
+        *status = PHASE_E_NOT_YET;
+        return false;
     }
-    return status == PHASE_E_NOT_YET && left(patience) != 0;
+    return *status == PHASE_E_NOT_YET && left(patience) != 0;
 }
 
 /* ---- Registering and leaving. */
@@ -480,7 +492,7 @@ int32_t phase_shared_signal_for(phase_registration *registration,
     do
         status = phase_shared_try_signal(registration, values, values_len, single, low, high,
                                          phase);
-    while (signals_again(registration, 1, status, &patience));
+    while (signals_again(registration, 1, &status, &patience));
     return status;
 }
 
@@ -516,7 +528,7 @@ int32_t phase_shared_signal_block_for(phase_registration *registration,
     do
         status = phase_shared_try_signal_block(registration, values, values_len, single, low,
                                                high, phase);
-    while (signals_again(registration, values_len, status, &patience));
+    while (signals_again(registration, values_len, &status, &patience));
     return status;
 }
 
@@ -547,7 +559,7 @@ static int32_t wait_with(phase_registration *registration, uint64_t *phase, int6
     do {
         pause_for_phase(registration, 1, patience);
         status = phase_shared_try_wait(registration, phase, value);
-    } while (waits_again(registration, status, patience));
+    } while (waits_again(registration, &status, patience));
     return status;
 }
 
@@ -584,7 +596,7 @@ int32_t phase_shared_wait_block_for(phase_registration *registration, int64_t *v
     do {
         pause_for_phase(registration, values_len, &patience);
         status = phase_shared_try_wait_block(registration, values, values_len, phase, count);
-    } while (waits_again(registration, status, &patience));
+    } while (waits_again(registration, &status, &patience));
     return status;
 }
 
@@ -622,7 +634,7 @@ int32_t phase_shared_next_for(phase_registration *registration,
     do
         status = phase_shared_try_next(registration, values, values_len, single, low, high, phase,
                                        value);
-    while (signals_again(registration, 1, status, &patience));
+    while (signals_again(registration, 1, &status, &patience));
     if (status != PHASE_SIGNALLED || registration->mode == PHASE_SIG)
         return status;
     int32_t waited = wait_with(registration, phase, value, &patience);

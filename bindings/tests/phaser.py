@@ -379,6 +379,19 @@ def blocks_of_threads():
     )
 
 
+def within():
+    """A call within a call of the same thread, which a signal handler may make, is refused and does
+    not wait."""
+    phaser, fir = sums(), phase.Fir([1, 1])
+    with phaser._lock:
+        look("a call within a call", refused(RuntimeError, phaser.signal, 0, [1]))
+        look("also one that closes", refused(RuntimeError, phaser.close))
+    look("and nothing was signalled", phaser.signal(0, [2]) == 0 and phaser.wait(0).value == 2)
+    with fir._lock:
+        look("a block within a block", refused(RuntimeError, fir, [7]))
+    look("and nothing was filtered", fir([1, 2]).tolist() == [1, 3])
+
+
 def resident():
     """The memory that this process holds, in bytes."""
     with open("/proc/self/statm") as file:
@@ -409,7 +422,7 @@ def shown():
 
 for part in (
     made, operations, singles, sends, registrations, phases, blocks, closed, threads,
-    blocks_of_threads, memory, shown,
+    blocks_of_threads, within, memory, shown,
 ):
     part()
 sys.exit(failed != 0)

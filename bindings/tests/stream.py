@@ -1,12 +1,13 @@
 """What phase.Stream answers: the graphs of examples/graphs, fed by blocks of several lengths,
 beside the outputs that are stored there; a moving sum beside numpy's; sources that are fed
-unequally; each refusal; and threads.
+unequally; each refusal; calls within calls; and threads.
 
 stream.py FOLDER: the folder of the graphs.
 """
 import copy
 import pathlib
 import pickle
+import signal
 import sys
 import threading
 import tracemalloc
@@ -302,6 +303,38 @@ def memory():
         look("it ends", lists(stream.finish()) == {"out": []} and stream.done)
 
 
+class Calls:
+    """Two samples that make a call when they are asked for."""
+
+    def __init__(self, call):
+        self.call = call
+
+    def __array__(self, *_, **__):
+        self.call()
+        return numpy.array([1, 2])
+
+
+def within():
+    """A call within a call of the same thread is refused and does not wait, and the outer one goes
+    on."""
+    stream, came = phase.Stream(PASS), []
+    tries = [lambda: stream.feed(s=[9]), stream.finish, stream.close, lambda: stream.starts]
+    for call in tries:
+        block = Calls(lambda: came.append(refused(RuntimeError, call)))
+        look("the outer call", lists(stream.feed(s=block)) == {"out": [1, 2]})
+    look("a call of what is fed", len(came) == len(tries) and all(came))
+    before = signal.signal(
+        signal.SIGUSR1, lambda *_: came.append(refused(RuntimeError, stream.feed, s=[9]))
+    )
+    block = Calls(lambda: signal.raise_signal(signal.SIGUSR1))
+    look("the call that a signal meets", lists(stream.feed(s=block)) == {"out": [1, 2]})
+    signal.signal(signal.SIGUSR1, before)
+    look("a call of a signal handler", len(came) == len(tries) + 1 and came[-1])
+    look("it is raised", refused(RuntimeError, stream.feed, s=Calls(lambda: stream.feed(s=[9]))))
+    look("and nothing was fed", lists(stream.feed(s=[3])) == {"out": [3]})
+    look("it ends", lists(stream.finish()) == {"out": []} and stream.done)
+
+
 def threads(examples):
     rights = []
 
@@ -342,6 +375,7 @@ def main(folder):
     misuse()
     ends()
     memory()
+    within()
     threads(examples)
     return failed != 0
 

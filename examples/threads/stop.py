@@ -1,25 +1,28 @@
 """Two threads work until the one that may signal leaves."""
-import time
 from concurrent.futures import ThreadPoolExecutor
 
 import phase
 
 
-def works(stop):
-    pieces = 0
-    with stop:
+def works(stop, begun):
+    with stop, begun:
+        # Behind its first piece of work it signals that it has begun.
+        begun.signal(1)
         while True:
             try:
                 # It waits, for a millisecond at most, for what will never come but the end.
-                stop.wait(timeout=0.001)
-                return pieces
+                return stop.wait(timeout=0.001)
             except TimeoutError:
-                pieces += 1
+                pass
 
 
-with ThreadPoolExecutor() as pool:
+with ThreadPoolExecutor() as pool, phase.SharedPhaser(phase.SUM, bound=1, phases=1) as begun:
     with phase.SharedPhaser(phase.ANY, bound=1, phases=1) as founder:
-        workers = [pool.submit(works, founder.register(phase.WAIT)) for _ in range(2)]
-        time.sleep(0.02)
-    busy = sum(it.result() > 0 for it in workers)
+        workers = [
+            pool.submit(works, founder.register(phase.WAIT), begun.register(phase.SIG))
+            for _ in range(2)
+        ]
+        # Each worker has signalled a 1 when this phase is complete.
+        _, busy = begun.next()
+    ends = [it.result() for it in workers]
 print(f"{busy} worked, and have stopped")

@@ -574,7 +574,7 @@ def eval(
 class Fir:
     """A filter that goes on where the block before ended: the sum of each tap times the sample so
     far back, divided by 2 to the power of the shift and rounded down. Calls may come from any
-    thread, and go one by one.
+    thread, and go one by one; one within another of the same thread gets a RuntimeError.
 
     It raises TapsError where there is no such filter. A block raises TooBig, whose `values` are
     right, and the filter then stands where it stood.
@@ -593,7 +593,7 @@ class Fir:
         if not 0 <= self.shift < 2**32:
             raise TapsError
         self._state = numpy.zeros(max(len(self.taps) - 1, 0), numpy.int64)
-        self._lock = threading.Lock()
+        self._lock = threading.RLock()
         # A block of no sample tells whether there is such a filter.
         self([])
 
@@ -612,7 +612,7 @@ class Fir:
     def _filter(self, call, *rows):
         done = ctypes.c_size_t()
         lent = [word for row in rows for word in (row.ctypes.data, len(row))]
-        with self._lock:
+        with _alone(self._lock):
             state = self._state.ctypes.data, len(self._state)
             status = call(self.taps.ctypes.data, len(self.taps), self.shift, *state, *lent, done)
         if status == E_TAPS:
@@ -627,13 +627,13 @@ class Fir:
         return f"Fir({self.taps.tolist()}, shift={self.shift})"
 
     def __getstate__(self):
-        with self._lock:
+        with _alone(self._lock):
             return self.taps, self.shift, self._state.copy()
 
     def __setstate__(self, whole):
         self.taps, self.shift, self._state = whole
         self.taps.flags.writeable = False
-        self._lock = threading.Lock()
+        self._lock = threading.RLock()
 
 
 class Phaser:
@@ -655,13 +655,14 @@ class Phaser:
     `bound` phases ahead of the slowest waiter, from 1 to 65,536; the phases are 1 to 2**62. No call
     blocks. What is refused raises the PhaserError of its reason, and leaves the phaser as it was;
     want of memory is a MemoryError. The phaser is closed at the end of `with`, by `close`, or with
-    the object. Calls may come from any thread, and go one by one.
+    the object. Calls may come from any thread, and go one by one; one within another of the same
+    thread, as in a signal handler, gets a RuntimeError.
     """
 
     def __init__(self, operation: Union[int, str], bound: int, phases: int):
         operation = _word(operation, Operation, 32, BadOperation)
         bound, phases = _numbered(bound, 64, BadBound), _numbered(phases, 64, BadPhases)
-        self._place, self._lock = _Place(), threading.Lock()
+        self._place, self._lock = _Place(), threading.RLock()
         _done(_lib.phase_phaser_new(operation, bound, phases, self._place))
         self._made = Operation(operation), bound, phases
         weakref.finalize(self, _free, self._place, self._lock)
@@ -792,7 +793,7 @@ class Phaser:
         raise TypeError("a phaser is not copied")
 
     def _call(self, call, *words):
-        with self._lock:
+        with _alone(self._lock):
             return call(self._place, *words)
 
 
@@ -800,8 +801,16 @@ class Phaser:
 _NO_VALUE = -(2**63)
 
 
+def _alone(lock):
+    """The lock of calls that go one by one. A thread that is within one of them, as where a signal
+    handler or `__array__` makes another, would wait for itself."""
+    if lock._is_owned():
+        raise RuntimeError("a call within a call of the same thread on the same object")
+    return lock
+
+
 def _free(place, lock):
-    with lock:
+    with _alone(lock):
         _lib.phase_phaser_free(place)
 
 

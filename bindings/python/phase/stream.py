@@ -110,13 +110,15 @@ class Stream:
     those past an `until`.
 
     The stream is closed at the end of `with`, by `close`, or with the object. Calls may come from
-    any thread, and go one by one. At a MemoryError nothing is lost: the next call goes on, and
-    returns what had come out, too. A KeyboardInterrupt in the middle of a call may lose some.
+    any thread, and go one by one; one that a thread makes within another, as in a signal handler or
+    in the `__array__` of a block, gets a RuntimeError. At a MemoryError nothing is lost: the next
+    call goes on, and returns what had come out, too. A KeyboardInterrupt in the middle of a call,
+    or what else a signal handler raises there, may lose some.
     """
 
     def __init__(self, graph: phase.Text):
         text, fault = phase._bytes(graph), phase._Fault()
-        self._place, self._lock = phase._Place(), threading.Lock()
+        self._place, self._lock = phase._Place(), threading.RLock()
         status = _lib.phase_stream_new(text, len(text), self._place, fault)
         phase._stop(status, fault, text)
         weakref.finalize(self, _free, self._place, self._lock)
@@ -148,7 +150,7 @@ class Stream:
         >>> stream.feed({"t": [10, 20]})
         {'out': array([11, 22])}
         """
-        with self._lock:
+        with phase._alone(self._lock):
             blocks = self._blocks(samples, named)
             for source, block in blocks.items():
                 self._queues[source].append(block)
@@ -172,7 +174,7 @@ class Stream:
         >>> stream.finish()["out"], stream.done
         (array([], dtype=int64), True)
         """
-        with self._lock:
+        with phase._alone(self._lock):
             self._look(sources)
             ended = sources or self.names.sources
             more = {self.names.sources.index(it) for it in ended} - self._finished
@@ -189,7 +191,7 @@ class Stream:
     def starts(self) -> dict[str, int]:
         """The starts of the sinks that join now and have joined. It raises NoStream."""
         found, start = {}, ctypes.c_int64()
-        with self._lock:
+        with phase._alone(self._lock):
             for sink, name in enumerate(self.names.sinks):
                 _done(_lib.phase_stream_start(self._place, sink, start))
                 if start.value != phase.NO_START:
@@ -325,7 +327,7 @@ class Stream:
 
 
 def _free(place, lock):
-    with lock:
+    with phase._alone(lock):
         _lib.phase_stream_free(place)
 
 

@@ -58,9 +58,10 @@
 //! # Three forms of each call
 //!
 //! The plain one waits as long as it takes, and is refused neither as `Ahead` nor as `NotYet`. The
-//! one with `_for` tries for so long, or a little longer, and may be refused so. The one with
-//! `try_` tries once: it may be refused so, too, and it alone as `Busy`, while another call on the
-//! phaser is in the middle. Any refusal leaves the registration as it was.
+//! one with `_for` tries for so long, or a little longer, and may be refused so, also where other
+//! calls on the phaser were in the middle all the time. The one with `try_` tries once: it may be
+//! refused so, too, and it alone as `Busy`, while another call is in the middle. Any refusal leaves
+//! the registration as it was.
 //!
 //! # What is proved
 //!
