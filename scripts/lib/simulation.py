@@ -196,9 +196,11 @@ def why(task, names, phaser, call):
     """Why a task that stands still cannot make its call."""
     if call == "waits":
         phase = phaser.waited[task]
-        late = " and ".join(other for other, done in phaser.signalled.items() if done <= phase)
+        late = [other for other, done in phaser.signalled.items() if done <= phase]
+        have = "have" if len(late) > 1 else "has"
         return (
-            f"{task} waits for phase {phase} of {names[id(phaser)]}, which {late} has not signalled"
+            f"{task} waits for phase {phase} of {names[id(phaser)]}, which {' and '.join(late)} "
+            f"{have} not signalled"
         )
     least = min(phaser.waited.values())
     slow = next(other for other, phase in phaser.waited.items() if phase == least)
