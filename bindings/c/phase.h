@@ -17,7 +17,9 @@
  * handler, or, before it calls exec, from the child that fork made of a process with several
  * threads.
  *
- * The library is for Linux on x86-64 with SSE4.2, which is x86-64-v2. */
+ * The library is for Linux on x86-64 with SSE4.2 and POPCNT, which is x86-64-v2. Where the
+ * processor is older, the library ends the process with status 1 when it is loaded, and a line on
+ * standard error says so. */
 #ifndef PHASE_H
 #define PHASE_H
 #include <stdbool.h>

@@ -1,7 +1,8 @@
 /* phase_wait.c: how the calls of phase_shared.h wait.
  *
  * Nothing here is proved, and no answer rests on it: a call that was tried too early is answered
- * so by the library, and tried again. A fault here costs time alone.
+ * so by the library, and tried again. A fault here costs time alone. Also how an older processor is
+ * told, before the first call.
  *
  * A pause looks at how far the phaser is, then yields, then sleeps for at most SLEEP nanoseconds at
  * a gate, which the registrations of a phaser share. Whoever finds sleepers there after a call of
@@ -13,6 +14,7 @@
 #include <stdatomic.h>
 #include <stdlib.h>
 #include <time.h>
+#include <unistd.h>
 #if !defined(__linux__) && !defined(PHASE_PORTABLE)
 #define PHASE_PORTABLE
 #endif
@@ -21,7 +23,23 @@
 #else
 #include <linux/futex.h>
 #include <sys/syscall.h>
-#include <unistd.h>
+#endif
+
+/* ---- The processor. */
+
+#ifdef __x86_64__
+/* On an older processor than the library is made for a call would end by a signal: so it is told
+ * before there is one, and the process ends with status 1. */
+__attribute__((constructor)) static void look_at_processor(void)
+{
+    static const char told[] =
+        "phase: this processor is older than x86-64-v2, for which libphase is made\n";
+    __builtin_cpu_init();
+    if (__builtin_cpu_supports("sse4.2") && __builtin_cpu_supports("popcnt"))
+        return;
+    ssize_t written = write(STDERR_FILENO, told, sizeof told - 1);
+    _exit(written < 0 ? 2 : 1);
+}
 #endif
 
 /* How often a pause looks while it spins, and how often it then yields. */

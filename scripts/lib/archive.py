@@ -24,7 +24,10 @@ FILES = {
     "bindings/c/phase.h": "include/phase.h",
     "bindings/c/phase.hpp": "include/phase.hpp",
     "bindings/c/phase_shared.h": "include/phase_shared.h",
+    "bindings/c/phase_wait.c": "share/phase/c/phase_wait.c",
     "scripts/lib/completion.bash": "share/bash-completion/completions/phase",
+    "scripts/lib/completion.fish": "share/fish/vendor_completions.d/phase.fish",
+    "scripts/lib/completion.zsh": "share/zsh/site-functions/_phase",
     "bindings/c/eval.c": "share/doc/phase/examples/bindings/eval.c",
     "bindings/python/eval.py": "share/doc/phase/examples/bindings/eval.py",
     "bindings/rust/phase-sys": "share/phase/rust/phase-sys",
@@ -35,6 +38,7 @@ FILES = {
     "CHANGELOG.md": "share/doc/phase/CHANGELOG.md",
     "CONTRIBUTING.md": "share/doc/phase/CONTRIBUTING.md",
     "docs": "share/doc/phase/docs",
+    "scripts/bench/MEASURED.md": "share/doc/phase/docs/MEASURED.md",
     "examples": "share/doc/phase/examples",
 }
 # Names of other files, by where they stand.
@@ -82,16 +86,45 @@ def bytes_of(path):
         return file.read()
 
 
-def lay_files(folder):
-    """Puts what stands in files into the folder of the archive."""
+def places():
+    """Where each file of the repository stands in the archive, by its name here."""
+    found = {}
     for here, there in FILES.items():
-        path = os.path.join(TOP, here)
-        names = [here] if os.path.isfile(path) else git("ls-files", here).split("\n")
-        for name in names:
+        is_file = os.path.isfile(os.path.join(TOP, here))
+        for name in [here] if is_file else git("ls-files", here).split("\n"):
             # The tests of a crate want the repository.
             if "/tests/" not in name:
-                to = os.path.join(folder, there + name[len(here) :])
-                put(bytes_of(os.path.join(TOP, name)), to)
+                found[name] = there + name[len(here) :]
+    return found
+
+
+def linked(text, name, found):
+    """The text of a page, by its name here, as it stands in the archive: a link leads to where its
+    file or folder stands there; of what is not there the words are left."""
+    folders = {here: there for here, there in FILES.items() if here not in found}
+
+    def link(match):
+        words, to, part = match.groups()
+        if "://" in to or not to:
+            return match[0]
+        here = os.path.normpath(os.path.join(os.path.dirname(name), to))
+        there = {**found, **folders}.get(here)
+        if there is None:
+            return words
+        to = os.path.relpath(there, os.path.dirname(found[name]))
+        return f"[{words}]({to}{part or ''})"
+
+    return re.sub(r"\[([^][]*)\]\(([^()#\s]*)(#[^()\s]*)?\)", link, text)
+
+
+def lay_files(folder):
+    """Puts what stands in files into the folder of the archive."""
+    found = places()
+    for name, there in found.items():
+        data = bytes_of(os.path.join(TOP, name))
+        if name.endswith(".md"):
+            data = linked(data.decode(), name, found).encode()
+        put(data, os.path.join(folder, there))
     os.makedirs(os.path.dirname(os.path.join(folder, PACKED)))
     os.link(os.path.join(folder, "lib/libphase.a"), os.path.join(folder, PACKED))
     for name, to in LINKS.items():
@@ -106,8 +139,9 @@ def lay_made(folder, epoch):
             put(text, os.path.join(folder, place, name))
     program = os.path.join(folder, "bin/phase")
     put(bytes_of(project.built("phase")), program, 0o755)
-    page = subprocess.check_output([os.path.join(TOP, "scripts/lib/man-page"), program])
-    put(page, os.path.join(folder, "share/man/man1/phase.1"))
+    subprocess.run(["strip", program], check=True)
+    page = [os.path.join(TOP, "scripts/lib/man-page"), program, str(epoch)]
+    put(subprocess.check_output(page), os.path.join(folder, "share/man/man1/phase.1"))
     words = project.text_of("scripts/lib/phase.pc").replace("VERSION", version())
     put(words.encode(), os.path.join(folder, "lib/pkgconfig/phase.pc"))
 

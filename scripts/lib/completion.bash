@@ -1,9 +1,19 @@
 # What bash completes of the words of `phase`.
+
+# The names of the sinks of the graphs among these words.
+_phase_sinks() {
+    local word
+    for word in "$@"; do
+        [ ! -f "$word" ] || sed -n 's/^[ ]*sink[ ]\{1,\}\([A-Za-z0-9_]\{1,\}\).*/\1/p' "$word"
+    done
+}
+
 _phase() {
     local words
-    case $COMP_CWORD,${COMP_WORDS[1]},$2 in
+    case $COMP_CWORD,${COMP_WORDS[1]},$2,$3 in
         1,*) words='check draw eval help replay run stream --help --version' ;;
         2,help,*) words='check draw eval replay run stream' ;;
+        *,--sink) words=$(_phase_sinks "${COMP_WORDS[@]:2}") ;;
         *,replay,-*) words='--help --strict' ;;
         *,check,-*) words='--beside --explain --help' ;;
         *,draw,-*) words='--explain --help' ;;

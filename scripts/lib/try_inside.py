@@ -3,10 +3,14 @@ its own. It unpacks the archive, and types what a user would; the last line tell
 agreed, and the status is 1 where one did not.
 """
 import glob
+import hashlib
 import os
+import pty
 import re
 import resource
+import select
 import shutil
+import signal
 import subprocess
 import sys
 import time
@@ -27,8 +31,15 @@ import doctest, importlib, sys
 modules = map(importlib.import_module, ("phase", "phase.shared", "phase.stream"))
 sys.exit(any([doctest.testmod(module).failed for module in modules]))
 """
-# What a line of README names that the archive has not.
-ELSEWHERE = ("scripts/", ".ci/", "--prove", "g++", "plain-replay")
+# What a line of the pages names that the archive has not.
+ELSEWHERE = ("scripts/", ".ci/", "--prove", "g++", "plain-replay", "bindings/lib")
+
+# Where files of the repository stand here, by their folder of the bindings.
+BELIEVED = {
+    "c": ("include", "share/phase/c", "share/doc/phase/examples/bindings"),
+    "rust": ("share/phase/rust",),
+    "python": ("../wheel",),
+}
 
 
 class Wrong(Exception):
@@ -87,10 +98,52 @@ def unpacked():
     wants(os.path.getsize(archive) < 3_000_000, "that is too much")
 
 
-def tells_whose():
-    """Archive, crate and wheel have the licence of each work of others that they are made of."""
+def proved_tells():
+    """PROVED has the sum of each file here that is believed, in C, in Rust and in Python."""
+    with open(os.path.join(PREFIX, "PROVED"), encoding="utf-8") as page:
+        told = re.findall(r"^bindings/(\w+)/(\S+) ([0-9a-f]{64})$", page.read(), re.M)
     [wheel] = glob.glob("/tried/*.whl")
     said(f"mkdir wheel && cd wheel && unzip -q {wheel}")
+    looked_at = 0
+    for language, name, its in told:
+        for place in BELIEVED[language]:
+            path = os.path.join(PREFIX, place, name)
+            if os.path.isfile(path):
+                with open(path, "rb") as file:
+                    wants(hashlib.sha256(file.read()).hexdigest() == its, f"{path} has another sum")
+                looked_at += 1
+    print(f"{looked_at} files")
+    wants(looked_at >= 20, "these are too few")
+
+
+def links_lead():
+    """Each link of a page leads to what is there."""
+    looked_at = 0
+    for page in glob.glob(f"{PAGES}/**/*.md", recursive=True):
+        with open(page, encoding="utf-8") as file:
+            text = re.sub(r"^```.*?^```$", "", file.read(), flags=re.M | re.S)
+        for to in re.findall(r"\]\(([^()\s]+)\)", text):
+            name, _, part = to.partition("#")
+            if "://" in to:
+                continue
+            path = os.path.normpath(os.path.join(os.path.dirname(page), name)) if name else page
+            wants(os.path.exists(path), f"{page} leads to {to}")
+            if part and path.endswith(".md"):
+                with open(path, encoding="utf-8") as file:
+                    heads = re.findall(r"^#+ (.*)$", file.read(), re.M)
+                wants(part in map(slug, heads), f"{page} leads to {to}")
+            looked_at += 1
+    print(f"{looked_at} links")
+    wants(looked_at > 50, "these are too few")
+
+
+def slug(head):
+    """How a head is named in a link."""
+    return re.sub(r"[^\w -]", "", head.lower()).replace(" ", "-")
+
+
+def tells_whose():
+    """Archive, crate and wheel have the licence of each work of others that they are made of."""
     crate = os.path.join(SHARE, "phase/rust/phase-sys")
     for folder in (PAGES, crate, os.path.join(HOME, "wheel/phase")):
         lacking = list(licences.lacks(folder))
@@ -108,13 +161,13 @@ def links_little():
               key=lambda it: tuple(map(int, it.split(".")))))
 
 
-def readme():
-    """What README shows is what comes, typed in the folder of the pages."""
-    pages = project.script("pages")
-    pages.TOP = PAGES
-    shell, typed = pages.Shell(PAGES), 0
-    for number, _, block in pages.blocks("README.md"):
-        lines = pages.commands(block)
+def typed(pages, shell, page):
+    """How many lines of a page were typed; what it shows is what came."""
+    count = 0
+    for number, paragraph, block in pages.blocks(page):
+        lines, file = pages.commands(block), pages.FILE.search(paragraph)
+        if file and not lines and not file[1].startswith("examples/"):
+            shell.put(file[1], block)
         is_shown = any(out for _, out in lines)
         for line, out in lines:
             if any(it in line for it in ELSEWHERE):
@@ -122,8 +175,27 @@ def readme():
             written, status = shell.type(line)
             same = written.rstrip("\n").split("\n") == (out or [""])
             wants(same if is_shown else status == 0, f"{number}: `{line}` wrote {written[-500:]}")
-            typed += 1
-    wants(typed > 3, f"README has {typed} lines to type")
+            count += 1
+    return count
+
+
+def readme():
+    """What README shows is what comes, typed in the folder of the pages."""
+    pages = project.script("pages")
+    pages.TOP = PAGES
+    wants(typed(pages, pages.Shell(PAGES), "README.md") > 3, "README has few lines to type")
+
+
+def of_library():
+    """What the pages of the library show is what comes, typed in the folder of the pages, with
+    nothing set that they do not set."""
+    pages = project.script("pages")
+    pages.TOP = PAGES
+    shell, count = pages.Shell(PAGES), 0
+    for page in pages.OF_LIBRARY:
+        count += typed(pages, shell, page)
+    print(f"{count} lines")
+    wants(count > 8, "these are too few")
 
 
 def man():
@@ -132,24 +204,74 @@ def man():
     lines = {" ".join(it.split()) for it in page.splitlines()}
     for command in ("replay", "check", "eval", "draw", "run", "stream"):
         for line in said(f"phase help {command}").splitlines():
+            line = line.removeprefix("Usage: ")
             wants(" ".join(line.split()) in lines, f"the page has no line `{line}`")
+    for head in ("SYNOPSIS", "OPTIONS", "EXIT STATUS", "EXAMPLES"):
+        wants(head in lines, f"the page has no {head}")
+    if shutil.which("mandoc"):
+        said(f"mandoc -T lint -W warning {SHARE}/man/man1/phase.1")
+
+
+def completed_by_bash(*typed):
+    """What bash offers of the last of these words."""
+    file = os.path.join(SHARE, "bash-completion/completions/phase")
+    words = f"COMP_WORDS=(phase {' '.join(typed)}); COMP_CWORD={len(typed)}"
+    last, before = typed[-1], ("phase", *typed)[-2]
+    call = f"source {file}; {words}; _phase phase {last!r} {before}; echo ${{COMPREPLY[*]}}"
+    return said(call).split()
+
+
+def completed_by_fish(*typed):
+    """What fish offers of the last of these words."""
+    file = os.path.join(SHARE, "fish/vendor_completions.d/phase.fish")
+    return said(f"fish -c 'source {file}; complete -C \"phase {' '.join(typed)}\"'").split()
+
+
+def completed_by_zsh(*typed):
+    """What zsh lists of the last of these words, at a terminal."""
+    file = os.path.join(SHARE, "zsh/site-functions/_phase")
+    begin = f"autoload -Uz compinit; compinit -u; source {file}; PS1=; LISTMAX=0; echo ready\n"
+    process, terminal = pty.fork()
+    if process == 0:
+        os.execvpe("zsh", ["zsh", "-f", "-i"], {**os.environ, "TERM": "dumb", "COLUMNS": "200"})
+
+    def listed(text, until, seconds=20.0):
+        os.write(terminal, text.encode())
+        told, ends = "", time.monotonic() + seconds
+        while until not in told and time.monotonic() < ends:
+            if select.select([terminal], [], [], 0.1)[0]:
+                told += os.read(terminal, 65536).decode(errors="replace")
+        return told
+
+    try:
+        listed(begin, "\nready")
+        # Behind what is listed the line is shown once more.
+        line = f"phase {' '.join(typed)}"
+        told = listed(line + "\x04", f"\n{line}")
+    finally:
+        os.kill(process, signal.SIGKILL)
+        os.waitpid(process, 0)
+        os.close(terminal)
+    return re.sub(r"\x1b\[[\d;]*m|\x07", "", told).replace(line, "").split()
 
 
 def completion():
-    """What bash completes are the commands, and words that their help has."""
-    file = os.path.join(SHARE, "bash-completion/completions/phase")
-
-    def completed(*typed):
-        words = f"COMP_WORDS=(phase {' '.join(typed)}); COMP_CWORD={len(typed)}"
-        call = f"source {file}; {words}; _phase phase {typed[-1]}; echo ${{COMPREPLY[*]}}"
-        return said(call).split()
-
-    wants(completed("st") == ["stream"] and completed("r") == ["replay", "run"], "of commands")
-    for command in ("replay", "check", "eval", "draw", "run", "stream"):
-        wants(command in completed(command[:2]), f"it has no {command}")
-        words = completed(command, "--")
-        has = set(re.findall(r"--\w+", said(f"phase {command} --help").partition("Example")[0]))
-        wants(set(words) == has - {"--version"}, f"{command}: {words}, and help has {sorted(has)}")
+    """What a shell completes are the commands, the words that their help has, and sinks."""
+    with open(os.path.join(HOME, "of.graph"), "w", encoding="utf-8") as graph:
+        graph.write("phaser x sum 4\nsource s s.csv -> x\nsink out x\n sink other x\n")
+    shells = {"bash": completed_by_bash, "fish": completed_by_fish, "zsh": completed_by_zsh}
+    for shell, completed in shells.items():
+        if not shutil.which(shell):
+            print(f"there is no {shell}")
+            continue
+        wants(completed("st") == ["stream"], f"{shell}: of commands")
+        wants(set(completed("eval", "of.graph", "--sink", "o")) == {"out", "other"},
+              f"{shell}: of sinks")
+        for command in ("replay", "check", "eval", "draw", "run", "stream"):
+            words = completed(command, "--")
+            told = said(f"phase {command} --help").partition("Example")[0]
+            has = set(re.findall(r"--\w+", told)) - {"--version"}
+            wants(set(words) == has, f"{shell}, {command}: {words}, and help has {sorted(has)}")
 
 
 def in_c():
@@ -223,8 +345,8 @@ def begins_soon():
 
 
 LOOKS = (
-    nothing_else, unpacked, tells_whose, links_little, readme, man, completion, in_c, in_rust,
-    in_python, rows, begins_soon,
+    nothing_else, unpacked, proved_tells, tells_whose, links_lead, links_little, readme, of_library,
+    man, completion, in_c, in_rust, in_python, rows, begins_soon,
 )
 
 

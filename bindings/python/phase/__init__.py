@@ -466,10 +466,22 @@ def _found():
     return os.environ.get("PHASE_LIB") or (packed if os.path.exists(packed) else made)
 
 
+def _is_served():
+    """Whether the processor has what the library is made for, as far as the system tells it."""
+    try:
+        with open("/proc/cpuinfo", encoding="utf-8", errors="replace") as told:
+            flags = next((line for line in told if line.startswith("flags")), None)
+    except OSError:
+        return True
+    return flags is None or {"sse4_2", "popcnt"} <= set(flags.split())
+
+
 def _load():
     name = _found()
     if not os.path.exists(name):
         raise ImportError(f"there is no {name}: make it by scripts/bind, or name it in PHASE_LIB")
+    if not _is_served():
+        raise ImportError("this processor is older than x86-64-v2, for which libphase is made")
     lib = ctypes.CDLL(name)
     lib.phase_version.argtypes, lib.phase_version.restype = [], ctypes.c_uint32
     if lib.phase_version() != VERSION:
