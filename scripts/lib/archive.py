@@ -49,6 +49,8 @@ LINKS = {
 }
 # The library that stands with the crate, too.
 PACKED = "share/phase/rust/phase-sys/lib/libphase.a"
+# The licences of ours, and the crates that have them, too.
+LICENSES, CRATES = ("LICENSE-MIT", "LICENSE-APACHE"), ("phase", "phase-sys")
 # What the program and the libraries are made of, and the folders that tell whose work they have.
 MADE = ("phase", "phase_c", "phase_handle", "shared_handle", "stream_handle")
 TELL_WHOSE = ("share/doc/phase", "share/phase/rust/phase-sys")
@@ -125,6 +127,10 @@ def lay_files(folder):
         if name.endswith(".md"):
             data = linked(data.decode(), name, found).encode()
         put(data, os.path.join(folder, there))
+    for name in LICENSES:
+        for crate in CRATES:
+            to = os.path.join(folder, "share/phase/rust", crate, name)
+            put(bytes_of(os.path.join(TOP, name)), to)
     os.makedirs(os.path.dirname(os.path.join(folder, PACKED)))
     os.link(os.path.join(folder, "lib/libphase.a"), os.path.join(folder, PACKED))
     for name, to in LINKS.items():
@@ -196,7 +202,7 @@ def make_wheel(folder, work, epoch):
     source = os.path.join(work, "wheel")
     for name in git("ls-files", "bindings/python").split("\n"):
         put(bytes_of(os.path.join(TOP, name)), os.path.join(source, name.split("/", 2)[2]))
-    for name in ("LICENSE-MIT", "LICENSE-APACHE"):
+    for name in LICENSES:
         put(bytes_of(os.path.join(TOP, name)), os.path.join(source, name))
     for name, text in licences.gathered(MADE, version(), epoch).items():
         put(text, os.path.join(source, "phase", name))

@@ -161,6 +161,29 @@ def links_little():
               key=lambda it: tuple(map(int, it.split(".")))))
 
 
+def hardened():
+    """The program and the library are stripped, and bind all names when they are loaded."""
+    for name in ("bin/phase", "lib/libphase.so.0"):
+        wants(".symtab" not in said(f"readelf -SW {name}", PREFIX), f"{name} is not stripped")
+        dynamic = said(f"readelf -dW {name}", PREFIX)
+        wants("(FLAGS)" not in dynamic or "NOW" in dynamic, f"{name} binds names late")
+        wants("GNU_STACK" in said(f"readelf -lW {name}", PREFIX), f"{name} says nothing of stacks")
+
+
+def package():
+    """The package for Debian, where there is one, has what the archive has, and no error."""
+    found = glob.glob("/tried/*.deb")
+    if not found:
+        return print("there is none")
+    said(f"dpkg-deb -x {found[0]} deb")
+    version = said("deb/usr/bin/phase --version")
+    wants(version == said("phase --version"), version)
+    for name in ("copyright", "changelog.gz", "phase.spdx.json", "PROVED"):
+        wants(os.path.isfile(os.path.join(HOME, "deb/usr/share/doc/phase", name)), f"no {name}")
+    if shutil.which("lintian"):
+        print(said(f"lintian --fail-on error {found[0]}")[:2000])
+
+
 def typed(pages, shell, page):
     """How many lines of a page were typed; what it shows is what came."""
     count = 0
@@ -230,29 +253,29 @@ def completed_by_fish(*typed):
 def completed_by_zsh(*typed):
     """What zsh lists of the last of these words, at a terminal."""
     file = os.path.join(SHARE, "zsh/site-functions/_phase")
-    begin = f"autoload -Uz compinit; compinit -u; source {file}; PS1=; LISTMAX=0; echo ready\n"
+    begin = f"autoload -Uz compinit; compinit -u; source {file}; LISTMAX=0; PS1=rea''dy\n"
     process, terminal = pty.fork()
     if process == 0:
         os.execvpe("zsh", ["zsh", "-f", "-i"], {**os.environ, "TERM": "dumb", "COLUMNS": "200"})
 
-    def listed(text, until, seconds=20.0):
+    def told_at(text, until, times):
+        """What it writes at a text, until this has come so many times."""
         os.write(terminal, text.encode())
-        told, ends = "", time.monotonic() + seconds
-        while until not in told and time.monotonic() < ends:
+        told, ends = "", time.monotonic() + 20
+        while told.count(until) < times and time.monotonic() < ends:
             if select.select([terminal], [], [], 0.1)[0]:
                 told += os.read(terminal, 65536).decode(errors="replace")
-        return told
+        return re.sub(r"\x1b\[[?\d;]*[A-Za-z]|\x07", "", told)
 
     try:
-        listed(begin, "\nready")
+        told_at(begin, "ready", 1)
         # Behind what is listed the line is shown once more.
         line = f"phase {' '.join(typed)}"
-        told = listed(line + "\x04", f"\n{line}")
+        return told_at(f"{line}\x04", line, 2).split(line)[1].removesuffix("ready").split()
     finally:
         os.kill(process, signal.SIGKILL)
         os.waitpid(process, 0)
         os.close(terminal)
-    return re.sub(r"\x1b\[[\d;]*m|\x07", "", told).replace(line, "").split()
 
 
 def completion():
@@ -311,6 +334,21 @@ def in_rust():
     said("rm -rf target; cargo build --offline", page, 101, PHASE_LIB_DIR="/tmp")
 
 
+def as_crates():
+    """Both crates can be packed for a registry, with all licences, and their pages are made with no
+    warning."""
+    said(f"mkdir crates && cp -r {SHARE}/phase/rust/* crates")
+    put("crates/Cargo.toml", '[workspace]\nmembers = ["phase", "phase-sys"]\nresolver = "2"\n')
+    crates = os.path.join(HOME, "crates")
+    said("cargo package --quiet --workspace --offline --no-verify --allow-dirty", crates)
+    for crate in ("phase", "phase-sys"):
+        names = said(f"tar -tzf target/package/{crate}-*.crate", crates)
+        for name in ("LICENSE-MIT", "LICENSE-APACHE", "README.md"):
+            wants(f"/{name}\n" in names, f"{crate} has no {name}")
+    wants("/phase.spdx.json\n" in names, f"{crate} has no phase.spdx.json")
+    said("cargo doc --quiet --offline --no-deps", crates, RUSTDOCFLAGS="-D warnings")
+
+
 def in_python():
     """The wheel in a new environment, with numpy and nothing else: its examples and the page's."""
     [wheel] = glob.glob("/tried/*.whl")
@@ -323,6 +361,8 @@ def in_python():
     put("page.py", f'"""\n{shown("python")}"""\n')
     said(f"{HOME}/env/bin/python -m doctest {HOME}/page.py", PAGES)
     wants(os.path.exists(where.split()[0].replace("__init__.py", "py.typed")), "no py.typed")
+    if shutil.which("twine"):
+        said(f"twine check --strict {wheel}")
     print(os.path.basename(wheel))
 
 
@@ -345,8 +385,8 @@ def begins_soon():
 
 
 LOOKS = (
-    nothing_else, unpacked, proved_tells, tells_whose, links_lead, links_little, readme, of_library,
-    man, completion, in_c, in_rust, in_python, rows, begins_soon,
+    nothing_else, unpacked, proved_tells, tells_whose, links_lead, links_little, hardened, package,
+    readme, of_library, man, completion, in_c, in_rust, as_crates, in_python, rows, begins_soon,
 )
 
 

@@ -4,6 +4,7 @@ use std::fmt;
 
 /// Why there are no values.
 #[derive(Clone, Copy, Debug, PartialEq, Eq)]
+#[non_exhaustive]
 pub enum Error {
     /// The graph's text has a fault: its first line with one, from 1 on, and the kind.
     Graph {
@@ -66,6 +67,7 @@ pub enum Place {
 
 /// What is wrong with a line of a graph's text, as `docs/FORMATS.md` has it.
 #[derive(Clone, Copy, Debug, PartialEq, Eq)]
+#[non_exhaustive]
 pub enum FaultKind {
     /// The line is not in the grammar.
     Syntax,

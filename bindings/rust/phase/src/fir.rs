@@ -4,6 +4,7 @@ use std::fmt;
 
 /// Why there is no such filter, or a block was not filtered, or not to its end.
 #[derive(Clone, Copy, Debug, PartialEq, Eq)]
+#[non_exhaustive]
 pub enum FirError {
     /// There are 1 to 64 taps of a magnitude of at most 2^31 - 1, and a shift is at most 62.
     Taps,
@@ -54,7 +55,11 @@ pub struct Fir {
 }
 
 impl Fir {
-    /// Returns a filter before its first sample. It is refused as `Taps` or `OutOfMemory`.
+    /// Returns a filter before its first sample.
+    ///
+    /// # Errors
+    ///
+    /// It is refused as `Taps` or `OutOfMemory`.
     pub fn new(taps: &[i64], shift: u32) -> Result<Fir, FirError> {
         let state = vec![0; taps.len().saturating_sub(1)];
         let mut fir = Fir { taps: taps.to_vec(), shift, state };
@@ -63,7 +68,11 @@ impl Fir {
         Ok(fir)
     }
 
-    /// Filters a block, one value for each sample. After an error the filter stands where it stood.
+    /// Filters a block, one value for each sample.
+    ///
+    /// # Errors
+    ///
+    /// It fails as `Room`, `TooBig` or `OutOfMemory`; the filter then stands where it stood.
     pub fn filter(&mut self, block: &[i64], out: &mut [i64]) -> Result<(), FirError> {
         let mut done = 0;
         // SAFETY: each pointer and length are those of one slice, and what is written is borrowed
@@ -85,9 +94,14 @@ impl Fir {
         told(status, done)
     }
 
-    /// Filters a block, and writes each value over its sample. After an error the filter stands
-    /// where it stood; at `TooBig` the values that are right are written, and the samples behind
-    /// them stay.
+    /// Filters a block, and writes each value over its sample.
+    ///
+    /// # Errors
+    ///
+    /// It fails as `TooBig` or `OutOfMemory`; the filter then stands where it stood. At `TooBig`
+    /// the values that are right are written, and the samples behind them stay.
+    ///
+    /// # Example
     ///
     /// ```
     /// let mut sums = phase::Fir::new(&[1, 1], 0)?;

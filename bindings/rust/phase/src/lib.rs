@@ -14,7 +14,7 @@
 //! ```
 //!
 //! The file behind a source's name is not read: its samples are the slice that is given.
-#![deny(missing_docs)]
+#![deny(missing_docs, clippy::missing_errors_doc)]
 
 mod error;
 mod fir;
@@ -45,6 +45,12 @@ pub struct Sink {
 
 /// Returns how many phasers, tasks, sources and sinks a graph has.
 ///
+/// # Errors
+///
+/// It fails as `Graph` where the text has a fault, or as `OutOfMemory`.
+///
+/// # Example
+///
 /// ```
 /// assert_eq!(phase::check("phaser x sum 4\nsink out x")?.sinks, 1);
 /// let why = phase::check("phaser x mean 4").unwrap_err();
@@ -73,6 +79,12 @@ pub struct Names {
 
 /// Returns the names of a graph's sources and sinks, as `eval` has their samples and values.
 ///
+/// # Errors
+///
+/// It fails as [`check`] does.
+///
+/// # Example
+///
 /// ```
 /// let names = phase::names("phaser x sum 4\nsource s s.csv -> x\nsink a x\nsink b x")?;
 /// assert_eq!(names.sources, ["s"]);
@@ -98,6 +110,12 @@ pub struct AllNames {
 }
 
 /// Returns the names of all phasers and tasks of a graph, as a [`Place`] counts them.
+///
+/// # Errors
+///
+/// It fails as [`check`] does.
+///
+/// # Example
 ///
 /// ```
 /// let names = phase::all_names("phaser x sum 4\nsource s s.csv -> x\nsink a x")?;
@@ -138,6 +156,12 @@ fn named(call: NamesCall, text: &[u8]) -> Result<Vec<String>, Error> {
 /// theirs.
 ///
 /// A sink that joins now begins at the least phase that it may.
+///
+/// # Errors
+///
+/// It fails as `Graph`, `Counts`, `TooManySamples`, `Sample`, `TooBig` or `OutOfMemory`.
+///
+/// # Example
 ///
 /// ```
 /// let graph = "phaser x sum 4\nsource s s.csv -> x\nsource t t.csv -> x\nsink out x\n";

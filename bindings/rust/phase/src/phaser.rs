@@ -5,6 +5,7 @@ use std::{cell::UnsafeCell, ptr};
 
 /// What the sends of a phase come to.
 #[derive(Clone, Copy, Debug, PartialEq, Eq, Hash)]
+#[non_exhaustive]
 pub enum Operation {
     /// Their sum, and 0 of none.
     Sum,
@@ -59,6 +60,7 @@ impl Mode {
 
 /// What is done once with the value of a phase.
 #[derive(Clone, Copy, Debug, PartialEq, Eq, Hash)]
+#[non_exhaustive]
 pub enum Single {
     /// Its sign is changed.
     Neg,
@@ -166,7 +168,11 @@ impl Phaser {
     /// ahead of its slowest waiter, from 1 to 65,536. Its one task is number 0, in the mode
     /// `Single` at phase 0.
     ///
+    /// # Errors
+    ///
     /// It is refused as `BadBound`, `BadPhases` or `OutOfMemory`.
+    ///
+    /// # Example
     ///
     /// ```
     /// use phase::{Operation, Phaser, PhaserError};
@@ -183,7 +189,11 @@ impl Phaser {
     /// Registers a task in a mode that the mode of `parent` holds, at both phases of `parent`, and
     /// returns its number: 1 more than the greatest before. It may take memory.
     ///
+    /// # Errors
+    ///
     /// It is refused as `NoTask`, `NotAllowed`, `NotNew`, `TooManyTasks` or `OutOfMemory`.
+    ///
+    /// # Example
     ///
     /// ```
     /// use phase::{Mode, Operation, Phaser, PhaserError};
@@ -204,7 +214,11 @@ impl Phaser {
     /// Registers a task in the mode `Wait` at the first phase that is not complete, and returns its
     /// number and that phase. The mode of `parent` waits. It may take memory.
     ///
+    /// # Errors
+    ///
     /// It is refused as `register` is.
+    ///
+    /// # Example
     ///
     /// ```
     /// use phase::{Operation, Phaser};
@@ -224,7 +238,11 @@ impl Phaser {
 
     /// Ends a task's registration. Phases that the others have signalled are complete without it.
     ///
+    /// # Errors
+    ///
     /// It is refused as `NoTask`.
+    ///
+    /// # Example
     ///
     /// ```
     /// use phase::{Got, Mode, Operation, Phaser};
@@ -242,8 +260,12 @@ impl Phaser {
     /// Signals the task's phase with these sends and a single or none, and returns that phase. A
     /// send is any number but `i64::MIN`.
     ///
+    /// # Errors
+    ///
     /// It is refused as `BadSingle`, `TooManySends`, `BadValue`, `NoTask`, `NoSignal`, `NotSingle`,
     /// `SignalTwice`, `Spent`, `Ahead`, `SingleDiffers` or `PhaseFull`.
+    ///
+    /// # Example
     ///
     /// ```
     /// use phase::{Got, Operation, Phaser, PhaserError, Single};
@@ -279,8 +301,12 @@ impl Phaser {
 
     /// Gets the task's phase and its value, or tells that no more will come.
     ///
+    /// # Errors
+    ///
     /// It is refused as `NoTask`, `NoWait` or `SignalFirst`, and as `NotYet` where it would have to
     /// block.
+    ///
+    /// # Example
     ///
     /// ```
     /// use phase::{Got, Mode, Operation, Phaser, PhaserError};
@@ -305,8 +331,12 @@ impl Phaser {
     /// each and the single or none for all of them, and returns the first phase. It takes memory,
     /// and gives it back.
     ///
+    /// # Errors
+    ///
     /// It is refused where one of the signals would be, made one by one, and as `BadBlock` or
     /// `OutOfMemory`; then no phase is signalled.
+    ///
+    /// # Example
     ///
     /// ```
     /// use phase::{Mode, Operation, Phaser, PhaserError};
@@ -348,7 +378,11 @@ impl Phaser {
     /// come. Where a phase has no value, `i64::MIN` is written. What stands behind the values
     /// stays. It takes memory, and gives it back.
     ///
+    /// # Errors
+    ///
     /// It is refused as `wait` is, as `BadBlock`, and as `OutOfMemory`.
+    ///
+    /// # Example
     ///
     /// ```
     /// use phase::{GotBlock, Mode, Operation, Phaser};

@@ -4,6 +4,7 @@ use std::fmt;
 
 /// Why a call on a phaser was refused. It left the phaser as it was.
 #[derive(Clone, Copy, Debug, PartialEq, Eq, Hash)]
+#[non_exhaustive]
 pub enum PhaserError {
     /// The bound is not from 1 to 65,536.
     BadBound,

@@ -124,7 +124,11 @@ impl Registration<mode::Single> {
     /// ahead of its slowest waiter, from 1 to 65,536, and its founder at phase 0. Where threads
     /// meet at a barrier, each of which signals a phase and waits for it, the bound should be 2.
     ///
+    /// # Errors
+    ///
     /// It is refused as `BadBound`, `BadPhases` or `OutOfMemory`.
+    ///
+    /// # Example
     ///
     /// ```
     /// use phase::{Operation, PhaserError, shared::Registration};
@@ -152,8 +156,12 @@ impl<M: mode::Mode> Registration<M> {
     /// Registers a child in the mode `N`, which the mode of this one holds, at both of its phases.
     /// It may take memory, and waits for its turn alone.
     ///
+    /// # Errors
+    ///
     /// It is refused as `NotNew`, `TooManyTasks` or `OutOfMemory`. A mode that is not held is none
     /// of a child:
+    ///
+    /// # Example
     ///
     /// ```compile_fail,E0277
     /// use phase::shared::{Registration, mode::{Sig, Wait}};
@@ -170,6 +178,10 @@ impl<M: mode::Mode> Registration<M> {
     }
 
     /// The same, tried once.
+    ///
+    /// # Errors
+    ///
+    /// It is refused as `register` is, and as `Busy`.
     pub fn try_register<N: mode::Mode>(&mut self) -> Result<Registration<N>, PhaserError>
     where
         M: Holds<N>,
@@ -192,6 +204,10 @@ impl<M: mode::Mode> Registration<M> {
 
     /// The same, tried once: where another call on the phaser is in the middle, the registration
     /// comes back.
+    ///
+    /// # Errors
+    ///
+    /// The registration comes back where another call on the phaser is in the middle.
     #[allow(clippy::result_large_err, reason = "it is the registration that was given")]
     pub fn try_leave(self) -> Result<(), Registration<M>> {
         // SAFETY: the place has a registration of this thread.
@@ -263,8 +279,12 @@ impl<M: Signals> Registration<M> {
     /// Signals the phase with these sends and a single or none, and returns that phase. It waits
     /// while the phase is the bound or more ahead of the slowest waiter. It takes no memory.
     ///
+    /// # Errors
+    ///
     /// It is refused as `BadSingle`, `TooManySends`, `BadValue`, `NotSingle`, `SignalTwice`,
     /// `Spent`, `SingleDiffers` or `PhaseFull`.
+    ///
+    /// # Example
     ///
     /// ```
     /// use phase::{Operation, Single, shared::Registration};
@@ -276,7 +296,11 @@ impl<M: Signals> Registration<M> {
         signals!(self, phase_shared_signal, values, single)
     }
 
-    /// The same, tried once. It is refused as `Ahead` where it would have to wait.
+    /// The same, tried once.
+    ///
+    /// # Errors
+    ///
+    /// It is refused as `signal` is, as `Ahead` where it would have to wait, and as `Busy`.
     pub fn try_signal(
         &mut self,
         values: &[i64],
@@ -285,7 +309,11 @@ impl<M: Signals> Registration<M> {
         signals!(self, phase_shared_try_signal, values, single)
     }
 
-    /// The same, tried for so long. Then it is refused as `Ahead`.
+    /// The same, tried for so long.
+    ///
+    /// # Errors
+    ///
+    /// It is refused as `signal` is, and then as `Ahead`.
     pub fn signal_for(
         &mut self,
         values: &[i64],
@@ -299,8 +327,12 @@ impl<M: Signals> Registration<M> {
     /// none for all of them, and returns the first phase. It waits until no phase of the block is
     /// ahead, and signals all or none. It takes memory, and gives it back.
     ///
+    /// # Errors
+    ///
     /// It is refused where one of the signals would be, made one by one, and as `BadBlock` or
     /// `OutOfMemory`.
+    ///
+    /// # Example
     ///
     /// ```
     /// use phase::{Operation, shared::{Registration, mode::Sig}};
@@ -316,7 +348,11 @@ impl<M: Signals> Registration<M> {
         signals!(self, phase_shared_signal_block, values, single)
     }
 
-    /// The same, tried once. It is refused as `Ahead` where it would have to wait.
+    /// The same, tried once.
+    ///
+    /// # Errors
+    ///
+    /// It is refused as `signal_block` is, as `Ahead` where it would have to wait, and as `Busy`.
     pub fn try_signal_block(
         &mut self,
         values: &[i64],
@@ -325,7 +361,11 @@ impl<M: Signals> Registration<M> {
         signals!(self, phase_shared_try_signal_block, values, single)
     }
 
-    /// The same, tried for so long. Then it is refused as `Ahead`.
+    /// The same, tried for so long.
+    ///
+    /// # Errors
+    ///
+    /// It is refused as `signal_block` is, and then as `Ahead`.
     pub fn signal_block_for(
         &mut self,
         values: &[i64],
@@ -368,7 +408,11 @@ impl<M: Waits> Registration<M> {
     /// Gets the phase and its value, or tells that no more will come. It waits until the phase is
     /// complete, or no signaller is registered. It takes no memory.
     ///
+    /// # Errors
+    ///
     /// It is refused as `SignalFirst` where it signals too, and has not since its last wait.
+    ///
+    /// # Example
     ///
     /// ```
     /// use phase::{Got, Operation, shared::{Registration, mode::Wait}};
@@ -384,12 +428,22 @@ impl<M: Waits> Registration<M> {
         waits!(self, phase_shared_wait)
     }
 
-    /// The same, tried once. It is refused as `NotYet` where it would have to wait.
+    /// The same, tried once.
+    ///
+    /// # Errors
+    ///
+    /// It is refused as `wait` is, as `NotYet` where it would have to wait, and as `Busy`.
     pub fn try_wait(&mut self) -> Result<Got, PhaserError> {
         waits!(self, phase_shared_try_wait)
     }
 
-    /// The same, tried for so long. Then it is refused as `NotYet`.
+    /// The same, tried for so long.
+    ///
+    /// # Errors
+    ///
+    /// It is refused as `wait` is, and then as `NotYet`.
+    ///
+    /// # Example
     ///
     /// ```
     /// use phase::{Operation, PhaserError, shared::{Registration, mode::Wait}};
@@ -409,7 +463,11 @@ impl<M: Waits> Registration<M> {
     /// behind the values stays. It waits until one phase is complete, and no longer. It takes
     /// memory, and gives it back.
     ///
+    /// # Errors
+    ///
     /// It is refused as `wait` is, and as `BadBlock` or `OutOfMemory`.
+    ///
+    /// # Example
     ///
     /// ```
     /// use phase::{GotBlock, Operation, shared::{Registration, mode::Wait}};
@@ -426,12 +484,20 @@ impl<M: Waits> Registration<M> {
         waits_for_block!(self, phase_shared_wait_block, values)
     }
 
-    /// The same, tried once. It is refused as `NotYet` where it would have to wait.
+    /// The same, tried once.
+    ///
+    /// # Errors
+    ///
+    /// It is refused as `wait_block` is, as `NotYet` where it would have to wait, and as `Busy`.
     pub fn try_wait_block(&mut self, values: &mut [i64]) -> Result<GotBlock, PhaserError> {
         waits_for_block!(self, phase_shared_try_wait_block, values)
     }
 
-    /// The same, tried for so long. Then it is refused as `NotYet`.
+    /// The same, tried for so long.
+    ///
+    /// # Errors
+    ///
+    /// It is refused as `wait_block` is, and then as `NotYet`.
     pub fn wait_block_for(
         &mut self,
         values: &mut [i64],
@@ -443,7 +509,11 @@ impl<M: Waits> Registration<M> {
     /// Registers a child that waits, at the first phase that is not complete, and returns it with
     /// that phase. It may take memory, and waits for its turn alone.
     ///
+    /// # Errors
+    ///
     /// It is refused as `register` is.
+    ///
+    /// # Example
     ///
     /// ```
     /// use phase::{Operation, shared::Registration};
@@ -460,6 +530,10 @@ impl<M: Waits> Registration<M> {
     }
 
     /// The same, tried once.
+    ///
+    /// # Errors
+    ///
+    /// It is refused as `register_now` is, and as `Busy`.
     pub fn try_register_now(&mut self) -> Result<(Registration<mode::Wait>, u64), PhaserError> {
         self.registers_now(phase_shared_try_register_now)
     }
@@ -500,7 +574,11 @@ impl<M: Signals + Waits> Registration<M> {
     /// Signals the phase, as `signal` does, and then waits for it, as `wait` does: a barrier, from
     /// which each gets what all sent.
     ///
+    /// # Errors
+    ///
     /// It is refused as `signal` is.
+    ///
+    /// # Example
     ///
     /// ```
     /// use phase::{Operation, shared::Registration};
@@ -520,7 +598,11 @@ impl<M: Signals + Waits> Registration<M> {
         }
     }
 
-    /// The same, tried once. It is refused as `Ahead` where the signal would have to wait.
+    /// The same, tried once.
+    ///
+    /// # Errors
+    ///
+    /// It is refused as `signal` is, as `Ahead` where the signal would have to wait, and as `Busy`.
     pub fn try_next(
         &mut self,
         values: &[i64],
@@ -529,7 +611,13 @@ impl<M: Signals + Waits> Registration<M> {
         goes_next!(self, phase_shared_try_next, values, single)
     }
 
-    /// The same, tried for so long. Then it is refused as `Ahead`, or is `Signalled`.
+    /// The same, tried for so long. Then it is refused, or is `Signalled`.
+    ///
+    /// # Errors
+    ///
+    /// It is refused as `signal` is, and then as `Ahead`.
+    ///
+    /// # Example
     ///
     /// ```
     /// use phase::{Got, Operation, shared::{Next, Registration, mode::Sig}};

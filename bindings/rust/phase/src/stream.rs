@@ -97,9 +97,13 @@ unsafe impl Send for Stream {}
 impl Stream {
     /// Makes a stream of a graph, to which no samples came.
     ///
+    /// # Errors
+    ///
     /// It is refused as `Graph` or `OutOfMemory`. The kind `AnyMeets` tells the first line whose
     /// task could signal with one of an earlier line in one phase of a phaser with `any`, were
     /// there samples enough.
+    ///
+    /// # Example
     ///
     /// ```
     /// let why = phase::Stream::new("phaser x mean 4").unwrap_err();
@@ -133,7 +137,11 @@ impl Stream {
     /// Feeds samples to a source, as many of them as it has room for, and returns how many it took:
     /// none where it is finished, and none after a value out of range.
     ///
+    /// # Errors
+    ///
     /// It is refused as `NoSource`, or as `Sample` where one is `i64::MIN`; then none is fed.
+    ///
+    /// # Example
     ///
     /// ```
     /// use phase::{Error, Stream};
@@ -157,7 +165,11 @@ impl Stream {
 
     /// Says that no more samples come for a source.
     ///
+    /// # Errors
+    ///
     /// It is refused as `NoSource`.
+    ///
+    /// # Example
     ///
     /// ```
     /// use phase::{Stopped, Stream};
@@ -178,10 +190,14 @@ impl Stream {
     /// Goes on until no task can move, and returns why. A sink without room is told before a hungry
     /// source.
     ///
+    /// # Errors
+    ///
     /// It fails as `TooBig` where a value is out of range, in every stream whose samples go on so,
     /// or as `Stalled`, and then each later call does too. What the sinks have can still be taken,
     /// but perhaps not each value before the one that is too big. At `OutOfMemory` there was no
     /// memory for a child's registration; no value is lost, and the call can be made again.
+    ///
+    /// # Example
     ///
     /// ```
     /// use phase::{Error, Place, Stream};
@@ -212,7 +228,11 @@ impl Stream {
 
     /// Takes all values that a sink has, the first first. It has none then.
     ///
+    /// # Errors
+    ///
     /// It is refused as `NoSink` or `OutOfMemory`, and then the sink keeps them.
+    ///
+    /// # Example
     ///
     /// ```
     /// let mut stream = phase::Stream::new("phaser x sum 4\nsource s s.csv -> x\nsink out x\n")?;
@@ -236,8 +256,12 @@ impl Stream {
     /// Takes all values that a sink has into the first of these places, and returns how many they
     /// are. What stands behind them stays. It takes no memory.
     ///
+    /// # Errors
+    ///
     /// It is refused as `NoSink`, or as `Room` where there are fewer places; then the sink keeps
     /// the values.
+    ///
+    /// # Example
     ///
     /// ```
     /// use phase::{Error, Stream};
@@ -264,7 +288,11 @@ impl Stream {
 
     /// Returns the phase at which a sink that joins now begins, once it is registered.
     ///
+    /// # Errors
+    ///
     /// It is refused as `NoSink`.
+    ///
+    /// # Example
     ///
     /// ```
     /// let graph = "graph 2\nphaser x sum 4\nsource s s.csv -> x\nsink all x\n\
