@@ -49,6 +49,8 @@ LINKS = {
 }
 # The library that stands with the crate, too.
 PACKED = "share/phase/rust/phase-sys/lib/libphase.a"
+# Where the program has its version.
+HELP = "crates/phase_words/src/help.rt"
 # The licences of ours, and the crates that have them, too.
 LICENSES, CRATES = ("LICENSE-MIT", "LICENSE-APACHE"), ("phase", "phase-sys")
 # What the program and the libraries are made of, and the folders that tell whose work they have.
@@ -74,6 +76,8 @@ def other_versions():
     ):
         if f'\nversion = "{version()}"\n' not in project.text_of(file):
             yield file
+    if f'VERSION: &str = "{version()}";' not in project.text_of(HELP):
+        yield HELP
 
 
 def put(data, path, mode=0o644):
