@@ -1,5 +1,6 @@
 /* phase.hpp: phasers between threads and for one thread at a time, as values of C++17 that own
- * them: what is made is given back when its value ends. A value can be moved, and is not copied.
+ * them: what is made is given back when its value ends. A value can be moved, and is not copied;
+ * one that was moved has none, and says so.
  *
  * Calls answer by the statuses of phase.h, so that none throws. get() lends the struct of C for the
  * calls that have no name here. */
@@ -21,18 +22,28 @@ struct answer {
     explicit operator bool() const { return status == PHASE_OK; }
 };
 
-/* The sends of a signal: values that are lent for the call, or one. */
+/* The first phase of a block, how many phases it has, and how the call was answered. */
+struct block {
+    int32_t status = PHASE_OK;
+    uint64_t phase = 0;
+    size_t count = 0;
+
+    explicit operator bool() const { return status == PHASE_OK; }
+};
+
+/* The sends of a signal: values that are lent for the call, or one, or none. */
 class sends {
 public:
     sends(const int64_t *values, size_t count) : values_(values), count_(count) {}
-    sends(const int64_t &value) : values_(&value), count_(1) {}
+    sends(int64_t value) : one_(value), count_(1) {}
     sends() = default;
 
-    const int64_t *values() const { return values_; }
+    const int64_t *values() const { return values_ == nullptr && count_ == 1 ? &one_ : values_; }
     size_t count() const { return count_; }
 
 private:
     const int64_t *values_ = nullptr;
+    int64_t one_ = 0;
     size_t count_ = 0;
 };
 
@@ -44,18 +55,18 @@ struct single {
 };
 
 /* A registration on a phaser between threads, as phase_shared.h has it, or none. It leaves when it
- * ends; to move it to another thread is to hand it over. */
+ * ends, and where another is assigned to it; to move it to another thread is to hand it over. The
+ * calls with try_ try once. */
 class registration {
 public:
     registration() = default;
-    registration(registration &&other) noexcept : it_(other.it_), status_(other.status_)
-    {
-        other.it_ = none();
-    }
+    registration(registration &&other) noexcept { take(other); }
     registration &operator=(registration &&other) noexcept
     {
-        std::swap(it_, other.it_);
-        std::swap(status_, other.status_);
+        if (this != &other) {
+            leave();
+            take(other);
+        }
         return *this;
     }
     registration(const registration &) = delete;
@@ -93,48 +104,79 @@ public:
 
     answer signal(sends lent = {}, single one = {})
     {
-        answer is;
-        is.status = phase_shared_signal(&it_, lent.values(), lent.count(), one.number, one.low,
-                                        one.high, &is.phase);
-        return is;
+        return signals(phase_shared_signal, lent, one);
     }
 
-    answer next(sends lent = {}, single one = {})
+    answer try_signal(sends lent = {}, single one = {})
     {
-        answer is;
-        is.status = phase_shared_next(&it_, lent.values(), lent.count(), one.number, one.low,
-                                      one.high, &is.phase, &is.value);
-        return is;
-    }
-
-    answer wait()
-    {
-        answer is;
-        is.status = phase_shared_wait(&it_, &is.phase, &is.value);
-        return is;
-    }
-
-    answer wait_for(std::chrono::nanoseconds time)
-    {
-        answer is;
-        is.status = phase_shared_wait_for(&it_, &is.phase, &is.value, number(time));
-        return is;
-    }
-
-    answer next_for(std::chrono::nanoseconds time, sends lent = {}, single one = {})
-    {
-        answer is;
-        is.status = phase_shared_next_for(&it_, lent.values(), lent.count(), one.number, one.low,
-                                          one.high, &is.phase, &is.value, number(time));
-        return is;
+        return signals(phase_shared_try_signal, lent, one);
     }
 
     answer signal_for(std::chrono::nanoseconds time, sends lent = {}, single one = {})
     {
-        answer is;
-        is.status = phase_shared_signal_for(&it_, lent.values(), lent.count(), one.number, one.low,
-                                            one.high, &is.phase, number(time));
-        return is;
+        return signals(phase_shared_signal_for, lent, one, number(time));
+    }
+
+    answer next(sends lent = {}, single one = {}) { return goes(phase_shared_next, lent, one); }
+
+    answer try_next(sends lent = {}, single one = {})
+    {
+        return goes(phase_shared_try_next, lent, one);
+    }
+
+    answer next_for(std::chrono::nanoseconds time, sends lent = {}, single one = {})
+    {
+        return goes(phase_shared_next_for, lent, one, number(time));
+    }
+
+    answer wait() { return waits(phase_shared_wait); }
+
+    answer try_wait() { return waits(phase_shared_try_wait); }
+
+    answer wait_for(std::chrono::nanoseconds time)
+    {
+        return waits(phase_shared_wait_for, number(time));
+    }
+
+    /* Signals a phase for each of these values. */
+    block signal_block(const int64_t *values, size_t count, single one = {})
+    {
+        return signals_block(phase_shared_signal_block, {values, count}, one);
+    }
+
+    block try_signal_block(const int64_t *values, size_t count, single one = {})
+    {
+        return signals_block(phase_shared_try_signal_block, {values, count}, one);
+    }
+
+    block signal_block_for(std::chrono::nanoseconds time, const int64_t *values, size_t count,
+                           single one = {})
+    {
+        return signals_block(phase_shared_signal_block_for, {values, count}, one, number(time));
+    }
+
+    /* Gets the phases in a row that are complete, at most as many as there are places. */
+    block wait_block(int64_t *values, size_t places)
+    {
+        return waits_block(phase_shared_wait_block, values, places);
+    }
+
+    block try_wait_block(int64_t *values, size_t places)
+    {
+        return waits_block(phase_shared_try_wait_block, values, places);
+    }
+
+    block wait_block_for(std::chrono::nanoseconds time, int64_t *values, size_t places)
+    {
+        return waits_block(phase_shared_wait_block_for, values, places, number(time));
+    }
+
+    /* What it stands at: all zero where there is none. */
+    phase_member_standing view()
+    {
+        phase_member_standing standing = {0, 0, 0, 0, 0};
+        phase_shared_view(&it_, &standing);
+        return standing;
     }
 
     /* Leaves, where there is one. */
@@ -142,12 +184,65 @@ public:
     {
         if (it_.member.live)
             phase_shared_leave(&it_);
+        status_ = PHASE_E_NO_PHASER;
     }
 
     phase_registration *get() { return &it_; }
 
 private:
-    static phase_registration none() { return PHASE_REGISTRATION_INIT; }
+    /* Takes what another has; that has none then. */
+    void take(registration &other)
+    {
+        const phase_registration none = PHASE_REGISTRATION_INIT;
+        it_ = other.it_;
+        status_ = other.status_;
+        other.it_ = none;
+        other.status_ = PHASE_E_NO_PHASER;
+    }
+
+    template <class Call, class... Time>
+    answer signals(Call call, const sends &lent, single one, Time... time)
+    {
+        answer is;
+        is.status = call(&it_, lent.values(), lent.count(), one.number, one.low, one.high,
+                         &is.phase, time...);
+        return is;
+    }
+
+    template <class Call, class... Time>
+    answer goes(Call call, const sends &lent, single one, Time... time)
+    {
+        answer is;
+        is.status = call(&it_, lent.values(), lent.count(), one.number, one.low, one.high,
+                         &is.phase, &is.value, time...);
+        return is;
+    }
+
+    template <class Call, class... Time> answer waits(Call call, Time... time)
+    {
+        answer is;
+        is.status = call(&it_, &is.phase, &is.value, time...);
+        return is;
+    }
+
+    template <class Call, class... Time>
+    block signals_block(Call call, const sends &lent, single one, Time... time)
+    {
+        block is;
+        is.status = call(&it_, lent.values(), lent.count(), one.number, one.low, one.high,
+                         &is.phase, time...);
+        is.count = is ? lent.count() : 0;
+        return is;
+    }
+
+    template <class Call, class... Time>
+    block waits_block(Call call, int64_t *values, size_t places, Time... time)
+    {
+        block is;
+        is.status = call(&it_, values, places, &is.phase, &is.count, time...);
+        return is;
+    }
+
     static uint64_t number(std::chrono::nanoseconds time)
     {
         return time.count() < 0 ? 0 : static_cast<uint64_t>(time.count());
@@ -157,7 +252,8 @@ private:
     int32_t status_ = PHASE_E_NO_PHASER;
 };
 
-/* A phaser for one thread at a time, as phase.h has it, or none. It is freed when it ends. */
+/* A phaser for one thread at a time, as phase.h has it, or none. It is freed when it ends, and
+ * where another is assigned to it. */
 class phaser {
 public:
     phaser() = default;
@@ -165,11 +261,13 @@ public:
     {
         status_ = phase_phaser_new(operation, bound, phases, &it_);
     }
-    phaser(phaser &&other) noexcept : it_(other.it_), status_(other.status_) { other.it_ = none(); }
+    phaser(phaser &&other) noexcept { take(other); }
     phaser &operator=(phaser &&other) noexcept
     {
-        std::swap(it_, other.it_);
-        std::swap(status_, other.status_);
+        if (this != &other) {
+            phase_phaser_free(&it_);
+            take(other);
+        }
         return *this;
     }
     phaser(const phaser &) = delete;
@@ -183,7 +281,15 @@ public:
     phase_phaser *get() { return &it_; }
 
 private:
-    static phase_phaser none() { return PHASE_PHASER_INIT; }
+    /* Takes what another has; that has none then. */
+    void take(phaser &other)
+    {
+        const phase_phaser none = PHASE_PHASER_INIT;
+        it_ = other.it_;
+        status_ = other.status_;
+        other.it_ = none;
+        other.status_ = PHASE_E_NO_PHASER;
+    }
 
     phase_phaser it_ = PHASE_PHASER_INIT;
     int32_t status_ = PHASE_E_NO_PHASER;

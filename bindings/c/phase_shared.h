@@ -20,7 +20,9 @@
  * phaser is in the middle. Where others are in the middle all the time, the form with _for answers
  * PHASE_E_AHEAD of a signal and PHASE_E_NOT_YET of a wait; phase_shared_next_for has made its
  * signal by then or has not: PHASE_SIGNALLED says that it has. A thread that has waited for more
- * than some microseconds sleeps.
+ * than some microseconds sleeps. Behind `Refused as` stand all negative statuses of the three
+ * forms, in the order in which they are looked for; where a call was tried too early or was busy,
+ * it is looked at anew.
  *
  * What a thread did before its signal is seen by every thread that got the phase: each call is a
  * sequentially consistent exchange on one word of the phaser.
@@ -33,6 +35,7 @@
  *   start or end of a thread, or a sequentially consistent atomic.
  * - Nobody reads or writes its fields, but for the zeros at first, and it is not copied. It may be
  *   moved, if the struct where it was is made zero.
+ * - It may give NULL for a number that a call of phase_shared writes.
  * - Parent and child are two structs.
  * - No thread is cancelled, or leaves by longjmp, in the middle of a call.
  * - Each registration is left. As long as it is not, others may wait for it, and memory is kept.
@@ -81,19 +84,28 @@ typedef struct phase_registration {
 /* Makes a phaser of at most this many phases, whose signallers may be `bound` phases ahead of its
  * slowest waiter, and its founder, in the mode PHASE_SINGLE at phase 0. Where threads meet at a
  * barrier, each of which signals a phase and waits for it, the bound should be 2. It takes memory,
- * and so do the calls that register; signals and waits of one phase take none. */
+ * and so do the calls that register; signals and waits of one phase take none.
+ *
+ * Refused as PHASE_E_HAS_PHASER, PHASE_E_BAD_OPERATION, PHASE_E_BAD_BOUND, PHASE_E_BAD_PHASES,
+ * PHASE_E_MEMORY. */
 int32_t phase_shared_new(uint32_t operation, uint64_t bound, uint64_t phases,
                          phase_registration *founder);
 
 /* Registers a child in a mode that the mode of parent holds, at both phases of parent. The child
- * may be handed to another thread. It waits for its turn alone. */
+ * may be handed to another thread. It waits for its turn alone.
+ *
+ * Refused as PHASE_E_NO_PHASER, PHASE_E_HAS_PHASER, PHASE_E_BAD_MODE, PHASE_E_BUSY,
+ * PHASE_E_NOT_ALLOWED, PHASE_E_NOT_NEW, PHASE_E_TOO_MANY_TASKS, PHASE_E_MEMORY. */
 int32_t phase_shared_register(phase_registration *parent, uint32_t mode,
                               phase_registration *child);
 int32_t phase_shared_try_register(phase_registration *parent, uint32_t mode,
                                   phase_registration *child);
 
 /* Registers a child in the mode PHASE_WAIT at the first phase that is not complete, and writes that
- * phase. The mode of parent waits. */
+ * phase. The mode of parent waits.
+ *
+ * Refused as PHASE_E_NO_PHASER, PHASE_E_HAS_PHASER, PHASE_E_BUSY, PHASE_E_NOT_ALLOWED,
+ * PHASE_E_NOT_NEW, PHASE_E_TOO_MANY_TASKS, PHASE_E_MEMORY. */
 int32_t phase_shared_register_now(phase_registration *parent, phase_registration *child,
                                   uint64_t *phase);
 int32_t phase_shared_try_register_now(phase_registration *parent, phase_registration *child,
@@ -101,7 +113,11 @@ int32_t phase_shared_try_register_now(phase_registration *parent, phase_registra
 
 /* Signals the phase with these sends and a single or PHASE_NO_SINGLE, and writes that phase. low
  * and high are the ends of a PHASE_CLAMP, and else not read. It waits while the phase is the bound
- * or more ahead of the slowest waiter. */
+ * or more ahead of the slowest waiter.
+ *
+ * Refused as PHASE_E_NO_PHASER, PHASE_E_BAD_SINGLE, PHASE_E_TOO_MANY_SENDS, PHASE_E_BAD_VALUE,
+ * PHASE_E_BUSY, PHASE_E_NO_SIGNAL, PHASE_E_NOT_SINGLE, PHASE_E_SIGNAL_TWICE, PHASE_E_SPENT,
+ * PHASE_E_AHEAD, PHASE_E_SINGLE_DIFFERS, PHASE_E_PHASE_FULL. */
 int32_t phase_shared_signal(phase_registration *registration,
                             const int64_t *values, size_t values_len,
                             uint32_t single, int64_t low, int64_t high, uint64_t *phase);
@@ -119,7 +135,9 @@ int32_t phase_shared_signal_for(phase_registration *registration,
  *
  * The answer is PHASE_SIGNALLED where the mode signals alone; or, of the forms that do not wait
  * until the end, where the phase is signalled and not complete yet. phase_shared_wait, or one of
- * its forms, then gets it. */
+ * its forms, then gets it.
+ *
+ * Refused as phase_shared_signal is. */
 int32_t phase_shared_next(phase_registration *registration,
                           const int64_t *values, size_t values_len,
                           uint32_t single, int64_t low, int64_t high,
@@ -133,10 +151,17 @@ int32_t phase_shared_next_for(phase_registration *registration,
                               uint32_t single, int64_t low, int64_t high,
                               uint64_t *phase, int64_t *value, uint64_t nanoseconds);
 
+/* The same with one send and no single, where only what all sent is wanted: it writes the value of
+ * the phase. */
+int32_t phase_shared_meet(phase_registration *registration, int64_t value, int64_t *result);
+
 /* Gets the phase and its value; or answers PHASE_ENDED, and writes neither. It waits until the
  * phase is complete, or no signaller is registered. The value is INT64_MIN where the phase has
  * none: a sum or a product that is out of range, and under the other operations a phase without a
- * send. */
+ * send.
+ *
+ * Refused as PHASE_E_NO_PHASER, PHASE_E_BUSY, PHASE_E_NO_WAIT, PHASE_E_SIGNAL_FIRST,
+ * PHASE_E_NOT_YET. */
 int32_t phase_shared_wait(phase_registration *registration, uint64_t *phase, int64_t *value);
 int32_t phase_shared_try_wait(phase_registration *registration, uint64_t *phase, int64_t *value);
 int32_t phase_shared_wait_for(phase_registration *registration, uint64_t *phase, int64_t *value,
@@ -144,7 +169,11 @@ int32_t phase_shared_wait_for(phase_registration *registration, uint64_t *phase,
 
 /* Signals as many phases in a row as there are values, with one send each and the single, or
  * PHASE_NO_SINGLE, for all of them; and writes the first phase. It waits until no phase of the
- * block is ahead, and signals all or none. It takes memory for the sends, and gives it back. */
+ * block is ahead, and signals all or none. It takes memory for the sends, and gives it back.
+ *
+ * Refused as PHASE_E_NO_PHASER, PHASE_E_BAD_SINGLE, PHASE_E_BAD_VALUE, PHASE_E_MEMORY,
+ * PHASE_E_BUSY, PHASE_E_NO_SIGNAL, PHASE_E_NOT_SINGLE, PHASE_E_BAD_BLOCK, PHASE_E_SIGNAL_TWICE,
+ * PHASE_E_SPENT, PHASE_E_AHEAD, PHASE_E_SINGLE_DIFFERS, PHASE_E_PHASE_FULL. */
 int32_t phase_shared_signal_block(phase_registration *registration,
                                   const int64_t *values, size_t values_len,
                                   uint32_t single, int64_t low, int64_t high, uint64_t *phase);
@@ -161,7 +190,10 @@ int32_t phase_shared_signal_block_for(phase_registration *registration,
  * more than the bound; writes the first phase, how many there are, and the value of each, as
  * phase_shared_wait has it, into the first places of values; or answers PHASE_ENDED, and writes
  * nothing. What stands behind the values stays. It waits until one phase is complete, and no
- * longer. It takes memory for as many values as there are places, and gives it back. */
+ * longer. It takes memory for as many values as there are places, and gives it back.
+ *
+ * Refused as PHASE_E_NO_PHASER, PHASE_E_MEMORY, PHASE_E_BUSY, PHASE_E_NO_WAIT, PHASE_E_BAD_BLOCK,
+ * PHASE_E_SIGNAL_FIRST, PHASE_E_NOT_YET. */
 int32_t phase_shared_wait_block(phase_registration *registration, int64_t *values,
                                 size_t values_len, uint64_t *phase, size_t *count);
 int32_t phase_shared_try_wait_block(phase_registration *registration, int64_t *values,
@@ -172,17 +204,22 @@ int32_t phase_shared_wait_block_for(phase_registration *registration, int64_t *v
 
 /* Ends the registration; there is none then. From then on no phase waits for it, and phases that
  * the others have signalled are complete. It waits for its turn alone. With the last registration
- * the phaser ends, and its memory is given back. */
+ * the phaser ends, and its memory is given back.
+ *
+ * Refused as PHASE_E_NO_PHASER, PHASE_E_BUSY. */
 int32_t phase_shared_leave(phase_registration *registration);
 int32_t phase_shared_try_leave(phase_registration *registration);
 
-/* Writes what the registration stands at. */
+/* Writes what the registration stands at. Refused as PHASE_E_NO_PHASER. */
 int32_t phase_shared_view(phase_registration *registration, phase_member_standing *standing);
 
 /* Writes how far the phaser is, as far as the calls that have ended tell: the phases below done are
  * complete, and every waiter got those below base. Each is UINT64_MAX where nobody is left to wait
  * for. Neither ever falls. It is a hint for when to try, and takes no turn. */
 int32_t phase_shared_told(phase_registration *registration, uint64_t *done, uint64_t *base);
+
+/* What phase_status_text says, as a call of the library, for whoever cannot read the header. */
+const char *phase_shared_status_text(int32_t status);
 
 /* ---- What stands under these calls, without any waiting: the forms with try_, over what the
  * library has of a registration, and proved. Those above wake who sleeps, and these do not; so the
@@ -205,6 +242,16 @@ int32_t phase_member_wait_block(phase_member *member, int64_t *values, size_t va
 int32_t phase_member_leave(phase_member *member);
 int32_t phase_member_view(phase_member *member, phase_member_standing *standing);
 int32_t phase_member_told(phase_member *member, uint64_t *done, uint64_t *base);
+
+/* A program that ThreadSanitizer looks at sees what these calls order. */
+#if defined(__has_feature) && !defined(PHASE_RACES)
+#if __has_feature(thread_sanitizer)
+#define PHASE_RACES
+#endif
+#endif
+#if (defined(__SANITIZE_THREAD__) || defined(PHASE_RACES)) && !defined(PHASE_WAIT_ITSELF)
+#include "phase_races.h"
+#endif
 
 #ifdef __cplusplus
 }

@@ -9,6 +9,7 @@
  * its own wakes them, if the phaser went on. Sleeping is by futex, or, without Linux or with
  * PHASE_PORTABLE, by a mutex and a condition variable. */
 #define _GNU_SOURCE
+#define PHASE_WAIT_ITSELF
 #include "phase_shared.h"
 #include <sched.h>
 #include <stdatomic.h>
@@ -444,6 +445,9 @@ int32_t phase_shared_register(phase_registration *parent, uint32_t mode,
 int32_t phase_shared_try_register_now(phase_registration *parent, phase_registration *child,
                                       uint64_t *phase)
 {
+    uint64_t unread;
+    if (phase == NULL)
+        phase = &unread;
     int32_t status = phase_member_register_now(&parent->member, &child->member, phase);
     if (status == PHASE_OK) {
         fill(parent, PHASE_WAIT, child);
@@ -491,6 +495,9 @@ int32_t phase_shared_try_signal(phase_registration *registration,
                                 const int64_t *values, size_t values_len,
                                 uint32_t single, int64_t low, int64_t high, uint64_t *phase)
 {
+    uint64_t unread;
+    if (phase == NULL)
+        phase = &unread;
     int32_t status = phase_member_signal(&registration->member, values, values_len, single, low,
                                          high, phase);
     if (status == PHASE_OK) {
@@ -527,6 +534,9 @@ int32_t phase_shared_try_signal_block(phase_registration *registration,
                                       uint32_t single, int64_t low, int64_t high,
                                       uint64_t *phase)
 {
+    uint64_t unread;
+    if (phase == NULL)
+        phase = &unread;
     int32_t status = phase_member_signal_block(&registration->member, values, values_len, single,
                                                low, high, phase);
     if (status == PHASE_OK) {
@@ -562,6 +572,12 @@ int32_t phase_shared_signal_block(phase_registration *registration,
 
 int32_t phase_shared_try_wait(phase_registration *registration, uint64_t *phase, int64_t *value)
 {
+    uint64_t unread;
+    int64_t unused;
+    if (phase == NULL)
+        phase = &unread;
+    if (value == NULL)
+        value = &unused;
     int32_t status = phase_member_wait(&registration->member, phase, value);
     if (status == PHASE_OK) {
         registration->wait_phase = *phase + 1;
@@ -596,6 +612,12 @@ int32_t phase_shared_wait(phase_registration *registration, uint64_t *phase, int
 int32_t phase_shared_try_wait_block(phase_registration *registration, int64_t *values,
                                     size_t values_len, uint64_t *phase, size_t *count)
 {
+    uint64_t unread;
+    size_t uncounted;
+    if (phase == NULL)
+        phase = &unread;
+    if (count == NULL)
+        count = &uncounted;
     int32_t status = phase_member_wait_block(&registration->member, values, values_len, phase,
                                              count);
     if (status == PHASE_OK) {
@@ -631,6 +653,12 @@ int32_t phase_shared_try_next(phase_registration *registration,
                               uint32_t single, int64_t low, int64_t high,
                               uint64_t *phase, int64_t *value)
 {
+    uint64_t unread;
+    int64_t unused;
+    if (phase == NULL)
+        phase = &unread;
+    if (value == NULL)
+        value = &unused;
     int32_t status = phase_member_next(&registration->member, values, values_len, single, low,
                                        high, phase, value);
     if (status < 0)
@@ -668,6 +696,11 @@ int32_t phase_shared_next(phase_registration *registration,
                                  FOR_EVER);
 }
 
+int32_t phase_shared_meet(phase_registration *registration, int64_t value, int64_t *result)
+{
+    return phase_shared_next(registration, &value, 1, PHASE_NO_SINGLE, 0, 0, NULL, result);
+}
+
 /* ---- What a registration stands at. */
 
 int32_t phase_shared_view(phase_registration *registration, phase_member_standing *standing)
@@ -677,5 +710,17 @@ int32_t phase_shared_view(phase_registration *registration, phase_member_standin
 
 int32_t phase_shared_told(phase_registration *registration, uint64_t *done, uint64_t *base)
 {
+    uint64_t unread[2];
+    if (done == NULL)
+        done = &unread[0];
+    if (base == NULL)
+        base = &unread[1];
     return phase_member_told(&registration->member, done, base);
+}
+
+/* ---- Words. */
+
+const char *phase_shared_status_text(int32_t status)
+{
+    return phase_status_text(status);
 }

@@ -537,6 +537,79 @@ static void refused_calls(void)
     IS(phase_shared_leave(&founder), PHASE_OK);
 }
 
+/* Which refusal comes where several would be right: the first of those that the header lists. */
+static void refusals_in_order(void)
+{
+    static int64_t many[PHASE_SENDS_MAX + 2] = {INT64_MIN};
+    const size_t too_many = PHASE_SENDS_MAX + 1;
+    phase_registration none = PHASE_REGISTRATION_INIT, founder = PHASE_REGISTRATION_INIT;
+    phase_registration signaller = PHASE_REGISTRATION_INIT, waiter = PHASE_REGISTRATION_INIT;
+    phase_registration child = PHASE_REGISTRATION_INIT;
+    uint64_t phase = 77;
+    size_t count = 77;
+    IS(phase_shared_new(PHASE_SUM, 2, 3, &founder), PHASE_OK);
+    IS(phase_shared_new(9, 0, 0, &founder), PHASE_E_HAS_PHASER);
+    IS(phase_shared_new(9, 0, 0, &child), PHASE_E_BAD_OPERATION);
+    IS(phase_shared_new(PHASE_SUM, 0, 0, &child), PHASE_E_BAD_BOUND);
+    IS(phase_shared_register(&founder, PHASE_WAIT, &waiter), PHASE_OK);
+    IS(phase_shared_register(&founder, PHASE_SIG, &signaller), PHASE_OK);
+    IS(phase_shared_register(&none, 9, &waiter), PHASE_E_NO_PHASER);
+    IS(phase_shared_register(&waiter, 9, &founder), PHASE_E_HAS_PHASER);
+    IS(phase_shared_register(&waiter, 9, &child), PHASE_E_BAD_MODE);
+    IS(phase_shared_register_now(&signaller, &waiter, &phase), PHASE_E_HAS_PHASER);
+    IS(phase_shared_signal(&none, many, 1, 9, 0, 0, &phase), PHASE_E_NO_PHASER);
+    IS(phase_shared_signal(&waiter, many, too_many, 9, 0, 0, &phase), PHASE_E_BAD_SINGLE);
+    IS(phase_shared_signal(&waiter, many, too_many, PHASE_NEG, 0, 0, &phase),
+       PHASE_E_TOO_MANY_SENDS);
+    IS(phase_shared_signal(&waiter, many, 2, PHASE_NEG, 0, 0, &phase), PHASE_E_BAD_VALUE);
+    IS(phase_shared_signal(&waiter, many + 1, 1, PHASE_NEG, 0, 0, &phase), PHASE_E_NO_SIGNAL);
+    IS(phase_shared_signal_block(&waiter, many, 0, 9, 0, 0, &phase), PHASE_E_BAD_SINGLE);
+    IS(phase_shared_signal_block(&waiter, many, 3, 0, 0, 0, &phase), PHASE_E_BAD_VALUE);
+    IS(phase_shared_signal_block(&waiter, many, 0, PHASE_NEG, 0, 0, &phase), PHASE_E_NO_SIGNAL);
+    IS(phase_shared_signal_block(&signaller, many, 0, PHASE_NEG, 0, 0, &phase),
+       PHASE_E_NOT_SINGLE);
+    IS(phase_shared_signal(&founder, NULL, 0, 0, 0, 0, &phase), PHASE_OK);
+    IS(phase_shared_signal_block(&founder, many + 1, 3, 0, 0, 0, &phase), PHASE_E_BAD_BLOCK);
+    IS(phase_shared_signal_block(&founder, many + 1, 2, 0, 0, 0, &phase), PHASE_E_SIGNAL_TWICE);
+    IS(phase_shared_wait_block(&signaller, many, 0, &phase, &count), PHASE_E_NO_WAIT);
+    IS(phase_shared_leave(&signaller), PHASE_OK);
+    IS(phase_shared_wait(&founder, &phase, NULL), PHASE_OK);
+    IS(phase_shared_wait_block(&founder, many, 0, &phase, &count), PHASE_E_BAD_BLOCK);
+    IS(phase_shared_leave(&waiter), PHASE_OK);
+    IS(phase_shared_leave(&founder), PHASE_OK);
+}
+
+/* What is not wanted is not written, and the short call of a barrier. */
+static void unread(void)
+{
+    phase_registration founder = PHASE_REGISTRATION_INIT, signaller = PHASE_REGISTRATION_INIT;
+    phase_registration waiter = PHASE_REGISTRATION_INIT, late = PHASE_REGISTRATION_INIT;
+    const int64_t few[2] = {5, 6};
+    int64_t sum = 77, values[2] = {77, 77};
+    IS(phase_shared_new(PHASE_SUM, 4, 10, &founder), PHASE_OK);
+    IS(phase_shared_meet(&founder, 3, &sum), PHASE_OK);
+    IS(sum, 3);
+    IS(phase_shared_meet(&founder, 4, NULL), PHASE_OK);
+    IS(phase_shared_meet(&founder, INT64_MIN, &sum), PHASE_E_BAD_VALUE);
+    IS(sum, 3);
+    IS(phase_shared_register(&founder, PHASE_SIG, &signaller), PHASE_OK);
+    IS(phase_shared_register(&founder, PHASE_WAIT, &waiter), PHASE_OK);
+    IS(phase_shared_register_now(&founder, &late, NULL), PHASE_OK);
+    IS(phase_shared_leave(&founder), PHASE_OK);
+    IS(signals(&signaller, 1, NULL), PHASE_OK);
+    IS(phase_shared_signal_block(&signaller, few, 2, PHASE_NO_SINGLE, 0, 0, NULL), PHASE_OK);
+    IS(phase_shared_wait(&waiter, NULL, NULL), PHASE_OK);
+    IS(phase_shared_wait_block(&waiter, values, 2, NULL, NULL), PHASE_OK);
+    IS(values[0] == 5 && values[1] == 6, 1);
+    IS(phase_shared_told(&waiter, NULL, NULL), PHASE_OK);
+    GETS(&late, 2, 1);
+    IS(phase_shared_leave(&signaller), PHASE_OK);
+    IS(phase_shared_leave(&waiter), PHASE_OK);
+    IS(phase_shared_leave(&late), PHASE_OK);
+    for (int32_t status = -50; status < 10; status++)
+        IS(strcmp(phase_shared_status_text(status), phase_status_text(status)), 0);
+}
+
 /* One that joins late, and what each stands at. */
 static void joins_late(void)
 {
@@ -605,6 +678,8 @@ int main(void)
 {
     refused_makings();
     refused_calls();
+    refusals_in_order();
+    unread();
     joins_late();
     tries();
     for (uint64_t bound = 1; bound <= 2; bound++) {

@@ -61,6 +61,63 @@ static void leaves()
     has(waiter.wait().status == PHASE_ENDED, "a founder that ended has left");
 }
 
+static void sends_one()
+{
+    auto founder = phase::registration::founder(PHASE_SUM, 4, 100);
+    auto waiter = founder.add(PHASE_WAIT);
+    phase::sends five = 5;
+    phase::sends same = five;
+    founder.signal(five);
+    five = phase::sends(7);
+    founder.wait();
+    founder.signal(same);
+    founder.wait();
+    founder.signal(five);
+    has(waiter.wait().value == 5, "one value that is kept as a variable");
+    has(waiter.wait().value == 5, "a copy of it");
+    has(waiter.wait().value == 7, "another that is assigned to it");
+}
+
+static void is_replaced()
+{
+    auto founder = phase::registration::founder(PHASE_SUM, 2, 100);
+    auto late = founder.add(PHASE_SIG);
+    late = phase::registration::founder(PHASE_SUM, 2, 100);
+    has(founder.signal(3) && founder.wait().value == 3, "one that is replaced has left");
+    has(late && late.status() == PHASE_OK, "by another that is there");
+    auto &self = late;
+    late = std::move(self);
+    has(late && late.status() == PHASE_OK, "one that is assigned to itself stays");
+    auto moved = std::move(late);
+    has(late.status() == PHASE_E_NO_PHASER && moved.status() == PHASE_OK, "the status of a move");
+    moved.leave();
+    has(!moved && moved.status() == PHASE_E_NO_PHASER, "one that has left has none");
+}
+
+static void by_blocks()
+{
+    auto founder = phase::registration::founder(PHASE_SUM, 4, 100);
+    auto signaller = founder.add(PHASE_SIG);
+    auto waiter = founder.add(PHASE_WAIT);
+    founder.leave();
+    const std::chrono::milliseconds soon(1);
+    const int64_t values[4] = {1, 2, 3, 4};
+    int64_t got[4] = {0, 0, 0, 0};
+    has(waiter.try_wait().status == PHASE_E_NOT_YET, "a wait that is tried");
+    has(waiter.try_wait_block(got, 4).status == PHASE_E_NOT_YET, "a block that is tried");
+    has(waiter.wait_block_for(soon, got, 4).status == PHASE_E_NOT_YET, "for some time");
+    has(signaller.try_signal(9).phase == 0 && waiter.wait().value == 9, "a signal that is tried");
+    auto put = signaller.signal_block(values, 3);
+    has(put && put.phase == 1 && put.count == 3, "a block of signals");
+    has(signaller.try_signal_block(values, 4).status == PHASE_E_AHEAD, "one that is tried");
+    has(signaller.signal_block_for(soon, values, 4).status == PHASE_E_AHEAD, "for some time");
+    has(signaller.view().signal_phase == 4 && signaller.view().mode == PHASE_SIG, "a view");
+    auto taken = waiter.wait_block(got, 4);
+    has(taken && taken.phase == 1 && taken.count == 3 && got[2] == 3, "a block of phases");
+    has(signaller.try_next(8).status == PHASE_SIGNALLED, "a next that is tried");
+    has(phase::registration().view().signal_phase == 0, "a view of none");
+}
+
 static void one_thread()
 {
     phase::phaser phaser(PHASE_SUM, 2, 100), other;
@@ -76,6 +133,9 @@ int main()
 {
     meets();
     leaves();
+    sends_one();
+    is_replaced();
+    by_blocks();
     one_thread();
     std::printf("shared.cpp: %d failed\n", failed);
     return failed != 0;

@@ -24,6 +24,7 @@ FILES = {
     "bindings/c/phase.h": "include/phase.h",
     "bindings/c/phase.hpp": "include/phase.hpp",
     "bindings/c/phase_shared.h": "include/phase_shared.h",
+    "bindings/c/phase_races.h": "include/phase_races.h",
     "bindings/c/phase_wait.c": "share/phase/c/phase_wait.c",
     "scripts/lib/completion.bash": "share/bash-completion/completions/phase",
     "scripts/lib/completion.fish": "share/fish/vendor_completions.d/phase.fish",

@@ -329,8 +329,9 @@ impl<M: Signals> Registration<M> {
     ///
     /// # Errors
     ///
-    /// It is refused where one of the signals would be, made one by one, and as `BadBlock` or
-    /// `OutOfMemory`.
+    /// It is refused as `BadSingle`, `BadValue`, `OutOfMemory`, `NotSingle`, `BadBlock`,
+    /// `SignalTwice`, `Spent`, `SingleDiffers` or `PhaseFull`: where one of the signals would be,
+    /// made one by one.
     ///
     /// # Example
     ///
@@ -465,7 +466,7 @@ impl<M: Waits> Registration<M> {
     ///
     /// # Errors
     ///
-    /// It is refused as `wait` is, and as `BadBlock` or `OutOfMemory`.
+    /// It is refused as `OutOfMemory`, `BadBlock` or `SignalFirst`.
     ///
     /// # Example
     ///
@@ -511,7 +512,7 @@ impl<M: Waits> Registration<M> {
     ///
     /// # Errors
     ///
-    /// It is refused as `register` is.
+    /// It is refused as `NotNew`, `TooManyTasks` or `OutOfMemory`.
     ///
     /// # Example
     ///
