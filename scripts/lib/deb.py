@@ -39,7 +39,7 @@ Format: https://www.debian.org/doc/packaging-manuals/copyright-format/1.0/
 Upstream-Name: {name}
 
 Files: *
-Copyright: Reedhessian maintainers
+Copyright: 2026 the authors of Reedhessian
 License: MIT or Apache-2.0
  LICENSE-MIT in this folder has the one, and
  /usr/share/common-licenses/Apache-2.0 the other.
@@ -82,9 +82,15 @@ def make(root, folder, work, epoch):
     os.remove(manual)
     names = archive.files_below(tree)
     size = sum(os.lstat(os.path.join(tree, name)).st_size for name in names)
-    lowest = archive.lowest_glibc(os.path.join(tree, LIBRARIES, "libphase.so.0"))
+    built = ("usr/bin/phase", f"{LIBRARIES}/libphase.so.0")
+    lowest = max(archive.lowest_glibc(os.path.join(tree, it)) for it in built)
     control = CONTROL.format(size=size // 1024, glibc="%d.%d" % lowest, **named)
-    archive.put(control.encode(), os.path.join(tree, "DEBIAN/control"))
+    for name, text in (
+        ("control", control),
+        ("shlibs", f"libphase 0 {NAME} (>= {version})\n"),
+        ("triggers", "activate-noawait ldconfig\n"),
+    ):
+        archive.put(text.encode(), os.path.join(tree, "DEBIAN", name))
     for at, folders, _ in os.walk(tree):
         for name in folders:
             os.chmod(os.path.join(at, name), 0o755)

@@ -256,6 +256,7 @@ def completed_by_zsh(*typed):
     begin = f"autoload -Uz compinit; compinit -u; source {file}; LISTMAX=0; PS1=rea''dy\n"
     process, terminal = pty.fork()
     if process == 0:
+        os.chdir(HOME)
         os.execvpe("zsh", ["zsh", "-f", "-i"], {**os.environ, "TERM": "dumb", "COLUMNS": "200"})
 
     def told_at(text, until, times):
@@ -342,7 +343,7 @@ def as_crates():
     crates = os.path.join(HOME, "crates")
     said("cargo package --quiet --workspace --offline --no-verify --allow-dirty", crates)
     for crate in ("phase", "phase-sys"):
-        names = said(f"tar -tzf target/package/{crate}-*.crate", crates)
+        names = said(f"tar -tzf target/package/{crate}-[0-9]*.crate", crates)
         for name in ("LICENSE-MIT", "LICENSE-APACHE", "README.md"):
             wants(f"/{name}\n" in names, f"{crate} has no {name}")
     wants("/phase.spdx.json\n" in names, f"{crate} has no phase.spdx.json")
