@@ -424,7 +424,9 @@ void phase_stream_free(phase_stream *stream);
 int32_t phase_stream_counts(phase_stream *stream, phase_counts *counts);
 
 /* Feeds samples to a source, and writes how many it took: as many as it has room for, and none
- * where it is finished. PHASE_E_SAMPLE says that one of them is INT64_MIN; then none is fed. */
+ * where it is finished. PHASE_E_SAMPLE says that one of them is INT64_MIN; then none is fed. It
+ * looks at all of them, and a source has room for 4,096: of a long block give it as many at a
+ * time. */
 int32_t phase_stream_feed(phase_stream *stream, size_t source, const int64_t *samples,
                           size_t samples_len, size_t *took);
 

@@ -85,6 +85,9 @@ def singles():
         (-5, phase.HALVE, -3),
         (5, phase.Clamp(-3, 3), 3),
         (5, phase.NO_SINGLE, 5),
+        (5, "neg", -5),
+        (-7, "Abs", 7),
+        (-7, "halve", -4),
     )
     for at, (send, single, wanted) in enumerate(rows):
         look(f"a signal with {single}", phaser.signal(0, [send], single) == at)
@@ -92,10 +95,10 @@ def singles():
     clamps = [
         phase.Clamp(*ends) for ends in ((1, 0), (LOWEST, 0), (0, 2**63), (2**64, 2**64))
     ]
-    for single in (phase.CLAMP + 1, -1, 2**32, *clamps):
+    for single in (phase.CLAMP + 1, -1, 2**32, "negate", "", *clamps):
         look(f"{single} is none", refused(phase.BadSingle, phaser.signal, 0, [1], single))
     look("a clamp without ends", refused(TypeError, phaser.signal, 0, [1], phase.CLAMP))
-    look("a single by name", refused(TypeError, phaser.signal, 0, [1], "neg"))
+    look("by name", refused(TypeError, phaser.signal, 0, [1], "clamp"))
     look("after which no phase was signalled", phaser.view(0) == (5, 5, phase.SINGLE))
 
 
@@ -110,12 +113,15 @@ def sends():
         ("a big end first", numpy.array([1, 5], ">i8")),
         ("the greatest and the least", [MOST, -MOST, 6]),
         ("as many as there may be", numpy.resize([6] + [0] * 65535, phase.SENDS_MAX)),
+        ("one", 6),
+        ("one of numpy", numpy.int16(6)),
     )
     for at, (name, values) in enumerate(rows):
         look(name, phaser.signal(0, values) == at and phaser.wait(0) == (at, 6))
     look("floats", refused(TypeError, phaser.signal, 0, [1.0]))
     look("two rows", refused(TypeError, phaser.signal, 0, [[1], [2]]))
-    look("no row", refused(TypeError, phaser.signal, 0, 1))
+    look("one that is none", refused(TypeError, phaser.signal, 0, 1.0))
+    look("one past 64 bits", refused(OverflowError, phaser.signal, 0, 2**63))
     look(
         "a number past 64 bits",
         refused(OverflowError, phaser.signal, 0, numpy.array([2**63], numpy.uint64)),

@@ -5,8 +5,9 @@ import phase
 
 
 def watches(late):
-    for step, value in late:
-        print(f"phase {step}: {value}")
+    with late:
+        for step, value in late:
+            print(f"phase {step}: {value}")
 
 
 with phase.SharedPhaser(phase.SUM, bound=4, phases=6) as founder:

@@ -14,8 +14,8 @@ def cools(own, heat):
                 return step, total
 
 
-first = phase.SharedPhaser(phase.SUM, bound=2, phases=1000)
-for heat in (200, 300, 400):
-    threading.Thread(target=cools, args=(first.register(phase.SIG_WAIT), heat)).start()
-step, total = cools(first, 100)
+with phase.SharedPhaser(phase.SUM, bound=2, phases=1000) as first:
+    for heat in (200, 300, 400):
+        threading.Thread(target=cools, args=(first.register(phase.SIG_WAIT), heat)).start()
+    step, total = cools(first, 100)
 print(f"step {step}: {total}")

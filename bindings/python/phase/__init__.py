@@ -40,8 +40,9 @@ if TYPE_CHECKING:
     from .shared import Registration, SharedPhaser, Signalled
     from .stream import NoStream, Stalled, Stream
 
+# Not `eval`, which is Python's own where all names are imported.
 __all__ = [
-    "check", "names", "eval", "Counts", "Names", "Values", "Fir", "Stream", "Stalled", "NoStream",
+    "check", "names", "Counts", "Names", "Values", "Fir", "Stream", "Stalled", "NoStream",
     "Phaser", "Operation", "Mode", "Single", "Clamp", "Got", "GotBlock", "Standing",
     "SharedPhaser", "Registration", "Signalled",
     "SUM", "PRODUCT", "LEAST", "GREATEST", "ANY",
@@ -49,6 +50,10 @@ __all__ = [
     "PHASERS_MAX", "TASKS_MAX", "TAPS_MAX", "SAMPLES_MAX",
     "BOUND_MAX", "PHASES_MAX", "MEMBERS_MAX", "SENDS_MAX",
     "Error", "GraphError", "SamplesError", "TooBig", "TapsError", "PhaserError",
+    "NoPhaser", "BadOperation", "BadBound", "BadPhases", "BadMode", "BadSingle", "BadValue",
+    "TooManySends", "NoTask", "NotAllowed", "NotNew", "TooManyTasks", "NoSignal", "NotSingle",
+    "BadBlock", "SignalTwice", "Spent", "Ahead", "SingleDiffers", "PhaseFull", "NoWait",
+    "SignalFirst", "NotYet",
 ]
 
 # The version, as 10,000 * major + 100 * minor + patch, which the library has to have, too.
@@ -153,7 +158,8 @@ class Mode(enum.IntEnum):
 
 
 class Single(enum.IntEnum):
-    """What is done once with the value of a phase. A clamp has two ends: `Clamp(low, high)`."""
+    """What is done once with the value of a phase. Where one is wanted its word is taken too, as
+    "halve". A clamp has two ends: `Clamp(low, high)`."""
 
     NO_SINGLE = 0
     NEG = 1
@@ -162,9 +168,11 @@ class Single(enum.IntEnum):
     CLAMP = 4
 
 
-SUM, PRODUCT, LEAST, GREATEST, ANY = Operation
-SIG, WAIT, SIG_WAIT, SINGLE = Mode
-NO_SINGLE, NEG, ABS, HALVE, CLAMP = Single
+SUM, PRODUCT, LEAST = Operation.SUM, Operation.PRODUCT, Operation.LEAST
+GREATEST, ANY = Operation.GREATEST, Operation.ANY
+SIG, WAIT, SIG_WAIT, SINGLE = Mode.SIG, Mode.WAIT, Mode.SIG_WAIT, Mode.SINGLE
+NO_SINGLE, NEG, ABS = Single.NO_SINGLE, Single.NEG, Single.ABS
+HALVE, CLAMP = Single.HALVE, Single.CLAMP
 
 
 def __getattr__(name: str) -> Any:
@@ -176,6 +184,11 @@ def __getattr__(name: str) -> Any:
         if name in names:
             return getattr(importlib.import_module("." + file, __name__), name)
     raise AttributeError(f"module {__name__!r} has no attribute {name!r}")
+
+
+def __dir__() -> list[str]:
+    """Also what other files have."""
+    return sorted({*globals(), *__all__})
 
 
 class Counts(NamedTuple):
@@ -677,7 +690,8 @@ class Phaser:
         self._place, self._lock = _Place(), threading.RLock()
         _done(_lib.phase_phaser_new(operation, bound, phases, self._place))
         self._made = Operation(operation), bound, phases
-        weakref.finalize(self, _free, self._place, self._lock)
+        # At the end of the interpreter other threads may still be in the middle of a call.
+        weakref.finalize(self, _drop, _free, self._place, self._lock, os.getpid()).atexit = False
 
     def register(self, parent: int, mode: Union[int, str]) -> int:
         """Registers a task in a mode that the mode of the parent holds, at both phases of the
@@ -703,9 +717,10 @@ class Phaser:
         _done(self._call(_lib.phase_phaser_drop, _task(task)))
 
     def signal(
-        self, task: int, values: ArrayLike, single: Union[int, Clamp, None] = None
+        self, task: int, values: Union[int, ArrayLike] = (),
+        single: Union[int, str, Clamp, None] = None,
     ) -> int:
-        """Signals the task's phase with these sends, a row of whole numbers as of `eval`, and
+        """Signals the task's phase with one send or a row of them, whole numbers as of `eval`, and
         returns that phase. A single is done once with the value of the phase: NEG, ABS, HALVE,
         which rounds down, or Clamp(low, high).
 
@@ -716,8 +731,10 @@ class Phaser:
         >>> phaser = phase.Phaser(phase.SUM, 2, 100)
         >>> phaser.signal(0, [4, 5], phase.Clamp(0, 7)), phaser.wait(0)
         (0, Got(phase=0, value=7))
+        >>> phaser.signal(0, -4, "abs"), phaser.wait(0)
+        (1, Got(phase=1, value=4))
         """
-        sends, phase = _whole(values), ctypes.c_uint64()
+        sends, phase = _whole([_send(values)] if _is_one(values) else values), ctypes.c_uint64()
         row = sends.ctypes.data, len(sends)
         _done(self._call(_lib.phase_phaser_signal, _task(task), *row, *_single(single), phase))
         return phase.value
@@ -737,7 +754,7 @@ class Phaser:
         return Got(phase.value, value.value if value.value != _NO_VALUE else None)
 
     def signal_block(
-        self, task: int, values: ArrayLike, single: Union[int, Clamp, None] = None
+        self, task: int, values: ArrayLike, single: Union[int, str, Clamp, None] = None
     ) -> int:
         """Signals as many phases in a row as there are values, the first the task's, with one send
         each and the single or none for all of them, and returns the first phase.
@@ -826,6 +843,12 @@ def _free(place, lock):
         _lib.phase_phaser_free(place)
 
 
+def _drop(free, place, lock, process):
+    """Frees what an object had. In a process that was forked a thread's call would never end."""
+    if os.getpid() == process:
+        free(place, lock)
+
+
 def _numbered(number, bits, refusal):
     """A whole number for C, which would cut off its bits past these."""
     number = operator.index(number)
@@ -835,7 +858,7 @@ def _numbered(number, bits, refusal):
 
 
 def _word(word, kind, bits, refusal):
-    """The number of an operation or a mode that its word, or the number, names."""
+    """The number of an operation, a mode or a single that its word, or the number, names."""
     if not isinstance(word, str):
         return _numbered(word, bits, refusal)
     found = [it for it in kind if it.name.replace("_", "") == word.upper().replace("_", "")]
@@ -868,10 +891,23 @@ def _task(task):
     return _numbered(task, 64, NoTask)
 
 
+def _is_one(values):
+    """Whether this is one send, and no row of them."""
+    return type(values) is int or isinstance(values, (int, numpy.integer))
+
+
+def _send(value):
+    """One send, as C has it."""
+    value = operator.index(value)
+    if not -(2**63) <= value < 2**63:
+        raise OverflowError("a send is above 2**63 - 1, or below -2**63")
+    return value
+
+
 def _single(single):
     """The number of a single or of none, and the ends of a clamp."""
     if not isinstance(single, Clamp):
-        number = NO_SINGLE if single is None else _numbered(single, 32, BadSingle)
+        number = NO_SINGLE if single is None else _word(single, Single, 32, BadSingle)
         if number == CLAMP:
             raise TypeError("a clamp has two ends: Clamp(low, high)")
         return number, 0, 0

@@ -21,7 +21,6 @@ the phase. A process that was forked makes no call on its parent's registrations
 from __future__ import annotations
 
 import ctypes
-import operator
 import os
 import threading
 import time
@@ -194,7 +193,7 @@ class Registration:
     def signal(
         self,
         values: Union[int, ArrayLike] = (),
-        single: Union[int, Clamp, None] = None,
+        single: Union[int, str, Clamp, None] = None,
         timeout: Optional[float] = None,
     ) -> int:
         """Signals the phase with one send or a row of them and a single or none, and returns that
@@ -208,7 +207,7 @@ class Registration:
     def signal_block(
         self,
         values: ArrayLike,
-        single: Union[int, Clamp, None] = None,
+        single: Union[int, str, Clamp, None] = None,
         timeout: Optional[float] = None,
     ) -> int:
         """Signals as many phases in a row as there are values, with one send each and the single or
@@ -222,7 +221,7 @@ class Registration:
     def next(
         self,
         values: Union[int, ArrayLike] = (),
-        single: Union[int, Clamp, None] = None,
+        single: Union[int, str, Clamp, None] = None,
         timeout: Optional[float] = None,
     ) -> Got:
         """Signals the phase, as `signal` does, and then waits for it, as `wait` does: a barrier,
@@ -364,11 +363,8 @@ class Registration:
 
     def _sends(self, values):
         """What has the sends, and where C finds them and how many they are."""
-        if type(values) is int or isinstance(values, (int, numpy.integer)):
-            value = operator.index(values)
-            if not -(2**63) <= value < 2**63:
-                raise OverflowError("a send is above 2**63 - 1, or below -2**63")
-            self._one.value = value
+        if phase._is_one(values):
+            self._one.value = phase._send(values)
             return self._one, (self._one_at, 1)
         sends = phase._whole(values)
         return sends, (sends.ctypes.data, len(sends))

@@ -18,6 +18,7 @@ from __future__ import annotations
 
 import collections
 import ctypes
+import os
 import threading
 import weakref
 from collections.abc import Mapping, Sequence
@@ -42,6 +43,9 @@ STALLED = 3
 DONE = 4
 TOO_BIG = 5
 PAUSED = 6
+
+# The most samples of a source that wait.
+_ROOM = 4096
 
 # The values of each sink by its name.
 Outputs = dict[str, NDArray[numpy.int64]]
@@ -121,7 +125,9 @@ class Stream:
         self._place, self._lock = phase._Place(), threading.RLock()
         status = _lib.phase_stream_new(text, len(text), self._place, fault)
         phase._stop(status, fault, text)
-        weakref.finalize(self, _free, self._place, self._lock)
+        # At the end of the interpreter other threads may still be in the middle of a call.
+        drop = weakref.finalize(self, phase._drop, _free, self._place, self._lock, os.getpid())
+        drop.atexit = False
         self.names = phase.names(text)
         self._text, self._done = text, False
         # Of each source the blocks that wait, the first first; of each sink what came out.
@@ -274,7 +280,8 @@ class Stream:
         return is_moved
 
     def _feed(self, source, block):
-        took, row = ctypes.c_size_t(), (block.ctypes.data, len(block))
+        # The call looks at all that it is given, and has room for no more than these.
+        took, row = ctypes.c_size_t(), (block.ctypes.data, min(len(block), _ROOM))
         _done(_lib.phase_stream_feed(self._place, source, *row, took))
         return took.value
 

@@ -4,6 +4,9 @@ use crate::{Names, names, zeros};
 use phase_sys::*;
 use std::cell::UnsafeCell;
 
+/// The most samples of a source that wait.
+const ROOM: usize = 4_096;
+
 /// Why a run goes on no further for now, or at all.
 #[derive(Clone, Copy, Debug, PartialEq, Eq, Hash)]
 pub enum Stopped {
@@ -134,12 +137,13 @@ impl Stream {
         &self.names
     }
 
-    /// Feeds samples to a source, as many of them as it has room for, and returns how many it took:
-    /// none where it is finished, and none after a value out of range.
+    /// Feeds samples to a source, as many of them as it has room for, 4,096 at most, and returns
+    /// how many it took: none where it is finished, and none after a value out of range.
     ///
     /// # Errors
     ///
-    /// It is refused as `NoSource`, or as `Sample` where one is `i64::MIN`; then none is fed.
+    /// It is refused as `NoSource`, or as `Sample` where one of the first 4,096 is `i64::MIN`; then
+    /// none is fed.
     ///
     /// # Example
     ///
@@ -152,6 +156,8 @@ impl Stream {
     /// ```
     pub fn feed(&mut self, source: usize, samples: &[i64]) -> Result<usize, Error> {
         let (place, mut took) = (self.place.get(), 0);
+        // The call looks at all that it is given.
+        let samples = &samples[..samples.len().min(ROOM)];
         // SAFETY: the place has a stream of this thread, the pointer and length are those of one
         // slice, and the last is a value of this function.
         match unsafe {

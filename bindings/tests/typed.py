@@ -1,0 +1,17 @@
+"""What a checker of types has to take: `mypy --strict` reads it, and nothing runs it."""
+import phase
+
+
+def meets(own: phase.Registration) -> int:
+    return own.next(5, "neg").phase
+
+
+phaser = phase.Phaser(phase.SUM, 2, 10)
+phaser.register(0, phase.SIG)
+phaser.signal(0, 5, phase.HALVE)
+try:
+    meets(phase.SharedPhaser(phase.GREATEST, bound=2, phases=3))
+except (phase.Ahead, phase.NotYet) as why:
+    print(why.status)
+except phase.Stalled as why:
+    print(why.values)
