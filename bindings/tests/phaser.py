@@ -99,7 +99,7 @@ def singles():
         look(f"{single} is none", refused(phase.BadSingle, phaser.signal, 0, [1], single))
     look("a clamp without ends", refused(TypeError, phaser.signal, 0, [1], phase.CLAMP))
     look("by name", refused(TypeError, phaser.signal, 0, [1], "clamp"))
-    look("after which no phase was signalled", phaser.view(0) == (5, 5, phase.SINGLE))
+    look("after which no phase was signalled", phaser.view(0) == (8, 8, phase.SINGLE))
 
 
 def sends():
@@ -129,7 +129,7 @@ def sends():
     look("a value that is none", refused(phase.BadValue, phaser.signal, 0, [1, LOWEST]))
     many = numpy.zeros(phase.SENDS_MAX + 1, numpy.int64)
     look("a send too many", refused(phase.TooManySends, phaser.signal, 0, many))
-    look("after which no phase was signalled", phaser.view(0) == (8, 8, phase.SINGLE))
+    look("after which no phase was signalled", phaser.view(0) == (10, 10, phase.SINGLE))
 
 
 def registrations():
