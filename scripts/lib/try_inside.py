@@ -25,6 +25,7 @@ SHARE = os.path.join(PREFIX, "share")
 PAGES = os.path.join(SHARE, "doc/phase")
 BINDINGS = os.path.join(PAGES, "docs/BINDINGS.md")
 SHOWN = "1\n3\n5\n"
+COMMANDS = ("replay", "check", "eval", "draw", "run", "stream")
 # The examples of Python's modules.
 EXAMPLES = """\
 import doctest, importlib, sys
@@ -225,7 +226,7 @@ def man():
     """The page of man says what the help says."""
     page = said("man phase | col -bx", MANPATH=os.path.join(SHARE, "man"), MANWIDTH="100")
     lines = {" ".join(it.split()) for it in page.splitlines()}
-    for command in ("replay", "check", "eval", "draw", "run", "stream"):
+    for command in COMMANDS:
         for line in said(f"phase help {command}").splitlines():
             line = line.removeprefix("Usage: ")
             wants(" ".join(line.split()) in lines, f"the page has no line `{line}`")
@@ -291,7 +292,7 @@ def completion():
         wants(completed("st") == ["stream"], f"{shell}: of commands")
         wants(set(completed("eval", "of.graph", "--sink", "o")) == {"out", "other"},
               f"{shell}: of sinks")
-        for command in ("replay", "check", "eval", "draw", "run", "stream"):
+        for command in COMMANDS:
             words = completed(command, "--")
             told = said(f"phase {command} --help").partition("Example")[0]
             has = set(re.findall(r"--\w+", told)) - {"--version"}
