@@ -47,6 +47,16 @@ fn is_of_grammar(word: &[u8]) -> bool {
     is_kind_word(word) || is_mark(word)
 }
 
+/// The kind of a line that this word is but for capital letters.
+fn kind_in_capitals(word: &[u8]) -> Option<&'static str> {
+    for kind in ["phaser", "source", "fir", "split", "join", "peer", "sink"] {
+        if word.eq_ignore_ascii_case(kind.as_bytes()) {
+            return Some(kind);
+        }
+    }
+    None
+}
+
 /// Whether the word is an arrow.
 fn is_arrow(word: &[u8]) -> bool {
     word == b"->".as_slice() || word == b"<->".as_slice()
@@ -174,6 +184,16 @@ impl Part {
         }
         match self {
             Part::Sign(sign) => Wanted::with_word("`", sign, b"".as_slice(), "`"),
+            Part::Kind => match kind_in_capitals(word) {
+                Some(kind) => Wanted::with_word("`", kind, b"".as_slice(), "`, in small letters"),
+                None => Wanted::text(self.told()),
+            },
+            Part::Taps if word.contains(&b'.') => {
+                Wanted::text("a whole number: a fraction times 2^S and rounded, with `shift S`")
+            }
+            Part::Taps if word.contains(&b',') => {
+                Wanted::text("a whole number, and between two of them a space and no comma")
+            }
             _ => Wanted::text(self.told()),
         }
     }

@@ -147,6 +147,19 @@ impl<'w, 'a> Reading<'w, 'a> {
         self.words.iter().any(|word| *word == b"->".as_slice())
     }
 
+    /// Whether the line is of this kind.
+    pub(crate) fn is_of(&self, kind: &[u8]) -> bool {
+        match self.found.first() {
+            Some((_, first)) => *first == kind,
+            None => false,
+        }
+    }
+
+    /// Whether this is one of the words that were read.
+    pub(crate) fn has(&self, word: &[u8]) -> bool {
+        self.found.iter().any(|(_, known)| *known == word)
+    }
+
     /// Whether the first word that was not read may stand there in a text of the second version.
     pub(crate) fn wants_two(&self) -> bool {
         let is_end = matches!(self.wanted, Part::End(_));

@@ -81,8 +81,28 @@ fn syntax_mark<'a>(reading: &Reading<'_, 'a>) -> Mark<'a> {
     if reading.wants_two() {
         return Mark::text(word, "text 2 for this word: `graph 2` as the first line");
     }
+    if let Some(wanted) = misplaced(reading) {
+        return Mark::text(word, wanted);
+    }
     let wanted = reading.wanted.wanted_for(reading.next());
     Mark { word, wanted }
+}
+
+/// What is said of a word that stands elsewhere in other lines, or in other languages.
+fn misplaced(reading: &Reading<'_, '_>) -> Option<&'static str> {
+    let word = reading.next();
+    match reading.wanted {
+        Part::Kind if word == b"graph".as_slice() => {
+            Some("no `graph` here: it is the first line of a text alone")
+        }
+        Part::Input if reading.is_of(b"sink") && word == b"->".as_slice() => {
+            Some("the name of a phaser: a sink's line has no arrow")
+        }
+        Part::End(_) if reading.has(b"until") && word == b"by".as_slice() => {
+            Some("the end of the line: `by` stands before `until`")
+        }
+        _ => None,
+    }
 }
 
 /// How many words of a line are counted together with this part.
