@@ -34,10 +34,10 @@ by_err : (b : Bool) (z : ℤ) (f : TooBigValue) → checked b z ≡ Err f → no
 by_err true z f e = grind (arith, e)
 by_err false z f e = refl
 
-ranged-ok : (z y : ℤ) → ranged z ≡ Ok y → (z ≡ y) × (is_out_of_range z ≡ false)
+pub ranged-ok : (z y : ℤ) → ranged z ≡ Ok y → (z ≡ y) × (is_out_of_range z ≡ false)
 ranged-ok z y e = by_ok (nat_le (unsigned_abs z) 9223372036854775807) z y e
 
-ranged-err : (z : ℤ) (f : TooBigValue) → ranged z ≡ Err f → is_out_of_range z ≡ true
+pub ranged-err : (z : ℤ) (f : TooBigValue) → ranged z ≡ Err f → is_out_of_range z ≡ true
 ranged-err z f e = by_err (nat_le (unsigned_abs z) 9223372036854775807) z f e
 
 pub MadeSoFar-none : (whole : List ℤ) → MadeSoFar whole [] 0

@@ -1,0 +1,436 @@
+-- Samples that a filter takes one after the other, and the outputs at them.
+use Rattle.std.proofs.Common.{◌≡◌, ◌≢◌, ℕ, suc, ◌+◌, ◌-◌, ◌*◌, ◌^◌, ◌<◌, ◌≤◌, List, [], ◌∷◌, ◌++◌, length, take, drop, reverse, get_or, map, ℤ, pos, Bool, true, false, Ok, Err, refl, sym, ap, subst, ◌∙◌, append-nil, append_assoc, arith}
+use Rattle.std.specs.Prelude.{not, cond, unsigned_abs}
+use Rattle.std.specs.List.{All, prefix_len, range_with_len}
+use Rattle.std.proofs.lemmas.List.{get_or-drop, length_push, length-append, length-take, length-take-le, reverse-reverse, take_all, take_more, take-append-drop, take-append-le}
+use Rattle.std.proofs.lemmas.List.Sums.{take_while-cons}
+use Rattle.std.proofs.Math.Seq.{drop-append_seam, take-append-add}
+use Rattle.stream_filters.specs.Filter.{AreTaps, FirState, StandsFor, output_after, outputs, outputs_behind, shifted_down, weight}
+use Rattle.stream_filters.specs.FilterFields.{AreSmall, AreSmallAt, Steps, window_of}
+use Rattle.stream_filters.specs.Lanes.{output_shown}
+use Rattle.stream_filters.specs.Range.{before_too_big, is_out_of_range, ranged}
+use Rattle.stream_filters.proofs.Lines.{AreRecent, AreSmall-behind, Agree, Agree-append, Agree-push, Agree-stands, StandsFor-agree, fir_of}
+use Rattle.stream_filters.proofs.Made.{ranged-ok, ranged-err}
+use Rattle.stream_filters.proofs.Outputs.{outputs-push, outputs-length}
+use Rattle.stream_filters.proofs.Weighted.{weighted-same}
+use Rattle.stream_filters.proofs.WholeLists.{block-output, outputs_shown-entry, shown}
+use Rattle.stream_filters.specs.declared.fault.TooBigValue.{TooBigValue}
+
+-- ---- outputs behind samples that came before
+
+-- the same, one after the other
+abbrev pub outputs_from : List ℤ → ℕ → List ℤ → List ℤ → List ℤ
+outputs_from taps shift before [] = []
+outputs_from taps shift before (x ∷ xs) =
+    output_after taps shift (before ++ x ∷ []) ∷ outputs_from taps shift (before ++ x ∷ []) xs
+
+pub outputs-split : (taps : List ℤ) (shift : ℕ) (before xs : List ℤ)
+    → outputs taps shift (before ++ xs)
+    ≡ outputs taps shift before ++ outputs_from taps shift before xs
+outputs-split taps shift before [] =
+    ap (outputs taps shift) (append-nil before) ∙ sym (append-nil (outputs taps shift before))
+outputs-split taps shift before (x ∷ xs) =
+    let next = before ++ x ∷ [] in
+    ap (outputs taps shift) (sym (append_assoc before (x ∷ []) xs))
+    ∙ (outputs-split taps shift next xs
+    ∙ (ap (λ ys. ys ++ outputs_from taps shift next xs) (outputs-push taps shift before x)
+    ∙ append_assoc (outputs taps shift before) (output_after taps shift next ∷ [])
+    (outputs_from taps shift next xs)))
+
+pub outputs_behind-from : (taps : List ℤ) (shift : ℕ) (before xs : List ℤ)
+    → outputs_behind taps shift before xs ≡ outputs_from taps shift before xs
+outputs_behind-from taps shift before xs =
+    let first = outputs taps shift before in
+    ap (drop (length before)) (outputs-split taps shift before xs)
+    ∙ (ap (λ n. drop n (first ++ outputs_from taps shift before xs))
+    (sym (outputs-length taps shift before))
+    ∙ drop-append_seam first (outputs_from taps shift before xs))
+
+pub length-outputs_from : (taps : List ℤ) (shift : ℕ) (before xs : List ℤ)
+    → length (outputs_from taps shift before xs) ≡ length xs
+length-outputs_from taps shift before [] = refl
+length-outputs_from taps shift before (x ∷ xs) =
+    ap suc (length-outputs_from taps shift (before ++ x ∷ []) xs)
+
+pub length-outputs_behind : (taps : List ℤ) (shift : ℕ) (before xs : List ℤ)
+    → length (outputs_behind taps shift before xs) ≡ length xs
+length-outputs_behind taps shift before xs =
+    ap length (outputs_behind-from taps shift before xs) ∙ length-outputs_from taps shift before xs
+
+outputs_from-append : (taps : List ℤ) (shift : ℕ) (before xs ys : List ℤ)
+    → outputs_from taps shift before (xs ++ ys)
+    ≡ outputs_from taps shift before xs ++ outputs_from taps shift (before ++ xs) ys
+outputs_from-append taps shift before [] ys =
+    ap (λ l. outputs_from taps shift l ys) (sym (append-nil before))
+outputs_from-append taps shift before (x ∷ xs) ys =
+    let next = before ++ x ∷ [] in
+    let first = output_after taps shift next in
+    ap (λ zs. first ∷ zs) (outputs_from-append taps shift next xs ys)
+    ∙ ap (λ l. first ∷ (outputs_from taps shift next xs ++ outputs_from taps shift l ys))
+    (append_assoc before (x ∷ []) xs)
+
+pub outputs_behind-append : (taps : List ℤ) (shift : ℕ) (before xs ys : List ℤ)
+    → outputs_behind taps shift before (xs ++ ys)
+    ≡ outputs_behind taps shift before xs ++ outputs_behind taps shift (before ++ xs) ys
+outputs_behind-append taps shift before xs ys =
+    outputs_behind-from taps shift before (xs ++ ys)
+    ∙ (outputs_from-append taps shift before xs ys
+    ∙ (ap (λ zs. zs ++ outputs_from taps shift (before ++ xs) ys)
+    (sym (outputs_behind-from taps shift before xs))
+    ∙ ap (λ zs. outputs_behind taps shift before xs ++ zs)
+    (sym (outputs_behind-from taps shift (before ++ xs) ys))))
+
+-- an output looks at the last samples alone, as many as there are taps
+outputs_from-agree : (taps : List ℤ) (shift : ℕ) (line before xs : List ℤ)
+    → Agree (length taps) line before
+    → outputs_from taps shift line xs ≡ outputs_from taps shift before xs
+outputs_from-agree taps shift line before [] agree = refl
+outputs_from-agree taps shift line before (x ∷ xs) agree =
+    let more = Agree-push (length taps) line before x agree in
+    let first : output_after taps shift (line ++ x ∷ [])
+    ≡ output_after taps shift (before ++ x ∷ []) =
+    ap (λ z. shifted_down z shift) (weighted-same _ _ taps more) in
+    ap (λ z. z ∷ outputs_from taps shift (line ++ x ∷ []) xs) first
+    ∙ ap (λ zs. output_after taps shift (before ++ x ∷ []) ∷ zs)
+    (outputs_from-agree taps shift (line ++ x ∷ []) (before ++ x ∷ []) xs more)
+
+pub outputs_behind-agree : (taps : List ℤ) (shift : ℕ) (line before xs : List ℤ)
+    → Agree (length taps) line before
+    → outputs_behind taps shift line xs ≡ outputs_behind taps shift before xs
+outputs_behind-agree taps shift line before xs agree =
+    outputs_behind-from taps shift line xs
+    ∙ (outputs_from-agree taps shift line before xs agree
+    ∙ sym (outputs_behind-from taps shift before xs))
+
+-- ---- the outputs before the first one out of range
+
+-- a number is in range
+abbrev fits : ℤ → Bool
+fits z = not (is_out_of_range z)
+
+before-cons : (z : ℤ) (zs : List ℤ) (b : Bool) → fits z ≡ b
+    → before_too_big (z ∷ zs) ≡ cond b (z ∷ before_too_big zs) []
+before-cons z zs b e =
+    take_while-cons fits z zs ∙ ap (λ t. cond t (z ∷ before_too_big zs) []) e
+
+before-few : (zs : List ℤ) → length (before_too_big zs) ≤ length zs
+before-few zs = omega (arith, length-take (prefix_len fits zs) zs)
+
+-- where all are in range, those that come behind count too
+pub before-all : (zs ws : List ℤ) → length (before_too_big zs) ≡ length zs
+    → before_too_big (zs ++ ws) ≡ before_too_big zs ++ before_too_big ws
+before-all [] ws e = refl
+before-all (z ∷ zs) ws e = by (before-all zs ws) (fits z) refl
+  where
+    by : (length (before_too_big zs) ≡ length zs
+        → before_too_big (zs ++ ws) ≡ before_too_big zs ++ before_too_big ws)
+        → (b : Bool) → fits z ≡ b
+        → before_too_big (z ∷ zs ++ ws) ≡ before_too_big (z ∷ zs) ++ before_too_big ws
+    by rest true f =
+        let long : suc (length (before_too_big zs)) ≡ suc (length zs) =
+        sym (ap length (before-cons z zs true f)) ∙ e in
+        before-cons z (zs ++ ws) true f
+        ∙ (ap (λ l. z ∷ l) (rest (omega arith))
+        ∙ ap (λ l. l ++ before_too_big ws) (sym (before-cons z zs true f)))
+    by rest false f =
+        let short : 0 ≡ suc (length zs) = sym (ap length (before-cons z zs false f)) ∙ e in
+        absurd (omega arith)
+
+-- where one is not, they do not
+pub before-some : (zs ws : List ℤ) → length (before_too_big zs) ≢ length zs
+    → before_too_big (zs ++ ws) ≡ before_too_big zs
+before-some [] ws less = absurd (less refl)
+before-some (z ∷ zs) ws less = by (before-some zs ws) (fits z) refl
+  where
+    by : (length (before_too_big zs) ≢ length zs → before_too_big (zs ++ ws) ≡ before_too_big zs)
+        → (b : Bool) → fits z ≡ b → before_too_big (z ∷ zs ++ ws) ≡ before_too_big (z ∷ zs)
+    by rest true f =
+        before-cons z (zs ++ ws) true f
+        ∙ (ap (λ l. z ∷ l)
+        (rest (λ e. less (ap length (before-cons z zs true f) ∙ ap suc e)))
+        ∙ sym (before-cons z zs true f))
+    by rest false f = before-cons z (zs ++ ws) false f ∙ sym (before-cons z zs false f)
+
+-- these numbers are in range
+pub before-ranged : (zs ys : List ℤ) → length zs ≡ length ys
+    → ((k : ℕ) → k < length ys → ranged (get_or zs k (pos 0)) ≡ Ok (get_or ys k (pos 0)))
+    → before_too_big zs ≡ ys
+before-ranged [] [] long each = refl
+before-ranged [] (y ∷ ys) long each = absurd (omega arith)
+before-ranged (z ∷ zs) [] long each = absurd (omega arith)
+before-ranged (z ∷ zs) (y ∷ ys) long each =
+    let first = ranged-ok z y (each 0 (omega arith)) in
+    before-cons z zs true (ap not first.1)
+    ∙ (ap (λ x. x ∷ before_too_big zs) first.0
+    ∙ ap (λ l. y ∷ l) (before-ranged zs ys (omega arith) (λ k lt. each (suc k) (omega arith))))
+
+-- ---- steps
+
+pub Steps-none : (fir : FirState) (made : List ℤ) → Steps fir fir [] made made
+Steps-none fir made = record {
+  made = λ taken has.
+      sym (ap (λ zs. made ++ before_too_big zs) (outputs_behind-from fir.taps fir.shift taken [])
+      ∙ append-nil made);
+  stands = λ taken has. subst (StandsFor fir)
+      (sym (ap (λ l. taken ++ l) (take_all (length made - length made + 1) [] (omega arith))
+      ∙ append-nil taken)) has;
+  taps = refl;
+  shift = refl;
+}
+
+
+-- steps, and more behind them
+pub Steps-then : (old between new : FirState) (xs ys first middle last : List ℤ)
+    → Steps old between xs first middle → length middle ≡ length first + length xs
+    → Steps between new ys middle last → Steps old new (xs ++ ys) first last
+Steps-then old between new xs ys first middle last so_far all more = record {
+  made = λ taken has.
+      let zs = outputs_behind old.taps old.shift taken xs in
+      let ws = outputs_behind old.taps old.shift (taken ++ xs) ys in
+      let many : length zs ≡ length xs = length-outputs_behind old.taps old.shift taken xs in
+      let here = so_far.made taken has in
+      let count : length middle ≡ length first + length (before_too_big zs) =
+      ap length here ∙ length-append first (before_too_big zs) in
+      let stands = all_taken taken has in
+      let same : outputs_behind between.taps between.shift (taken ++ xs) ys ≡ ws =
+      ap (λ t. outputs_behind t between.shift (taken ++ xs) ys) so_far.taps
+      ∙ ap (λ s. outputs_behind old.taps s (taken ++ xs) ys) so_far.shift in
+      more.made (taken ++ xs) stands
+      ∙ (ap (λ l. middle ++ before_too_big l) same
+      ∙ (ap (λ l. l ++ before_too_big ws) here
+      ∙ (append_assoc first (before_too_big zs) (before_too_big ws)
+      ∙ (ap (λ l. first ++ l) (sym (before-all zs ws (omega arith)))
+      ∙ ap (λ l. first ++ before_too_big l)
+      (sym (outputs_behind-append old.taps old.shift taken xs ys))))));
+  stands = λ taken has.
+      let stands = all_taken taken has in
+      let grows = ap length (more.made (taken ++ xs) stands)
+      ∙ length-append middle (before_too_big
+      (outputs_behind between.taps between.shift (taken ++ xs) ys)) in
+      let count : length last - length first + 1 ≡ length xs + (length last - length middle + 1) =
+      omega (arith, grows) in
+      subst (StandsFor new)
+      (append_assoc taken xs (take (length last - length middle + 1) ys)
+      ∙ (ap (λ l. taken ++ l) (sym (take-append-add xs ys (length last - length middle + 1)))
+      ∙ ap (λ n. taken ++ take n (xs ++ ys)) (sym count)))
+      (more.stands (taken ++ xs) stands);
+  taps = more.taps ∙ so_far.taps;
+  shift = more.shift ∙ so_far.shift;
+}
+  where
+    all_taken : (taken : List ℤ) → StandsFor old taken → StandsFor between (taken ++ xs)
+    all_taken taken has = subst (λ l. StandsFor between (taken ++ l))
+        (take_all (length middle - length first + 1) xs (omega arith)) (so_far.stands taken has)
+
+-- steps that ended with an output out of range: what comes behind is not taken
+pub Steps-stop : (old new : FirState) (xs ys first last : List ℤ)
+    → Steps old new xs first last → length last ≢ length first + length xs
+    → Steps old new (xs ++ ys) first last
+Steps-stop old new xs ys first last so_far less = record {
+  made = λ taken has.
+      let zs = outputs_behind old.taps old.shift taken xs in
+      let ws = outputs_behind old.taps old.shift (taken ++ xs) ys in
+      let here = so_far.made taken has in
+      here ∙ (ap (λ l. first ++ l) (sym (before-some zs ws (other taken has)))
+      ∙ ap (λ l. first ++ before_too_big l) (sym (outputs_behind-append old.taps old.shift taken xs ys)));
+  stands = λ taken has.
+      subst (λ l. StandsFor new (taken ++ l))
+      (sym (take-append-le (length last - length first + 1) xs ys (few taken has)))
+      (so_far.stands taken has);
+  taps = so_far.taps;
+  shift = so_far.shift;
+}
+  where
+    counted : (taken : List ℤ) → StandsFor old taken → length last
+        ≡ length first + length (before_too_big (outputs_behind old.taps old.shift taken xs))
+    counted taken has = ap length (so_far.made taken has) ∙ length-append first _
+
+    other : (taken : List ℤ) → StandsFor old taken
+        → length (before_too_big (outputs_behind old.taps old.shift taken xs))
+        ≢ length (outputs_behind old.taps old.shift taken xs)
+    other taken has e =
+        less (counted taken has ∙ ap (λ n. length first + n)
+        (e ∙ length-outputs_behind old.taps old.shift taken xs))
+
+    few : (taken : List ℤ) → StandsFor old taken → length last - length first + 1 ≤ length xs
+    few taken has =
+        let zs = outputs_behind old.taps old.shift taken xs in
+        let count : length last ≡ length first + length (before_too_big zs) =
+        ap length (so_far.made taken has) ∙ length-append first (before_too_big zs) in
+        let many : length zs ≡ length xs = length-outputs_behind old.taps old.shift taken xs in
+        let le = before-few zs in
+        let differ : length (before_too_big zs) ≢ length zs =
+        λ e. less (count ∙ ap (λ n. length first + n) (e ∙ many)) in
+        omega (arith, differ)
+
+-- a filter stands for what its window holds
+stands_somewhere : (fir : FirState) → StandsFor fir (reverse fir.window)
+stands_somewhere fir =
+    record { shows = λ j lt. ap (λ l. get_or l j (pos 0)) (sym (reverse-reverse fir.window)) }
+
+-- there is an output for each sample at most
+pub Steps-few : (old new : FirState) (xs first last : List ℤ) → Steps old new xs first last
+    → length last ≤ length first + length xs
+Steps-few old new xs first last so_far =
+    let taken = reverse old.window in
+    let zs = outputs_behind old.taps old.shift taken xs in
+    let count : length last ≡ length first + length (before_too_big zs) =
+    ap length (so_far.made taken (stands_somewhere old)) ∙ length-append first (before_too_big zs) in
+    omega (arith, before-few zs, length-outputs_behind old.taps old.shift taken xs)
+
+-- one step, whose answer is in range
+Steps-one : (old new : FirState) (x y : ℤ) (made : List ℤ)
+    → ((taken : List ℤ) → StandsFor old taken
+    → Ok y ≡ ranged (output_after old.taps old.shift (taken ++ x ∷ [])))
+    → ((taken : List ℤ) → StandsFor old taken → StandsFor new (taken ++ x ∷ []))
+    → new.taps ≡ old.taps → new.shift ≡ old.shift
+    → Steps old new (x ∷ []) made (made ++ y ∷ [])
+Steps-one old new x y made answer stands taps shift = record {
+  made = λ taken has.
+      let z = output_after old.taps old.shift (taken ++ x ∷ []) in
+      let told = ranged-ok z y (sym (answer taken has)) in
+      ap (λ v. made ++ v ∷ []) (sym told.0)
+      ∙ (ap (λ l. made ++ l) (sym (before-cons z [] true (ap not told.1)))
+      ∙ ap (λ l. made ++ before_too_big l)
+      (sym (outputs_behind-from old.taps old.shift taken (x ∷ []))));
+  stands = λ taken has.
+      subst (λ l. StandsFor new (taken ++ l))
+      (sym (take_all (length (made ++ y ∷ []) - length made + 1) (x ∷ []) (omega arith)))
+      (stands taken has);
+  taps = taps;
+  shift = shift;
+}
+
+-- one step, whose answer is not
+Steps-over : (old new : FirState) (x : ℤ) (made : List ℤ) (fault : TooBigValue)
+    → ((taken : List ℤ) → StandsFor old taken
+    → Err fault ≡ ranged (output_after old.taps old.shift (taken ++ x ∷ [])))
+    → ((taken : List ℤ) → StandsFor old taken → StandsFor new (taken ++ x ∷ []))
+    → new.taps ≡ old.taps → new.shift ≡ old.shift
+    → Steps old new (x ∷ []) made made
+Steps-over old new x made fault answer stands taps shift = record {
+  made = λ taken has.
+      let z = output_after old.taps old.shift (taken ++ x ∷ []) in
+      let told = ranged-err z fault (sym (answer taken has)) in
+      sym (append-nil made)
+      ∙ (ap (λ l. made ++ l) (sym (before-cons z [] false (ap not told)))
+      ∙ ap (λ l. made ++ before_too_big l)
+      (sym (outputs_behind-from old.taps old.shift taken (x ∷ []))));
+  stands = λ taken has.
+      subst (λ l. StandsFor new (taken ++ l))
+      (sym (take_all (length made - length made + 1) (x ∷ []) (omega arith)))
+      (stands taken has);
+  taps = taps;
+  shift = shift;
+}
+
+module _ (old between new : FirState) (samples first middle : List ℤ) (i : ℕ)
+    (below : i < length samples) (so_far : Steps old between (take i samples) first middle)
+    (all : length middle ≡ length first + i)
+    (stands : (taken : List ℤ) → StandsFor between taken
+    → StandsFor new (taken ++ get_or samples i (pos 0) ∷ []))
+    (taps : new.taps ≡ between.taps) (shift : new.shift ≡ between.shift)
+  where
+  many : length (take i samples) ≡ i
+  many = length-take-le i samples (omega arith)
+
+  -- after i steps one more
+  pub Steps-more : (y : ℤ) → ((taken : List ℤ) → StandsFor between taken
+      → Ok y ≡ ranged (output_after between.taps between.shift
+      (taken ++ get_or samples i (pos 0) ∷ [])))
+      → Steps old new (take (i + 1) samples) first (middle ++ y ∷ [])
+  Steps-more y answer =
+      subst (λ l. Steps old new l first (middle ++ y ∷ [])) (sym (take_more samples i (pos 0) below))
+      (Steps-then old between new (take i samples) (get_or samples i (pos 0) ∷ []) first middle
+      (middle ++ y ∷ []) so_far (all ∙ ap (λ n. length first + n) (sym many))
+      (Steps-one between new (get_or samples i (pos 0)) y middle answer stands taps shift))
+
+  -- after i steps the last one
+  pub Steps-ended : (fault : TooBigValue) → ((taken : List ℤ) → StandsFor between taken
+      → Err fault ≡ ranged (output_after between.taps between.shift
+      (taken ++ get_or samples i (pos 0) ∷ [])))
+      → Steps old new samples first middle
+  Steps-ended fault answer =
+      let xs = take i samples ++ get_or samples i (pos 0) ∷ [] in
+      let whole : xs ++ drop (i + 1) samples ≡ samples =
+      ap (λ l. l ++ drop (i + 1) samples) (sym (take_more samples i (pos 0) below))
+      ∙ take-append-drop (i + 1) samples in
+      let long : length xs ≡ i + 1 = length_push (take i samples) (get_or samples i (pos 0))
+      ∙ (omega (arith, many)) in
+      subst (λ l. Steps old new l first middle) whole
+      (Steps-stop old new xs (drop (i + 1) samples) first middle
+      (Steps-then old between new (take i samples) (get_or samples i (pos 0) ∷ []) first middle
+      middle so_far (all ∙ ap (λ n. length first + n) (sym many))
+      (Steps-over between new (get_or samples i (pos 0)) middle fault answer stands taps shift))
+      (λ e. let no : length middle ≡ length first + (i + 1)
+      = e ∙ ap (λ n. length first + n) long in omega (arith, all)))
+
+-- ---- many at once
+
+-- the part of a line that the windows of a block show
+pub shown_is : (taps line xs whole : List ℤ) (size count : ℕ) → whole ≡ line ++ xs
+    → length xs ≡ 16 → size ≡ length whole → count ≡ length taps → length taps ≤ length line
+    → take (length whole - (size + 1 - 16 - count)) (drop (size + 1 - 16 - count) whole)
+    ≡ shown taps (line ++ xs) (length line)
+shown_is taps line xs whole size count is sixteen size_is count_is held =
+    let long : length whole ≡ length line + 16 =
+    ap length is ∙ (length-append line xs ∙ ap (λ n. length line + n) sixteen) in
+    let first : size + 1 - 16 - count ≡ length line + 1 - length taps = omega arith in
+    let end : length whole - (length line + 1 - length taps)
+    ≡ length line + 16 - (length line + 1 - length taps) = omega arith in
+    ap (λ m. take (length whole - m) (drop m whole)) first
+    ∙ (ap (λ m. take m (drop (length line + 1 - length taps) whole)) end
+    ∙ ap (λ l. take (length line + 16 - (length line + 1 - length taps))
+    (drop (length line + 1 - length taps) l)) is)
+
+-- the samples that they show are small enough
+pub AreSmallAt-behind : (taps line xs : List ℤ) (limit : ℕ) → limit < 2 ^ 31
+    → weight taps * limit < 2 ^ 63 → length xs ≡ 16 → AreRecent limit (length taps) 0 line
+    → All (λ x. unsigned_abs x ≤ limit) xs → AreSmallAt taps (line ++ xs) (length line)
+AreSmallAt-behind taps line xs limit short fits sixteen recent all = record {
+  limit = limit;
+  short = short;
+  fits = fits;
+  small = subst (λ n. AreSmall limit (line ++ xs) (length line + 1 - length taps) (length line + n))
+      sixteen (AreSmall-behind limit (length taps) line xs recent all);
+}
+
+-- the outputs of a block are those at its samples
+pub Steps-block : (taps line old xs block made : List ℤ) (shift : ℕ) → AreTaps taps shift
+    → AreSmallAt taps (line ++ xs) (length line) → length taps ≤ length line → length xs ≡ 16
+    → window_of (length taps) line ≡ window_of (length taps) old
+    → block ≡ map (output_shown taps shift (shown taps (line ++ xs) (length line)))
+    (range_with_len 0 16)
+    → Steps (fir_of taps shift old) (fir_of taps shift (line ++ xs)) xs made (made ++ block)
+Steps-block taps line old xs block made shift are small held sixteen same is = record {
+  made = λ taken has.
+      let agree = Agree-stands taps shift old line taken same has in
+      ap (λ l. made ++ l) (sym (ap before_too_big (outputs_behind-agree taps shift taken line xs
+      (λ j lt. sym (agree j lt))) ∙ before-ranged (outputs_behind taps shift line xs) block
+      (length-outputs_behind taps shift line xs ∙ (sixteen ∙ sym long)) each));
+  stands = λ taken has.
+      let agree = Agree-stands taps shift old line taken same has in
+      subst (λ l. StandsFor (fir_of taps shift (line ++ xs)) (taken ++ l))
+      (sym (take_all (length (made ++ block) - length made + 1) xs
+      (omega (arith, length-append made block, long))))
+      (StandsFor-agree taps shift (line ++ xs) (taken ++ xs)
+      (Agree-append (length taps) line taken xs agree));
+  taps = refl;
+  shift = refl;
+}
+  where
+    long : length block ≡ 16
+    long = ap length is
+
+    whole : length line + 16 ≤ length (line ++ xs)
+    whole = omega (arith, length-append line xs)
+
+    each : (k : ℕ) → k < length block → ranged (get_or (outputs_behind taps shift line xs) k (pos 0))
+        ≡ Ok (get_or block k (pos 0))
+    each k lt =
+        let below : k < 16 = omega (arith, long) in
+        let held_at : length taps ≤ length line + 1 = omega arith in
+        ap ranged (get_or-drop (length line) (outputs taps shift (line ++ xs)) k (pos 0))
+        ∙ (block-output taps (line ++ xs) shift (length line) k are small held_at whole below
+        ∙ ap Ok (sym (ap (λ l. get_or l k (pos 0)) is
+        ∙ outputs_shown-entry taps (shown taps (line ++ xs) (length line)) shift k 16 below)))
