@@ -2,105 +2,53 @@
 use Rattle.std.proofs.Common.{◌≡◌, ◌≢◌, ℕ, suc, ◌+◌, ◌-◌, ◌*◌, ◌^◌, ◌<◌, ◌≤◌, List, [], ◌∷◌, ◌++◌, length, take, drop, reverse, get_or, map, ℤ, pos, Bool, true, false, Ok, Err, refl, sym, ap, subst, ◌∙◌, append-nil, append_assoc, arith}
 use Rattle.std.specs.Prelude.{not, cond, unsigned_abs}
 use Rattle.std.specs.List.{All, prefix_len, range_with_len}
-use Rattle.std.proofs.lemmas.List.{get_or-drop, length_push, length-append, length-take, length-take-le, reverse-reverse, take_all, take_more, take-append-drop, take-append-le}
+use Rattle.std.proofs.lemmas.List.{get_or-append-add, length_push, length-append, length-take, length-take-le, reverse-reverse, take_all, take_more, take-append-drop, take-append-le}
 use Rattle.std.proofs.lemmas.List.Sums.{take_while-cons}
-use Rattle.std.proofs.Math.Seq.{drop-append_seam, take-append-add}
-use Rattle.stream_filters.specs.Filter.{AreTaps, FirState, StandsFor, output_after, outputs, outputs_behind, shifted_down, weight}
+use Rattle.std.proofs.Math.Seq.{take-append-add}
+use Rattle.stream_filters.specs.Filter.{AreTaps, FirState, StandsFor, output_after, outputs, outputs_of_block, shifted_down, weight}
 use Rattle.stream_filters.specs.FilterFields.{AreSmall, AreSmallAt, Steps, window_of}
 use Rattle.stream_filters.specs.Lanes.{output_shown}
 use Rattle.stream_filters.specs.Range.{before_too_big, is_out_of_range, ranged}
 use Rattle.stream_filters.proofs.Lines.{AreRecent, AreSmall-behind, Agree, Agree-append, Agree-push, Agree-stands, StandsFor-agree, fir_of}
 use Rattle.stream_filters.proofs.Made.{ranged-ok, ranged-err}
-use Rattle.stream_filters.proofs.Outputs.{outputs-push, outputs-length}
+use Rattle.stream_filters.proofs.Outputs.{outputs-block, outputs-length}
 use Rattle.stream_filters.proofs.Weighted.{weighted-same}
 use Rattle.stream_filters.proofs.WholeLists.{block-output, outputs_shown-entry, shown}
 use Rattle.stream_filters.specs.declared.fault.TooBigValue.{TooBigValue}
 
--- ---- outputs behind samples that came before
+-- ---- the outputs of a block
 
--- the same, one after the other
-abbrev pub outputs_from : List ℤ → ℕ → List ℤ → List ℤ → List ℤ
-outputs_from taps shift before [] = []
-outputs_from taps shift before (x ∷ xs) =
-    output_after taps shift (before ++ x ∷ []) ∷ outputs_from taps shift (before ++ x ∷ []) xs
+pub length-outputs_of_block : (taps : List ℤ) (shift : ℕ) (taken xs : List ℤ)
+    → length (outputs_of_block taps shift taken xs) ≡ length xs
+length-outputs_of_block taps shift taken [] = refl
+length-outputs_of_block taps shift taken (x ∷ xs) =
+    ap suc (length-outputs_of_block taps shift (taken ++ x ∷ []) xs)
 
-pub outputs-split : (taps : List ℤ) (shift : ℕ) (before xs : List ℤ)
-    → outputs taps shift (before ++ xs)
-    ≡ outputs taps shift before ++ outputs_from taps shift before xs
-outputs-split taps shift before [] =
-    ap (outputs taps shift) (append-nil before) ∙ sym (append-nil (outputs taps shift before))
-outputs-split taps shift before (x ∷ xs) =
-    let next = before ++ x ∷ [] in
-    ap (outputs taps shift) (sym (append_assoc before (x ∷ []) xs))
-    ∙ (outputs-split taps shift next xs
-    ∙ (ap (λ ys. ys ++ outputs_from taps shift next xs) (outputs-push taps shift before x)
-    ∙ append_assoc (outputs taps shift before) (output_after taps shift next ∷ [])
-    (outputs_from taps shift next xs)))
-
-pub outputs_behind-from : (taps : List ℤ) (shift : ℕ) (before xs : List ℤ)
-    → outputs_behind taps shift before xs ≡ outputs_from taps shift before xs
-outputs_behind-from taps shift before xs =
-    let first = outputs taps shift before in
-    ap (drop (length before)) (outputs-split taps shift before xs)
-    ∙ (ap (λ n. drop n (first ++ outputs_from taps shift before xs))
-    (sym (outputs-length taps shift before))
-    ∙ drop-append_seam first (outputs_from taps shift before xs))
-
-pub length-outputs_from : (taps : List ℤ) (shift : ℕ) (before xs : List ℤ)
-    → length (outputs_from taps shift before xs) ≡ length xs
-length-outputs_from taps shift before [] = refl
-length-outputs_from taps shift before (x ∷ xs) =
-    ap suc (length-outputs_from taps shift (before ++ x ∷ []) xs)
-
-pub length-outputs_behind : (taps : List ℤ) (shift : ℕ) (before xs : List ℤ)
-    → length (outputs_behind taps shift before xs) ≡ length xs
-length-outputs_behind taps shift before xs =
-    ap length (outputs_behind-from taps shift before xs) ∙ length-outputs_from taps shift before xs
-
-outputs_from-append : (taps : List ℤ) (shift : ℕ) (before xs ys : List ℤ)
-    → outputs_from taps shift before (xs ++ ys)
-    ≡ outputs_from taps shift before xs ++ outputs_from taps shift (before ++ xs) ys
-outputs_from-append taps shift before [] ys =
-    ap (λ l. outputs_from taps shift l ys) (sym (append-nil before))
-outputs_from-append taps shift before (x ∷ xs) ys =
-    let next = before ++ x ∷ [] in
+pub outputs_of_block-append : (taps : List ℤ) (shift : ℕ) (taken xs ys : List ℤ)
+    → outputs_of_block taps shift taken (xs ++ ys)
+    ≡ outputs_of_block taps shift taken xs ++ outputs_of_block taps shift (taken ++ xs) ys
+outputs_of_block-append taps shift taken [] ys =
+    ap (λ l. outputs_of_block taps shift l ys) (sym (append-nil taken))
+outputs_of_block-append taps shift taken (x ∷ xs) ys =
+    let next = taken ++ x ∷ [] in
     let first = output_after taps shift next in
-    ap (λ zs. first ∷ zs) (outputs_from-append taps shift next xs ys)
-    ∙ ap (λ l. first ∷ (outputs_from taps shift next xs ++ outputs_from taps shift l ys))
-    (append_assoc before (x ∷ []) xs)
-
-pub outputs_behind-append : (taps : List ℤ) (shift : ℕ) (before xs ys : List ℤ)
-    → outputs_behind taps shift before (xs ++ ys)
-    ≡ outputs_behind taps shift before xs ++ outputs_behind taps shift (before ++ xs) ys
-outputs_behind-append taps shift before xs ys =
-    outputs_behind-from taps shift before (xs ++ ys)
-    ∙ (outputs_from-append taps shift before xs ys
-    ∙ (ap (λ zs. zs ++ outputs_from taps shift (before ++ xs) ys)
-    (sym (outputs_behind-from taps shift before xs))
-    ∙ ap (λ zs. outputs_behind taps shift before xs ++ zs)
-    (sym (outputs_behind-from taps shift (before ++ xs) ys))))
+    ap (λ zs. first ∷ zs) (outputs_of_block-append taps shift next xs ys)
+    ∙ ap (λ l. first ∷ (outputs_of_block taps shift next xs ++ outputs_of_block taps shift l ys))
+    (append_assoc taken (x ∷ []) xs)
 
 -- an output looks at the last samples alone, as many as there are taps
-outputs_from-agree : (taps : List ℤ) (shift : ℕ) (line before xs : List ℤ)
-    → Agree (length taps) line before
-    → outputs_from taps shift line xs ≡ outputs_from taps shift before xs
-outputs_from-agree taps shift line before [] agree = refl
-outputs_from-agree taps shift line before (x ∷ xs) agree =
-    let more = Agree-push (length taps) line before x agree in
+pub outputs_of_block-agree : (taps : List ℤ) (shift : ℕ) (line taken xs : List ℤ)
+    → Agree (length taps) line taken
+    → outputs_of_block taps shift line xs ≡ outputs_of_block taps shift taken xs
+outputs_of_block-agree taps shift line taken [] agree = refl
+outputs_of_block-agree taps shift line taken (x ∷ xs) agree =
+    let more = Agree-push (length taps) line taken x agree in
     let first : output_after taps shift (line ++ x ∷ [])
-    ≡ output_after taps shift (before ++ x ∷ []) =
+    ≡ output_after taps shift (taken ++ x ∷ []) =
     ap (λ z. shifted_down z shift) (weighted-same _ _ taps more) in
-    ap (λ z. z ∷ outputs_from taps shift (line ++ x ∷ []) xs) first
-    ∙ ap (λ zs. output_after taps shift (before ++ x ∷ []) ∷ zs)
-    (outputs_from-agree taps shift (line ++ x ∷ []) (before ++ x ∷ []) xs more)
-
-pub outputs_behind-agree : (taps : List ℤ) (shift : ℕ) (line before xs : List ℤ)
-    → Agree (length taps) line before
-    → outputs_behind taps shift line xs ≡ outputs_behind taps shift before xs
-outputs_behind-agree taps shift line before xs agree =
-    outputs_behind-from taps shift line xs
-    ∙ (outputs_from-agree taps shift line before xs agree
-    ∙ sym (outputs_behind-from taps shift before xs))
+    ap (λ z. z ∷ outputs_of_block taps shift (line ++ x ∷ []) xs) first
+    ∙ ap (λ zs. output_after taps shift (taken ++ x ∷ []) ∷ zs)
+    (outputs_of_block-agree taps shift (line ++ x ∷ []) (taken ++ x ∷ []) xs more)
 
 -- ---- the outputs before the first one out of range
 
@@ -168,9 +116,7 @@ before-ranged (z ∷ zs) (y ∷ ys) long each =
 
 pub Steps-none : (fir : FirState) (made : List ℤ) → Steps fir fir [] made made
 Steps-none fir made = record {
-  made = λ taken has.
-      sym (ap (λ zs. made ++ before_too_big zs) (outputs_behind-from fir.taps fir.shift taken [])
-      ∙ append-nil made);
+  made = λ taken has. sym (append-nil made);
   stands = λ taken has. subst (StandsFor fir)
       (sym (ap (λ l. taken ++ l) (take_all (length made - length made + 1) [] (omega arith))
       ∙ append-nil taken)) has;
@@ -178,35 +124,34 @@ Steps-none fir made = record {
   shift = refl;
 }
 
-
 -- steps, and more behind them
 pub Steps-then : (old between new : FirState) (xs ys first middle last : List ℤ)
     → Steps old between xs first middle → length middle ≡ length first + length xs
     → Steps between new ys middle last → Steps old new (xs ++ ys) first last
 Steps-then old between new xs ys first middle last so_far all more = record {
   made = λ taken has.
-      let zs = outputs_behind old.taps old.shift taken xs in
-      let ws = outputs_behind old.taps old.shift (taken ++ xs) ys in
-      let many : length zs ≡ length xs = length-outputs_behind old.taps old.shift taken xs in
+      let zs = outputs_of_block old.taps old.shift taken xs in
+      let ws = outputs_of_block old.taps old.shift (taken ++ xs) ys in
+      let many : length zs ≡ length xs = length-outputs_of_block old.taps old.shift taken xs in
       let here = so_far.made taken has in
       let count : length middle ≡ length first + length (before_too_big zs) =
       ap length here ∙ length-append first (before_too_big zs) in
       let stands = all_taken taken has in
-      let same : outputs_behind between.taps between.shift (taken ++ xs) ys ≡ ws =
-      ap (λ t. outputs_behind t between.shift (taken ++ xs) ys) so_far.taps
-      ∙ ap (λ s. outputs_behind old.taps s (taken ++ xs) ys) so_far.shift in
+      let same : outputs_of_block between.taps between.shift (taken ++ xs) ys ≡ ws =
+      ap (λ t. outputs_of_block t between.shift (taken ++ xs) ys) so_far.taps
+      ∙ ap (λ s. outputs_of_block old.taps s (taken ++ xs) ys) so_far.shift in
       more.made (taken ++ xs) stands
       ∙ (ap (λ l. middle ++ before_too_big l) same
       ∙ (ap (λ l. l ++ before_too_big ws) here
       ∙ (append_assoc first (before_too_big zs) (before_too_big ws)
       ∙ (ap (λ l. first ++ l) (sym (before-all zs ws (omega arith)))
       ∙ ap (λ l. first ++ before_too_big l)
-      (sym (outputs_behind-append old.taps old.shift taken xs ys))))));
+      (sym (outputs_of_block-append old.taps old.shift taken xs ys))))));
   stands = λ taken has.
       let stands = all_taken taken has in
       let grows = ap length (more.made (taken ++ xs) stands)
       ∙ length-append middle (before_too_big
-      (outputs_behind between.taps between.shift (taken ++ xs) ys)) in
+      (outputs_of_block between.taps between.shift (taken ++ xs) ys)) in
       let count : length last - length first + 1 ≡ length xs + (length last - length middle + 1) =
       omega (arith, grows) in
       subst (StandsFor new)
@@ -228,11 +173,11 @@ pub Steps-stop : (old new : FirState) (xs ys first last : List ℤ)
     → Steps old new (xs ++ ys) first last
 Steps-stop old new xs ys first last so_far less = record {
   made = λ taken has.
-      let zs = outputs_behind old.taps old.shift taken xs in
-      let ws = outputs_behind old.taps old.shift (taken ++ xs) ys in
+      let zs = outputs_of_block old.taps old.shift taken xs in
+      let ws = outputs_of_block old.taps old.shift (taken ++ xs) ys in
       let here = so_far.made taken has in
       here ∙ (ap (λ l. first ++ l) (sym (before-some zs ws (other taken has)))
-      ∙ ap (λ l. first ++ before_too_big l) (sym (outputs_behind-append old.taps old.shift taken xs ys)));
+      ∙ ap (λ l. first ++ before_too_big l) (sym (outputs_of_block-append old.taps old.shift taken xs ys)));
   stands = λ taken has.
       subst (λ l. StandsFor new (taken ++ l))
       (sym (take-append-le (length last - length first + 1) xs ys (few taken has)))
@@ -242,22 +187,22 @@ Steps-stop old new xs ys first last so_far less = record {
 }
   where
     counted : (taken : List ℤ) → StandsFor old taken → length last
-        ≡ length first + length (before_too_big (outputs_behind old.taps old.shift taken xs))
+        ≡ length first + length (before_too_big (outputs_of_block old.taps old.shift taken xs))
     counted taken has = ap length (so_far.made taken has) ∙ length-append first _
 
     other : (taken : List ℤ) → StandsFor old taken
-        → length (before_too_big (outputs_behind old.taps old.shift taken xs))
-        ≢ length (outputs_behind old.taps old.shift taken xs)
+        → length (before_too_big (outputs_of_block old.taps old.shift taken xs))
+        ≢ length (outputs_of_block old.taps old.shift taken xs)
     other taken has e =
         less (counted taken has ∙ ap (λ n. length first + n)
-        (e ∙ length-outputs_behind old.taps old.shift taken xs))
+        (e ∙ length-outputs_of_block old.taps old.shift taken xs))
 
     few : (taken : List ℤ) → StandsFor old taken → length last - length first + 1 ≤ length xs
     few taken has =
-        let zs = outputs_behind old.taps old.shift taken xs in
+        let zs = outputs_of_block old.taps old.shift taken xs in
         let count : length last ≡ length first + length (before_too_big zs) =
         ap length (so_far.made taken has) ∙ length-append first (before_too_big zs) in
-        let many : length zs ≡ length xs = length-outputs_behind old.taps old.shift taken xs in
+        let many : length zs ≡ length xs = length-outputs_of_block old.taps old.shift taken xs in
         let le = before-few zs in
         let differ : length (before_too_big zs) ≢ length zs =
         λ e. less (count ∙ ap (λ n. length first + n) (e ∙ many)) in
@@ -273,10 +218,10 @@ pub Steps-few : (old new : FirState) (xs first last : List ℤ) → Steps old ne
     → length last ≤ length first + length xs
 Steps-few old new xs first last so_far =
     let taken = reverse old.window in
-    let zs = outputs_behind old.taps old.shift taken xs in
+    let zs = outputs_of_block old.taps old.shift taken xs in
     let count : length last ≡ length first + length (before_too_big zs) =
     ap length (so_far.made taken (stands_somewhere old)) ∙ length-append first (before_too_big zs) in
-    omega (arith, before-few zs, length-outputs_behind old.taps old.shift taken xs)
+    omega (arith, before-few zs, length-outputs_of_block old.taps old.shift taken xs)
 
 -- one step, whose answer is in range
 Steps-one : (old new : FirState) (x y : ℤ) (made : List ℤ)
@@ -290,9 +235,7 @@ Steps-one old new x y made answer stands taps shift = record {
       let z = output_after old.taps old.shift (taken ++ x ∷ []) in
       let told = ranged-ok z y (sym (answer taken has)) in
       ap (λ v. made ++ v ∷ []) (sym told.0)
-      ∙ (ap (λ l. made ++ l) (sym (before-cons z [] true (ap not told.1)))
-      ∙ ap (λ l. made ++ before_too_big l)
-      (sym (outputs_behind-from old.taps old.shift taken (x ∷ []))));
+      ∙ ap (λ l. made ++ l) (sym (before-cons z [] true (ap not told.1)));
   stands = λ taken has.
       subst (λ l. StandsFor new (taken ++ l))
       (sym (take_all (length (made ++ y ∷ []) - length made + 1) (x ∷ []) (omega arith)))
@@ -313,9 +256,7 @@ Steps-over old new x made fault answer stands taps shift = record {
       let z = output_after old.taps old.shift (taken ++ x ∷ []) in
       let told = ranged-err z fault (sym (answer taken has)) in
       sym (append-nil made)
-      ∙ (ap (λ l. made ++ l) (sym (before-cons z [] false (ap not told)))
-      ∙ ap (λ l. made ++ before_too_big l)
-      (sym (outputs_behind-from old.taps old.shift taken (x ∷ []))));
+      ∙ ap (λ l. made ++ l) (sym (before-cons z [] false (ap not told)));
   stands = λ taken has.
       subst (λ l. StandsFor new (taken ++ l))
       (sym (take_all (length made - length made + 1) (x ∷ []) (omega arith)))
@@ -331,39 +272,39 @@ module _ (old between new : FirState) (samples first middle : List ℤ) (i : ℕ
     → StandsFor new (taken ++ get_or samples i (pos 0) ∷ []))
     (taps : new.taps ≡ between.taps) (shift : new.shift ≡ between.shift)
   where
-  many : length (take i samples) ≡ i
-  many = length-take-le i samples (omega arith)
+    many : length (take i samples) ≡ i
+    many = length-take-le i samples (omega arith)
 
-  -- after i steps one more
-  pub Steps-more : (y : ℤ) → ((taken : List ℤ) → StandsFor between taken
-      → Ok y ≡ ranged (output_after between.taps between.shift
-      (taken ++ get_or samples i (pos 0) ∷ [])))
-      → Steps old new (take (i + 1) samples) first (middle ++ y ∷ [])
-  Steps-more y answer =
-      subst (λ l. Steps old new l first (middle ++ y ∷ [])) (sym (take_more samples i (pos 0) below))
-      (Steps-then old between new (take i samples) (get_or samples i (pos 0) ∷ []) first middle
-      (middle ++ y ∷ []) so_far (all ∙ ap (λ n. length first + n) (sym many))
-      (Steps-one between new (get_or samples i (pos 0)) y middle answer stands taps shift))
+    -- after i steps one more
+    pub Steps-more : (y : ℤ) → ((taken : List ℤ) → StandsFor between taken
+        → Ok y ≡ ranged (output_after between.taps between.shift
+        (taken ++ get_or samples i (pos 0) ∷ [])))
+        → Steps old new (take (i + 1) samples) first (middle ++ y ∷ [])
+    Steps-more y answer =
+        subst (λ l. Steps old new l first (middle ++ y ∷ [])) (sym (take_more samples i (pos 0) below))
+        (Steps-then old between new (take i samples) (get_or samples i (pos 0) ∷ []) first middle
+        (middle ++ y ∷ []) so_far (all ∙ ap (λ n. length first + n) (sym many))
+        (Steps-one between new (get_or samples i (pos 0)) y middle answer stands taps shift))
 
-  -- after i steps the last one
-  pub Steps-ended : (fault : TooBigValue) → ((taken : List ℤ) → StandsFor between taken
-      → Err fault ≡ ranged (output_after between.taps between.shift
-      (taken ++ get_or samples i (pos 0) ∷ [])))
-      → Steps old new samples first middle
-  Steps-ended fault answer =
-      let xs = take i samples ++ get_or samples i (pos 0) ∷ [] in
-      let whole : xs ++ drop (i + 1) samples ≡ samples =
-      ap (λ l. l ++ drop (i + 1) samples) (sym (take_more samples i (pos 0) below))
-      ∙ take-append-drop (i + 1) samples in
-      let long : length xs ≡ i + 1 = length_push (take i samples) (get_or samples i (pos 0))
-      ∙ (omega (arith, many)) in
-      subst (λ l. Steps old new l first middle) whole
-      (Steps-stop old new xs (drop (i + 1) samples) first middle
-      (Steps-then old between new (take i samples) (get_or samples i (pos 0) ∷ []) first middle
-      middle so_far (all ∙ ap (λ n. length first + n) (sym many))
-      (Steps-over between new (get_or samples i (pos 0)) middle fault answer stands taps shift))
-      (λ e. let no : length middle ≡ length first + (i + 1)
-      = e ∙ ap (λ n. length first + n) long in omega (arith, all)))
+    -- after i steps the last one
+    pub Steps-ended : (fault : TooBigValue) → ((taken : List ℤ) → StandsFor between taken
+        → Err fault ≡ ranged (output_after between.taps between.shift
+        (taken ++ get_or samples i (pos 0) ∷ [])))
+        → Steps old new samples first middle
+    Steps-ended fault answer =
+        let xs = take i samples ++ get_or samples i (pos 0) ∷ [] in
+        let whole : xs ++ drop (i + 1) samples ≡ samples =
+        ap (λ l. l ++ drop (i + 1) samples) (sym (take_more samples i (pos 0) below))
+        ∙ take-append-drop (i + 1) samples in
+        let long : length xs ≡ i + 1 = length_push (take i samples) (get_or samples i (pos 0))
+        ∙ (omega (arith, many)) in
+        subst (λ l. Steps old new l first middle) whole
+        (Steps-stop old new xs (drop (i + 1) samples) first middle
+        (Steps-then old between new (take i samples) (get_or samples i (pos 0) ∷ []) first middle
+        middle so_far (all ∙ ap (λ n. length first + n) (sym many))
+        (Steps-over between new (get_or samples i (pos 0)) middle fault answer stands taps shift))
+        (λ e. let no : length middle ≡ length first + (i + 1)
+        = e ∙ ap (λ n. length first + n) long in omega (arith, all)))
 
 -- ---- many at once
 
@@ -405,9 +346,9 @@ pub Steps-block : (taps line old xs block made : List ℤ) (shift : ℕ) → Are
 Steps-block taps line old xs block made shift are small held sixteen same is = record {
   made = λ taken has.
       let agree = Agree-stands taps shift old line taken same has in
-      ap (λ l. made ++ l) (sym (ap before_too_big (outputs_behind-agree taps shift taken line xs
-      (λ j lt. sym (agree j lt))) ∙ before-ranged (outputs_behind taps shift line xs) block
-      (length-outputs_behind taps shift line xs ∙ (sixteen ∙ sym long)) each));
+      ap (λ l. made ++ l) (sym (ap before_too_big (outputs_of_block-agree taps shift taken line xs
+      (λ j lt. sym (agree j lt))) ∙ before-ranged (outputs_of_block taps shift line xs) block
+      (length-outputs_of_block taps shift line xs ∙ (sixteen ∙ sym long)) each));
   stands = λ taken has.
       let agree = Agree-stands taps shift old line taken same has in
       subst (λ l. StandsFor (fir_of taps shift (line ++ xs)) (taken ++ l))
@@ -425,12 +366,21 @@ Steps-block taps line old xs block made shift are small held sixteen same is = r
     whole : length line + 16 ≤ length (line ++ xs)
     whole = omega (arith, length-append line xs)
 
-    each : (k : ℕ) → k < length block → ranged (get_or (outputs_behind taps shift line xs) k (pos 0))
+    entry : (k : ℕ) → get_or (outputs_of_block taps shift line xs) k (pos 0)
+        ≡ get_or (outputs taps shift (line ++ xs)) (length line + k) (pos 0)
+    entry k =
+        let first = outputs taps shift line in
+        let rest = outputs_of_block taps shift line xs in
+        sym (ap (λ l. get_or l (length line + k) (pos 0)) (outputs-block taps shift line xs)
+        ∙ (ap (λ n. get_or (first ++ rest) (n + k) (pos 0)) (sym (outputs-length taps shift line))
+        ∙ get_or-append-add first rest k (pos 0)))
+
+    each : (k : ℕ) → k < length block → ranged (get_or (outputs_of_block taps shift line xs) k (pos 0))
         ≡ Ok (get_or block k (pos 0))
     each k lt =
         let below : k < 16 = omega (arith, long) in
         let held_at : length taps ≤ length line + 1 = omega arith in
-        ap ranged (get_or-drop (length line) (outputs taps shift (line ++ xs)) k (pos 0))
+        ap ranged (entry k)
         ∙ (block-output taps (line ++ xs) shift (length line) k are small held_at whole below
         ∙ ap Ok (sym (ap (λ l. get_or l k (pos 0)) is
         ∙ outputs_shown-entry taps (shown taps (line ++ xs) (length line)) shift k 16 below)))

@@ -144,8 +144,10 @@ IsNarrowBack-small taps samples narrow =
     omega (arith, length-take (length taps) (reverse samples)) in
     let past : k < length (reverse samples) =
     omega (arith, length-take (length taps) (reverse samples)) in
-    rw (get_or-take (length taps) (reverse samples) k d few,
-      get_or_default (reverse samples) k d (pos 0) past) (narrow.small k few))) in
+    rw (
+      get_or-take (length taps) (reverse samples) k d few,
+      get_or_default (reverse samples) k d (pos 0) past,
+    ) (narrow.small k few))) in
     let fits = narrow.fits in
     rw same (omega arith)
 

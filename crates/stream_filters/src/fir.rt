@@ -1,6 +1,6 @@
 //! The filter with a finite window.
 ghost use Rattle.std.specs.Prelude.{◌≡◌, ◌↔◌, ◌+◌, ◌-◌, ◌^◌, ◌<◌, ◌≤◌, List, [], ◌∷◌, ◌++◌, ℤ, length, take, reverse, vec_capacity, IsTrue, IsOk, IfOk, false};
-ghost use Rattle.stream_filters.specs.Filter.{AreTaps, StandsFor, after_sample, output_after, outputs_behind, weight};
+ghost use Rattle.stream_filters.specs.Filter.{AreTaps, StandsFor, after_sample, output_after, outputs_of_block, weight};
 ghost use Rattle.stream_filters.specs.FilterFields.{window_of};
 ghost use Rattle.stream_filters.specs.Range.{before_too_big, ranged};
 
@@ -175,7 +175,7 @@ impl Fir {
         requires room { length made.old.items + length samples.now ≤ vec_capacity made.old }
         ensures made { (taken : List ℤ) → StandsFor self.old taken
             → made.new.items ≡ made.old.items
-            ++ before_too_big (outputs_behind self.old.taps self.old.shift taken samples.now) }
+            ++ before_too_big (outputs_of_block self.old.taps self.old.shift taken samples.now) }
         ensures stands { (taken : List ℤ) → StandsFor self.old taken
             → let count = length made.new.items - length made.old.items in
             StandsFor self.new (taken ++ take (count + 1) samples.now) }

@@ -13,12 +13,22 @@ narrow_output-requires-clause-narrow c =
 -- the answer is the output at the last sample of the line
 pub returns-then-self-gt0 : goal.returns-then-self-gt0
 returns-then-self-gt0 c =
-    rw (← c.self.view_is, answer_at-line c.self.inside.taps.items c.self.inside.shift
-    c.self.inside.line.items, ← c.deref.ensures.value, ← c.deref-then-self-gt0.ensures.value)
+    rw (
+      ← c.self.view_is,
+      answer_at-line c.self.inside.taps.items c.self.inside.shift
+          c.self.inside.line.items,
+      ← c.deref.ensures.value,
+      ← c.deref-then-self-gt0.ensures.value,
+    )
     c.last_output.ensures
 
 pub returns : goal.returns
 returns c =
-    rw (← c.self.view_is, answer_at-line c.self.inside.taps.items c.self.inside.shift
-    c.self.inside.line.items, ← c.deref-2.ensures.value, ← c.deref-3.ensures.value)
+    rw (
+      ← c.self.view_is,
+      answer_at-line c.self.inside.taps.items c.self.inside.shift
+          c.self.inside.line.items,
+      ← c.deref-2.ensures.value,
+      ← c.deref-3.ensures.value,
+    )
     (search rules)

@@ -58,7 +58,11 @@ loop-x-preserved c =
           c.loop-x.invariant.0 c.loop-x.invariant.1 (stands told) c.step.ensures.taps
           c.step.ensures.shift c.in_ok-step.field-0
           (λ taken has. sym c.in_ok-step.was ∙ answer told taken has)),
-      omega (arith, ap length items, length_push c.loop-x.made.items c.in_ok-step.field-0,
-          c.loop-x.invariant.1),
+      omega (
+        arith,
+        ap length items,
+        length_push c.loop-x.made.items c.in_ok-step.field-0,
+        c.loop-x.invariant.1,
+      ),
       c.push_reserved.ensures.capacity ∙ c.loop-x.invariant.2,
     )

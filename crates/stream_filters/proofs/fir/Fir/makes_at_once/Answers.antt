@@ -75,8 +75,12 @@ invariant_of-self c =
     record {
       are_taps = c.self.invariant.are_taps;
       held = omega (arith, held here, long, ap length c.put_all.ensures.items);
-      room = omega (arith, c.put_all.ensures.capacity, c.make_room.ensures.capacity,
-          c.self.invariant.room);
+      room = omega (
+        arith,
+        c.put_all.ensures.capacity,
+        c.make_room.ensures.capacity,
+        c.self.invariant.room,
+      );
       short = c.self.invariant.short;
       light = c.self.invariant.light;
       recent = λ j lt.

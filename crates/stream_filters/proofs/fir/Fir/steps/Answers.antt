@@ -50,9 +50,13 @@ blocked c =
 sliced : (c : After-branch-block) → length (take (c.loop-at.at + 16 - c.loop-at.at)
     (drop c.loop-at.at c.args.samples.now)) ≡ 16
 sliced c =
-    omega (arith, length-take (c.loop-at.at + 16 - c.loop-at.at)
-    (drop c.loop-at.at c.args.samples.now), length-drop c.loop-at.at c.args.samples.now,
-    c.loop-at-test.true)
+    omega (
+      arith,
+      length-take (c.loop-at.at + 16 - c.loop-at.at)
+          (drop c.loop-at.at c.args.samples.now),
+      length-drop c.loop-at.at c.args.samples.now,
+      c.loop-at-test.true,
+    )
 
 -- it ends where an output of the block is out of range
 less : (c : After-from_residual)

@@ -32,10 +32,16 @@ next c =
     let size : c.unsigned_abs.result ≡ unsigned_abs c.args.x =
     c.unsigned_abs.ensures.value ∙ ap unsigned_abs (to_z-of_z w64 c.args.x c.ranges.x) in
     elim c.if-unsigned_abs-self.branch [
-      then-unsigned_abs-self w ↦ inr (omega (arith, w.self-is, w.len-self-inside.ensures))
-    | else-unsigned_abs-self w ↦ inl
-      (omega (arith, w.if-unsigned_abs-self.false, size), omega (arith, w.self-is,
-      w.saturating_sub-self-inside.ensures)) ]
+      | then-unsigned_abs-self w ↦ inr (omega (arith, w.self-is, w.len-self-inside.ensures))
+      | else-unsigned_abs-self w ↦ inl (
+        omega (arith, w.if-unsigned_abs-self.false, size),
+        omega (
+          arith,
+          w.self-is,
+          w.saturating_sub-self-inside.ensures,
+        ),
+      )
+    ]
 
 pub invariant_of-self : goal.invariant_of-self
 invariant_of-self c =
