@@ -10,7 +10,7 @@ use Rattle.stream_filters.specs.FilterFields.{AreSmall, AreSmallAt, Steps, windo
 use Rattle.stream_filters.specs.Lanes.{output_shown}
 use Rattle.stream_filters.specs.Range.{before_too_big, is_out_of_range, ranged}
 use Rattle.stream_filters.proofs.Lines.{AreRecent, AreSmall-behind, Agree, Agree-append, Agree-push, Agree-stands, StandsFor-agree, fir_of}
-use Rattle.stream_filters.proofs.Made.{ranged-ok, ranged-err}
+use Rattle.stream_filters.proofs.Made.{ranged-err, ranged-fits, ranged-ok}
 use Rattle.stream_filters.proofs.Outputs.{outputs-block, outputs-length}
 use Rattle.stream_filters.proofs.Weighted.{weighted-same}
 use Rattle.stream_filters.proofs.WholeLists.{block-output, outputs_shown-entry, shown}
@@ -98,6 +98,26 @@ before-some (z ∷ zs) ws less = by (before-some zs ws) (fits z) refl
         (rest (λ e. less (ap length (before-cons z zs true f) ∙ ap suc e)))
         ∙ sym (before-cons z zs true f))
     by rest false f = before-cons z (zs ++ ws) false f ∙ sym (before-cons z zs false f)
+
+-- where all are in range, each is its own answer
+pub ranged-all : (zs : List ℤ) → length (before_too_big zs) ≡ length zs
+    → map ranged zs ≡ map (λ z. Ok z) (before_too_big zs)
+ranged-all [] e = refl
+ranged-all (z ∷ zs) e = by (ranged-all zs) (fits z) refl
+  where
+    by : (length (before_too_big zs) ≡ length zs
+        → map ranged zs ≡ map (λ z. Ok z) (before_too_big zs))
+        → (b : Bool) → fits z ≡ b
+        → map ranged (z ∷ zs) ≡ map (λ z. Ok z) (before_too_big (z ∷ zs))
+    by rest true f =
+        let long : suc (length (before_too_big zs)) ≡ suc (length zs) =
+        sym (ap length (before-cons z zs true f)) ∙ e in
+        ap (λ r. r ∷ map ranged zs) (ranged-fits z f)
+        ∙ (ap (λ l. Ok z ∷ l) (rest (omega arith))
+        ∙ ap (map (λ x. Ok x)) (sym (before-cons z zs true f)))
+    by rest false f =
+        let short : 0 ≡ suc (length zs) = sym (ap length (before-cons z zs false f)) ∙ e in
+        absurd (omega arith)
 
 -- these numbers are in range
 pub before-ranged : (zs ys : List ℤ) → length zs ≡ length ys
