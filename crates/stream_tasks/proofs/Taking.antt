@@ -1,8 +1,9 @@
 -- What tasks take by their first waits, and what a filter makes of values that it takes one after the
 -- other.
 use Rattle.std.proofs.Common.{◌≡◌, ◌≢◌, ℕ, zero, suc, nat_eq, true, false, ◌+◌, ◌-◌, ◌<◌, ◌≤◌, ℤ, List, [], ◌∷◌, ◌++◌, length, get_or, map, refl, sym, ap, subst, ◌∙◌, arith}
-use Rattle.std.specs.Prelude.{Ok, Option, take}
-use Rattle.std.proofs.lemmas.List.{append_assoc, append-nil, length-append, map-append, take_all}
+use Rattle.std.specs.Prelude.{Ok, Option, drop, take}
+use Rattle.std.proofs.lemmas.List.{append_assoc, append-nil, length-append, length-take, map-append, take_all}
+use Rattle.std.proofs.Math.Seq.{take-add}
 use Rattle.stream_eval.specs.stream_filters.Filter.{FirState}
 use Rattle.stream_eval.specs.stream_filters.Range.{before_too_big, ranged}
 use Rattle.stream_eval.specs.stream_lists.Lists.{number}
@@ -65,6 +66,32 @@ made_then task xs ys old between new made after so all outputs next = record {
       ∙ ap (map (λ v. Ok v)) (sym here)))));
   many = all ∙ (omega (arith, so.many, length-append xs ys));
 }
+
+take_few : (n : ℕ) (xs : List ℤ) → length (take n xs) ≤ length xs
+take_few n xs = omega (arith, length-take n xs)
+
+-- no more answers come than there are values
+pub made_few : (task : Task) (ys : List ℤ) (between : Option FirState) (made after taken : List ℤ)
+    → HasFilter task between taken
+    → (HasFilter task between taken → after ≡ made
+    ++ before_too_big (outputs_of_block task.taps task.shift taken ys))
+    → length after ≤ length made + length ys
+made_few task ys between made after taken has outputs =
+    let zs = outputs_of_block task.taps task.shift taken ys in
+    let count = ap length (outputs has) ∙ length-append made (before_too_big zs) in
+    let few : length (before_too_big zs) ≤ length zs = take_few _ zs in
+    omega (arith, count, length-outputs_of_block task.taps task.shift taken ys)
+
+-- the numbers of more outcomes, behind those before them
+pub numbers_then : (os : List Outcome) (at end : ℕ) (ys : List ℤ) → at ≤ end
+    → ys ≡ map number (take (end - at) (drop at os))
+    → map number (take at os) ++ ys ≡ map number (take end os)
+numbers_then os at end ys le is =
+    let sum : at + (end - at) ≡ end = omega arith in
+    ap (λ l. map number (take at os) ++ l) is
+    ∙ (sym (map-append number (take at os) (take (end - at) (drop at os)))
+    ∙ (ap (map number) (sym (take-add at (end - at) os))
+    ∙ ap (λ n. map number (take n os)) sum))
 
 -- what a filter has made of what it took is what it owes
 pub filter_owes : (task : Task) (begun : ℕ) (taken : List ℤ) (os : List Outcome) (made : List ℤ)
