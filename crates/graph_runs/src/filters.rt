@@ -4,7 +4,7 @@ ghost use Rattle.stream_lists.specs.graph_base.Graphs.{task_at};
 ghost use Rattle.stream_lists.specs.graph_base.declared.line.Kind.TheVariants.{Fir as filters};
 ghost use Rattle.graph_runs.specs.Steps.{HasFilter};
 ghost use Rattle.stream_lists.specs.stream_filters.Filter.{output_after, outputs_of_block};
-ghost use Rattle.stream_lists.specs.stream_filters.Range.{before_too_big, ranged};
+ghost use Rattle.stream_lists.specs.stream_filters.Range.{before_out_of_range, ranged};
 
 use crate::lines::kind_of;
 use std::alloc::{AllocError, Global};
@@ -62,7 +62,7 @@ pub fn filtered_all(
     ensures made { (taken : List ℤ) → HasFilter (task_at job.now.graph t) filter.old taken
         → let task = task_at job.now.graph t in
         made.new.items ≡ made.old.items
-        ++ before_too_big (outputs_of_block task.taps task.shift taken xs.now) }
+        ++ before_out_of_range (outputs_of_block task.taps task.shift taken xs.now) }
     ensures filter { (taken : List ℤ) → HasFilter (task_at job.now.graph t) filter.old taken
         → let count = length made.new.items - length made.old.items in
         HasFilter (task_at job.now.graph t) filter.new (taken ++ take (count + 1) xs.now) }

@@ -6,9 +6,9 @@ use Rattle.std.proofs.lemmas.List.{get_or-append-add, length_push, length-append
 use Rattle.std.proofs.lemmas.List.Sums.{take_while-cons}
 use Rattle.std.proofs.Math.Seq.{take-append-add}
 use Rattle.stream_filters.specs.Filter.{AreTaps, FirState, StandsFor, output_after, outputs, outputs_of_block, shifted_down, weight}
-use Rattle.stream_filters.specs.FilterFields.{AreSmall, AreSmallAt, Steps, window_of}
+use Rattle.stream_filters.specs.FilterFields.{AreSmall, AreSmallAt, HasStepped, window_of}
 use Rattle.stream_filters.specs.Lanes.{output_shown}
-use Rattle.stream_filters.specs.Range.{before_too_big, is_out_of_range, ranged}
+use Rattle.stream_filters.specs.Range.{before_out_of_range, is_out_of_range, ranged}
 use Rattle.stream_filters.proofs.Lines.{AreRecent, AreSmall-behind, Agree, Agree-append, Agree-push, Agree-stands, StandsFor-agree, fir_of}
 use Rattle.stream_filters.proofs.Made.{ranged-err, ranged-fits, ranged-ok}
 use Rattle.stream_filters.proofs.Outputs.{outputs-block, outputs-length}
@@ -57,41 +57,41 @@ abbrev fits : ℤ → Bool
 fits z = not (is_out_of_range z)
 
 before-cons : (z : ℤ) (zs : List ℤ) (b : Bool) → fits z ≡ b
-    → before_too_big (z ∷ zs) ≡ cond b (z ∷ before_too_big zs) []
+    → before_out_of_range (z ∷ zs) ≡ cond b (z ∷ before_out_of_range zs) []
 before-cons z zs b e =
-    take_while-cons fits z zs ∙ ap (λ t. cond t (z ∷ before_too_big zs) []) e
+    take_while-cons fits z zs ∙ ap (λ t. cond t (z ∷ before_out_of_range zs) []) e
 
-before-few : (zs : List ℤ) → length (before_too_big zs) ≤ length zs
+before-few : (zs : List ℤ) → length (before_out_of_range zs) ≤ length zs
 before-few zs = omega (arith, length-take (prefix_len fits zs) zs)
 
 -- where all are in range, those that come behind count too
-pub before-all : (zs ws : List ℤ) → length (before_too_big zs) ≡ length zs
-    → before_too_big (zs ++ ws) ≡ before_too_big zs ++ before_too_big ws
+pub before-all : (zs ws : List ℤ) → length (before_out_of_range zs) ≡ length zs
+    → before_out_of_range (zs ++ ws) ≡ before_out_of_range zs ++ before_out_of_range ws
 before-all [] ws e = refl
 before-all (z ∷ zs) ws e = by (before-all zs ws) (fits z) refl
   where
-    by : (length (before_too_big zs) ≡ length zs
-        → before_too_big (zs ++ ws) ≡ before_too_big zs ++ before_too_big ws)
+    by : (length (before_out_of_range zs) ≡ length zs
+        → before_out_of_range (zs ++ ws) ≡ before_out_of_range zs ++ before_out_of_range ws)
         → (b : Bool) → fits z ≡ b
-        → before_too_big (z ∷ zs ++ ws) ≡ before_too_big (z ∷ zs) ++ before_too_big ws
+        → before_out_of_range (z ∷ zs ++ ws) ≡ before_out_of_range (z ∷ zs) ++ before_out_of_range ws
     by rest true f =
-        let long : suc (length (before_too_big zs)) ≡ suc (length zs) =
+        let long : suc (length (before_out_of_range zs)) ≡ suc (length zs) =
         sym (ap length (before-cons z zs true f)) ∙ e in
         before-cons z (zs ++ ws) true f
         ∙ (ap (λ l. z ∷ l) (rest (omega arith))
-        ∙ ap (λ l. l ++ before_too_big ws) (sym (before-cons z zs true f)))
+        ∙ ap (λ l. l ++ before_out_of_range ws) (sym (before-cons z zs true f)))
     by rest false f =
         let short : 0 ≡ suc (length zs) = sym (ap length (before-cons z zs false f)) ∙ e in
         absurd (omega arith)
 
 -- where one is not, they do not
-pub before-some : (zs ws : List ℤ) → length (before_too_big zs) ≢ length zs
-    → before_too_big (zs ++ ws) ≡ before_too_big zs
+pub before-some : (zs ws : List ℤ) → length (before_out_of_range zs) ≢ length zs
+    → before_out_of_range (zs ++ ws) ≡ before_out_of_range zs
 before-some [] ws less = absurd (less refl)
 before-some (z ∷ zs) ws less = by (before-some zs ws) (fits z) refl
   where
-    by : (length (before_too_big zs) ≢ length zs → before_too_big (zs ++ ws) ≡ before_too_big zs)
-        → (b : Bool) → fits z ≡ b → before_too_big (z ∷ zs ++ ws) ≡ before_too_big (z ∷ zs)
+    by : (length (before_out_of_range zs) ≢ length zs → before_out_of_range (zs ++ ws) ≡ before_out_of_range zs)
+        → (b : Bool) → fits z ≡ b → before_out_of_range (z ∷ zs ++ ws) ≡ before_out_of_range (z ∷ zs)
     by rest true f =
         before-cons z (zs ++ ws) true f
         ∙ (ap (λ l. z ∷ l)
@@ -100,17 +100,17 @@ before-some (z ∷ zs) ws less = by (before-some zs ws) (fits z) refl
     by rest false f = before-cons z (zs ++ ws) false f ∙ sym (before-cons z zs false f)
 
 -- where all are in range, each is its own answer
-pub ranged-all : (zs : List ℤ) → length (before_too_big zs) ≡ length zs
-    → map ranged zs ≡ map (λ z. Ok z) (before_too_big zs)
+pub ranged-all : (zs : List ℤ) → length (before_out_of_range zs) ≡ length zs
+    → map ranged zs ≡ map (λ z. Ok z) (before_out_of_range zs)
 ranged-all [] e = refl
 ranged-all (z ∷ zs) e = by (ranged-all zs) (fits z) refl
   where
-    by : (length (before_too_big zs) ≡ length zs
-        → map ranged zs ≡ map (λ z. Ok z) (before_too_big zs))
+    by : (length (before_out_of_range zs) ≡ length zs
+        → map ranged zs ≡ map (λ z. Ok z) (before_out_of_range zs))
         → (b : Bool) → fits z ≡ b
-        → map ranged (z ∷ zs) ≡ map (λ z. Ok z) (before_too_big (z ∷ zs))
+        → map ranged (z ∷ zs) ≡ map (λ z. Ok z) (before_out_of_range (z ∷ zs))
     by rest true f =
-        let long : suc (length (before_too_big zs)) ≡ suc (length zs) =
+        let long : suc (length (before_out_of_range zs)) ≡ suc (length zs) =
         sym (ap length (before-cons z zs true f)) ∙ e in
         ap (λ r. r ∷ map ranged zs) (ranged-fits z f)
         ∙ (ap (λ l. Ok z ∷ l) (rest (omega arith))
@@ -122,20 +122,20 @@ ranged-all (z ∷ zs) e = by (ranged-all zs) (fits z) refl
 -- these numbers are in range
 pub before-ranged : (zs ys : List ℤ) → length zs ≡ length ys
     → ((k : ℕ) → k < length ys → ranged (get_or zs k (pos 0)) ≡ Ok (get_or ys k (pos 0)))
-    → before_too_big zs ≡ ys
+    → before_out_of_range zs ≡ ys
 before-ranged [] [] long each = refl
 before-ranged [] (y ∷ ys) long each = absurd (omega arith)
 before-ranged (z ∷ zs) [] long each = absurd (omega arith)
 before-ranged (z ∷ zs) (y ∷ ys) long each =
     let first = ranged-ok z y (each 0 (omega arith)) in
     before-cons z zs true (ap not first.1)
-    ∙ (ap (λ x. x ∷ before_too_big zs) first.0
+    ∙ (ap (λ x. x ∷ before_out_of_range zs) first.0
     ∙ ap (λ l. y ∷ l) (before-ranged zs ys (omega arith) (λ k lt. each (suc k) (omega arith))))
 
 -- ---- steps
 
-pub Steps-none : (fir : FirState) (made : List ℤ) → Steps fir fir [] made made
-Steps-none fir made = record {
+pub HasStepped-none : (fir : FirState) (made : List ℤ) → HasStepped fir fir [] made made
+HasStepped-none fir made = record {
   made = λ taken has. sym (append-nil made);
   stands = λ taken has. subst (StandsFor fir)
       (sym (ap (λ l. taken ++ l) (take_all (length made - length made + 1) [] (omega arith))
@@ -145,32 +145,32 @@ Steps-none fir made = record {
 }
 
 -- steps, and more behind them
-pub Steps-then : (old between new : FirState) (xs ys first middle last : List ℤ)
-    → Steps old between xs first middle → length middle ≡ length first + length xs
-    → Steps between new ys middle last → Steps old new (xs ++ ys) first last
-Steps-then old between new xs ys first middle last so_far all more = record {
+pub HasStepped-then : (old between new : FirState) (xs ys first middle last : List ℤ)
+    → HasStepped old between xs first middle → length middle ≡ length first + length xs
+    → HasStepped between new ys middle last → HasStepped old new (xs ++ ys) first last
+HasStepped-then old between new xs ys first middle last so_far all more = record {
   made = λ taken has.
       let zs = outputs_of_block old.taps old.shift taken xs in
       let ws = outputs_of_block old.taps old.shift (taken ++ xs) ys in
       let many : length zs ≡ length xs = length-outputs_of_block old.taps old.shift taken xs in
       let here = so_far.made taken has in
-      let count : length middle ≡ length first + length (before_too_big zs) =
-      ap length here ∙ length-append first (before_too_big zs) in
+      let count : length middle ≡ length first + length (before_out_of_range zs) =
+      ap length here ∙ length-append first (before_out_of_range zs) in
       let stands = all_taken taken has in
       let same : outputs_of_block between.taps between.shift (taken ++ xs) ys ≡ ws =
       ap (λ t. outputs_of_block t between.shift (taken ++ xs) ys) so_far.taps
       ∙ ap (λ s. outputs_of_block old.taps s (taken ++ xs) ys) so_far.shift in
       more.made (taken ++ xs) stands
-      ∙ (ap (λ l. middle ++ before_too_big l) same
-      ∙ (ap (λ l. l ++ before_too_big ws) here
-      ∙ (append_assoc first (before_too_big zs) (before_too_big ws)
+      ∙ (ap (λ l. middle ++ before_out_of_range l) same
+      ∙ (ap (λ l. l ++ before_out_of_range ws) here
+      ∙ (append_assoc first (before_out_of_range zs) (before_out_of_range ws)
       ∙ (ap (λ l. first ++ l) (sym (before-all zs ws (omega arith)))
-      ∙ ap (λ l. first ++ before_too_big l)
+      ∙ ap (λ l. first ++ before_out_of_range l)
       (sym (outputs_of_block-append old.taps old.shift taken xs ys))))));
   stands = λ taken has.
       let stands = all_taken taken has in
       let grows = ap length (more.made (taken ++ xs) stands)
-      ∙ length-append middle (before_too_big
+      ∙ length-append middle (before_out_of_range
       (outputs_of_block between.taps between.shift (taken ++ xs) ys)) in
       let count : length last - length first + 1 ≡ length xs + (length last - length middle + 1) =
       omega (arith, grows) in
@@ -188,16 +188,16 @@ Steps-then old between new xs ys first middle last so_far all more = record {
         (take_all (length middle - length first + 1) xs (omega arith)) (so_far.stands taken has)
 
 -- steps that ended with an output out of range: what comes behind is not taken
-pub Steps-stop : (old new : FirState) (xs ys first last : List ℤ)
-    → Steps old new xs first last → length last ≢ length first + length xs
-    → Steps old new (xs ++ ys) first last
-Steps-stop old new xs ys first last so_far less = record {
+pub HasStepped-stop : (old new : FirState) (xs ys first last : List ℤ)
+    → HasStepped old new xs first last → length last ≢ length first + length xs
+    → HasStepped old new (xs ++ ys) first last
+HasStepped-stop old new xs ys first last so_far less = record {
   made = λ taken has.
       let zs = outputs_of_block old.taps old.shift taken xs in
       let ws = outputs_of_block old.taps old.shift (taken ++ xs) ys in
       let here = so_far.made taken has in
       here ∙ (ap (λ l. first ++ l) (sym (before-some zs ws (other taken has)))
-      ∙ ap (λ l. first ++ before_too_big l) (sym (outputs_of_block-append old.taps old.shift taken xs ys)));
+      ∙ ap (λ l. first ++ before_out_of_range l) (sym (outputs_of_block-append old.taps old.shift taken xs ys)));
   stands = λ taken has.
       subst (λ l. StandsFor new (taken ++ l))
       (sym (take-append-le (length last - length first + 1) xs ys (few taken has)))
@@ -207,11 +207,11 @@ Steps-stop old new xs ys first last so_far less = record {
 }
   where
     counted : (taken : List ℤ) → StandsFor old taken → length last
-        ≡ length first + length (before_too_big (outputs_of_block old.taps old.shift taken xs))
+        ≡ length first + length (before_out_of_range (outputs_of_block old.taps old.shift taken xs))
     counted taken has = ap length (so_far.made taken has) ∙ length-append first _
 
     other : (taken : List ℤ) → StandsFor old taken
-        → length (before_too_big (outputs_of_block old.taps old.shift taken xs))
+        → length (before_out_of_range (outputs_of_block old.taps old.shift taken xs))
         ≢ length (outputs_of_block old.taps old.shift taken xs)
     other taken has e =
         less (counted taken has ∙ ap (λ n. length first + n)
@@ -220,11 +220,11 @@ Steps-stop old new xs ys first last so_far less = record {
     few : (taken : List ℤ) → StandsFor old taken → length last - length first + 1 ≤ length xs
     few taken has =
         let zs = outputs_of_block old.taps old.shift taken xs in
-        let count : length last ≡ length first + length (before_too_big zs) =
-        ap length (so_far.made taken has) ∙ length-append first (before_too_big zs) in
+        let count : length last ≡ length first + length (before_out_of_range zs) =
+        ap length (so_far.made taken has) ∙ length-append first (before_out_of_range zs) in
         let many : length zs ≡ length xs = length-outputs_of_block old.taps old.shift taken xs in
         let le = before-few zs in
-        let differ : length (before_too_big zs) ≢ length zs =
+        let differ : length (before_out_of_range zs) ≢ length zs =
         λ e. less (count ∙ ap (λ n. length first + n) (e ∙ many)) in
         omega (arith, differ)
 
@@ -234,23 +234,23 @@ stands_somewhere fir =
     record { shows = λ j lt. ap (λ l. get_or l j (pos 0)) (sym (reverse-reverse fir.window)) }
 
 -- there is an output for each sample at most
-pub Steps-few : (old new : FirState) (xs first last : List ℤ) → Steps old new xs first last
+pub HasStepped-few : (old new : FirState) (xs first last : List ℤ) → HasStepped old new xs first last
     → length last ≤ length first + length xs
-Steps-few old new xs first last so_far =
+HasStepped-few old new xs first last so_far =
     let taken = reverse old.window in
     let zs = outputs_of_block old.taps old.shift taken xs in
-    let count : length last ≡ length first + length (before_too_big zs) =
-    ap length (so_far.made taken (stands_somewhere old)) ∙ length-append first (before_too_big zs) in
+    let count : length last ≡ length first + length (before_out_of_range zs) =
+    ap length (so_far.made taken (stands_somewhere old)) ∙ length-append first (before_out_of_range zs) in
     omega (arith, before-few zs, length-outputs_of_block old.taps old.shift taken xs)
 
 -- one step, whose answer is in range
-Steps-one : (old new : FirState) (x y : ℤ) (made : List ℤ)
+HasStepped-one : (old new : FirState) (x y : ℤ) (made : List ℤ)
     → ((taken : List ℤ) → StandsFor old taken
     → Ok y ≡ ranged (output_after old.taps old.shift (taken ++ x ∷ [])))
     → ((taken : List ℤ) → StandsFor old taken → StandsFor new (taken ++ x ∷ []))
     → new.taps ≡ old.taps → new.shift ≡ old.shift
-    → Steps old new (x ∷ []) made (made ++ y ∷ [])
-Steps-one old new x y made answer stands taps shift = record {
+    → HasStepped old new (x ∷ []) made (made ++ y ∷ [])
+HasStepped-one old new x y made answer stands taps shift = record {
   made = λ taken has.
       let z = output_after old.taps old.shift (taken ++ x ∷ []) in
       let told = ranged-ok z y (sym (answer taken has)) in
@@ -265,13 +265,13 @@ Steps-one old new x y made answer stands taps shift = record {
 }
 
 -- one step, whose answer is not
-Steps-over : (old new : FirState) (x : ℤ) (made : List ℤ) (fault : TooBigValue)
+HasStepped-over : (old new : FirState) (x : ℤ) (made : List ℤ) (fault : TooBigValue)
     → ((taken : List ℤ) → StandsFor old taken
     → Err fault ≡ ranged (output_after old.taps old.shift (taken ++ x ∷ [])))
     → ((taken : List ℤ) → StandsFor old taken → StandsFor new (taken ++ x ∷ []))
     → new.taps ≡ old.taps → new.shift ≡ old.shift
-    → Steps old new (x ∷ []) made made
-Steps-over old new x made fault answer stands taps shift = record {
+    → HasStepped old new (x ∷ []) made made
+HasStepped-over old new x made fault answer stands taps shift = record {
   made = λ taken has.
       let z = output_after old.taps old.shift (taken ++ x ∷ []) in
       let told = ranged-err z fault (sym (answer taken has)) in
@@ -286,7 +286,7 @@ Steps-over old new x made fault answer stands taps shift = record {
 }
 
 module _ (old between new : FirState) (samples first middle : List ℤ) (i : ℕ)
-    (below : i < length samples) (so_far : Steps old between (take i samples) first middle)
+    (below : i < length samples) (so_far : HasStepped old between (take i samples) first middle)
     (all : length middle ≡ length first + i)
     (stands : (taken : List ℤ) → StandsFor between taken
     → StandsFor new (taken ++ get_or samples i (pos 0) ∷ []))
@@ -296,33 +296,33 @@ module _ (old between new : FirState) (samples first middle : List ℤ) (i : ℕ
     many = length-take-le i samples (omega arith)
 
     -- after i steps one more
-    pub Steps-more : (y : ℤ) → ((taken : List ℤ) → StandsFor between taken
+    pub HasStepped-more : (y : ℤ) → ((taken : List ℤ) → StandsFor between taken
         → Ok y ≡ ranged (output_after between.taps between.shift
         (taken ++ get_or samples i (pos 0) ∷ [])))
-        → Steps old new (take (i + 1) samples) first (middle ++ y ∷ [])
-    Steps-more y answer =
-        subst (λ l. Steps old new l first (middle ++ y ∷ [])) (sym (take_more samples i (pos 0) below))
-        (Steps-then old between new (take i samples) (get_or samples i (pos 0) ∷ []) first middle
+        → HasStepped old new (take (i + 1) samples) first (middle ++ y ∷ [])
+    HasStepped-more y answer =
+        subst (λ l. HasStepped old new l first (middle ++ y ∷ [])) (sym (take_more samples i (pos 0) below))
+        (HasStepped-then old between new (take i samples) (get_or samples i (pos 0) ∷ []) first middle
         (middle ++ y ∷ []) so_far (all ∙ ap (λ n. length first + n) (sym many))
-        (Steps-one between new (get_or samples i (pos 0)) y middle answer stands taps shift))
+        (HasStepped-one between new (get_or samples i (pos 0)) y middle answer stands taps shift))
 
     -- after i steps the last one
-    pub Steps-ended : (fault : TooBigValue) → ((taken : List ℤ) → StandsFor between taken
+    pub HasStepped-ended : (fault : TooBigValue) → ((taken : List ℤ) → StandsFor between taken
         → Err fault ≡ ranged (output_after between.taps between.shift
         (taken ++ get_or samples i (pos 0) ∷ [])))
-        → Steps old new samples first middle
-    Steps-ended fault answer =
+        → HasStepped old new samples first middle
+    HasStepped-ended fault answer =
         let xs = take i samples ++ get_or samples i (pos 0) ∷ [] in
         let whole : xs ++ drop (i + 1) samples ≡ samples =
         ap (λ l. l ++ drop (i + 1) samples) (sym (take_more samples i (pos 0) below))
         ∙ take-append-drop (i + 1) samples in
         let long : length xs ≡ i + 1 = length_push (take i samples) (get_or samples i (pos 0))
         ∙ (omega (arith, many)) in
-        subst (λ l. Steps old new l first middle) whole
-        (Steps-stop old new xs (drop (i + 1) samples) first middle
-        (Steps-then old between new (take i samples) (get_or samples i (pos 0) ∷ []) first middle
+        subst (λ l. HasStepped old new l first middle) whole
+        (HasStepped-stop old new xs (drop (i + 1) samples) first middle
+        (HasStepped-then old between new (take i samples) (get_or samples i (pos 0) ∷ []) first middle
         middle so_far (all ∙ ap (λ n. length first + n) (sym many))
-        (Steps-over between new (get_or samples i (pos 0)) middle fault answer stands taps shift))
+        (HasStepped-over between new (get_or samples i (pos 0)) middle fault answer stands taps shift))
         (λ e. let no : length middle ≡ length first + (i + 1)
         = e ∙ ap (λ n. length first + n) long in omega (arith, all)))
 
@@ -357,16 +357,16 @@ AreSmallAt-behind taps line xs limit short fits sixteen recent all = record {
 }
 
 -- the outputs of a block are those at its samples
-pub Steps-block : (taps line old xs block made : List ℤ) (shift : ℕ) → AreTaps taps shift
+pub HasStepped-block : (taps line old xs block made : List ℤ) (shift : ℕ) → AreTaps taps shift
     → AreSmallAt taps (line ++ xs) (length line) → length taps ≤ length line → length xs ≡ 16
     → window_of (length taps) line ≡ window_of (length taps) old
     → block ≡ map (output_shown taps shift (shown taps (line ++ xs) (length line)))
     (range_with_len 0 16)
-    → Steps (fir_of taps shift old) (fir_of taps shift (line ++ xs)) xs made (made ++ block)
-Steps-block taps line old xs block made shift are small held sixteen same is = record {
+    → HasStepped (fir_of taps shift old) (fir_of taps shift (line ++ xs)) xs made (made ++ block)
+HasStepped-block taps line old xs block made shift are small held sixteen same is = record {
   made = λ taken has.
       let agree = Agree-stands taps shift old line taken same has in
-      ap (λ l. made ++ l) (sym (ap before_too_big (outputs_of_block-agree taps shift taken line xs
+      ap (λ l. made ++ l) (sym (ap before_out_of_range (outputs_of_block-agree taps shift taken line xs
       (λ j lt. sym (agree j lt))) ∙ before-ranged (outputs_of_block taps shift line xs) block
       (length-outputs_of_block taps shift line xs ∙ (sixteen ∙ sym long)) each));
   stands = λ taken has.

@@ -2,7 +2,7 @@
 use Rattle.std.specs.Prelude.{◌≡◌, ◌+◌, ◌-◌, ◌*◌, ◌^◌, ◌<◌, ◌≤◌, ◌++◌, unsigned_abs, ℕ, ℤ, pos, List, length, take, drop, reverse, get_or, vec_capacity, Result}
 use Rattle.stream_filters.specs.Filter.{FirState, AreTaps, StandsFor, shifted_down, weighted, weight, at_place, back, outputs_of_block}
 use Rattle.std.specs.List.{All, position_from}
-use Rattle.stream_filters.specs.Range.{ranged, is_out_of_range, before_too_big}
+use Rattle.stream_filters.specs.Range.{ranged, is_out_of_range, before_out_of_range}
 use Rattle.stream_filters.specs.declared.fault.TooBigValue.{TooBigValue}
 use Rattle.stream_filters.specs.declared.fir.Fir.TheInside.{Inside}
 
@@ -50,9 +50,9 @@ pub record IsFir (f : Inside) : Type 0 where
 
 -- the filter has taken these samples up to the first whose output is out of range, and put the
 -- outputs before that one behind the others
-pub record Steps (old new : FirState) (samples before after : List ℤ) : Type 0 where
+pub record HasStepped (old new : FirState) (samples before after : List ℤ) : Type 0 where
   pub made : (taken : List ℤ) → StandsFor old taken
-      → after ≡ before ++ before_too_big (outputs_of_block old.taps old.shift taken samples)
+      → after ≡ before ++ before_out_of_range (outputs_of_block old.taps old.shift taken samples)
   pub stands : (taken : List ℤ) → StandsFor old taken
       → StandsFor new (taken ++ take (length after - length before + 1) samples)
   pub taps : new.taps ≡ old.taps

@@ -16,5 +16,5 @@ abbrev pub is_out_of_range : ℤ → Bool
 is_out_of_range z = not (nat_le (unsigned_abs z) 9223372036854775807)
 
 -- those of these numbers that stand before the first one out of range
-abbrev pub before_too_big : List ℤ → List ℤ
-before_too_big numbers = take_while (λ z. not (is_out_of_range z)) numbers
+abbrev pub before_out_of_range : List ℤ → List ℤ
+before_out_of_range numbers = take_while (λ z. not (is_out_of_range z)) numbers

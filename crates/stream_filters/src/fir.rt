@@ -2,7 +2,7 @@
 ghost use Rattle.std.specs.Prelude.{◌≡◌, ◌↔◌, ◌+◌, ◌-◌, ◌^◌, ◌<◌, ◌≤◌, List, [], ◌∷◌, ◌++◌, ℤ, length, take, reverse, vec_capacity, IsTrue, IsOk, IfOk, false};
 ghost use Rattle.stream_filters.specs.Filter.{AreTaps, StandsFor, after_sample, output_after, outputs_of_block, weight};
 ghost use Rattle.stream_filters.specs.FilterFields.{window_of};
-ghost use Rattle.stream_filters.specs.Range.{before_too_big, ranged};
+ghost use Rattle.stream_filters.specs.Range.{before_out_of_range, ranged};
 
 use crate::blocks::{BLOCK, block_outputs};
 use crate::fault::{FirFault, TooBigValue};
@@ -97,7 +97,7 @@ impl Model for Fir {
 }
 
 impl Fir {
-    ghost use Rattle.stream_filters.specs.FilterFields.{Steps, answer_at};
+    ghost use Rattle.stream_filters.specs.FilterFields.{HasStepped, answer_at};
 
     /// Makes a filter with these taps and a shift in bits, before its first sample.
     ///
@@ -166,8 +166,8 @@ impl Fir {
         };
     }
 
-    /// Takes these samples one after the other, and puts their answers behind `made`, where there is
-    /// room for all of them. Where an answer is out of range it ends with that sample, which the
+    /// Takes these samples one after the other, and puts their answers behind `made`, where there
+    /// is room for all of them. Where an answer is out of range it ends with that sample, which the
     /// window has taken all the same. It takes no memory.
     ///
     /// **Speed.** Answers are made 16 at once where 64 bits hold each sum.
@@ -175,7 +175,7 @@ impl Fir {
         requires room { length made.old.items + length samples.now ≤ vec_capacity made.old }
         ensures made { (taken : List ℤ) → StandsFor self.old taken
             → made.new.items ≡ made.old.items
-            ++ before_too_big (outputs_of_block self.old.taps self.old.shift taken samples.now) }
+            ++ before_out_of_range (outputs_of_block self.old.taps self.old.shift taken samples.now) }
         ensures stands { (taken : List ℤ) → StandsFor self.old taken
             → let count = length made.new.items - length made.old.items in
             StandsFor self.new (taken ++ take (count + 1) samples.now) }
@@ -198,7 +198,7 @@ impl Fir {
     fn block(&mut self, samples: &[i64], made: &mut Vec<i64>) -> Result<(), TooBigValue>
         requires many { length samples.now ≡ 16 }
         requires room { length made.old.items + length samples.now ≤ vec_capacity made.old }
-        ensures steps { Steps self.old self.new samples.now made.old.items made.new.items }
+        ensures steps { HasStepped self.old self.new samples.now made.old.items made.new.items }
         ensures ok { IsOk result
             ↔ (length made.new.items ≡ length made.old.items + length samples.now) }
         ensures capacity { vec_capacity made.new ≡ vec_capacity made.old }
@@ -215,7 +215,7 @@ impl Fir {
         requires many { length samples.now ≡ 16 }
         requires room { length made.old.items + length samples.now ≤ vec_capacity made.old }
         ensures steps { IsTrue result
-            → Steps self.old self.new samples.now made.old.items made.new.items }
+            → HasStepped self.old self.new samples.now made.old.items made.new.items }
         ensures all { IsTrue result
             → length made.new.items ≡ length made.old.items + length samples.now }
         ensures same { result ≡ false → (self.new ≡ self.old) × (made.new ≡ made.old) }
@@ -235,7 +235,7 @@ impl Fir {
     /// Takes these samples one by one.
     fn each(&mut self, samples: &[i64], made: &mut Vec<i64>) -> Result<(), TooBigValue>
         requires room { length made.old.items + length samples.now ≤ vec_capacity made.old }
-        ensures steps { Steps self.old self.new samples.now made.old.items made.new.items }
+        ensures steps { HasStepped self.old self.new samples.now made.old.items made.new.items }
         ensures ok { IsOk result
             ↔ (length made.new.items ≡ length made.old.items + length samples.now) }
         ensures capacity { vec_capacity made.new ≡ vec_capacity made.old }

@@ -1,11 +1,11 @@
 -- What tasks take by their first waits, and what a filter makes of values that it takes one after the
 -- other.
-use Rattle.std.proofs.Common.{◌≡◌, ◌≢◌, ℕ, zero, suc, nat_eq, true, false, ◌+◌, ◌-◌, ◌<◌, ◌≤◌, ℤ, List, [], ◌∷◌, ◌++◌, length, get_or, map, refl, sym, ap, subst, ◌∙◌, arith}
+use Rattle.std.proofs.Common.{◌≡◌, ◌≢◌, ℕ, zero, suc, nat_eq, true, false, ◌+◌, ◌-◌, ◌≤◌, ℤ, List, [], ◌∷◌, ◌++◌, length, get_or, map, refl, sym, ap, subst, ◌∙◌, arith}
 use Rattle.std.specs.Prelude.{Ok, Option, drop, take}
 use Rattle.std.proofs.lemmas.List.{append_assoc, append-nil, length-append, length-take, map-append, take_all}
 use Rattle.std.proofs.Math.Seq.{take-add}
 use Rattle.stream_eval.specs.stream_filters.Filter.{FirState}
-use Rattle.stream_eval.specs.stream_filters.Range.{before_too_big, ranged}
+use Rattle.stream_eval.specs.stream_filters.Range.{before_out_of_range, ranged}
 use Rattle.stream_eval.specs.stream_lists.Lists.{number}
 use Rattle.stream_eval.proofs.stream_lists_lemmas.stream_filters_lemmas.Stepped.{length-outputs_of_block, outputs_of_block-append, ranged-all}
 use Rattle.graph_runs.specs.phase_accum.declared.outcome.Outcome.{Outcome}
@@ -40,7 +40,7 @@ pub made_then : (task : Task) (xs ys : List ℤ) (old between new : Option FirSt
     (made after : List ℤ) → MadeSoFar task xs old between made
     → length after ≡ length made + length ys
     → ((taken : List ℤ) → HasFilter task between taken → after ≡ made
-    ++ before_too_big (outputs_of_block task.taps task.shift taken ys))
+    ++ before_out_of_range (outputs_of_block task.taps task.shift taken ys))
     → ((taken : List ℤ) → HasFilter task between taken
     → HasFilter task new (taken ++ take (length after - length made + 1) ys))
     → MadeSoFar task (xs ++ ys) old new after
@@ -54,15 +54,15 @@ made_then task xs ys old between new made after so all outputs next = record {
   made_are = λ taken has.
       let zs = outputs_of_block task.taps task.shift (taken ++ xs) ys in
       let here = outputs (taken ++ xs) (so.filter taken has) in
-      let count : length after ≡ length made + length (before_too_big zs) =
-      ap length here ∙ length-append made (before_too_big zs) in
+      let count : length after ≡ length made + length (before_out_of_range zs) =
+      ap length here ∙ length-append made (before_out_of_range zs) in
       let many : length zs ≡ length ys =
       length-outputs_of_block task.taps task.shift (taken ++ xs) ys in
       ap (map ranged) (outputs_of_block-append task.taps task.shift taken xs ys)
       ∙ (map-append ranged (outputs_of_block task.taps task.shift taken xs) zs
       ∙ (ap (λ l. l ++ map ranged zs) (so.made_are taken has)
       ∙ (ap (λ l. map (λ v. Ok v) made ++ l) (ranged-all zs (omega arith))
-      ∙ (sym (map-append (λ v. Ok v) made (before_too_big zs))
+      ∙ (sym (map-append (λ v. Ok v) made (before_out_of_range zs))
       ∙ ap (map (λ v. Ok v)) (sym here)))));
   many = all ∙ (omega (arith, so.many, length-append xs ys));
 }
@@ -74,12 +74,12 @@ take_few n xs = omega (arith, length-take n xs)
 pub made_few : (task : Task) (ys : List ℤ) (between : Option FirState) (made after taken : List ℤ)
     → HasFilter task between taken
     → (HasFilter task between taken → after ≡ made
-    ++ before_too_big (outputs_of_block task.taps task.shift taken ys))
+    ++ before_out_of_range (outputs_of_block task.taps task.shift taken ys))
     → length after ≤ length made + length ys
 made_few task ys between made after taken has outputs =
     let zs = outputs_of_block task.taps task.shift taken ys in
-    let count = ap length (outputs has) ∙ length-append made (before_too_big zs) in
-    let few : length (before_too_big zs) ≤ length zs = take_few _ zs in
+    let count = ap length (outputs has) ∙ length-append made (before_out_of_range zs) in
+    let few : length (before_out_of_range zs) ≤ length zs = take_few _ zs in
     omega (arith, count, length-outputs_of_block task.taps task.shift taken ys)
 
 -- the numbers of more outcomes, behind those before them

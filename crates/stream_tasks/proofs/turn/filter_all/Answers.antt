@@ -1,5 +1,5 @@
 -- The filter makes an output of each of the next numbers.
-use Rattle.std.proofs.Common.{◌≡◌, ◌+◌, ◌-◌, ◌≤◌, ◌++◌, length, map, refl, sym, ap, subst, ◌∙◌, arith}
+use Rattle.std.proofs.Common.{◌≡◌, ◌-◌, ◌≤◌, ◌++◌, length, map, refl, subst, ◌∙◌, arith}
 use Rattle.std.specs.Prelude.{drop, take}
 use Rattle.std.proofs.lemmas.List.{length-drop, length-map, length-take, length-take-le, take_all}
 use Rattle.graph_runs.specs.graph_base.Graphs.{task_at}
@@ -43,8 +43,13 @@ returns-in_default-clause-few c =
     let few = made_few task ys c.loop-at.filter c.loop-at.made.items c.filtered_all.new.made.items
     taken (c.loop-at.invariant.0.filter c.requires.filter.0 c.requires.filter.1)
     (c.filtered_all.ensures.made taken) in
-    omega (arith, few, many here, c.min-end.ensures,
-    length-take (c.min-end.result - c.loop-at.at) c.numbers_of-numbers.result)
+    omega (
+      arith,
+      few,
+      many here,
+      c.min-end.ensures,
+      length-take (c.min-end.result - c.loop-at.at) c.numbers_of-numbers.result,
+    )
 
 pub loop-at-preserved : goal.loop-at-preserved
 loop-at-preserved c =

@@ -1,14 +1,14 @@
 use Rattle.std.proofs.Common.{rules, ◌≡◌, ◌∷◌, [], ◌++◌, ◌+◌, length, get_or, take, pos, refl, sym, ap, subst, ◌∙◌, arith, w64, to_z, of_z, SFits, to_z-of_z, List, ℤ}
 use Rattle.std.proofs.lemmas.List.{length_push}
 use Rattle.stream_filters.specs.Filter.{StandsFor, output_after}
-use Rattle.stream_filters.specs.FilterFields.{Steps}
+use Rattle.stream_filters.specs.FilterFields.{HasStepped}
 use Rattle.stream_filters.specs.Range.{ranged}
-use Rattle.stream_filters.proofs.Stepped.{Steps-none, Steps-more, Steps-ended}
+use Rattle.stream_filters.proofs.Stepped.{HasStepped-none, HasStepped-more, HasStepped-ended}
 use Rattle.stream_filters.proofs.fir.Fir.each.Goals as goal
 use Rattle.stream_filters.proofs.fir.Fir.each.Goals.{After-branch-step}
 
 pub loop-x-init : goal.loop-x-init
-loop-x-init c = (Steps-none c.args.self.now c.args.made.now.items, omega arith, refl)
+loop-x-init c = (HasStepped-none c.args.self.now c.args.made.now.items, omega arith, refl)
 
 -- the sample that is taken
 x_is : (c : After-branch-step)
@@ -37,7 +37,7 @@ stands c taken has =
 pub returns-in_err-step-clause-steps : goal.returns-in_err-step-clause-steps
 returns-in_err-step-clause-steps c =
     let told = (goal.at.returns-in_err-step-clause-steps c).After-branch-step in
-    Steps-ended c.args.self.now c.loop-x.self c.step.new.self c.args.samples.now
+    HasStepped-ended c.args.self.now c.loop-x.self c.step.new.self c.args.samples.now
     c.args.made.now.items c.loop-x.made.items c.loop-x.x-index c.loop-x-test.true
     c.loop-x.invariant.0 c.loop-x.invariant.1 (stands told) c.step.ensures.taps
     c.step.ensures.shift c.in_err-step.field-0.0
@@ -51,9 +51,9 @@ loop-x-preserved c =
     let items : c.push_reserved.new.self.items ≡ c.loop-x.made.items ++ c.in_ok-step.field-0 ∷ [] =
     subst (λ v. c.push_reserved.new.self.items ≡ c.loop-x.made.items ++ v ∷ []) (to_z-of_z y)
     c.push_reserved.ensures.items in (
-      subst (λ l. Steps c.args.self.now c.step.new.self (take (c.loop-x.x-index + 1) c.args.samples.now)
+      subst (λ l. HasStepped c.args.self.now c.step.new.self (take (c.loop-x.x-index + 1) c.args.samples.now)
           c.args.made.now.items l) (sym items)
-          (Steps-more c.args.self.now c.loop-x.self c.step.new.self c.args.samples.now
+          (HasStepped-more c.args.self.now c.loop-x.self c.step.new.self c.args.samples.now
           c.args.made.now.items c.loop-x.made.items c.loop-x.x-index c.loop-x-test.true
           c.loop-x.invariant.0 c.loop-x.invariant.1 (stands told) c.step.ensures.taps
           c.step.ensures.shift c.in_ok-step.field-0

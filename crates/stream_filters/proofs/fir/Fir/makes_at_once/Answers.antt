@@ -5,7 +5,7 @@ use Rattle.stream_filters.specs.Lanes.{output_shown}
 use Rattle.std.proofs.lemmas.List.{length-append}
 use Rattle.stream_filters.specs.FilterFields.{AreSmallAt, window_of}
 use Rattle.stream_filters.proofs.Lines.{AreRecent, AreRecent-same, AreRecent-behind}
-use Rattle.stream_filters.proofs.Stepped.{AreSmallAt-behind, Steps-block, shown_is}
+use Rattle.stream_filters.proofs.Stepped.{AreSmallAt-behind, HasStepped-block, shown_is}
 use Rattle.stream_filters.proofs.WholeLists.{IsNarrow-shown, shown}
 use Rattle.stream_filters.proofs.fir.Fir.makes_at_once.Goals as goal
 use Rattle.stream_filters.proofs.fir.Fir.makes_at_once.Goals.{After-deref-2}
@@ -105,6 +105,6 @@ returns-clause-steps c =
     c.deref.ensures.value
     ∙ ap (λ l. map (output_shown taps shift l) (range_with_len 0 16)) (read here)) in
     λ yes. rw (← c.self.view_is, c.put_all.ensures.items, c.put_all-2.ensures.items)
-    (Steps-block taps line c.self.inside.line.items c.args.samples.now
+    (HasStepped-block taps line c.self.inside.line.items c.args.samples.now
     c.block_outputs-outputs.result c.args.made.now.items shift c.self.invariant.are_taps
     (small here) (held here) c.requires.many (kept here) outputs_are)

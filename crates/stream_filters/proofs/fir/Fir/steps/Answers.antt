@@ -2,8 +2,8 @@ use Rattle.std.proofs.Common.{◌≡◌, ◌≢◌, ◌++◌, ◌+◌, ◌-◌, 
 use Rattle.std.specs.Prelude.{Result, IsErr, IsOk, is_ok}
 use Rattle.std.proofs.lemmas.List.{length-take, length-take-le, length-drop, take_all, take-append-drop}
 use Rattle.std.proofs.Math.Seq.{take-add}
-use Rattle.stream_filters.specs.FilterFields.{Steps}
-use Rattle.stream_filters.proofs.Stepped.{Steps-few, Steps-none, Steps-then, Steps-stop}
+use Rattle.stream_filters.specs.FilterFields.{HasStepped}
+use Rattle.stream_filters.proofs.Stepped.{HasStepped-few, HasStepped-none, HasStepped-then, HasStepped-stop}
 use Rattle.stream_filters.proofs.fir.Fir.steps.Goals as goal
 use Rattle.stream_filters.proofs.fir.Fir.steps.Goals.{After-branch-block, After-from_residual, After-each}
 
@@ -14,7 +14,7 @@ not_both (Err e) err ok = let wrong : false ≡ true = ok in absurd (cc)
 
 pub loop-at-init : goal.loop-at-init
 loop-at-init c = (
-  Steps-none c.args.self.now c.args.made.now.items,
+  HasStepped-none c.args.self.now c.args.made.now.items,
   omega arith,
   refl,
   omega arith,
@@ -35,12 +35,12 @@ before_it : (c : After-branch-block) → length (take c.loop-at.at c.args.sample
 before_it c = length-take-le c.loop-at.at c.args.samples.now c.loop-at.invariant.3
 
 -- what the block leaves of all steps so far
-blocked : (c : After-branch-block) → Steps c.args.self.now c.block.new.self
+blocked : (c : After-branch-block) → HasStepped c.args.self.now c.block.new.self
     (take (c.loop-at.at + 16) c.args.samples.now) c.args.made.now.items c.block.new.made.items
 blocked c =
-    subst (λ l. Steps c.args.self.now c.block.new.self l c.args.made.now.items
+    subst (λ l. HasStepped c.args.self.now c.block.new.self l c.args.made.now.items
     c.block.new.made.items) (first_ones c)
-    (Steps-then c.args.self.now c.loop-at.self c.block.new.self
+    (HasStepped-then c.args.self.now c.loop-at.self c.block.new.self
     (take c.loop-at.at c.args.samples.now) _
     c.args.made.now.items c.loop-at.made.items c.block.new.made.items c.loop-at.invariant.0
     (c.loop-at.invariant.1 ∙ ap (λ n. length c.args.made.now.items + n) (sym (before_it c)))
@@ -70,7 +70,7 @@ less c e =
     let ok : IsOk c.block.result = c.block.ensures.ok.1 all in
     absurd (cc (ok, ap is_ok c.in_err-block.was))
 
-ended : (c : After-from_residual) → Steps c.args.self.now c.block.new.self c.args.samples.now
+ended : (c : After-from_residual) → HasStepped c.args.self.now c.block.new.self c.args.samples.now
     c.args.made.now.items c.block.new.made.items
 ended c =
     let at = c.loop-at.at in
@@ -78,9 +78,9 @@ ended c =
     let here = (goal.at.returns-in_err-block-clause-made c).After-branch-block in
     let many : length (take (at + 16) samples) ≡ at + 16 =
     length-take-le (at + 16) samples (omega (arith, c.loop-at-test.true)) in
-    subst (λ l. Steps c.args.self.now c.block.new.self l c.args.made.now.items
+    subst (λ l. HasStepped c.args.self.now c.block.new.self l c.args.made.now.items
     c.block.new.made.items) (take-append-drop (at + 16) samples)
-    (Steps-stop c.args.self.now c.block.new.self (take (at + 16) samples) (drop (at + 16) samples)
+    (HasStepped-stop c.args.self.now c.block.new.self (take (at + 16) samples) (drop (at + 16) samples)
     c.args.made.now.items c.block.new.made.items (blocked here)
     (λ e. less c (e ∙ ap (λ n. length c.args.made.now.items + n) many)))
 
@@ -93,7 +93,7 @@ returns-in_err-block-clause-stands c = (ended c).stands
 pub returns-in_err-block-clause-ok : goal.returns-in_err-block-clause-ok
 returns-in_err-block-clause-ok c =
     let here = (goal.at.returns-in_err-block-clause-ok c).After-branch-block in
-    let few = Steps-few c.args.self.now c.block.new.self _ c.args.made.now.items
+    let few = HasStepped-few c.args.self.now c.block.new.self _ c.args.made.now.items
     c.block.new.made.items (blocked here) in
     let many : length (take (c.loop-at.at + 16) c.args.samples.now) ≡ c.loop-at.at + 16 =
     length-take-le (c.loop-at.at + 16) c.args.samples.now (omega (arith, c.loop-at-test.true)) in (
@@ -112,7 +112,7 @@ loop-at-preserved c =
     )
 
 -- the rest, one by one
-whole : (c : After-each) → Steps c.args.self.now c.each.new.self c.args.samples.now
+whole : (c : After-each) → HasStepped c.args.self.now c.each.new.self c.args.samples.now
     c.args.made.now.items c.each.new.made.items
 whole c =
     let at = c.loop-at.at in
@@ -120,9 +120,9 @@ whole c =
     let first : length (take at samples) ≡ at = length-take-le at samples c.loop-at.invariant.3 in
     let rest : take (length samples - at) (drop at samples) ≡ drop at samples =
     take_all _ (drop at samples) (omega (arith, length-drop at samples)) in
-    subst (λ l. Steps c.args.self.now c.each.new.self l c.args.made.now.items c.each.new.made.items)
+    subst (λ l. HasStepped c.args.self.now c.each.new.self l c.args.made.now.items c.each.new.made.items)
     (ap (λ l. take at samples ++ l) rest ∙ take-append-drop at samples)
-    (Steps-then c.args.self.now c.loop-at.self c.each.new.self (take at samples) _
+    (HasStepped-then c.args.self.now c.loop-at.self c.each.new.self (take at samples) _
     c.args.made.now.items c.loop-at.made.items c.each.new.made.items c.loop-at.invariant.0
     (c.loop-at.invariant.1 ∙ ap (λ n. length c.args.made.now.items + n) (sym first))
     c.each.ensures.steps)
