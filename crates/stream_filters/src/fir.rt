@@ -174,8 +174,8 @@ impl Fir {
     pub fn steps(&mut self, samples: &[i64], made: &mut Vec<i64>) -> Result<(), TooBigValue>
         requires room { length made.old.items + length samples.now ≤ vec_capacity made.old }
         ensures made { (taken : List ℤ) → StandsFor self.old taken
-            → made.new.items ≡ made.old.items
-            ++ before_out_of_range (outputs_of_block self.old.taps self.old.shift taken samples.now) }
+            → let outputs = outputs_of_block self.old.taps self.old.shift taken samples.now in
+            made.new.items ≡ made.old.items ++ before_out_of_range outputs }
         ensures stands { (taken : List ℤ) → StandsFor self.old taken
             → let count = length made.new.items - length made.old.items in
             StandsFor self.new (taken ++ take (count + 1) samples.now) }
