@@ -2,9 +2,8 @@
 use Rattle.std.proofs.Common.{◌≡◌, ℕ, ◌+◌, ◌<◌, List, [], ◌∷◌, ◌++◌, length, get_or, ℤ, refl, sym, ap, ◌∙◌, arith}
 use Rattle.std.specs.Prelude.{drop}
 use Rattle.std.proofs.Math.Seq.{drop-append_seam}
-use Rattle.std.proofs.lemmas.List.{append-nil, append_assoc}
-use Rattle.stream_lists.specs.stream_filters.Filter.{outputs, output_after}
-use Rattle.stream_lists.proofs.stream_filters_lemmas.Outputs.{outputs-push}
+use Rattle.stream_lists.specs.stream_filters.Filter.{outputs}
+use Rattle.stream_lists.proofs.stream_filters_lemmas.Outputs.{outputs-block}
 use Rattle.stream_lists.specs.graph_base.declared.line.Kind.TheVariants.{Fir}
 use Rattle.stream_lists.specs.graph_base.Graphs.{task_at}
 use Rattle.stream_lists.specs.graph_base.TaskLines.{IsGraph}
@@ -15,21 +14,6 @@ use Rattle.graph_runs.proofs.Tasks.{now_at}
 use Rattle.graph_runs.specs.TaskPlaces.{outputs_of_block}
 use Rattle.graph_runs.proofs.Following.{GetsAll}
 use Rattle.graph_runs.proofs.Boundaries.{made_many}
-
--- as it makes them of them all
-pub outputs-block : (taps : List ℤ) (shift : ℕ) (taken xs : List ℤ)
-    → outputs taps shift (taken ++ xs)
-    ≡ outputs taps shift taken ++ outputs_of_block taps shift taken xs
-outputs-block taps shift taken [] =
-    ap (λ l. outputs taps shift l) (append-nil taken)
-    ∙ sym (append-nil (outputs taps shift taken))
-outputs-block taps shift taken (x ∷ xs) =
-    let next = taken ++ x ∷ [] in
-    ap (λ l. outputs taps shift l) (sym (append_assoc taken (x ∷ []) xs))
-    ∙ outputs-block taps shift next xs
-    ∙ ap (λ l. l ++ outputs_of_block taps shift next xs) (outputs-push taps shift taken x)
-    ∙ append_assoc (outputs taps shift taken) (output_after taps shift next ∷ [])
-    (outputs_of_block taps shift next xs)
 
 -- what a filter that owed nothing owes after it got these numbers
 pub record OwesBlock (job : Job) (m after : Moment) (t : ℕ) (xs : List ℤ) : Type 0 where

@@ -3,7 +3,7 @@
 use Rattle.std.specs.Prelude.{◌≡◌, ℕ, zero, suc, ◌+◌, ◌<◌, ◌≤◌, ◌%◌, ℤ, pos, ◌*ℤ◌, ◌-ℤ◌, List, [], ◌∷◌, ◌++◌, length, map, take, drop, get_or, slice_get, Option, Some, None, Result, Ok, nat_lt, ◌==◌, if◌then◌else◌}
 use Rattle.stream_lists.specs.stream_filters.declared.fault.TooBigValue.{TooBigValue}
 use Rattle.stream_lists.specs.stream_filters.Range.{ranged}
-use Rattle.stream_lists.specs.stream_filters.Filter.{output_after}
+pub use Rattle.stream_lists.specs.stream_filters.Filter.{outputs_of_block}
 use Rattle.stream_lists.specs.graph_base.declared.line.Kind.{Kind}
 use Rattle.stream_lists.specs.graph_base.declared.line.Kind.TheVariants.{Source, Fir, Split, Join, Peer, Sink}
 use Rattle.stream_lists.specs.graph_base.declared.registration.Registration.{Registration}
@@ -93,12 +93,6 @@ abbrev pub at_start : List ℕ → TaskPlace
 at_start numbers = record { numbers = numbers; left = 0; begun = 0; owed = nothing }
 
 -- ---- how events change it
-
--- what a filter that took these values makes of the next ones, one after the other
-abbrev pub outputs_of_block : List ℤ → ℕ → List ℤ → List ℤ → List ℤ
-outputs_of_block taps shift taken [] = []
-outputs_of_block taps shift taken (x ∷ xs) =
-    output_after taps shift (taken ++ x ∷ []) ∷ outputs_of_block taps shift (taken ++ x ∷ []) xs
 
 -- what a task owes after the first wait of its next steps, which got these numbers. It began so
 -- many steps before it, and has taken these values from its input

@@ -1,10 +1,10 @@
 //! The filter of a task that is one.
-ghost use Rattle.std.specs.Prelude.{◌≡◌, ◌<◌, List, ℤ, [], ◌∷◌, ◌++◌, length, IfOk};
+ghost use Rattle.std.specs.Prelude.{◌≡◌, ◌↔◌, ◌+◌, ◌-◌, ◌<◌, ◌≤◌, List, ℤ, [], ◌∷◌, ◌++◌, length, take, vec_capacity, IsOk, IfOk};
 ghost use Rattle.stream_lists.specs.graph_base.Graphs.{task_at};
 ghost use Rattle.stream_lists.specs.graph_base.declared.line.Kind.TheVariants.{Fir as filters};
 ghost use Rattle.graph_runs.specs.Steps.{HasFilter};
-ghost use Rattle.stream_lists.specs.stream_filters.Filter.{output_after};
-ghost use Rattle.stream_lists.specs.stream_filters.Range.{ranged};
+ghost use Rattle.stream_lists.specs.stream_filters.Filter.{output_after, outputs_of_block};
+ghost use Rattle.stream_lists.specs.stream_filters.Range.{before_out_of_range, ranged};
 
 use crate::lines::kind_of;
 use std::alloc::{AllocError, Global};
@@ -43,4 +43,32 @@ pub fn filtered(job: &Job, t: usize, filter: &mut Option<Fir>, x: i64) -> Result
 {
     let Some(fir) = filter else { unreachable!() };
     fir.step(x)
+}
+
+/// Gives the filter of task number `t` these numbers one after the other, and puts its answers
+/// behind `made`, where there is room for all of them. Where an answer is out of range it ends with
+/// that number. It takes no memory.
+pub fn filtered_all(
+    job: &Job,
+    t: usize,
+    filter: &mut Option<Fir>,
+    xs: &[i64],
+    made: &mut Vec<i64>,
+) -> Result<(), TooBigValue>
+    requires task { t < length job.now.graph.tasks }
+    requires kind { (task_at job.now.graph t).kind ≡ filters }
+    requires filter { (taken : List ℤ) × HasFilter (task_at job.now.graph t) filter.old taken }
+    requires room { length made.old.items + length xs.now ≤ vec_capacity made.old }
+    ensures made { (taken : List ℤ) → HasFilter (task_at job.now.graph t) filter.old taken
+        → let task = task_at job.now.graph t in
+        made.new.items ≡ made.old.items
+        ++ before_out_of_range (outputs_of_block task.taps task.shift taken xs.now) }
+    ensures filter { (taken : List ℤ) → HasFilter (task_at job.now.graph t) filter.old taken
+        → let count = length made.new.items - length made.old.items in
+        HasFilter (task_at job.now.graph t) filter.new (taken ++ take (count + 1) xs.now) }
+    ensures ok { IsOk result ↔ (length made.new.items ≡ length made.old.items + length xs.now) }
+    ensures capacity { vec_capacity made.new ≡ vec_capacity made.old }
+{
+    let Some(fir) = filter else { unreachable!() };
+    fir.steps(xs, made)
 }

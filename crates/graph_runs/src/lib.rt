@@ -40,7 +40,7 @@ mod steps;
 mod taken;
 pub mod turns;
 
-pub use filters::{filtered, first_filter};
+pub use filters::{filtered, filtered_all, first_filter};
 pub use lines::{first_input_of, input_of, is_cut, kind_of, output_of, parent_of, until_of};
 pub use owed::Owed;
 pub use phase_history::{phase_accum, phase_base};

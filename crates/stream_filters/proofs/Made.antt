@@ -34,11 +34,18 @@ by_err : (b : Bool) (z : ℤ) (f : TooBigValue) → checked b z ≡ Err f → no
 by_err true z f e = grind (arith, e)
 by_err false z f e = refl
 
-ranged-ok : (z y : ℤ) → ranged z ≡ Ok y → (z ≡ y) × (is_out_of_range z ≡ false)
+pub ranged-ok : (z y : ℤ) → ranged z ≡ Ok y → (z ≡ y) × (is_out_of_range z ≡ false)
 ranged-ok z y e = by_ok (nat_le (unsigned_abs z) 9223372036854775807) z y e
 
-ranged-err : (z : ℤ) (f : TooBigValue) → ranged z ≡ Err f → is_out_of_range z ≡ true
+pub ranged-err : (z : ℤ) (f : TooBigValue) → ranged z ≡ Err f → is_out_of_range z ≡ true
 ranged-err z f e = by_err (nat_le (unsigned_abs z) 9223372036854775807) z f e
+
+by_fits : (b : Bool) (z : ℤ) → not (not b) ≡ true → checked b z ≡ Ok z
+by_fits true z e = refl
+by_fits false z e = absurd (let wrong : false ≡ true = e in cc)
+
+pub ranged-fits : (z : ℤ) → not (is_out_of_range z) ≡ true → ranged z ≡ Ok z
+ranged-fits z e = by_fits (nat_le (unsigned_abs z) 9223372036854775807) z e
 
 pub MadeSoFar-none : (whole : List ℤ) → MadeSoFar whole [] 0
 MadeSoFar-none whole = record { list_is = refl; none_yet = refl }

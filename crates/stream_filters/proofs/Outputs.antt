@@ -4,9 +4,9 @@ use Rattle.std.specs.List.{range_with_len}
 use Rattle.std.proofs.Math.IntN.{+ℤ_one}
 use Rattle.std.proofs.lemmas.Int.{ints}
 use Rattle.std.proofs.lemmas.Nat.{pow_pos}
-use Rattle.std.proofs.lemmas.List.{same_lists, take_all, take-append-le, length_push, length-reverse, get_or-reverse, get_or_past}
+use Rattle.std.proofs.lemmas.List.{append-nil, append_assoc, same_lists, take_all, take-append-le, length_push, length-reverse, get_or-reverse, get_or_past}
 use Rattle.std.proofs.lemmas.List.FromFn.{length-map-range_with_len, get_or-map-range_with_len, map-range_with_len_more}
-use Rattle.stream_filters.specs.Filter.{back, output_after, output_at, outputs, shifted_down}
+use Rattle.stream_filters.specs.Filter.{back, output_after, output_at, outputs, outputs_of_block, shifted_down}
 
 -- two functions that agree below n give the same n values
 pub map-range_with_len_same : (f g : ℕ → ℤ) (n : ℕ) → ((k : ℕ) → k < n → f k ≡ g k)
@@ -34,6 +34,21 @@ outputs-push taps shift samples x =
     ∙ (ap (λ ys. ys ++ output_at taps shift longer n ∷ [])
     (map-range_with_len_same _ _ n (output_at-push taps shift samples x))
     ∙ ap (λ zs. outputs taps shift samples ++ output_after taps shift zs ∷ []) whole))
+
+-- the outputs of a block behind those of what was taken
+pub outputs-block : (taps : List ℤ) (shift : ℕ) (taken xs : List ℤ)
+    → outputs taps shift (taken ++ xs)
+    ≡ outputs taps shift taken ++ outputs_of_block taps shift taken xs
+outputs-block taps shift taken [] =
+    ap (λ l. outputs taps shift l) (append-nil taken)
+    ∙ sym (append-nil (outputs taps shift taken))
+outputs-block taps shift taken (x ∷ xs) =
+    let next = taken ++ x ∷ [] in
+    ap (λ l. outputs taps shift l) (sym (append_assoc taken (x ∷ []) xs))
+    ∙ outputs-block taps shift next xs
+    ∙ ap (λ l. l ++ outputs_of_block taps shift next xs) (outputs-push taps shift taken x)
+    ∙ append_assoc (outputs taps shift taken) (output_after taps shift next ∷ [])
+    (outputs_of_block taps shift next xs)
 
 pub outputs-entry : (taps : List ℤ) (shift : ℕ) (samples : List ℤ) (n : ℕ) (default : ℤ)
     → n < length samples

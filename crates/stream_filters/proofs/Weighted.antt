@@ -1,18 +1,17 @@
 -- Weighted sums of windows.
-use Rattle.std.proofs.Common.{◌≡◌, ℕ, zero, suc, ◌+◌, ◌-◌, ◌*◌, ◌^◌, ◌<◌, ◌≤◌, List, [], ◌∷◌, ◌++◌, length, min, get_or, take, drop, ℤ, pos, negsuc, ◌+ℤ◌, ◌*ℤ◌, Ok, refl, sym, ap, ◌∙◌, arith, ◌⊎◌, inl, inr}
+use Rattle.std.proofs.Common.{◌≡◌, ℕ, zero, suc, ◌+◌, ◌*◌, ◌^◌, ◌<◌, ◌≤◌, List, [], ◌∷◌, ◌++◌, length, min, get_or, take, reverse, ℤ, pos, negsuc, ◌+ℤ◌, ◌*ℤ◌, Ok, refl, sym, ap, ◌∙◌, arith, ◌⊎◌, inl, inr}
 use Rattle.std.specs.List.{All}
 use Rattle.std.specs.Prelude.{unsigned_abs}
 use Rattle.std.proofs.Math.IntN.{+ℤ_assoc, +ℤ_idl, +ℤ_idr, *ℤ-zero}
 use Rattle.std.proofs.lemmas.Int.{ints, unsigned_abs-mul}
-use Rattle.std.proofs.lemmas.List.{take_more, take_rest, take_all, length-take-le, length-append, get_or-append-add, get_or-take}
-use Rattle.std.proofs.lemmas.List.Elements.{All-drop}
-use Rattle.std.proofs.lemmas.List.Sums.{sum_by-cons, sum_by_more, sum_by-take-le, sum_by-take-drop}
+use Rattle.std.proofs.lemmas.List.{take_more, take_all, length-take, length-take-le, get_or_default, get_or-take}
+use Rattle.std.proofs.lemmas.List.Sums.{sum_by-cons, sum_by_more, sum_by-take-le}
 use Rattle.std.proofs.lemmas.Nat.{mul-le, shr_le}
 use Rattle.std.proofs.lemmas.Bool.{cases_lt}
 use Rattle.std.proofs.lemmas.Bool.Decides.{nat_tests}
-use Rattle.stream_filters.specs.Filter.{weighted, at_place, weight, shifted_down}
+use Rattle.stream_filters.specs.Filter.{weighted, at_place, back, weight, shifted_down}
 use Rattle.stream_filters.specs.Range.{ranged}
-use Rattle.stream_filters.specs.FilterFields.{IsNarrow}
+use Rattle.stream_filters.specs.FilterFields.{IsNarrowBack}
 
 -- only what stands below the number of taps counts
 pub weighted-same : (f g : ℕ → ℤ) (taps : List ℤ) → ((j : ℕ) → j < length taps → f j ≡ g j)
@@ -30,24 +29,6 @@ pub weighted-zero : (taps : List ℤ) → weighted (at_place []) taps ≡ pos 0
 weighted-zero [] = refl
 weighted-zero (tap ∷ taps) =
     ap (λ z. z +ℤ weighted (at_place []) taps) (*ℤ-zero tap) ∙ (+ℤ_idl _ ∙ weighted-zero taps)
-
--- the sum over a window is that over its beginning and that over its rest, at the taps that are left
-pub weighted-append : (xs ys : List ℤ) (taps : List ℤ) → weighted (at_place (xs ++ ys)) taps
-    ≡ weighted (at_place xs) taps +ℤ weighted (at_place ys) (drop (length xs) taps)
-weighted-append [] ys taps =
-    sym (ap (λ z. z +ℤ weighted (at_place ys) taps) (weighted-zero taps) ∙ +ℤ_idl _)
-weighted-append (x ∷ xs) ys [] = refl
-weighted-append (x ∷ xs) ys (tap ∷ taps) =
-    ap (λ z. (tap *ℤ x) +ℤ z) (weighted-append xs ys taps) ∙ sym (+ℤ_assoc (tap *ℤ x) _ _)
-
--- the sums over a window's two parts make the sum over it
-pub weighted-parts : (taps front back : List ℤ) (first then : ℤ) → first ≡ weighted (at_place front) taps
-    → then ≡ weighted (at_place back) (take (length taps - length front) (drop (length front) taps))
-    → first +ℤ then ≡ weighted (at_place (front ++ back)) taps
-weighted-parts taps front back first then first_is then_is =
-    let rest = ap (weighted (at_place back)) (take_rest taps (length front)) in
-    ap (λ z. z +ℤ then) first_is
-    ∙ (ap (λ z. weighted (at_place front) taps +ℤ z) (then_is ∙ rest) ∙ sym (weighted-append front back taps))
 
 -- one more sample of a window that has fewer than there are taps
 pub weighted-push : (xs : List ℤ) (taps : List ℤ) (x : ℤ) → length xs < length taps
@@ -127,12 +108,6 @@ IsSumOf-small limit taps samples i sum so_far =
     let small = so_far.small in
     omega (arith, part)
 
--- all samples
-pub IsSumOf-whole : (limit : ℕ) (taps samples : List ℤ) (i : ℕ) (sum : ℤ) → IsSumOf limit taps samples i sum
-    → length samples ≤ i → sum ≡ weighted (at_place samples) taps
-IsSumOf-whole limit taps samples i sum so_far le =
-    so_far.is ∙ ap (λ z. weighted (at_place z) taps) (take_all i samples le)
-
 -- as many samples as there are taps, or all, are enough
 taken-same : (taps samples : List ℤ) (i : ℕ) → min (length taps) (length samples) ≤ i → (j : ℕ)
     → j < length taps → at_place (take i samples) j ≡ at_place samples j
@@ -147,10 +122,6 @@ pub IsSumOf-enough : (limit : ℕ) (taps samples : List ℤ) (i : ℕ) (sum : �
 IsSumOf-enough limit taps samples i sum so_far le =
     so_far.is ∙ weighted-same _ _ taps (taken-same taps samples i le)
 
--- fewer taps weigh less
-pub weight-drop-le : (taps : List ℤ) (n : ℕ) → weight (drop n taps) ≤ weight taps
-weight-drop-le taps n = omega (arith, sum_by-take-drop unsigned_abs taps n)
-
 -- what stands in a list of small samples is small, and so is the 0 past its end
 pub at_place-small : (limit : ℕ) (samples : List ℤ) → All (λ x. unsigned_abs x ≤ limit) samples
     → (j : ℕ) → unsigned_abs (at_place samples j) ≤ limit
@@ -159,23 +130,26 @@ at_place-small limit (x ∷ samples) small zero = small 0 (pos 0) (omega arith)
 at_place-small limit (x ∷ samples) small (suc j) =
     at_place-small limit samples (λ k d lt. small (suc k) d (omega arith)) j
 
--- a sum over narrow samples
-pub IsNarrow-small : (taps samples : List ℤ) → IsNarrow taps samples → unsigned_abs (weighted (at_place samples) taps) < 2 ^ 63
-IsNarrow-small taps samples narrow =
-    let small = weighted-small narrow.limit (at_place samples) taps (at_place-small narrow.limit samples narrow.small) in
+-- a sum over narrow samples, of which there are as many as taps
+pub IsNarrowBack-small : (taps samples : List ℤ) → IsNarrowBack taps samples
+    → unsigned_abs (weighted (back samples) taps) < 2 ^ 63
+IsNarrowBack-small taps samples narrow =
+    let shown = at_place (take (length taps) (reverse samples)) in
+    let same : weighted (back samples) taps ≡ weighted shown taps =
+    weighted-same (back samples) shown taps
+    (λ j lt. sym (get_or-take (length taps) (reverse samples) j (pos 0) lt)) in
+    let small = weighted-small narrow.limit shown taps
+    (at_place-small narrow.limit (take (length taps) (reverse samples)) (λ k d lt.
+    let few : k < length taps =
+    omega (arith, length-take (length taps) (reverse samples)) in
+    let past : k < length (reverse samples) =
+    omega (arith, length-take (length taps) (reverse samples)) in
+    rw (
+      get_or-take (length taps) (reverse samples) k d few,
+      get_or_default (reverse samples) k d (pos 0) past,
+    ) (narrow.small k few))) in
     let fits = narrow.fits in
-    omega arith
-
--- the back of narrow samples, at the taps that are left
-pub IsNarrow-back : (taps front back : List ℤ) (n : ℕ) → IsNarrow taps (front ++ back) → IsNarrow (drop n taps) back
-IsNarrow-back taps front back n narrow = record {
-  limit = narrow.limit;
-  short = narrow.short;
-  short_taps = All-drop (λ tap. unsigned_abs tap < 2 ^ 31) n taps narrow.short_taps;
-  small = λ k d lt. rw (sym (get_or-append-add front back k d)) (narrow.small (length front + k) d (omega (arith, length-append front back)));
-  fits = let light = mul-le (weight (drop n taps)) narrow.limit (weight taps) narrow.limit (weight-drop-le taps n) (omega arith) in
-      let fits = narrow.fits in omega arith;
-}
+    rw same (omega arith)
 
 -- a shift does not lead away from zero
 pub shifted_down-le : (z : ℤ) (shift : ℕ) → unsigned_abs (shifted_down z shift) ≤ unsigned_abs z

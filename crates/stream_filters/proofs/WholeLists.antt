@@ -85,7 +85,7 @@ block-output taps samples shift at k are small long within lt =
     (weighted-before-small taps (shown taps samples at) narrow (length taps - 1 + k)))
 
 -- the outputs of n samples
-outputs_shown-entry : (taps samples : List ℤ) (shift k n : ℕ) → k < n
+pub outputs_shown-entry : (taps samples : List ℤ) (shift k n : ℕ) → k < n
     → get_or (map (output_shown taps shift samples) (range_with_len 0 n)) k (pos 0)
     ≡ output_shown taps shift samples k
 outputs_shown-entry taps samples shift k n lt =

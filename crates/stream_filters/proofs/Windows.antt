@@ -1,11 +1,10 @@
 -- Windows that stand for lists of samples.
 use Rattle.std.proofs.Common.{◌≡◌, ℕ, zero, suc, ◌*◌, ◌^◌, ◌<◌, ◌≤◌, List, [], ◌∷◌, ◌++◌, length, get_or, ℤ, pos, sym, ap, ◌∙◌, arith}
 use Rattle.std.specs.Prelude.{unsigned_abs}
-use Rattle.std.proofs.lemmas.List.{get_or-take, get_or_default, reverse-append}
-use Rattle.std.proofs.lemmas.List.Elements.{All-weaker}
+use Rattle.std.proofs.lemmas.List.{get_or-take, reverse-append}
 use Rattle.std.proofs.lemmas.List.Sums.{sum_by-le}
 use Rattle.stream_filters.specs.Filter.{weighted, at_place, back, weight, shifted_down, output_after, AreTaps, StandsFor, FirState, after_sample}
-use Rattle.stream_filters.specs.FilterFields.{answer_at, IsNarrow}
+use Rattle.stream_filters.specs.FilterFields.{answer_at}
 use Rattle.stream_filters.specs.Range.{ranged}
 use Rattle.stream_filters.proofs.Weighted.{weighted-same}
 
@@ -22,10 +21,10 @@ pub weighted-StandsFor : (fir : FirState) (samples : List ℤ) → StandsFor fir
 weighted-StandsFor fir samples stands =
     weighted-same (at_place fir.window) (back samples) fir.taps stands.shows
 
-back-zero : (samples : List ℤ) (x : ℤ) → back (samples ++ x ∷ []) 0 ≡ x
+pub back-zero : (samples : List ℤ) (x : ℤ) → back (samples ++ x ∷ []) 0 ≡ x
 back-zero samples x = ap (λ s. get_or s 0 (pos 0)) (reverse-append samples (x ∷ []))
 
-back-suc : (samples : List ℤ) (x : ℤ) (j : ℕ) → back (samples ++ x ∷ []) (suc j) ≡ back samples j
+pub back-suc : (samples : List ℤ) (x : ℤ) (j : ℕ) → back (samples ++ x ∷ []) (suc j) ≡ back samples j
 back-suc samples x j = ap (λ s. get_or s (suc j) (pos 0)) (reverse-append samples (x ∷ []))
 
 -- a new sample in front
@@ -49,14 +48,3 @@ pub answer_at-push : (fir : FirState) (samples : List ℤ) (x : ℤ) → StandsF
     ≡ ranged (output_after fir.taps fir.shift (samples ++ x ∷ []))
 answer_at-push fir samples x stands =
     ap (λ z. ranged (shifted_down z fir.shift)) (weighted-StandsFor _ _ (StandsFor-push fir samples x stands))
-
--- a window of samples within a limit that the taps allow
-pub IsNarrow-window : (taps window : List ℤ) (shift limit : ℕ) → AreTaps taps shift → length window ≤ length taps → limit < 2 ^ 31 → weight taps * limit < 2 ^ 63
-    → ((j : ℕ) → j < length taps → unsigned_abs (at_place window j) ≤ limit) → IsNarrow taps window
-IsNarrow-window taps window shift limit are held short fits small = record {
-  limit = limit;
-  short = short;
-  short_taps = All-weaker (λ tap. unsigned_abs tap ≤ 2147483647) (λ tap. unsigned_abs tap < 2 ^ 31) (λ tap le. omega arith) taps are.small;
-  small = λ k d lt. rw (get_or_default window k d (pos 0) lt) (small k (omega arith));
-  fits = fits;
-}

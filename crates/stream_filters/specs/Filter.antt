@@ -1,5 +1,5 @@
 -- What a filter answers, as a function of the whole list of its samples.
-use Rattle.std.specs.Prelude.{◌≡◌, ℕ, suc, ◌/◌, ◌^◌, ◌<◌, ◌≤◌, List, [], ◌∷◌, length, map, reverse, take, get_or, ℤ, pos, negsuc, ◌+ℤ◌, ◌*ℤ◌, unsigned_abs}
+use Rattle.std.specs.Prelude.{◌≡◌, ℕ, suc, ◌/◌, ◌^◌, ◌<◌, ◌≤◌, List, [], ◌∷◌, length, map, reverse, take, ◌++◌, get_or, ℤ, pos, negsuc, ◌+ℤ◌, ◌*ℤ◌, unsigned_abs}
 use Rattle.std.specs.List.{All, sum_by, range_with_len}
 use Rattle.stream_filters.specs.declared.fir.TheConstants.{SHIFT_MAX, TAP_MAX, TAPS_MAX}
 
@@ -36,6 +36,12 @@ output_at taps shift samples n = output_after taps shift (take (suc n) samples)
 -- the outputs of a filter at each of these samples in turn, before their range is checked
 abbrev pub outputs : List ℤ → ℕ → List ℤ → List ℤ
 outputs taps shift samples = map (output_at taps shift samples) (range_with_len 0 (length samples))
+
+-- the outputs of a filter at each of these samples, behind those that it has taken
+abbrev pub outputs_of_block : List ℤ → ℕ → List ℤ → List ℤ → List ℤ
+outputs_of_block taps shift taken [] = []
+outputs_of_block taps shift taken (x ∷ xs) =
+    output_after taps shift (taken ++ x ∷ []) ∷ outputs_of_block taps shift (taken ++ x ∷ []) xs
 
 -- a filter's taps and shift, and the samples that its window holds, the newest first
 pub record FirState : Type 0 where

@@ -1,14 +1,22 @@
 -- What the fields of a filter stand for.
-use Rattle.std.specs.Prelude.{◌≡◌, ◌+◌, ◌-◌, ◌*◌, ◌^◌, ◌<◌, ◌≤◌, unsigned_abs, ℕ, ℤ, pos, List, length, take, drop, get_or, Result}
-use Rattle.stream_filters.specs.Filter.{FirState, AreTaps, shifted_down, weighted, weight, at_place}
+use Rattle.std.specs.Prelude.{◌≡◌, ◌+◌, ◌-◌, ◌*◌, ◌^◌, ◌<◌, ◌≤◌, ◌++◌, unsigned_abs, ℕ, ℤ, pos, List, length, take, drop, reverse, get_or, vec_capacity, Result}
+use Rattle.stream_filters.specs.Filter.{FirState, AreTaps, StandsFor, shifted_down, weighted, weight, at_place, back, outputs_of_block}
 use Rattle.std.specs.List.{All, position_from}
-use Rattle.stream_filters.specs.Range.{ranged, is_out_of_range}
+use Rattle.stream_filters.specs.Range.{ranged, is_out_of_range, before_out_of_range}
 use Rattle.stream_filters.specs.declared.fault.TooBigValue.{TooBigValue}
 use Rattle.stream_filters.specs.declared.fir.Fir.TheInside.{Inside}
 
+-- the last n samples of a line, the newest in front
+abbrev pub window_of : ℕ → List ℤ → List ℤ
+window_of n line = take n (reverse line)
+
 -- the filter that the fields of the code hold
 abbrev pub fir_view : Inside → FirState
-fir_view f = record { taps = f.taps.items; shift = f.shift; window = f.window.items }
+fir_view f = record {
+  taps = f.taps.items;
+  shift = f.shift;
+  window = window_of (length f.taps.items) f.line.items;
+}
 
 -- the answer that a window gives
 abbrev pub answer_at : List ℤ → ℕ → List ℤ → Result ℤ TooBigValue
@@ -22,15 +30,33 @@ pub record IsNarrow (taps samples : List ℤ) : Type 0 where
   pub small : All (λ x. unsigned_abs x ≤ limit) samples
   pub fits : weight taps * limit < 2 ^ 63
 
+-- the same of the last of these samples, as many as there are taps
+pub record IsNarrowBack (taps samples : List ℤ) : Type 0 where
+  pub limit : ℕ
+  pub short : limit < 2 ^ 31
+  pub short_taps : All (λ tap. unsigned_abs tap < 2 ^ 31) taps
+  pub small : (j : ℕ) → j < length taps → unsigned_abs (back samples j) ≤ limit
+  pub fits : weight taps * limit < 2 ^ 63
+
 -- what holds of the fields of every filter
 pub record IsFir (f : Inside) : Type 0 where
   pub are_taps : AreTaps f.taps.items f.shift
-  pub places : f.window.capacity ≡ length f.taps.items
-  pub held : length f.window.items ≤ length f.taps.items
+  pub held : length f.taps.items ≤ length f.line.items
+  pub room : length f.taps.items + 1024 ≤ vec_capacity f.line
   pub short : f.limit < 2 ^ 31
   pub light : weight f.taps.items * f.limit < 2 ^ 63
   pub recent : (j : ℕ) → j + f.wide_steps_left < length f.taps.items
-      → unsigned_abs (at_place f.window.items j) ≤ f.limit
+      → unsigned_abs (back f.line.items j) ≤ f.limit
+
+-- the filter has taken these samples up to the first whose output is out of range, and put the
+-- outputs before that one behind the others
+pub record HasStepped (old new : FirState) (samples before after : List ℤ) : Type 0 where
+  pub made : (taken : List ℤ) → StandsFor old taken
+      → after ≡ before ++ before_out_of_range (outputs_of_block old.taps old.shift taken samples)
+  pub stands : (taken : List ℤ) → StandsFor old taken
+      → StandsFor new (taken ++ take (length after - length before + 1) samples)
+  pub taps : new.taps ≡ old.taps
+  pub shift : new.shift ≡ old.shift
 
 -- the samples from number `from` to the one before number `to` are within the limit
 abbrev pub AreSmall : ℕ → List ℤ → ℕ → ℕ → Type 0

@@ -9,6 +9,9 @@ ghost use Rattle.stream_filters.specs.Lanes.{output_shown, IsShort, AddsUp};
 use crate::fir::SHIFT_MAX;
 use std::simd::prelude::*;
 
+/// How many outputs are made at once, where the samples are small enough for the taps.
+pub(crate) const BLOCK: usize = 16;
+
 /// The first 16 of these samples, which have 32 bits each.
 fn short_lanes(samples: &[i64]) -> i64x16
     requires enough { 16 ≤ length samples.now }

@@ -1,11 +1,13 @@
 //! The filter with a finite window.
-ghost use Rattle.std.specs.Prelude.{◌≡◌, ◌↔◌, ◌^◌, ◌<◌, ◌≤◌, List, [], ◌∷◌, ◌++◌, ℤ, IsTrue, IfOk};
-ghost use Rattle.stream_filters.specs.Filter.{AreTaps, StandsFor, after_sample, output_after, weight};
-ghost use Rattle.stream_filters.specs.Range.{ranged};
+ghost use Rattle.std.specs.Prelude.{◌≡◌, ◌↔◌, ◌+◌, ◌-◌, ◌^◌, ◌<◌, ◌≤◌, List, [], ◌∷◌, ◌++◌, ℤ, length, take, reverse, vec_capacity, IsTrue, IsOk, IfOk, false};
+ghost use Rattle.stream_filters.specs.Filter.{AreTaps, StandsFor, after_sample, output_after, outputs_of_block, weight};
+ghost use Rattle.stream_filters.specs.FilterFields.{window_of};
+ghost use Rattle.stream_filters.specs.Range.{before_out_of_range, ranged};
 
+use crate::blocks::{BLOCK, block_outputs};
 use crate::fault::{FirFault, TooBigValue};
-use crate::sums::{narrow_answer, narrow_limit, weight_of, wide_answer};
-use circular_buffer::HeapCircularBuffer;
+use crate::sums::{narrow_limit, narrow_output, weight_of};
+use crate::whole_list::{are_within, last_output};
 use std::alloc::Global;
 use std::marker::Model;
 
@@ -16,6 +18,9 @@ pub const TAP_MAX: u64 = 2_147_483_647;
 /// The greatest shift, in bits.
 pub const SHIFT_MAX: u32 = 62;
 
+/// How many samples there is room for behind those of a window, so that they move rarely.
+const ROOM: usize = 1024;
+
 /// Whether a filter may have these taps and this shift.
 pub(crate) fn are_taps(taps: &[i64], shift: u32) -> bool
     ensures { IsTrue result ↔ AreTaps taps.now shift }
@@ -24,6 +29,33 @@ pub(crate) fn are_taps(taps: &[i64], shift: u32) -> bool
         && taps.len() <= TAPS_MAX
         && shift <= SHIFT_MAX
         && taps.iter().all(|tap| tap.unsigned_abs() <= TAP_MAX)
+}
+
+/// Makes room for so many more samples of a line, of which the last `kept` stay.
+fn make_room(line: &mut Vec<i64>, kept: usize, count: usize)
+    requires held { kept ≤ length line.old.items }
+    requires room { kept + count ≤ vec_capacity line.old }
+    ensures last { window_of kept line.new.items ≡ window_of kept line.old.items }
+    ensures held { kept ≤ length line.new.items }
+    ensures room { length line.new.items + count ≤ vec_capacity line.new }
+    ensures capacity { vec_capacity line.new ≡ vec_capacity line.old }
+{
+    if line.capacity() - line.len() < count {
+        let start = line.len() - kept;
+        line.copy_within(start.., 0);
+        line.truncate(kept);
+    }
+}
+
+/// Puts these values behind the others, where there is room.
+fn put_all(list: &mut Vec<i64>, values: &[i64])
+    requires room { length list.old.items + length values.now ≤ vec_capacity list.old }
+    ensures items { list.new.items ≡ list.old.items ++ values.now }
+    ensures capacity { vec_capacity list.new ≡ vec_capacity list.old }
+{
+    for value in values {
+        list.push_reserved(*value);
+    }
 }
 
 /// A filter with a finite impulse response: each answer is a weighted sum of the last samples,
@@ -44,8 +76,8 @@ pub(crate) fn are_taps(taps: &[i64], shift: u32) -> bool
 pub struct Fir {
     taps: Vec<i64>,
     shift: u32,
-    // the last samples, the newest in front
-    window: HeapCircularBuffer<i64>,
+    // the last samples, the newest last, behind zeros at first
+    line: Vec<i64>,
     // the greatest magnitude of samples at which 64 bits hold each sum
     limit: u64,
     // after so many more samples within the limit, the window holds no other
@@ -65,11 +97,11 @@ impl Model for Fir {
 }
 
 impl Fir {
-    ghost use Rattle.stream_filters.specs.FilterFields.{answer_at};
+    ghost use Rattle.stream_filters.specs.FilterFields.{HasStepped, answer_at};
 
     /// Makes a filter with these taps and a shift in bits, before its first sample.
     ///
-    /// It takes memory for the taps and for a window of as many samples. `BadTaps` comes first.
+    /// It takes memory for the taps, and for as many samples and 1,024 more. `BadTaps` comes first.
     pub fn new(alloc: Global, taps: &[i64], shift: u32) -> Result<Fir, FirFault>
         ensures stands { IfOk result (λ fir. StandsFor fir []) }
         ensures taps { IfOk result (λ fir. fir.taps ≡ taps.now) }
@@ -81,7 +113,10 @@ impl Fir {
             return Err(FirFault::BadTaps);
         }
         let limit = narrow_limit(weight_of(taps));
-        let Ok(window) = HeapCircularBuffer::with_capacity(alloc, taps.len()) else {
+        let Ok(mut line) = Vec::with_capacity(alloc, taps.len() + ROOM) else {
+            return Err(FirFault::OutOfMemory);
+        };
+        let Ok(()) = line.resize(taps.len(), 0) else {
             return Err(FirFault::OutOfMemory);
         };
         let Ok(taps) = Vec::from_slice(alloc, taps) else {
@@ -90,7 +125,7 @@ impl Fir {
         Ok(Fir {
             taps,
             shift,
-            window,
+            line,
             limit,
             wide_steps_left: 0,
         })
@@ -122,7 +157,8 @@ impl Fir {
         ensures taps { self.new.taps ≡ self.old.taps }
         ensures shift { self.new.shift ≡ self.old.shift }
     {
-        self.window.push_front(x);
+        make_room(&mut self.line, self.taps.len(), 1);
+        self.line.push_reserved(x);
         self.wide_steps_left = if x.unsigned_abs() > self.limit {
             self.taps.len()
         } else {
@@ -130,14 +166,93 @@ impl Fir {
         };
     }
 
+    /// Takes these samples one after the other, and puts their answers behind `made`, where there
+    /// is room for all of them. Where an answer is out of range it ends with that sample, which the
+    /// window has taken all the same. It takes no memory.
+    ///
+    /// **Speed.** Answers are made 16 at once where 64 bits hold each sum.
+    pub fn steps(&mut self, samples: &[i64], made: &mut Vec<i64>) -> Result<(), TooBigValue>
+        requires room { length made.old.items + length samples.now ≤ vec_capacity made.old }
+        ensures made { (taken : List ℤ) → StandsFor self.old taken
+            → let outputs = outputs_of_block self.old.taps self.old.shift taken samples.now in
+            made.new.items ≡ made.old.items ++ before_out_of_range outputs }
+        ensures stands { (taken : List ℤ) → StandsFor self.old taken
+            → let count = length made.new.items - length made.old.items in
+            StandsFor self.new (taken ++ take (count + 1) samples.now) }
+        ensures ok { IsOk result
+            ↔ (length made.new.items ≡ length made.old.items + length samples.now) }
+
+        ensures capacity { vec_capacity made.new ≡ vec_capacity made.old }
+        ensures taps { self.new.taps ≡ self.old.taps }
+        ensures shift { self.new.shift ≡ self.old.shift }
+    {
+        let mut at = 0;
+        while samples.len() - at >= BLOCK {
+            self.block(&samples[at..at + BLOCK], made)?;
+            at += BLOCK;
+        }
+        self.each(&samples[at..], made)
+    }
+
+    /// Takes 16 samples.
+    fn block(&mut self, samples: &[i64], made: &mut Vec<i64>) -> Result<(), TooBigValue>
+        requires many { length samples.now ≡ 16 }
+        requires room { length made.old.items + length samples.now ≤ vec_capacity made.old }
+        ensures steps { HasStepped self.old self.new samples.now made.old.items made.new.items }
+        ensures ok { IsOk result
+            ↔ (length made.new.items ≡ length made.old.items + length samples.now) }
+        ensures capacity { vec_capacity made.new ≡ vec_capacity made.old }
+    {
+        if self.makes_at_once(samples, made) {
+            return Ok(());
+        }
+        self.each(samples, made)
+    }
+
+    /// Takes 16 samples and makes their answers at once, where 64 bits hold each sum, and tells
+    /// whether it did. Else all stays as it was.
+    fn makes_at_once(&mut self, samples: &[i64], made: &mut Vec<i64>) -> bool
+        requires many { length samples.now ≡ 16 }
+        requires room { length made.old.items + length samples.now ≤ vec_capacity made.old }
+        ensures steps { IsTrue result
+            → HasStepped self.old self.new samples.now made.old.items made.new.items }
+        ensures all { IsTrue result
+            → length made.new.items ≡ length made.old.items + length samples.now }
+        ensures same { result ≡ false → (self.new ≡ self.old) × (made.new ≡ made.old) }
+        ensures capacity { vec_capacity made.new ≡ vec_capacity made.old }
+    {
+        if self.wide_steps_left > 0 || !are_within(samples, self.limit) {
+            return false;
+        }
+        make_room(&mut self.line, self.taps.len(), BLOCK);
+        put_all(&mut self.line, samples);
+        let first = self.line.len() + 1 - BLOCK - self.taps.len();
+        let outputs = block_outputs(&self.taps, self.shift, &self.line[first..]);
+        put_all(made, &outputs);
+        true
+    }
+
+    /// Takes these samples one by one.
+    fn each(&mut self, samples: &[i64], made: &mut Vec<i64>) -> Result<(), TooBigValue>
+        requires room { length made.old.items + length samples.now ≤ vec_capacity made.old }
+        ensures steps { HasStepped self.old self.new samples.now made.old.items made.new.items }
+        ensures ok { IsOk result
+            ↔ (length made.new.items ≡ length made.old.items + length samples.now) }
+        ensures capacity { vec_capacity made.new ≡ vec_capacity made.old }
+    {
+        for x in samples {
+            made.push_reserved(self.step(*x)?);
+        }
+        Ok(())
+    }
+
     /// The answer at the samples in the window.
     fn answer(&self) -> Result<i64, TooBigValue>
         ensures { result ≡ answer_at self.now.taps self.now.shift self.now.window }
     {
-        let (front, back) = self.window.as_slices();
         if self.wide_steps_left > 0 {
-            return wide_answer(&self.taps, self.shift, front, back);
+            return last_output(&self.taps, self.shift, &self.line);
         }
-        Ok(narrow_answer(&self.taps, self.shift, front, back))
+        Ok(narrow_output(&self.taps, self.shift, &self.line))
     }
 }

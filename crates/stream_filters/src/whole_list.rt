@@ -5,25 +5,22 @@ ghost use Rattle.stream_filters.specs.Filter.{AreTaps, output_after, outputs};
 ghost use Rattle.stream_filters.specs.FilterFields.{AreSmall, AreSmallAt, MadeSoFar};
 ghost use Rattle.stream_filters.specs.Range.{is_out_of_range, ranged};
 
-use crate::blocks::block_outputs;
+use crate::blocks::{BLOCK, block_outputs};
 use crate::fault::{FilterFault, TooBigValue};
 use crate::fir::are_taps;
 use crate::range::in_range;
 use crate::sums::{narrow_limit, weight_of, wide_shifted, wide_sum_back};
 use std::alloc::{AllocError, Global};
 
-/// How many outputs are made at once, where the samples are small enough for the taps.
-const BLOCK: usize = 16;
-
 /// Whether the magnitude of each of these samples is at most `limit`.
-fn are_within(samples: &[i64], limit: u64) -> bool
+pub(crate) fn are_within(samples: &[i64], limit: u64) -> bool
     ensures { IsTrue result ↔ All (λ x. unsigned_abs x ≤ limit) samples.now }
 {
     samples.iter().all(|x| x.unsigned_abs() <= limit)
 }
 
 /// The output at the last of these samples.
-fn last_output(taps: &[i64], shift: u32, samples: &[i64]) -> Result<i64, TooBigValue>
+pub(crate) fn last_output(taps: &[i64], shift: u32, samples: &[i64]) -> Result<i64, TooBigValue>
     requires { AreTaps taps.now shift }
     ensures { result ≡ ranged (output_after taps.now shift samples.now) }
 {

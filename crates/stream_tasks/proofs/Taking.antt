@@ -1,11 +1,13 @@
 -- What tasks take by their first waits, and what a filter makes of values that it takes one after the
 -- other.
-use Rattle.std.proofs.Common.{◌≡◌, ◌≢◌, ℕ, zero, suc, nat_eq, true, false, ◌+◌, ◌<◌, ◌≤◌, ℤ, List, [], ◌∷◌, ◌++◌, length, get_or, map, refl, sym, ap, subst, ◌∙◌, arith}
-use Rattle.std.specs.Prelude.{Ok, Option, take}
-use Rattle.std.proofs.lemmas.List.{append_assoc, append-nil, length-append, map-append, take_all}
-use Rattle.stream_eval.specs.stream_filters.Filter.{FirState, output_after}
-use Rattle.stream_eval.specs.stream_filters.Range.{ranged}
+use Rattle.std.proofs.Common.{◌≡◌, ◌≢◌, ℕ, zero, suc, nat_eq, true, false, ◌+◌, ◌-◌, ◌≤◌, ℤ, List, [], ◌∷◌, ◌++◌, length, get_or, map, refl, sym, ap, subst, ◌∙◌, arith}
+use Rattle.std.specs.Prelude.{Ok, Option, drop, take}
+use Rattle.std.proofs.lemmas.List.{append_assoc, append-nil, length-append, length-take, map-append, take_all}
+use Rattle.std.proofs.Math.Seq.{take-add}
+use Rattle.stream_eval.specs.stream_filters.Filter.{FirState}
+use Rattle.stream_eval.specs.stream_filters.Range.{before_out_of_range, ranged}
 use Rattle.stream_eval.specs.stream_lists.Lists.{number}
+use Rattle.stream_eval.proofs.stream_lists_lemmas.stream_filters_lemmas.Stepped.{length-outputs_of_block, outputs_of_block-append, ranged-all}
 use Rattle.graph_runs.specs.phase_accum.declared.outcome.Outcome.{Outcome}
 use Rattle.graph_runs.specs.graph_base.Graphs.{Task}
 use Rattle.graph_runs.specs.graph_base.declared.line.Kind.{Kind}
@@ -16,20 +18,6 @@ use Rattle.graph_runs.specs.TaskPlaces as turns
 use Rattle.graph_runs.specs.TaskPlaces.{outputs_of_block, owed_after_wait}
 use Rattle.graph_runs.specs.declared.owed.Owed.TheVariants.{Nothing}
 use Rattle.stream_tasks.specs.Tasks.{owed_by}
-
--- of one value more there is one output more
-outputs_more : (taps : List ℤ) (shift : ℕ) (taken xs : List ℤ) (x : ℤ)
-    → outputs_of_block taps shift taken (xs ++ x ∷ [])
-    ≡ outputs_of_block taps shift taken xs
-    ++ output_after taps shift ((taken ++ xs) ++ x ∷ []) ∷ []
-outputs_more taps shift taken [] x =
-    ap (λ l. output_after taps shift (l ++ x ∷ []) ∷ []) (sym (append-nil taken))
-outputs_more taps shift taken (y ∷ xs) x =
-    let next = taken ++ y ∷ [] in
-    ap (λ l. output_after taps shift next ∷ l) (outputs_more taps shift next xs x)
-    ∙ ap (λ l. output_after taps shift next ∷ (outputs_of_block taps shift next xs
-    ++ output_after taps shift (l ++ x ∷ []) ∷ []))
-    (append_assoc taken (y ∷ []) xs)
 
 -- a filter has taken these values, and made these of them, all in range
 pub record MadeSoFar (task : Task) (xs : List ℤ) (old new : Option FirState) (made : List ℤ)
@@ -47,29 +35,63 @@ made_none task filter made none = record {
   many = ap length none;
 }
 
--- and one value more
-pub made_more : (task : Task) (xs : List ℤ) (x v : ℤ) (old between new : Option FirState)
-    (made after : List ℤ) → MadeSoFar task xs old between made → after ≡ made ++ v ∷ []
+-- and more values, of which each answer is in range
+pub made_then : (task : Task) (xs ys : List ℤ) (old between new : Option FirState)
+    (made after : List ℤ) → MadeSoFar task xs old between made
+    → length after ≡ length made + length ys
+    → ((taken : List ℤ) → HasFilter task between taken → after ≡ made
+    ++ before_out_of_range (outputs_of_block task.taps task.shift taken ys))
     → ((taken : List ℤ) → HasFilter task between taken
-    → Ok v ≡ ranged (output_after task.taps task.shift (taken ++ x ∷ [])))
-    → ((taken : List ℤ) → HasFilter task between taken → HasFilter task new (taken ++ x ∷ []))
-    → MadeSoFar task (xs ++ x ∷ []) old new after
-made_more task xs x v old between new made after so more answer next = record {
+    → HasFilter task new (taken ++ take (length after - length made + 1) ys))
+    → MadeSoFar task (xs ++ ys) old new after
+made_then task xs ys old between new made after so all outputs next = record {
   filter = λ taken has.
-      subst (λ l. HasFilter task new l) (append_assoc taken xs (x ∷ []))
+      subst (HasFilter task new)
+      (ap (λ l. (taken ++ xs) ++ l)
+      (take_all (length after - length made + 1) ys (omega arith))
+      ∙ append_assoc taken xs ys)
       (next (taken ++ xs) (so.filter taken has));
   made_are = λ taken has.
-      ap (map ranged) (outputs_more task.taps task.shift taken xs x)
-      ∙ map-append ranged (outputs_of_block task.taps task.shift taken xs)
-      (output_after task.taps task.shift ((taken ++ xs) ++ x ∷ []) ∷ [])
-      ∙ ap (λ l. l ++ ranged (output_after task.taps task.shift ((taken ++ xs) ++ x ∷ [])) ∷ [])
-      (so.made_are taken has)
-      ∙ ap (λ r. map (λ y. Ok y) made ++ r ∷ []) (sym (answer (taken ++ xs) (so.filter taken has)))
-      ∙ sym (map-append (λ y. Ok y) made (v ∷ []))
-      ∙ ap (λ l. map (λ y. Ok y) l) (sym more);
-  many = ap length more ∙ length-append made (v ∷ [])
-      ∙ (omega (arith, so.many, length-append xs (x ∷ [])));
+      let zs = outputs_of_block task.taps task.shift (taken ++ xs) ys in
+      let here = outputs (taken ++ xs) (so.filter taken has) in
+      let count : length after ≡ length made + length (before_out_of_range zs) =
+      ap length here ∙ length-append made (before_out_of_range zs) in
+      let many : length zs ≡ length ys =
+      length-outputs_of_block task.taps task.shift (taken ++ xs) ys in
+      ap (map ranged) (outputs_of_block-append task.taps task.shift taken xs ys)
+      ∙ (map-append ranged (outputs_of_block task.taps task.shift taken xs) zs
+      ∙ (ap (λ l. l ++ map ranged zs) (so.made_are taken has)
+      ∙ (ap (λ l. map (λ v. Ok v) made ++ l) (ranged-all zs (omega arith))
+      ∙ (sym (map-append (λ v. Ok v) made (before_out_of_range zs))
+      ∙ ap (map (λ v. Ok v)) (sym here)))));
+  many = all ∙ (omega (arith, so.many, length-append xs ys));
 }
+
+take_few : (n : ℕ) (xs : List ℤ) → length (take n xs) ≤ length xs
+take_few n xs = omega (arith, length-take n xs)
+
+-- no more answers come than there are values
+pub made_few : (task : Task) (ys : List ℤ) (between : Option FirState) (made after taken : List ℤ)
+    → HasFilter task between taken
+    → (HasFilter task between taken → after ≡ made
+    ++ before_out_of_range (outputs_of_block task.taps task.shift taken ys))
+    → length after ≤ length made + length ys
+made_few task ys between made after taken has outputs =
+    let zs = outputs_of_block task.taps task.shift taken ys in
+    let count = ap length (outputs has) ∙ length-append made (before_out_of_range zs) in
+    let few : length (before_out_of_range zs) ≤ length zs = take_few _ zs in
+    omega (arith, count, length-outputs_of_block task.taps task.shift taken ys)
+
+-- the numbers of more outcomes, behind those before them
+pub numbers_then : (os : List Outcome) (at end : ℕ) (ys : List ℤ) → at ≤ end
+    → ys ≡ map number (take (end - at) (drop at os))
+    → map number (take at os) ++ ys ≡ map number (take end os)
+numbers_then os at end ys le is =
+    let sum : at + (end - at) ≡ end = omega arith in
+    ap (λ l. map number (take at os) ++ l) is
+    ∙ (sym (map-append number (take at os) (take (end - at) (drop at os)))
+    ∙ (ap (map number) (sym (take-add at (end - at) os))
+    ∙ ap (λ n. map number (take n os)) sum))
 
 -- what a filter has made of what it took is what it owes
 pub filter_owes : (task : Task) (begun : ℕ) (taken : List ℤ) (os : List Outcome) (made : List ℤ)

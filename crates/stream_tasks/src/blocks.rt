@@ -17,7 +17,10 @@ use stream_eval::stream_lists::Job;
 use stream_members::Places;
 
 /// How many steps a task makes in one event of its own accord, at most.
-const OWN_STEPS: u64 = 64;
+const OWN_STEPS: u64 = 1024;
+/// Up to which bound a task makes as many steps at once as the bound allows. Above it they are half
+/// as many, so that the task at the other end of the phaser has the other half meanwhile.
+const SMALL_BOUND: u64 = 64;
 
 /// How many steps task number `task` makes in one event of its own accord, at most: one, or more
 /// where its kind has blocks, and no more than the bound of each of its phasers.
@@ -26,17 +29,25 @@ pub fn own_steps(job: &Job, task: usize) -> u64
     ensures { IsMost job.now task result }
 {
     match kind_of(job, task) {
-        Kind::Source | Kind::Fir | Kind::Sink => least_bound(job, task),
+        Kind::Source | Kind::Fir | Kind::Sink => steps_within(least_bound(job, task)),
         Kind::Split | Kind::Join | Kind::Peer => 1,
     }
 }
 
-/// The least bound of the phasers of task number `task`, at most `OWN_STEPS`.
+/// How many steps a task makes at once on phasers of this bound.
+fn steps_within(bound: u64) -> u64
+    requires { 1 ≤ bound }
+    ensures { 1 ≤ result }
+{
+    bound.min(SMALL_BOUND).max(bound / 2).min(OWN_STEPS)
+}
+
+/// The least bound of the phasers of task number `task`.
 fn least_bound(job: &Job, task: usize) -> u64
     requires task { task < length job.now.graph.tasks }
     ensures { 1 ≤ result }
 {
-    let mut least = OWN_STEPS;
+    let mut least = u64::MAX;
     for k in 0..job.graph().registrations(task) {
         let phaser = registration_of(job, task, k).phaser;
         least = least.min(job.graph().phaser(phaser).bound);

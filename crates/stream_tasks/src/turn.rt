@@ -24,11 +24,14 @@ use crate::went::Went;
 use graph_runs::graph_base::Kind;
 use graph_runs::phase_accum::Outcome;
 use graph_runs::{
-    Owed, filtered, first_input_of, input_of, is_cut, kind_of, number_taken, output_of,
+    Owed, filtered_all, first_input_of, input_of, is_cut, kind_of, number_taken, output_of,
     owed_after_exchange, owed_after_signal, owed_after_wait, until_of,
 };
 use stream_eval::stream_filters::Fir;
 use stream_eval::stream_lists::Job;
+
+/// How many numbers a filter is given at once.
+const AT_ONCE: usize = 16;
 
 impl<'a> TaskState<'a> {
     /// Makes the next event, where it can and no child comes first.
@@ -332,13 +335,28 @@ fn filter_all(
     ensures few { length made.new.items ≤ length outcomes.now }
     ensures room { vec_capacity made.new ≡ vec_capacity made.old }
 {
-    for outcome in outcomes {
-        let Ok(value) = filtered(job, t, filter, number_taken(*outcome)) else {
+    let mut at = 0;
+    while at < outcomes.len() {
+        let end = outcomes.len().min(at + AT_ONCE);
+        let numbers = numbers_of(&outcomes[at..end]);
+        let Ok(()) = filtered_all(job, t, filter, &numbers[..end - at], made) else {
             return false;
         };
-        made.push_reserved(value);
+        at = end;
     }
     true
+}
+
+/// The numbers of these outcomes, at most 16, and zeros behind them.
+fn numbers_of(outcomes: &[Outcome]) -> [i64; AT_ONCE]
+    requires { length outcomes.now ≤ 16 }
+    ensures { take (length outcomes.now) result ≡ map number outcomes.now }
+{
+    let mut numbers = [0; AT_ONCE];
+    for i in 0..outcomes.len() {
+        numbers[i] = number_taken(outcomes[i]);
+    }
+    numbers
 }
 
 /// Enters the next step of a task, where no worker has.

@@ -1,75 +1,79 @@
--- The filter makes one output more.
-use Rattle.std.proofs.Common.{rules, SFits, w64, to_z, of_z, pos, ◌≡◌, ◌<◌, ◌≤◌, ◌+◌, ◌++◌, ◌∷◌, [], length, map, get_or, refl, sym, ap, subst, ◌∙◌, arith, to_z-of_z}
-use Rattle.std.specs.Prelude.{Ok, take}
-use Rattle.std.proofs.lemmas.List.{take_more, take_all, length-map, length-take-le, map-append}
-use Rattle.graph_runs.specs.phase_accum.declared.outcome.Outcome.TheVariants.{Value}
+-- The filter makes an output of each of the next numbers.
+use Rattle.std.proofs.Common.{◌≡◌, ◌-◌, ◌≤◌, ◌++◌, length, map, refl, subst, ◌∙◌, arith}
+use Rattle.std.specs.Prelude.{drop, take}
+use Rattle.std.proofs.lemmas.List.{length-drop, length-map, length-take, length-take-le, take_all}
 use Rattle.graph_runs.specs.graph_base.Graphs.{task_at}
-use Rattle.stream_eval.specs.stream_filters.Filter.{output_after}
-use Rattle.stream_eval.specs.stream_filters.Range.{ranged}
 use Rattle.stream_eval.specs.stream_lists.Lists.{number}
-use Rattle.graph_runs.specs.Steps.{HasFilter}
-use Rattle.stream_tasks.proofs.Taking.{MadeSoFar, made_none, made_more}
+use Rattle.stream_tasks.proofs.Taking.{MadeSoFar, made_few, made_then, numbers_then}
 use Rattle.stream_tasks.proofs.turn.filter_all.Goals as goal
+use Rattle.stream_tasks.proofs.turn.filter_all.Goals.{After-filtered_all, After-numbers_of-numbers}
 
-pub loop-outcome-init : goal.loop-outcome-init
-loop-outcome-init c =
-    (made_none (task_at c.args.job.now.graph c.args.t) c.args.filter.now c.args.made.now.items c.requires.made.0, refl)
+-- the numbers that the filter is given
+given : (c : After-numbers_of-numbers)
+    → take (c.min-end.result - c.loop-at.at) c.numbers_of-numbers.result
+    ≡ map number (take (c.min-end.result - c.loop-at.at) (drop c.loop-at.at c.args.outcomes.now))
+given c =
+    let count = c.min-end.result - c.loop-at.at in
+    let outcomes = c.args.outcomes.now in
+    let many : length (take count (drop c.loop-at.at outcomes)) ≡ count =
+    length-take-le count (drop c.loop-at.at outcomes)
+    (omega (arith, c.min-end.ensures, length-drop c.loop-at.at outcomes)) in
+    subst (λ n. take n c.numbers_of-numbers.result ≡ map number (take count (drop c.loop-at.at
+    outcomes))) many c.numbers_of-numbers.ensures
 
-pub filtered-requires-clause-filter : goal.filtered-requires-clause-filter
-filtered-requires-clause-filter c = (
-  c.requires.filter.0 ++ map number (take c.loop-outcome.outcome-index c.args.outcomes.now),
-  c.loop-outcome.invariant.0.filter c.requires.filter.0 c.requires.filter.1,
+pub filtered_all-requires-clause-filter : goal.filtered_all-requires-clause-filter
+filtered_all-requires-clause-filter c = (
+  c.requires.filter.0 ++ map number (take c.loop-at.at c.args.outcomes.now),
+  c.loop-at.invariant.0.filter c.requires.filter.0 c.requires.filter.1,
 )
 
-pub push_reserved-requires : goal.push_reserved-requires
-push_reserved-requires c =
-    let i = c.loop-outcome.outcome-index in
-    let first = take i c.args.outcomes.now in
-    let within : i < length c.args.outcomes.now = c.loop-outcome-test.true in
-    let many = c.loop-outcome.invariant.0.many in
-    let long : length (map number first) ≡ i =
-    length-map first number ∙ length-take-le i c.args.outcomes.now (omega arith) in
-    omega (arith, c.requires.made.1, c.loop-outcome.invariant.1, c.loop-outcome.made.ok.0)
+-- how many it has made
+many : (c : After-numbers_of-numbers) → length c.loop-at.made.items ≡ c.loop-at.at
+many c =
+    c.loop-at.invariant.0.many
+    ∙ (length-map (take c.loop-at.at c.args.outcomes.now) number
+    ∙ length-take-le c.loop-at.at c.args.outcomes.now c.loop-at.invariant.2)
 
-pub loop-outcome-preserved : goal.loop-outcome-preserved
-loop-outcome-preserved c =
+pub returns-in_default-clause-few : goal.returns-in_default-clause-few
+returns-in_default-clause-few c =
+    let here = (goal.at.returns-in_default-clause-few c).After-numbers_of-numbers in
     let task = task_at c.args.job.now.graph c.args.t in
-    let i = c.loop-outcome.outcome-index in
-    let outcomes = c.args.outcomes.now in
-    let xs = map number (take i outcomes) in
-    let x = number (get_or outcomes i (Value (pos 0))) in
-    let within : i < length outcomes = c.loop-outcome-test.true in
-    let more : map number (take (i + 1) outcomes) ≡ xs ++ x ∷ [] =
-    ap (map number) (take_more outcomes i (Value (pos 0)) within)
-    ∙ map-append number (take i outcomes) (get_or outcomes i (Value (pos 0)) ∷ []) in
-    let fits : SFits w64 c.number_taken.result = search rules in
-    let value : SFits w64 c.in-Ok.value = search rules in
-    let got : to_z w64 (of_z w64 c.number_taken.result) ≡ x =
-    to_z-of_z fits ∙ c.number_taken.ensures in (
-      subst (λ l. MadeSoFar task l c.args.filter.now c.filtered.new.filter c.push_reserved.new.self.items) (sym more)
-          (made_more task xs x c.in-Ok.value c.args.filter.now c.loop-outcome.filter c.filtered.new.filter
-          c.loop-outcome.made.items c.push_reserved.new.self.items c.loop-outcome.invariant.0
-          (subst (λ y. c.push_reserved.new.self.items ≡ c.loop-outcome.made.items ++ y ∷ [])
-          (to_z-of_z value) c.push_reserved.ensures.items)
-          (λ taken has. sym c.in-Ok.is ∙ c.filtered.ensures.answer taken has
-          ∙ ap (λ y. ranged (output_after task.taps task.shift (taken ++ y ∷ []))) got)
-          (λ taken has. subst (λ y. HasFilter task c.filtered.new.filter (taken ++ y ∷ [])) got
-          (c.filtered.ensures.filter taken has))),
-      c.push_reserved.ensures.capacity ∙ c.loop-outcome.invariant.1,
+    let ys = take (c.min-end.result - c.loop-at.at) c.numbers_of-numbers.result in
+    let taken = c.requires.filter.0 ++ map number (take c.loop-at.at c.args.outcomes.now) in
+    let few = made_few task ys c.loop-at.filter c.loop-at.made.items c.filtered_all.new.made.items
+    taken (c.loop-at.invariant.0.filter c.requires.filter.0 c.requires.filter.1)
+    (c.filtered_all.ensures.made taken) in
+    omega (
+      arith,
+      few,
+      many here,
+      c.min-end.ensures,
+      length-take (c.min-end.result - c.loop-at.at) c.numbers_of-numbers.result,
     )
 
-pub returns-clause-made : goal.returns-clause-made
-returns-clause-made c = λ yes taken has.
+pub loop-at-preserved : goal.loop-at-preserved
+loop-at-preserved c =
+    let here = (goal.at.loop-at-preserved c).After-numbers_of-numbers in
     let task = task_at c.args.job.now.graph c.args.t in
+    let at = c.loop-at.at in
+    let end = c.min-end.result in
     let outcomes = c.args.outcomes.now in
-    let over : length outcomes ≤ c.loop-outcome.outcome-index = c.loop-outcome-test.false in
-    (subst (λ l. MadeSoFar task (map number l) c.args.filter.now c.loop-outcome.filter c.loop-outcome.made.items)
-    (take_all c.loop-outcome.outcome-index outcomes over) c.loop-outcome.invariant.0).made_are taken has
+    let ys = take (end - at) c.numbers_of-numbers.result in
+    let all = c.filtered_all.ensures.ok.0 (rw c.in-Ok.is refl) in (
+      subst (λ l. MadeSoFar task l c.args.filter.now c.filtered_all.new.filter
+          c.filtered_all.new.made.items)
+          (numbers_then outcomes at end ys (omega (arith, c.min-end.ensures)) (given here))
+          (made_then task (map number (take at outcomes)) ys c.args.filter.now c.loop-at.filter
+          c.filtered_all.new.filter c.loop-at.made.items c.filtered_all.new.made.items
+          c.loop-at.invariant.0 all c.filtered_all.ensures.made c.filtered_all.ensures.filter),
+      c.filtered_all.ensures.capacity ∙ c.loop-at.invariant.1,
+      omega (arith, c.min-end.ensures),
+    )
 
 pub returns-clause-filter : goal.returns-clause-filter
 returns-clause-filter c = λ yes taken has.
     let task = task_at c.args.job.now.graph c.args.t in
     let outcomes = c.args.outcomes.now in
-    let over : length outcomes ≤ c.loop-outcome.outcome-index = c.loop-outcome-test.false in
-    (subst (λ l. MadeSoFar task (map number l) c.args.filter.now c.loop-outcome.filter c.loop-outcome.made.items)
-    (take_all c.loop-outcome.outcome-index outcomes over) c.loop-outcome.invariant.0).filter taken has
+    let over : length outcomes ≤ c.loop-at.at = c.loop-at-test.false in
+    (subst (λ l. MadeSoFar task (map number l) c.args.filter.now c.loop-at.filter
+    c.loop-at.made.items) (take_all c.loop-at.at outcomes over) c.loop-at.invariant.0).filter taken has

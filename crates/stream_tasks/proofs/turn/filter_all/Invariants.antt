@@ -1,13 +1,18 @@
 -- What the filter has made so far.
-use Rattle.std.proofs.Common.{◌≡◌, map}
-use Rattle.std.specs.Prelude.{take}
+use Rattle.std.proofs.Common.{◌≡◌, ◌≤◌, ◌-◌, map, length}
+use Rattle.std.specs.Prelude.{take, vec_capacity}
 use Rattle.graph_runs.specs.graph_base.Graphs.{task_at}
 use Rattle.stream_eval.specs.stream_lists.Lists.{number}
 use Rattle.stream_tasks.proofs.Taking.{MadeSoFar}
 use Rattle.stream_tasks.proofs.turn.filter_all.Given as goal
 
-abbrev pub invariant-loop-outcome : goal.invariant-loop-outcome
-invariant-loop-outcome l =
-    MadeSoFar (task_at l.job.graph l.t) (map number (take l.outcome-index l.outcomes)) l.fn.filter
-    l.filter l.made.items
-    × (l.made.cap ≡ l.fn.made.cap)
+abbrev pub invariant-loop-at : goal.invariant-loop-at
+invariant-loop-at l =
+    MadeSoFar (task_at l.job.graph l.t) (map number (take l.at l.outcomes)) l.fn.filter l.filter
+    l.made.items
+    × (vec_capacity l.made ≡ vec_capacity l.fn.made)
+    × (l.at ≤ length l.outcomes)
+
+-- the outcomes that are left
+abbrev pub decreases-loop-at : goal.decreases-loop-at
+decreases-loop-at l = length l.outcomes - l.at

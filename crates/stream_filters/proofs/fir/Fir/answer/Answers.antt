@@ -1,15 +1,34 @@
-use Rattle.std.proofs.Common.{arith}
-use Rattle.stream_filters.proofs.Windows.{weight-small, IsNarrow-window}
+use Rattle.std.proofs.Common.{arith, rules}
+use Rattle.stream_filters.proofs.Lines.{answer_at-line, IsNarrowBack-recent}
 use Rattle.stream_filters.proofs.fir.Fir.answer.Goals as goal
 
--- 64 taps weigh little
-pub wide_answer-requires-clause-light : goal.wide_answer-requires-clause-light
-wide_answer-requires-clause-light c =
-    rw c.deref.ensures.value (weight-small _ _ c.self.invariant.are_taps)
-
 -- no sample past the limit is left
-pub narrow_answer-requires-clause-narrow : goal.narrow_answer-requires-clause-narrow
-narrow_answer-requires-clause-narrow c =
-    rw (c.deref-2.ensures.value, c.as_slices.ensures)
-    (IsNarrow-window _ _ _ c.self.inside.limit c.self.invariant.are_taps c.self.invariant.held c.self.invariant.short c.self.invariant.light
+pub narrow_output-requires-clause-narrow : goal.narrow_output-requires-clause-narrow
+narrow_output-requires-clause-narrow c =
+    rw (c.deref-2.ensures.value, c.deref-3.ensures.value)
+    (IsNarrowBack-recent c.self.inside.taps.items c.self.inside.line.items c.self.inside.shift
+    c.self.inside.limit c.self.invariant.are_taps c.self.invariant.short c.self.invariant.light
     (λ j lt. c.self.invariant.recent j (omega arith)))
+
+-- the answer is the output at the last sample of the line
+pub returns-then-self-gt0 : goal.returns-then-self-gt0
+returns-then-self-gt0 c =
+    rw (
+      ← c.self.view_is,
+      answer_at-line c.self.inside.taps.items c.self.inside.shift
+          c.self.inside.line.items,
+      ← c.deref.ensures.value,
+      ← c.deref-then-self-gt0.ensures.value,
+    )
+    c.last_output.ensures
+
+pub returns : goal.returns
+returns c =
+    rw (
+      ← c.self.view_is,
+      answer_at-line c.self.inside.taps.items c.self.inside.shift
+          c.self.inside.line.items,
+      ← c.deref-2.ensures.value,
+      ← c.deref-3.ensures.value,
+    )
+    (search rules)

@@ -1,0 +1,110 @@
+use Rattle.std.proofs.Common.{◌≡◌, ◌++◌, ◌+◌, ◌-◌, ◌≤◌, length, map, take, drop, ap, subst, ◌∙◌, arith}
+use Rattle.std.specs.Prelude.{unsigned_abs}
+use Rattle.std.specs.List.{All, range_with_len}
+use Rattle.stream_filters.specs.Lanes.{output_shown}
+use Rattle.std.proofs.lemmas.List.{length-append}
+use Rattle.stream_filters.specs.FilterFields.{AreSmallAt, window_of}
+use Rattle.stream_filters.proofs.Lines.{AreRecent, AreRecent-same, AreRecent-behind}
+use Rattle.stream_filters.proofs.Stepped.{AreSmallAt-behind, HasStepped-block, shown_is}
+use Rattle.stream_filters.proofs.WholeLists.{IsNarrow-shown, shown}
+use Rattle.stream_filters.proofs.fir.Fir.makes_at_once.Goals as goal
+use Rattle.stream_filters.proofs.fir.Fir.makes_at_once.Goals.{After-deref-2}
+
+-- the window stays while room is made
+kept : (c : After-deref-2) → window_of (length c.self.inside.taps.items) c.make_room.new.line.items
+    ≡ window_of (length c.self.inside.taps.items) c.self.inside.line.items
+kept c =
+    let count : c.len.result ≡ length c.self.inside.taps.items = omega (arith, c.len.ensures) in
+    subst (λ n. window_of n c.make_room.new.line.items ≡ window_of n c.self.inside.line.items)
+    count c.make_room.ensures.last
+
+held : (c : After-deref-2)
+    → length c.self.inside.taps.items ≤ length c.make_room.new.line.items
+held c = omega (arith, c.len.ensures, c.make_room.ensures.held)
+
+-- the samples are within the limit
+within : (c : After-deref-2)
+    → All (λ x. unsigned_abs x ≤ c.self.inside.limit) c.args.samples.now
+within c = c.are_within.ensures.0 c.if-not-are_within.false
+
+-- and so are the last ones of the line
+recent : (c : After-deref-2) → AreRecent c.self.inside.limit (length c.self.inside.taps.items) 0
+    c.make_room.new.line.items
+recent c =
+    AreRecent-same _ (length c.self.inside.taps.items) 0 c.make_room.new.line.items
+    c.self.inside.line.items (kept c)
+    (λ j lt. c.self.invariant.recent j (omega (arith, c.if-self-gt0.false)))
+
+small : (c : After-deref-2) → AreSmallAt c.self.inside.taps.items
+    (c.make_room.new.line.items ++ c.args.samples.now) (length c.make_room.new.line.items)
+small c =
+    AreSmallAt-behind c.self.inside.taps.items c.make_room.new.line.items c.args.samples.now
+    c.self.inside.limit c.self.invariant.short c.self.invariant.light c.requires.many (recent c)
+    (within c)
+
+-- the part of the line that is read
+read : (c : After-deref-2)
+    → take (length c.deref-2.result.now - (c.len-2.result + 1 - 16 - c.len-3.result))
+    (drop (c.len-2.result + 1 - 16 - c.len-3.result) c.deref-2.result.now)
+    ≡ shown c.self.inside.taps.items (c.make_room.new.line.items ++ c.args.samples.now)
+    (length c.make_room.new.line.items)
+read c =
+    shown_is c.self.inside.taps.items c.make_room.new.line.items c.args.samples.now
+    c.deref-2.result.now c.len-2.result c.len-3.result
+    (c.deref-2.ensures.value ∙ c.put_all.ensures.items) c.requires.many
+    (omega (arith, c.len-2.ensures, c.deref-2.ensures.len)) (omega (arith, c.len-3.ensures)) (held c)
+
+pub block_outputs-outputs-requires-clause-narrow :
+    goal.block_outputs-outputs-requires-clause-narrow
+block_outputs-outputs-requires-clause-narrow c =
+    let here = (goal.at.block_outputs-outputs-requires-clause-narrow c).After-deref-2 in
+    let line = c.make_room.new.line.items in
+    rw (c.deref.ensures.value, read here) (IsNarrow-shown c.self.inside.taps.items
+    (line ++ c.args.samples.now) c.self.inside.shift (length line) c.self.invariant.are_taps
+    (small here) (omega (arith, held here))
+    (omega (arith, length-append line c.args.samples.now, c.requires.many)))
+
+pub invariant_of-self : goal.invariant_of-self
+invariant_of-self c =
+    let here = (goal.at.invariant_of-self c).After-deref-2 in
+    let n = length c.self.inside.taps.items in
+    let line = c.make_room.new.line.items in
+    let all = line ++ c.args.samples.now in
+    let long : length all ≡ length line + 16 =
+    length-append line c.args.samples.now ∙ ap (λ m. length line + m) c.requires.many in
+    record {
+      are_taps = c.self.invariant.are_taps;
+      held = omega (arith, held here, long, ap length c.put_all.ensures.items);
+      room = omega (
+        arith,
+        c.put_all.ensures.capacity,
+        c.make_room.ensures.capacity,
+        c.self.invariant.room,
+      );
+      short = c.self.invariant.short;
+      light = c.self.invariant.light;
+      recent = λ j lt.
+          rw c.put_all.ensures.items
+          (AreRecent-behind c.self.inside.limit n line c.args.samples.now (recent here) (within here)
+          (held here) j (omega arith));
+    }
+
+pub returns-clause-steps : goal.returns-clause-steps
+returns-clause-steps c =
+    let here = (goal.at.returns-clause-steps c).After-deref-2 in
+    let taps = c.self.inside.taps.items in
+    let line = c.make_room.new.line.items in
+    let shift = c.self.inside.shift in
+    let outputs_are : c.block_outputs-outputs.result
+    ≡ map (output_shown taps shift (shown taps (line ++ c.args.samples.now) (length line)))
+    (range_with_len 0 16) =
+    c.block_outputs-outputs.ensures
+    ∙ (ap (λ t. map (output_shown t shift (take (length c.deref-2.result.now
+    - (c.len-2.result + 1 - 16 - c.len-3.result))
+    (drop (c.len-2.result + 1 - 16 - c.len-3.result) c.deref-2.result.now))) (range_with_len 0 16))
+    c.deref.ensures.value
+    ∙ ap (λ l. map (output_shown taps shift l) (range_with_len 0 16)) (read here)) in
+    λ yes. rw (← c.self.view_is, c.put_all.ensures.items, c.put_all-2.ensures.items)
+    (HasStepped-block taps line c.self.inside.line.items c.args.samples.now
+    c.block_outputs-outputs.result c.args.made.now.items shift c.self.invariant.are_taps
+    (small here) (held here) c.requires.many (kept here) outputs_are)
