@@ -10,6 +10,7 @@ mod ChildAdded
 mod ChildRegisters
 mod ChildJoinsNow
 mod Seeding
+mod Standing
 mod StillRegistering
 mod Delivering
 mod FoundingLemmas

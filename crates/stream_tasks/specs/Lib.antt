@@ -11,6 +11,7 @@ pub mod Registering
 pub mod RunAnswers
 pub mod Runs
 pub mod Seeds
+pub mod Standings
 pub mod TaskLefts
 pub mod Tasks
 pub use Rattle.graph_runs.specs.graph_base as graph_base

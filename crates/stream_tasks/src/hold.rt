@@ -4,6 +4,7 @@ ghost use Rattle.stream_tasks.specs.Holds.{HoldGoesOn, HasSendPlaces, MemberHasS
 ghost use Rattle.graph_runs.specs.phase_base.declared.operation.Op.{Op};
 ghost use Rattle.stream_members.specs.AnyMembers.{room_for};
 ghost use Rattle.stream_tasks.specs.Registering.{AddsTo, AddsNowTo};
+ghost use Rattle.stream_tasks.specs.Standings.{entry_held};
 
 use crate::held::Held;
 use graph_runs::phase_accum::{Outcome, Single};
@@ -39,7 +40,9 @@ impl<'a> Hold<'a> {
     }
 
     /// The mode and the phases of the registration, until it leaves.
-    pub fn entry(&self) -> Option<Entry> {
+    pub fn entry(&self) -> Option<Entry>
+        ensures { result ≡ entry_held self.now }
+    {
         match self {
             Hold::On(member) => Some(member.entry()),
             Hold::Gone => None,

@@ -1,5 +1,6 @@
 //! A task with its registrations.
-ghost use Rattle.std.specs.Prelude.{◌≡◌, length, None, IfErr, IfOk};
+ghost use Rattle.std.specs.Prelude.{◌≡◌, length, None, IfErr, IfOk, OnOk};
+ghost use Rattle.stream_tasks.specs.Standings.{PutsStands};
 ghost use Rattle.stream_tasks.specs.TaskLefts.{IsTaskLeft};
 ghost use Rattle.graph_runs.specs.graph_base.Graphs.{task_at};
 ghost use Rattle.graph_runs.specs.Nexts.{registrations_at};
@@ -140,7 +141,9 @@ impl<'a, J: Run> Task<'a, J> {
 
     /// Puts where it stands behind these, on each phaser that it has not left, in the order of its
     /// registrations. It takes memory for them.
-    pub fn stand(&self, stands: &mut Vec<Stand>) -> Result<(), AllocError> {
+    pub fn stand(&self, stands: &mut Vec<Stand>) -> Result<(), AllocError>
+        ensures { OnOk result (PutsStands J.job self.now stands.old.items stands.new.items) }
+    {
         let task = self.state.number;
         let end = self.state.next_end(self.job);
         for k in 0..self.job.graph().registrations(task) {

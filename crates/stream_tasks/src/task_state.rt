@@ -1,6 +1,7 @@
 //! How far a task has come, with its registrations.
 ghost use Rattle.std.specs.Prelude.{◌≡◌, ◌<◌, length, true};
 ghost use Rattle.stream_tasks.specs.TaskLefts.{IsGone, left_by};
+ghost use Rattle.stream_tasks.specs.Standings.{end_of_state};
 
 use crate::child::Child;
 use crate::ending::task_left::{TaskKnowledge, TaskLeft};
@@ -73,6 +74,7 @@ impl<'a> TaskState<'a> {
     /// The end at which it makes its next call, where no child comes first.
     pub fn next_end(&self, job: &Job) -> End
         requires { self.now.number < length job.now.graph.tasks }
+        ensures { result ≡ end_of_state job.now self.now }
     {
         if self.over {
             return End::Nowhere;
