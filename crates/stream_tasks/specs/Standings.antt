@@ -54,7 +54,8 @@ pub record IsStandOf (job : Job) (t : ℕ) (stand : Stand) : Type 0 where
   pub registered : k < length (registrations_at job t)
   pub phaser : stand.phaser ≡ (registration_at job t k).phaser
   pub at : End
-  pub next : stand.next ≡ call_on at (registration_at job t k).input (registration_at job t k).output
+  pub next : stand.next
+      ≡ call_on at (registration_at job t k).input (registration_at job t k).output
 
 -- behind a list stand some such of task t
 pub record PutsStands (job : Job) (t : ℕ) (old new : List Stand) : Type 0 where
