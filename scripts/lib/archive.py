@@ -68,6 +68,13 @@ def version():
     return re.search(r"^## (\d+\.\d+\.\d+)", project.text_of("CHANGELOG.md"), re.M)[1]
 
 
+def address():
+    """Where the commit can be had, if the clone came from somewhere that others reach, or nothing."""
+    remotes = git("remote").split()
+    found = git("remote", "get-url", "origin") if "origin" in remotes else ""
+    return found if re.match("https?://", found) else ""
+
+
 def other_versions():
     """The files that name another version."""
     for file in (
@@ -154,6 +161,8 @@ def lay_made(folder, epoch):
     page = [os.path.join(TOP, "scripts/lib/man-page"), program, str(epoch)]
     put(subprocess.check_output(page), os.path.join(folder, "share/man/man1/phase.1"))
     words = project.text_of("scripts/lib/phase.pc").replace("VERSION", version())
+    if address():
+        words = words.replace("License:", f"URL: {address()}\nLicense:")
     put(words.encode(), os.path.join(folder, "lib/pkgconfig/phase.pc"))
 
 

@@ -1,7 +1,6 @@
 """The page PROVED of a release: what is proved, by what, and the sums of what is believed."""
 import hashlib
 import os
-import re
 import subprocess
 
 import archive
@@ -74,13 +73,6 @@ def kit_sum():
     return one.hexdigest()
 
 
-def address():
-    """Where the commit can be had, if the clone came from somewhere that others reach."""
-    remotes = archive.git("remote")
-    found = archive.git("remote", "get-url", "origin") if "origin" in remotes.split() else ""
-    return f", from {found}" if re.match("https?://", found) else ""
-
-
 def gate():
     """The last line of the gate, where it ran here on this commit."""
     path = os.path.join(TOP, GATE)
@@ -105,7 +97,7 @@ def page():
     return PAGE.format(
         version=archive.version(),
         commit=archive.git("rev-parse", "HEAD"),
-        address=address(),
+        address=f", from {archive.address()}" if archive.address() else "",
         kit=first_line("rt", "version"),
         kit_sum=kit_sum(),
         compiler=first_line("cc", "--version"),
