@@ -69,7 +69,7 @@ def version():
 
 
 def address():
-    """Where the commit can be had, if the clone came from somewhere that others reach, or nothing."""
+    """Where the commit can be had, if the clone came from somewhere that others reach."""
     remotes = git("remote").split()
     found = git("remote", "get-url", "origin") if "origin" in remotes else ""
     return found if re.match("https?://", found) else ""
