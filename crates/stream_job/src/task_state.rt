@@ -41,7 +41,7 @@ pub struct TaskState {
 
 impl TaskState {
     ghost use Rattle.stream_job.specs.Places.{place_in_state, owed_in, StateHasTaken};
-    ghost use Rattle.stream_job.specs.Stepping.{are_in_range, owed_many};
+    ghost use Rattle.stream_job.specs.Stepping.{are_in_range, good_in, owed_many};
 
     /// Whether task number `t` is registered on all phasers of its line.
     pub fn is_registered(&self, job: &Job, t: usize) -> bool
@@ -102,6 +102,21 @@ impl TaskState {
             }
         }
         true
+    }
+
+    /// How many values the task owes before the first that is out of range, where one is.
+    pub fn good_many(&self) -> Option<usize>
+        ensures { good_in (owed_in self.now.owed self.now.made.items) ≡ result }
+    {
+        if self.made.is_empty() && matches!(self.owed, Owed::Value { value: Err(_), .. }) {
+            return Some(0);
+        }
+        for place in 0..self.made.len() {
+            if self.made[place].is_err() {
+                return Some(place);
+            }
+        }
+        None
     }
 
     /// How many values the task owes.
