@@ -2,8 +2,10 @@
 use Rattle.std.proofs.Common.{◌≡◌, ◌≢◌, ℕ, ℤ, List, zero, suc, ◌+◌, ◌-◌, ◌<◌, ◌≤◌, ◌||◌, Bool, true, false, cond, eqb, [], ◌∷◌, ◌++◌, Option, Some, None, length, get_or, slice_get, set, map, take, drop, take-take, refl, sym, ap, subst, ◌∙◌, arith, length-append}
 use Rattle.std.specs.Prelude.{Result, Ok, Err}
 use Rattle.std.specs.List.{position_from}
-use Rattle.std.proofs.lemmas.Bool.{eq-eqb}
-use Rattle.std.proofs.lemmas.List.{drop-drop, length-drop, length-map, take-map}
+use Rattle.std.specs.declared.vec.Vec.{Vec}
+use Rattle.std.specs.Global.{Global}
+use Rattle.std.proofs.lemmas.Bool.{eq-eqb, eqb-true}
+use Rattle.std.proofs.lemmas.List.{drop-drop, length-drop, length-map, length-take-le, take-map}
 use Rattle.std.specs.List.{drop-map}
 use Rattle.std.proofs.lemmas.Option.{same_Some}
 use Rattle.phase_any.specs.phase_accum.Sends.{AreSends}
@@ -20,13 +22,14 @@ use Rattle.graph_lang.specs.graph_base.TaskLines.{IsGraph}
 use Rattle.stream_eval.specs.stream_lists.Jobs.{Job}
 use Rattle.stream_eval.specs.stream_lists.Ranges.{are_made, is_out_of_range}
 use Rattle.graph_runs.specs.Answers as answers
-use Rattle.graph_runs.specs.Answers.{answer_up_to, is_blocked, makes, output_at, signal_answer, signal_turn, turn_up_to, values_up_to, word_of_answer}
+use Rattle.graph_runs.specs.Answers.{answer_up_to, is_blocked, makes, output_at, signal_answer, signal_turn, turn_up_to, values_up_to, was_blocked, word_of_answer}
 use Rattle.graph_runs.specs.Moments.{one, Moment, HasRun, limits_at, made_now}
 use Rattle.graph_runs.specs.NextBlocks.{MaySize}
 use Rattle.graph_runs.specs.Nexts as turns
 use Rattle.graph_runs.specs.Nexts.{next_of, number_on}
 use Rattle.graph_runs.specs.TaskEvents.{TaskEvent, after_turn, signal}
 use Rattle.graph_runs.specs.TaskPlaces.{Owed, OwesUpTo, StandsUpTo, TaskPlace, lacking, nothing, registration_of_output, values}
+use Rattle.graph_runs.specs.Turned.{with_at}
 use Rattle.graph_runs.specs.declared.owed.Owed.TheVariants as code
 use Rattle.graph_runs.proofs.Following.{Lacks, keeps_moved, puts_all, stays_at}
 use Rattle.graph_runs.proofs.InBlocks.{next_signals_are}
@@ -34,23 +37,25 @@ use Rattle.graph_runs.proofs.Lacking.{first_is, first_none, lacks_here}
 use Rattle.graph_runs.proofs.OwnEvents.{made_still}
 use Rattle.graph_runs.proofs.Signalling.{values_few}
 use Rattle.graph_runs.proofs.SizedTurns.{turn_reached}
-use Rattle.stream_job.specs.InRange.{HasMoved, HasStayed, stands_before, told_too_big}
-use Rattle.stream_job.specs.Machines.{IsMachineAt, most_in}
+use Rattle.stream_job.specs.InRange.{HasMoved, HasStayed, IsNextGood, are_blocked, blocks_before, good_many, is_blocked_before, is_held_up, stands_before, told_too_big}
+use Rattle.stream_job.specs.Machines.{HasCores, IsMachineAt, most_in}
 use Rattle.stream_job.specs.Places.{IsTaskAt, owed_in, place_in_state}
-use Rattle.stream_job.specs.Stepping.{IsNextIn, is_value_out}
+use Rattle.stream_job.specs.Stepping.{IsNextIn, is_at_rest, is_value_out, would_block}
 use Rattle.stream_job.specs.Turning.{turn_in}
 use Rattle.stream_job.specs.declared.machine.Machine.{Machine}
 use Rattle.stream_job.specs.declared.task_state.TaskState.{TaskState}
-use Rattle.stream_job.proofs.Events.{after_own}
+use Rattle.stream_job.proofs.Events.{after_own, unchanged}
 use Rattle.stream_job.proofs.GoodSizes.{fewer_owed}
-use Rattle.stream_job.proofs.LinesAfter.{quiet_lines, same_rooms}
+use Rattle.stream_job.proofs.LinesAfter.{quiet_lines, same_lines, same_rooms}
+use Rattle.stream_job.proofs.Lively.{live_next}
 use Rattle.stream_job.proofs.Makes.{MakesEvent, makes_event}
+use Rattle.stream_job.proofs.Mosts.{stands_in}
 use Rattle.stream_job.proofs.Numbering.{few_after}
 use Rattle.stream_job.proofs.SentValues.{all_in_range, first_over, sends_all}
-use Rattle.stream_job.proofs.SignalCalls.{SignalledCores, goes_on, ok_is, refusal_of, renumbered, reply_of, stops}
+use Rattle.stream_job.proofs.SignalCalls.{SignalledCores, blocks, err_is, goes_on, ok_is, refusal_of, renumbered, reply_of, stops}
 use Rattle.stream_job.proofs.Signals.{HasMade, OwesHere, Values, signals_at}
-use Rattle.stream_job.proofs.Stalling.{rest_few, take_all}
-use Rattle.stream_job.proofs.WentTurns.{TellsNone, turn_none}
+use Rattle.stream_job.proofs.Stalling.{never_refused, rest_few, take_all}
+use Rattle.stream_job.proofs.WentTurns.{TellsNone, or_right, turn_none}
 
 -- ---- what is left of a list
 
@@ -111,7 +116,7 @@ part_stands most job m t p number vs items at is ran filters next made stands ow
     (let here : eqb t t ≡ true = eq-eqb t t refl in rw here refl) in
     let same : made_now job after t 0 ≡ made_now job m t 0 =
     made_still job m after t 0 puts.taken begun in
-    let one = filter_ends job t is made.live.there filters in
+    let single = filter_ends job t is made.live.there filters in
     let rest = drop (length vs) items in
     let first : 0 < length (signalled_by task) = omega arith in
     let was : length (made_now job m t 0) ≡ length (m.put t 0) + lacking task.kind (values 0 items) 0 =
@@ -144,7 +149,7 @@ part_stands most job m t p number vs items at is ran filters next made stands ow
     stays_at job m after t at.begun (owed_left rest) at stands
     (keeps_moved job m after t p
     (Signalled number (map one vs) (phaser_at job.graph p).single) t s.moved (λ b at. refl))
-    (begun ∙ stands.begun) (left_owes most job after t rest filters one lacks list) lacks
+    (begun ∙ stands.begun) (left_owes most job after t rest filters single lacks list) lacks
 
 -- ---- the turn
 
@@ -299,9 +304,9 @@ first_out (suc n) [] o rest e = absurd (cc)
 first_out (suc n) (d ∷ ds) o rest e =
     ap (λ r. r ∷ []) (same (ranged d) (Err o) (map ranged (take n ds)) rest e)
   where
-    same : (a b : Result ℤ TooBigValue) (as bs : List (Result ℤ TooBigValue))
-        → a ∷ as ≡ b ∷ bs → a ≡ b
-    same a b as bs e = cc
+    same : (a b : Result ℤ TooBigValue) (xs ys : List (Result ℤ TooBigValue))
+        → a ∷ xs ≡ b ∷ ys → a ≡ b
+    same a b xs ys e = cc
 
 -- a task that owes one out of range first stands before it
 pub owes_out : {steps : ℕ} (job : Job) (machine : Machine) (m : Moment) (t j : ℕ)
@@ -386,3 +391,200 @@ value_none {steps} job machine m t j state x next at value =
     (turn_none job m t j vs (signal t j p (number_on m t p) vs)
     (λ made. ap (position_from is_out_of_range (length (m.put t j))) ranges.same
     ∙ ranges.none (length (m.put t j))) refl)
+
+-- ---- what the values are that are put
+
+take_length : {X : Type 0} (n : ℕ) (xs : List X) → take (length (take n xs)) xs ≡ take n xs
+take_length zero xs = refl
+take_length (suc n) [] = refl
+take_length (suc n) (x ∷ xs) = ap (λ l. x ∷ l) (take_length n xs)
+
+take_less : {X : Type 0} (n : ℕ) (xs : List X) → length (take n xs) ≤ length xs
+take_less zero xs = omega arith
+take_less (suc n) [] = omega arith
+take_less (suc n) (x ∷ xs) = let rest = take_less n xs in omega arith
+
+-- those before the first that is out of range
+pub record ArePut (items : List (Result ℤ TooBigValue)) (place : Option ℕ) (vs : List ℤ) : Type 0
+  where
+    pub place_is : place ≡ position_from is_value_out 0 items
+    pub all : place ≡ None → map (λ x. Ok x) vs ≡ items
+    pub before : (n : ℕ) → place ≡ Some n → map (λ x. Ok x) vs ≡ take n items
+
+pub are_put : (made items : List (Result ℤ TooBigValue)) (place : Option ℕ) (vs : List ℤ)
+    → made ≡ items → place ≡ position_from is_value_out 0 made
+    → (place ≡ None → map (λ x. Ok x) vs ≡ made)
+    → ((n : ℕ) → place ≡ Some n → map (λ x. Ok x) vs ≡ take n made) → ArePut items place vs
+are_put made items place vs same place_is all before = record {
+  place_is = place_is ∙ ap (position_from is_value_out 0) same;
+  all = λ none. all none ∙ same;
+  before = λ n is. before n is ∙ ap (take n) same;
+}
+
+-- where there are some they are a good part
+pub put_good : (items : List (Result ℤ TooBigValue)) (place : Option ℕ) (vs : List ℤ)
+    → ArePut items place vs → 1 ≤ length vs → GoodPart items vs
+put_good items None vs put some =
+    let all = put.all refl in
+    let long : length (map {B = Result ℤ TooBigValue} (λ x. Ok x) vs) ≡ length vs =
+    length-map vs (λ x. Ok x) in
+    let many = ap length all in
+    record {
+      are = all ∙ sym (take_all (length vs) items (omega arith));
+      some = some;
+      few = omega arith;
+    }
+put_good items (Some n) vs put some =
+    let before = put.before n refl in
+    let long : length (map {B = Result ℤ TooBigValue} (λ x. Ok x) vs) ≡ length vs =
+    length-map vs (λ x. Ok x) in
+    let many : length (map {B = Result ℤ TooBigValue} (λ x. Ok x) vs) ≡ length (take n items) =
+    ap length before in
+    let less = take_less n items in
+    let same : length (take n items) ≡ length vs = omega arith in
+    record {
+      are = before ∙ sym (take_length n items) ∙ ap (λ k. take k items) same;
+      some = some;
+      few = omega arith;
+    }
+
+-- where there is none the first is out of range
+pub put_none : (items : List (Result ℤ TooBigValue)) (place : Option ℕ) (vs : List ℤ)
+    → ArePut items place vs → items ≢ [] → vs ≡ [] → FirstOut items
+put_none [] place vs put some none = absurd (some refl)
+put_none (Err o ∷ rest) place vs put some none = record { out = o; rest = rest; are = refl }
+put_none (Ok v ∷ rest) None vs put some none =
+    absurd (let wrong : [] ≡ Ok v ∷ rest =
+    sym (ap (map {B = Result ℤ TooBigValue} (λ x. Ok x)) none) ∙ put.all refl in cc)
+put_none (Ok v ∷ rest) (Some zero) vs put some none =
+    absurd (let more = at_least 1 0 rest (sym put.place_is) in omega arith)
+put_none (Ok v ∷ rest) (Some (suc n)) vs put some none =
+    absurd (let wrong : [] ≡ Ok v ∷ take n rest =
+    sym (ap (map {B = Result ℤ TooBigValue} (λ x. Ok x)) none) ∙ put.before (suc n) refl in cc)
+
+-- ---- a filter whose signal would be blocked
+
+-- it is held up
+pub part_held : {steps : ℕ} (job : Job) (machine : Machine) (m : Moment) (t number p : ℕ)
+    (vs : List ℤ) (state : TaskState) (place : Option ℕ) → IsNextIn steps job machine t (turns.signals 0)
+    → IsMachineAt job m machine → slice_get machine.tasks.items t ≡ Some state
+    → HasMade job machine m t 0 state → ArePut state.made.items place vs → 1 ≤ length vs
+    → turn_up_to 1 (length vs) job m t ≡ is_blocked → is_held_up job m t ≡ true
+part_held {steps} job machine m t number p vs state place next at found made put some blocked =
+    by place refl
+  where
+    d : List ℤ
+    d = drop (length (m.put t 0)) (made_now job m t 0)
+
+    all : state.made.items ≡ map ranged d
+    all =
+        sym made.here.next
+        ∙ ap (map ranged) (take_all (most_in machine t) d
+        (rest_few (most_in machine t) job m t 0 (place_in_state state)
+        (stands_in job machine m t state at found) (next.is m at)))
+
+    good : GoodPart state.made.items vs
+    good = put_good state.made.items place vs put some
+
+    is : answer_up_to 1 (length vs) job m t (turns.signals 0) ≡ is_blocked
+    is = sym (ap (answer_up_to 1 (length vs) job m t) (next.is m at)) ∙ blocked
+
+    by : (o : Option ℕ) → place ≡ o → is_held_up job m t ≡ true
+    by None e =
+        let live = live_next job m t (turns.signals 0) (next.is m at) (λ e. absurd (cc)) in
+        let long : length (map {B = Result ℤ TooBigValue} (λ x. Ok x) vs) ≡ length vs =
+        length-map vs (λ x. Ok x) in
+        let many = ap length (put.all e) in
+        let ranges : length (map ranged d) ≡ length d = length-map d ranged in
+        let same = ap length all in
+        let made_long : length d ≡ length (made_now job m t 0) - length (m.put t 0) =
+        length-drop (length (m.put t 0)) (made_now job m t 0) in
+        let values : values_up_to (length (made_now job m t 0)) job m t 0
+        ≡ values_up_to (length vs) job m t 0 =
+        take_all (length (made_now job m t 0)) d (omega arith)
+        ∙ sym (take_all (length vs) d (omega arith)) in
+        let q = output_at job t 0 in
+        let rest : is_at_rest job m t ≡ true =
+        ap (λ b. cond b (would_block job m t (next_of job m t)) true) live
+        ∙ ap (would_block job m t) (next.is m at)
+        ∙ ap (λ l. was_blocked (signal_turn job m t 0 l (signal t 0 q (number_on m t q) l))) values
+        ∙ ap was_blocked is in
+        ap (λ b. b || is_blocked_before job m t) rest
+    by (Some zero) e =
+        absurd (let none = ap length (put.before 0 e) in
+        let long : length (map {B = Result ℤ TooBigValue} (λ x. Ok x) vs) ≡ length vs =
+        length-map vs (λ x. Ok x) in omega arith)
+    by (Some (suc n)) e =
+        let over = first_over d state.made.items 0 0 (suc n) (sym all) (sym put.place_is ∙ e) in
+        let where_is = over.is in
+        let first : 0 + over.at ≡ suc n = omega arith in
+        let found_at : good_many job m t 0 ≡ Some (suc n) = over.found ∙ ap (λ k. Some k) first in
+        let few : over.at < length d = over.few in
+        let ranges : length (map ranged d) ≡ length d = length-map d ranged in
+        let same = ap length all in
+        let long : length (map {B = Result ℤ TooBigValue} (λ x. Ok x) vs) ≡ length vs =
+        length-map vs (λ x. Ok x) in
+        let before = ap length (put.before (suc n) e) in
+        let taken = length-take-le (suc n) state.made.items (omega arith) in
+        let many : length vs ≡ suc n = omega arith in
+        or_right (is_at_rest job m t) (is_blocked_before job m t)
+        (ap (blocks_before job m t) (next.is m at)
+        ∙ ap (are_blocked job m t 0) found_at
+        ∙ ap (λ k. was_blocked (answer_up_to 1 k job m t (turns.signals 0))) (sym many)
+        ∙ ap was_blocked is)
+
+-- the turn whose signal is refused
+pub part_stayed : {steps : ℕ} (job : Job) (old new : Machine) (t number p : ℕ) (vs : List ℤ)
+    (state : TaskState) (place : Option ℕ) (r : SignalRefusal)
+    → IsNextGood steps job old t (turns.signals 0) → slice_get old.tasks.items t ≡ Some state
+    → p ≡ output_at job t 0
+    → number ≡ get_or state.numbers.items (registration_of_output (task_at job.graph t) 0) 0
+    → ((m : Moment) → IsMachineAt job m old → HasMade job old m t 0 state)
+    → ArePut state.made.items place vs → 1 ≤ length vs
+    → ((m : Moment) → IsMachineAt job m old → reply_of job m p number vs ≡ Err r)
+    → ((m : Moment) → IsMachineAt job m old
+    → HasCores job (with_at p (m.history p) m.history) new.cores.items)
+    → new.tasks ≡ old.tasks → new.lines ≡ old.lines → HasStayed steps job old new t
+part_stayed {steps} job old new t number p vs state place r good found phaser numbered made put some reply cores tasks lines =
+    record {
+      held = λ line m at. part_held job old m t number p vs state place good.next_in at found
+          (made m at) put some (blocked m at);
+      stands = λ m at none. unchanged job m old new p at (cores m at) tasks lines;
+      lines = λ given m at none kept. same_lines job given m old new lines kept;
+      own = same_rooms old new lines;
+    }
+  where
+    part : GoodPart state.made.items vs
+    part = put_good state.made.items place vs put some
+
+    sized : MaySize job.graph t 1 (length vs)
+    sized =
+        fewer_owed job old t (length vs) some
+        (part_few job old good.next_in.some.0 t state vs
+        (made good.next_in.some.0 good.next_in.some.1) part) good.next_in.sized
+
+    refused : (m : Moment) → IsMachineAt job m old
+        → turn_up_to 1 (length vs) job m t ≡ signal_answer (signal t 0 p number vs) (Some r)
+    refused m at =
+        part_answers job old m t number p vs state good.next_in at found phaser numbered (made m at)
+        part
+        ∙ ap (signal_answer (signal t 0 p number vs)) (err_is (limits_at job p) (m.history p) number
+        (map one vs) (phaser_at job.graph p).single r (reply m at))
+
+    blocked : (m : Moment) → IsMachineAt job m old → turn_up_to 1 (length vs) job m t ≡ is_blocked
+    blocked m at =
+        refused m at
+        ∙ blocks (signal t 0 p number vs) r (λ e.
+        never_refused job m t (next_of job m t) sized at.graph good.sends at.reached refl
+        (refused m at ∙ e))
+
+-- a list that has no elements
+pub vec_none : {X : Type 0} (v : Vec X Global) → eqb v.len 0 ≡ true → v.items ≡ []
+vec_none v e =
+    let many : v.len ≡ length v.items = v.ok.0 in
+    let zero_is : v.len ≡ 0 = eqb-true v.len 0 e in
+    none v.items (omega arith)
+  where
+    none : {X : Type 0} (xs : List X) → length xs ≡ 0 → xs ≡ []
+    none [] e = refl
+    none (x ∷ xs) e = absurd (omega arith)

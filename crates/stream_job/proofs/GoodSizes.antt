@@ -1,5 +1,5 @@
 -- Sizes of a turn that are smaller.
-use Rattle.std.proofs.Common.{◌≡◌, ℕ, List, zero, suc, ◌≤◌, ◌<◌, false, [], ◌∷◌, length, refl, sym, ap, ◌∙◌, arith, cond, Bool, true, eqb, ◌&&◌}
+use Rattle.std.proofs.Common.{◌≡◌, ℕ, List, zero, suc, ◌≤◌, ◌<◌, false, [], ◌∷◌, ◌-◌, length, get_or, refl, sym, ap, ◌∙◌, arith, cond, Bool, true, eqb, ◌&&◌}
 use Rattle.std.specs.Prelude.{Option, Some, None, min, nat_lt}
 use Rattle.std.specs.List.{All, fold, range_with_len}
 use Rattle.graph_lang.specs.graph_base.declared.line.Kind.TheVariants.{Fir}
@@ -15,10 +15,8 @@ use Rattle.stream_job.specs.declared.machine.Machine.{Machine}
 
 bounds_more : (graph : Graph) (a b : ℕ) (ps : List ℕ) → b ≤ a
     → All (λ p. a ≤ (phaser_at graph p).bound) ps → All (λ p. b ≤ (phaser_at graph p).bound) ps
-bounds_more graph a b [] le all = tt
-bounds_more graph a b (p ∷ ps) le all =
-    let first : a ≤ (phaser_at graph p).bound = all.0 in
-    (omega arith, bounds_more graph a b ps le all.1)
+bounds_more graph a b ps le all = λ k d lt.
+    (let first : a ≤ (phaser_at graph (get_or ps k d)).bound = all k d lt in omega arith)
 
 -- a smaller block
 pub smaller_block : (graph : Graph) (t a b : ℕ) → 1 ≤ b → b ≤ a

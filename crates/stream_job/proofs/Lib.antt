@@ -59,3 +59,4 @@ pub mod GoodSizes
 pub mod WentTurns
 pub mod GoodSignals
 pub mod GoodWaits
+pub mod HeldUp

@@ -293,7 +293,7 @@ register_moves job m t c = by (first_missing job m c)
     by (Some r) = register_answer_moves m t c r (task_at job.graph c).joins_now
 
 -- values in range are signalled
-signal_turn_blocked : (job : Job) (m : Moment) (t j : ℕ) (vs : List ℤ) (event : TaskEvent)
+pub signal_turn_blocked : (job : Job) (m : Moment) (t j : ℕ) (vs : List ℤ) (event : TaskEvent)
     → 1 ≤ length vs → position_from is_out_of_range (length (m.put t j)) vs ≡ None
     → signal_turn job m t j vs event ≢ is_refused
     → was_blocked (signal_turn job m t j vs event)

@@ -41,14 +41,15 @@ are_blocked job m t j (Some (suc n)) =
     was_blocked (answer_up_to 1 (suc n) job m t (signals j))
 are_blocked job m t j many = false
 
--- whether task t owes values before one that is out of range, and the signal of these would be
--- blocked
+-- whether a task that makes this call next owes values before one that is out of range, and the
+-- signal of these would be blocked
+abbrev pub blocks_before : Job → Moment → ℕ → Next → Bool
+blocks_before job m t (signals j) = are_blocked job m t j (good_many job m t j)
+blocks_before job m t next = false
+
+-- whether task t does
 abbrev pub is_blocked_before : Job → Moment → ℕ → Bool
-is_blocked_before job m t = of (next_of job m t)
-  where
-    of : Next → Bool
-    of (signals j) = are_blocked job m t j (good_many job m t j)
-    of next = false
+is_blocked_before job m t = blocks_before job m t (next_of job m t)
 
 -- whether task t is held up: it is not live, or its turn would be blocked, which signals all that it
 -- owes, or all that it owes before a value out of range

@@ -98,7 +98,8 @@ impl Machine {
     {
         let state = &self.tasks[t];
         let first = state.begun - state.made.len() as u64;
-        if put_values(&state.made, &mut buffers.values) == Some(0) {
+        let _out = put_values(&state.made, &mut buffers.values);
+        if buffers.values.is_empty() {
             return Went::Before {
                 place: Place::Task(t),
                 phase: first,

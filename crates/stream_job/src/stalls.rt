@@ -123,10 +123,10 @@ impl Machine {
             → IsMachineAt (with_samples s job.now) m self.now
             → is_blocked_before (with_samples s job.now) m t ≡ result }
     {
-        match self.state(job, t).good_many() {
-            None | Some(0) => false,
-            Some(many) => self.signal_blocks(job, t, j, many as u64),
-        }
+        let Some(many) = self.state(job, t).good_many() else {
+            return false;
+        };
+        many > 0 && self.signal_blocks(job, t, j, many as u64)
     }
 
     /// Whether a live task's turn would be blocked, where this is what it does next.

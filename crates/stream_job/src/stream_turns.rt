@@ -12,6 +12,7 @@ ghost use Rattle.graph_runs.specs.Moments.{Moment, started};
 ghost use Rattle.graph_runs.specs.Settled.{IsFaultAt, IsReady};
 ghost use Rattle.graph_runs.specs.TaskPlaces.{registration_of_output};
 ghost use Rattle.phase_any.specs.phase_history.Refusals.{is_ahead};
+ghost use Rattle.stream_job.specs.Rounds.{first_met};
 
 use crate::buffers::OWN_STEPS;
 use crate::look::Look;
@@ -38,7 +39,7 @@ impl Stream {
     ghost use Rattle.stream_job.specs.Stepping.{HasPhases, MayStep};
     ghost use Rattle.stream_job.specs.Machines.{kept_behind};
     ghost use Rattle.stream_job.specs.InRange.{stands_before};
-    ghost use Rattle.stream_job.specs.Rounds.{LookTells, StandsSome, first_met, met_in, of_look, of_turn, of_turns};
+    ghost use Rattle.stream_job.specs.Rounds.{LookTells, StandsSome, met_in, of_look, of_turn, of_turns};
     ghost use Rattle.stream_job.specs.Streams.{IsSameRun, IsStreamAt, Meets, StreamGoesOn, StreamMoves, StreamStopsAt, ended_at, rests};
     ghost use Rattle.stream_job.specs.declared.stopped.Stopped.TheVariants.{Done, Paused, TooBig};
     ghost use Rattle.stream_job.specs.declared.went.Went.TheVariants.{Before, Stays};

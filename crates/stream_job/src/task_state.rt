@@ -1,6 +1,8 @@
 //! How far a task has come.
 ghost use Rattle.std.specs.Prelude.{◌≡◌, ◌<◌, ◌≤◌, ◌+◌, [], not, is_some, length, map, List, ℤ, vec_capacity};
+ghost use Rattle.std.specs.List.{position_from};
 ghost use Rattle.graph_lang.specs.graph_base.declared.line.Kind.TheVariants.{Fir as filters};
+ghost use Rattle.stream_job.specs.Stepping.{is_value_out};
 ghost use Rattle.stream_eval.specs.stream_lists.Lists.{number};
 ghost use Rattle.graph_runs.specs.Moves.{IsBlock};
 ghost use Rattle.graph_runs.specs.declared.owed.Owed.TheVariants.{Nothing};
@@ -108,15 +110,13 @@ impl TaskState {
     pub fn good_many(&self) -> Option<usize>
         ensures { good_in (owed_in self.now.owed self.now.made.items) ≡ result }
     {
-        if self.made.is_empty() && matches!(self.owed, Owed::Value { value: Err(_), .. }) {
-            return Some(0);
+        if !self.made.is_empty() {
+            return first_out(&self.made);
         }
-        for place in 0..self.made.len() {
-            if self.made[place].is_err() {
-                return Some(place);
-            }
+        match self.owed {
+            Owed::Value { value: Err(_), .. } => Some(0),
+            _ => None,
         }
-        None
     }
 
     /// How many values the task owes.
@@ -128,4 +128,16 @@ impl TaskState {
         }
         self.made.len() as u64
     }
+}
+
+/// The place of the first of these values that is out of range, where one is.
+fn first_out(made: &[Result<i64, TooBigValue>]) -> Option<usize>
+    ensures { result ≡ position_from is_value_out 0 made.now }
+{
+    for place in 0..made.len() {
+        if made[place].is_err() {
+            return Some(place);
+        }
+    }
+    None
 }
