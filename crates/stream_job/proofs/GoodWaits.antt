@@ -1,14 +1,15 @@
 -- The turn of a task that waits for values in range.
 use Rattle.std.proofs.Common.{◌≡◌, ◌≢◌, ℕ, ℤ, List, zero, suc, ◌+◌, ◌-◌, ◌<◌, ◌≤◌, Bool, true, false, cond, [], ◌∷◌, ◌++◌, Option, Some, None, length, get_or, slice_get, take, drop, take-take, refl, sym, ap, subst, ◌∙◌, arith}
 use Rattle.std.specs.Prelude.{Result, Ok, Err, min, nat_lt, slice_range}
-use Rattle.std.specs.List.{position_from, range_with_len, take_while}
+use Rattle.std.specs.List.{position_from, prefix_len, range_with_len, take_while}
 use Rattle.std.proofs.Math.Seq.{drop-cons}
 use Rattle.std.proofs.lemmas.Bool.{lt-ltb}
 use Rattle.std.proofs.lemmas.List.{length-map}
 use Rattle.std.proofs.lemmas.List.FromFn.{get_or-map-range_with_len, length-range_with_len}
 use Rattle.phase_any.specs.phase_accum.declared.outcome.Outcome.{Outcome}
 use Rattle.phase_any.specs.phase_accum.declared.outcome.Outcome.TheVariants as outcome
-use Rattle.phase_any.specs.phase_core.Blocks.{before_too_big, is_not_too_big}
+use Rattle.phase_any.specs.phase_core.Blocks.{after_in_range, before_too_big, is_not_too_big}
+use Rattle.phase_any.specs.phase_history.declared.event.Event.TheVariants.{Waited}
 use Rattle.phase_any.specs.phase_history.declared.got.Got.TheVariants as got
 use Rattle.phase_any.specs.phase_history.declared.got.GotBlock.{GotBlock}
 use Rattle.phase_any.specs.phase_history.declared.got.GotBlock.TheVariants as block
@@ -21,21 +22,22 @@ use Rattle.phase_any.specs.phase_base.Limits.{Limits}
 use Rattle.graph_runs.proofs.phase_history_lemmas.BlockAnswers.{block_answers_law, block_tells}
 use Rattle.graph_lang.specs.graph_base.declared.place.Place.TheVariants as place
 use Rattle.stream_eval.specs.stream_lists.Jobs.{Job, samples_at}
+use Rattle.stream_eval.specs.stream_lists.Lists.{is_sink_at}
 use Rattle.stream_eval.specs.stream_lists.Ranges.{is_too_big}
 use Rattle.graph_runs.specs.Answers as answers
 use Rattle.graph_lang.specs.graph_base.Graphs.{task_at}
 use Rattle.graph_runs.specs.Answers.{answer_up_to, block_answer, makes, tells_up_to, told_got, turn_up_to, wait_answer, word_of_answer}
 use Rattle.graph_runs.specs.Moments.{Moment, input_at, limits_at, value_at}
 use Rattle.graph_runs.specs.NextBlocks.{MaySize, block_up_to}
-use Rattle.graph_runs.proofs.Blocks.{block_few}
+use Rattle.graph_runs.proofs.Blocks.{block_few, block_some}
 use Rattle.graph_runs.specs.Nexts as turns
 use Rattle.graph_runs.specs.Nexts.{Next, next_of}
 use Rattle.graph_runs.specs.TaskEvents.{exchange_wait, first_wait}
 use Rattle.graph_runs.proofs.SizedTurns.{turn_reached}
 use Rattle.stream_job.specs.InRange.{HasMoved, HasStopped, IsNextGood, stands_before, told_too_big}
 use Rattle.stream_job.specs.Machines.{IsMachineAt, most_in}
-use Rattle.stream_job.specs.Stepping.{IsNextIn}
-use Rattle.stream_job.specs.Turning.{HadTurn}
+use Rattle.stream_job.specs.Stepping.{HasRoomAt, HasRoomIn, IsNextIn}
+use Rattle.stream_job.specs.Turning.{HadTurn, turn_in}
 use Rattle.stream_job.specs.declared.machine.Machine.{Machine}
 use Rattle.stream_job.specs.declared.made.Made.TheVariants.{Event}
 use Rattle.stream_job.specs.declared.task_state.TaskState.{TaskState}
@@ -44,10 +46,15 @@ use Rattle.stream_job.proofs.GoodSizes.{block_fewer, fewer_steps}
 use Rattle.stream_job.proofs.Numbering.{few_after}
 use Rattle.stream_job.proofs.Stalling.{never_refused}
 use Rattle.stream_job.proofs.Tellings.{turn_told_so}
-use Rattle.stream_job.proofs.Waits.{AsksFirst, GotAll, exchange_so, first_so, got_all}
+use Rattle.stream_job.proofs.Waits.{AsksFirst, GotAll, exchange_so, first_so, first_waits_at, got_all}
+use Rattle.stream_job.proofs.WhatNext.{waits_begins}
 use Rattle.stream_job.proofs.WentTurns.{had_moved, is_plain}
 
 -- ---- the reply
+
+-- one reply is another
+abbrev pub IsReply : Result GotBlock WaitRefusal → Result GotBlock WaitRefusal → Type 0
+IsReply a b = a ≡ b
 
 -- what a wait for the whole block would get, of which so many are in range
 pub record WouldGet (stream : List Outcome) (reply : Result GotBlock WaitRefusal) (phase count : ℕ)
@@ -72,12 +79,10 @@ would_get stream (Ok (block.Values w all)) phase count e =
           ∙ ap (λ p. length (take_while is_not_too_big (slice_range stream p (p + all)))) same;
     }
   where
-    phase_same : (a b c d : ℕ) → Ok {E = WaitRefusal} (block.Values a c) ≡ Ok (block.Values b d)
-        → a ≡ b
+    phase_same : (a b c d : ℕ) → IsReply (Ok (block.Values a c)) (Ok (block.Values b d)) → a ≡ b
     phase_same a b c d e = cc
 
-    count_same : (a b c d : ℕ) → Ok {E = WaitRefusal} (block.Values a c) ≡ Ok (block.Values b d)
-        → c ≡ d
+    count_same : (a b c d : ℕ) → IsReply (Ok (block.Values a c)) (Ok (block.Values b d)) → c ≡ d
     count_same a b c d e = cc
 would_get stream (Ok block.Ended) phase count e = absurd (cc)
 would_get stream (Err r) phase count e = absurd (cc)
@@ -98,18 +103,39 @@ would_end stream (Err q) e = absurd (cc)
 
 -- ---- the values
 
+first_more : (x : Outcome) (xs : List Outcome) → is_not_too_big x ≡ true
+    → length (take_while is_not_too_big (x ∷ xs)) ≡ suc (length (take_while is_not_too_big xs))
+first_more x xs good =
+    let n = prefix_len is_not_too_big xs in
+    let more : prefix_len is_not_too_big (x ∷ xs) ≡ suc n = prefix_more x xs good in
+    ap (λ k. length (take k (x ∷ xs))) more
+  where
+    prefix_more : (x : Outcome) (xs : List Outcome) → is_not_too_big x ≡ true
+        → prefix_len is_not_too_big (x ∷ xs) ≡ suc (prefix_len is_not_too_big xs)
+    prefix_more (outcome.Value v) xs good = omega arith
+    prefix_more outcome.Empty xs good = omega arith
+    prefix_more outcome.TooBig xs good = absurd (let wrong : false ≡ true = good in cc)
+
 -- none of the first values that are in range is too big
 none_first : (from : ℕ) (xs : List Outcome)
     → position_from is_too_big from (take (length (take_while is_not_too_big xs)) xs) ≡ None
 none_first from [] = refl
-none_first from (outcome.Value v ∷ xs) = none_first (from + 1) xs
-none_first from (outcome.Empty ∷ xs) = none_first (from + 1) xs
+none_first from (outcome.Value v ∷ xs) =
+    ap (λ n. position_from is_too_big from (take n (outcome.Value v ∷ xs)))
+    (first_more (outcome.Value v) xs refl) ∙ none_first (from + 1) xs
+none_first from (outcome.Empty ∷ xs) =
+    ap (λ n. position_from is_too_big from (take n (outcome.Empty ∷ xs)))
+    (first_more outcome.Empty xs refl) ∙ none_first (from + 1) xs
 none_first from (outcome.TooBig ∷ xs) = refl
 
 few_first : (xs : List Outcome) → length (take_while is_not_too_big xs) ≤ length xs
 few_first [] = omega arith
-few_first (outcome.Value v ∷ xs) = let rest = few_first xs in omega arith
-few_first (outcome.Empty ∷ xs) = let rest = few_first xs in omega arith
+few_first (outcome.Value v ∷ xs) =
+    let rest = few_first xs in
+    let more = first_more (outcome.Value v) xs refl in omega arith
+few_first (outcome.Empty ∷ xs) =
+    let rest = few_first xs in
+    let more = first_more outcome.Empty xs refl in omega arith
 few_first (outcome.TooBig ∷ xs) = omega arith
 
 take_few : {X : Type 0} (n : ℕ) (xs : List X) → length (take n xs) ≤ n
@@ -270,7 +296,7 @@ one_refused value limits h n r reply = by (wait_refusal limits h n 1) reply
     by None e = absurd (cc)
     by (Some q) e = ap (λ x. Err x) (same q r e)
       where
-        same : (a b : WaitRefusal) → Err {A = GotBlock} a ≡ Err b → a ≡ b
+        same : (a b : WaitRefusal) → IsReply (Err a) (Err b) → a ≡ b
         same a b e = cc
 
 -- and where it has come to the end
@@ -306,3 +332,62 @@ exchange_stands_before {allowed} job old m t number p phase state next found pha
     (one_is (value_at job p) (limits_at job p) (m.history p) number phase outcome.TooBig reply are) in
     ap (λ a. told_too_big (word_of_answer job m a)) answer
     ∙ ap (λ n. Some (place.Phaser p, n)) (sym law.phase_is)
+
+-- ---- room
+
+-- where a sink's line has room for what a wait for the whole block would get, it has room for what
+-- is in range
+pub first_room : {allowed : ℕ} (job : Job) (old : Machine) (m : Moment)
+    (t k number p steps phase count : ℕ) (got : List Outcome) (state : TaskState)
+    → AsksFirst allowed job old t k number p steps state → IsMachineAt job m old
+    → WouldGet (stream_of (value_at job p) (m.history p))
+    (wait_block_reply (limits_at job p) (m.history p) number steps) phase count
+    → length got ≡ count → HasRoomAt allowed job old t m → is_sink_at job t ≡ true
+    → HasRoomIn old.lines.items (length got) state.sink
+first_room {allowed} job old m t k number p steps phase count got state asks at would long room sink =
+    λ line read.
+    (let whole = slice_range (stream_of (value_at job p) (m.history p)) phase (phase + would.all) in
+    let answer : turn_in allowed job old m t ≡ makes (first_wait t k p number whole) =
+    first_so job old m t k number p steps state asks at
+    ∙ ap (block_answer (λ phase count. first_wait t k p number
+    (slice_range (stream_of (value_at job p) (m.history p)) phase (phase + count)))) would.reply_is in
+    let all = room k p number whole state (asks.next.is m at) answer asks.found sink line read in
+    let few = few_first whole in
+    let is : count ≡ length (take_while is_not_too_big whole) = would.count_is in
+    omega arith)
+
+-- ---- as the code has them
+
+-- a machine is its parts
+pub machine_same : (a b : Machine) → a.cores ≡ b.cores → a.tasks ≡ b.tasks → a.lines ≡ b.lines
+    → a ≡ b
+machine_same a b cores tasks lines = λ i. record {
+  cores = cores i;
+  tasks = tasks i;
+  lines = lines i;
+}
+
+-- the only value of a list
+pub only_one : (xs ys : List Outcome) (d : Outcome) → take 1 xs ≡ ys → length ys ≡ 1
+    → ys ≡ get_or xs 0 d ∷ []
+only_one [] ys d same one =
+    absurd (let none : 0 ≡ length ys = ap length same in omega arith)
+only_one (x ∷ xs) ys d same one = sym same
+
+-- a block that is asked for has a phase
+pub block_some_of : {allowed : ℕ} (job : Job) (old : Machine) (m : Moment) (t k number p steps : ℕ)
+    (state : TaskState) → AsksFirst allowed job old t k number p steps state
+    → IsMachineAt job m old → 1 ≤ steps
+block_some_of {allowed} job old m t k number p steps state asks at =
+    let there = (first_waits_at job old m t k state asks.next at asks.found).there in
+    let b = waits_begins job m t k (asks.next.is m at) in
+    let some = block_some allowed job m t (at.reached.ran.tasks t there)
+    (asks.next.sized there).block.some b.step.uncut in
+    let is = asks.many m at in
+    omega arith
+
+-- the history after a wait that got some values
+pub after_some : (phase count n : ℕ) (h : History) → 0 < count
+    → after_in_range (Ok (block.Values phase count)) n h ≡ Waited n count ∷ h
+after_some phase zero n h some = absurd (omega arith)
+after_some phase (suc c) n h some = refl

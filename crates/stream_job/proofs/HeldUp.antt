@@ -52,16 +52,19 @@ none_before : (a b k : ℕ) (zs : List ℤ) → position_from is_out_of_range a 
     → (position_from is_out_of_range b (take k zs) ≡ None) × (k < length zs)
 none_before a b k [] e = absurd (cc)
 none_before a b zero (z ∷ zs) e = (refl, omega arith)
-none_before a b (suc k) (z ∷ zs) e = by (is_out_of_range z) refl e
+none_before a b (suc k) (z ∷ zs) e =
+    by (is_out_of_range z) refl e (λ rest. none_before (a + 1) (b + 1) k zs rest)
   where
     by : (c : Bool) → is_out_of_range z ≡ c
         → cond c (Some a) (position_from is_out_of_range (a + 1) zs) ≡ Some (a + suc k)
+        → (position_from is_out_of_range (a + 1) zs ≡ Some (a + 1 + k)
+        → (position_from is_out_of_range (b + 1) (take k zs) ≡ None) × (k < length zs))
         → (cond (is_out_of_range z) (Some b) (position_from is_out_of_range (b + 1) (take k zs))
         ≡ None) × (suc k < suc (length zs))
-    by true is e = absurd (let same : a ≡ a + suc k = same_Some a (a + suc k) e in omega arith)
-    by false is e =
+    by true is e next = absurd (let same : a ≡ a + suc k = same_Some a (a + suc k) e in omega arith)
+    by false is e next =
         let off : a + suc k ≡ a + 1 + k = omega arith in
-        let rest = none_before (a + 1) (b + 1) k zs (e ∙ ap (λ n. Some n) off) in
+        let rest = next (e ∙ ap (λ n. Some n) off) in
         let few : k < length zs = rest.1 in (
           ap (λ c. cond c (Some b) (position_from is_out_of_range (b + 1) (take k zs))) is ∙ rest.0,
           omega arith,
@@ -91,7 +94,8 @@ good_blocks most job m t j n at there may is sends reached next stands good =
     let p = output_at job t j in
     let vs = values_up_to (suc n) job m t j in
     let found : good_many job m t j ≡ Some (suc n) = good_is most job m t j at stands next ∙ good in
-    let before = none_before 0 (length (m.put t j)) (suc n) d found in
+    let here : suc n ≡ 0 + suc n = omega arith in
+    let before = none_before 0 (length (m.put t j)) (suc n) d (found ∙ ap (λ k. Some k) here) in
     let few : suc n < length d = before.1 in
     let small = rest_few most job m t j at stands next in
     let long : length vs ≡ suc n = length-take-le (suc n) d (omega arith) in
@@ -112,3 +116,16 @@ pub none_blocks : (most : ℕ) (job : Job) (m : Moment) (t j : ℕ) (at : TaskPl
 none_blocks most job m t j at good next stands is none =
     ap (blocks_before job m t) next
     ∙ ap (are_blocked job m t j) (good_is most job m t j at stands next ∙ is) ∙ none
+
+-- so many, which are some
+pub some_blocks : (most : ℕ) (job : Job) (m : Moment) (t j many : ℕ) (at : TaskPlace)
+    → t < length job.graph.tasks → MaySignal job t most → IsGraph job.graph
+    → AreSends (samples_at job t) → IsReachable job m → next_of job m t ≡ signals j
+    → StandsUpTo most job m t at → 0 < many → good_in at.owed ≡ Some many
+    → is_blocked_before job m t
+    ≡ blocks_signal (limits_at job (output_at job t j)) (m.history (output_at job t j))
+    (number_on m t (output_at job t j)) many
+some_blocks most job m t j zero at there may is sends reached next stands some good =
+    absurd (omega arith)
+some_blocks most job m t j (suc n) at there may is sends reached next stands some good =
+    good_blocks most job m t j n at there may is sends reached next stands good

@@ -60,3 +60,4 @@ pub mod WentTurns
 pub mod GoodSignals
 pub mod GoodWaits
 pub mod HeldUp
+pub mod FedWent

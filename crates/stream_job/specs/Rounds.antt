@@ -12,17 +12,22 @@ use Rattle.stream_job.specs.declared.went.Went.TheVariants as went
 use Rattle.stream_job.specs.declared.stopped.Stopped.{Stopped}
 use Rattle.stream_job.specs.declared.stopped.Stopped.TheVariants as stopped
 
--- at least so many, by what a turn did
-abbrev pub of_turn : {E : Type 0} → Result Went E → ℕ
-of_turn (Ok went.On) = 1
-of_turn result = 0
+-- how many events there are, by what a turn did
+abbrev pub of_went : Went → ℕ
+of_went went.On = 1
+of_went word = 0
 
--- by whether some task moved
+-- where it had memory
+abbrev pub of_turn : {E : Type 0} → Result Went E → ℕ
+of_turn (Ok word) = of_went word
+of_turn (Err e) = 0
+
+-- at least, by whether some task moved
 abbrev pub of_turns : {E : Type 0} → Result Bool E → ℕ
 of_turns (Ok true) = 1
 of_turns result = 0
 
--- by what a look tells, where so many are made before it tells that some task moved
+-- at least, by what a look tells, where so many are made before it tells that some task moved
 abbrev pub of_look : {E : Type 0} → ℕ → Result Look E → ℕ
 of_look many (Ok look.Moved) = many
 of_look many result = 0

@@ -208,7 +208,10 @@ impl Stream {
             → IsStreamAt self.old s m given
             → stands_before (with_samples s self.old.job) m t ≡ Some (place, phase)) }
     {
-        if self.is_hungry(t) || self.is_full_by(t, most) {
+        if self.is_hungry(t) {
+            return Ok(Went::Stays);
+        }
+        if self.is_full_by(t, most) {
             return Ok(Went::Stays);
         }
         feeds::feeds_go_on();

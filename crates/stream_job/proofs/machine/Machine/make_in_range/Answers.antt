@@ -14,10 +14,11 @@ use Rattle.stream_job.specs.declared.machine.Machine.{Machine}
 use Rattle.stream_job.specs.declared.made.Made.{Made}
 use Rattle.stream_job.specs.declared.step.Step.{Step}
 use Rattle.stream_job.specs.declared.step.Step.TheVariants as step
+use Rattle.stream_job.specs.declared.went.Went.{Went}
 use Rattle.stream_job.proofs.Lively.{live_next}
 use Rattle.stream_job.proofs.Numbering.{few_after}
 use Rattle.stream_job.proofs.Setting.{if_ok, on_err}
-use Rattle.stream_job.proofs.WentTurns.{IsQuiet, gone_stays, had_quiet, leaves_quiet, registers_quiet, samples_quiet}
+use Rattle.stream_job.proofs.WentTurns.{IsQuiet, gone_stays, had_quiet}
 use Rattle.stream_job.proofs.WhatNext.{samples_begins}
 use Rattle.stream_job.proofs.machine.Machine.make_in_range.Goals.{After-next}
 use Rattle.stream_job.proofs.machine.Machine.make_in_range.Goals as goal
@@ -133,3 +134,17 @@ exchange_in_range-requires c =
       good_is (goal.at.exchange_in_range-requires c).After-next step.Exchange c.in-Exchange.is
           (λ e. (cc e)) came.0 came.1,
     )
+
+-- what a quiet call did
+went : (c : After-next) (it : Step) → c.next.result ≡ it → it ≢ step.NotLive
+    → (s : List (List ℤ)) → MayHaveCome c.args.job.now c.args.self.now c.args.t c.args.awaits.now s
+    → IsQuiet (with_samples s c.args.job.now) c.args.t (next_by it)
+    → (new : Machine) (made : Made)
+    → HadTurn c.args.most (with_samples s c.args.job.now) c.args.self.now new c.args.t made
+    → (word : Went) → word ≡ went_by made
+    → HasGone c.args.most (with_samples s c.args.job.now) c.args.self.now new c.args.t word
+went c it is lives s may quiet new made had word same =
+    subst (HasGone c.args.most (with_samples s c.args.job.now) c.args.self.now new c.args.t)
+    (sym same)
+    (had_quiet (with_samples s c.args.job.now) c.args.self.now new c.args.t made (next_by it)
+    (next_is c it is lives s may) quiet had)

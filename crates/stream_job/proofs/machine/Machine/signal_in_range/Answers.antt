@@ -1,5 +1,5 @@
 -- By what the state owes.
-use Rattle.std.proofs.Common.{ℕ, rules, ◌-◌, [], ◌∷◌, refl, sym, ap, subst, ◌∙◌, arith, SFits, w64, to_z-of_z, List, ℤ}
+use Rattle.std.proofs.Common.{ℕ, ◌≡◌, rules, ◌-◌, [], ◌∷◌, refl, sym, ap, subst, ◌∙◌, arith, SFits, w64, to_z-of_z, List, ℤ}
 use Rattle.std.specs.Prelude.{Ok, Err, Some, length}
 use Rattle.std.proofs.lemmas.Option.{same_Some}
 use Rattle.graph_runs.specs.Moments.{Moment}

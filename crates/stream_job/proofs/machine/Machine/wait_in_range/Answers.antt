@@ -1,37 +1,42 @@
 -- A task waits as the number that stands at the registration of its input, for the steps of its next
--- block.
-use Rattle.std.proofs.Common.{◌≡◌, ◌<◌, ◌≤◌, ◌+◌, ◌*◌, ◌∷◌, length, get_or, map, set, take, sym, ap, subst, ◌∙◌, arith, List, ℤ}
-use Rattle.std.specs.Prelude.{Ok, Err, IfSome}
+-- block, and takes those values that are in range.
+use Rattle.std.proofs.Common.{ℕ, ◌≡◌, ◌≢◌, ◌<◌, ◌≤◌, ◌+◌, ◌*◌, ◌∷◌, length, get_or, map, set, take, refl, sym, ap, subst, ◌∙◌, arith, List, ℤ}
+use Rattle.std.specs.Prelude.{Ok, Err, IfSome, Some}
 use Rattle.std.specs.List.{All}
-use Rattle.phase_any.specs.phase_base.declared.limits.TheConstants.{PHASES_MAX}
+use Rattle.std.proofs.lemmas.Option.{same_Some}
 use Rattle.phase_any.specs.phase_history.declared.event.Event.TheVariants.{Waited}
 use Rattle.phase_any.specs.phase_history.declared.got.GotBlock.TheVariants as block
-use Rattle.phase_any.specs.phase_history.Histories.{done_of}
-use Rattle.phase_any.specs.phase_history.Replies.{wait_block_reply, after_wait_block}
+use Rattle.phase_any.specs.phase_core.Blocks.{after_in_range}
+use Rattle.phase_any.specs.phase_history.Phases.{stream_of}
+use Rattle.phase_any.specs.phase_history.Replies.{wait_block_reply}
 use Rattle.graph_lang.specs.graph_base.Graphs.{task_at}
+use Rattle.graph_lang.specs.graph_base.declared.place.Place.TheVariants as place
 use Rattle.stream_eval.specs.stream_lists.Lists.{number}
-use Rattle.graph_runs.specs.Moments.{Moment, limits_at}
+use Rattle.graph_runs.specs.Moments.{Moment, limits_at, value_at}
 use Rattle.graph_runs.specs.Nexts.{waits}
 use Rattle.graph_runs.specs.Steps.{HasFilter}
 use Rattle.graph_runs.specs.Turned.{with_at}
 use Rattle.stream_eval.specs.stream_lists.Jobs.{with_samples}
+use Rattle.stream_job.specs.InRange.{IsNextGood}
 use Rattle.stream_job.specs.Stepping.{with_more, HasRoomIn, IsNextIn}
 use Rattle.stream_job.specs.Places.{StateHasTaken}
 use Rattle.stream_job.specs.SinkLines.{kept_of}
-use Rattle.stream_job.specs.Turning.{HadTurn}
 use Rattle.stream_job.specs.Machines.{HasCores, HasRoom, IsMachineAt, kept_behind}
+use Rattle.stream_job.specs.declared.turned.Turned.TheVariants as turned
+use Rattle.stream_job.proofs.GoodWaits.{WouldGet, asks_fewer, block_some_of, first_room, after_some, first_stands, got_good, got_part, had_good, machine_same, moved_told, would_end, would_get, would_refuse}
 use Rattle.stream_job.proofs.Lively.{state_read, state_there}
 use Rattle.stream_job.proofs.Setting.{read_same, bare_cores, full_cores}
 use Rattle.stream_job.proofs.Rooms.{room_of}
-use Rattle.stream_job.proofs.Waits.{AsksFirst, asks_places, GotAll, got_answered, done_few, first_waits_at, first_few}
-use Rattle.stream_job.proofs.FirstTurns.{MayTake, may_take, had_as, first_answer, first_turn, blocked_first, first_never_ended, sink_there}
-use Rattle.stream_job.proofs.machine.Machine.wait_in_range.Goals.{After-wait_block_on, In-Ok-Values, After-index_mut, in-Ok-Values, in-Err}
+use Rattle.stream_job.proofs.Waits.{AsksFirst, GotAll, asks_places, first_few, first_waits_at}
+use Rattle.stream_job.proofs.FirstTurns.{MayTake, blocked_first, first_never_ended, first_turn, may_take, sink_there}
+use Rattle.stream_job.proofs.WentTurns.{had_stayed}
+use Rattle.stream_job.proofs.machine.Machine.wait_in_range.Goals.{After-wait_in_range_on, After-index_mut, In-Values}
 use Rattle.stream_job.proofs.machine.Machine.wait_in_range.Goals as goal
 
 -- ---- what the answers share
 
 -- what the task asks of its phaser
-asks : (s : List (List ℤ)) (c : After-wait_block_on)
+asks : (s : List (List ℤ)) (c : After-wait_in_range_on)
     (next : IsNextIn c.args.most (with_samples s c.args.job.now) c.args.self.now c.args.t (waits c.args.k))
     → AsksFirst c.args.most (with_samples s c.args.job.now) c.args.self.now c.args.t c.args.k
     (get_or c.deref.result.now c.args.k 0) c.input_of-phaser.result c.block-steps.result
@@ -48,7 +53,7 @@ asks s c next =
     }
 
 -- the places that it hands over
-long : (s : List (List ℤ)) (c : After-wait_block_on)
+long : (s : List (List ℤ)) (c : After-wait_in_range_on)
     (next : IsNextIn c.args.most (with_samples s c.args.job.now) c.args.self.now c.args.t (waits c.args.k))
     → length (take c.block-steps.result c.deref_mut.result.now) ≡ c.block-steps.result
 long s c next =
@@ -57,58 +62,18 @@ long s c next =
     let view = c.buffers.view_is in
     asks_places (asks s c next) c.args.buffers.now c.deref_mut.result.now c.requires.places (omega arith)
 
--- all that it got stands in them
-all : (s : List (List ℤ)) (c : In-Ok-Values)
-    (next : IsNextIn c.args.most (with_samples s c.args.job.now) c.args.self.now c.args.t (waits c.args.k))
-    → length (take c.block-steps.result c.deref_mut.result.now) ≡ c.block-steps.result
-    → (m : Moment) → IsMachineAt (with_samples s c.args.job.now) m c.args.self.now
-    → GotAll (with_samples s c.args.job.now) m c.input_of-phaser.result (get_or c.deref.result.now c.args.k 0)
-    c.block-steps.result c.in-Ok-Values.phase c.in-Ok-Values.count
-    (take c.in-Ok-Values.count c.wait_block_on.new.out)
-all s c next long m at =
-    let v = c.in-Ok-Values in
-    got_answered (with_samples s c.args.job.now) m c.input_of-phaser.result (get_or c.deref.result.now c.args.k 0)
-    c.block-steps.result v.phase v.count v.field-0 (take c.block-steps.result c.deref_mut.result.now)
-    c.wait_block_on.new.out long v.field-0-is (v.ensures.reply m.history (bare_cores s at.cores)) (v.ensures.out m.history (bare_cores s at.cores))
-
--- and its state may take it
-may : (s : List (List ℤ)) (c : After-index_mut)
-    (next : IsNextIn c.args.most (with_samples s c.args.job.now) c.args.self.now c.args.t (waits c.args.k))
-    → AsksFirst c.args.most (with_samples s c.args.job.now) c.args.self.now c.args.t c.args.k
-    (get_or c.deref.result.now c.args.k 0) c.input_of-phaser.result c.block-steps.result
-    c.index.result.now
-    → ((m : Moment) → IsMachineAt (with_samples s c.args.job.now) m c.args.self.now
-    → GotAll (with_samples s c.args.job.now) m c.input_of-phaser.result (get_or c.deref.result.now c.args.k 0)
-    c.block-steps.result c.in-Ok-Values.phase c.in-Ok-Values.count
-    (take c.in-Ok-Values.count c.wait_block_on.new.out))
-    → MayTake (with_samples s c.args.job.now) c.args.t (take c.in-Ok-Values.count c.wait_block_on.new.out)
-    c.index_mut.result.now
-may s c next asks all =
-    let job = (with_samples s c.args.job.now) in
-    let old = c.args.self.now in
-    let next = asks.next in
-    let v = c.in-Ok-Values in
-    let got = take v.count c.wait_block_on.new.out in
-    let it = read_same old.tasks.items c.args.t c.index.result.now c.index_mut.result.now
-    (state_there next (λ e. (cc))) c.index.ensures (c.index_mut.ensures.value
-    ∙ ap (λ v. get_or v.items c.args.t c.index_mut.result.now) c.wait_block_on.ensures.tasks) in
-    subst (MayTake job c.args.t got) it (may_take job old next.some.0 c.args.t c.args.k
-    (get_or c.deref.result.now c.args.k 0) c.input_of-phaser.result c.block-steps.result v.phase v.count
-    got c.index.result.now asks next.some.1 (all next.some.0 next.some.1)
-    c.input_of-phaser.ensures.within)
-
 -- ---- the answers
 
 pub input_of-phaser-requires-clause-input : goal.input_of-phaser-requires-clause-input
 input_of-phaser-requires-clause-input c =
-    let next = c.requires.next.1 in
+    let next = c.requires.next.1.next_in in
     first_few (with_samples c.requires.next.0 c.args.job.now) c.args.self.now next.some.0 c.args.t
     c.args.k next next.some.1
 
 pub offset_bounds-deref-k : goal.offset_bounds-deref-k
 offset_bounds-deref-k c =
     let s = c.requires.next.0 in
-    let next = c.requires.next.1 in
+    let next = c.requires.next.1.next_in in
     let job = with_samples s c.args.job.now in
     let found = state_read next (λ e. (cc)) c.index.ensures in
     let place = (first_waits_at job c.args.self.now next.some.0 c.args.t c.args.k
@@ -121,7 +86,7 @@ offset_bounds-deref-k c =
 pub bounds-deref-k : goal.bounds-deref-k
 bounds-deref-k c =
     let s = c.requires.next.0 in
-    let next = c.requires.next.1 in
+    let next = c.requires.next.1.next_in in
     let job = with_samples s c.args.job.now in
     let found = state_read next (λ e. (cc)) c.index.ensures in
     let place = (first_waits_at job c.args.self.now next.some.0 c.args.t c.args.k
@@ -133,7 +98,7 @@ bounds-deref-k c =
 pub slice_bounds-out-end : goal.slice_bounds-out-end
 slice_bounds-out-end c =
     let s = c.requires.next.0 in
-    let next = c.requires.next.1 in
+    let next = c.requires.next.1.next_in in
     let job = with_samples s c.args.job.now in
     let found = state_read next (λ e. (cc)) c.index.ensures in
     let again = state_read next (λ e. (cc)) c.index-2.ensures in
@@ -149,90 +114,235 @@ slice_bounds-out-end c =
           c.block-steps.ensures m (at.tasks c.args.t c.index-2.result.now again).stands.begun;
     }) c.args.buffers.now c.deref_mut.result.now c.requires.places (omega arith))
 
+-- ---- what it got
+
+-- it got some values
+some : (c : In-Values) → 0 < c.in-Values.count → (s : List (List ℤ)) (m : Moment)
+    → IsMachineAt (with_samples s c.args.job.now) m c.args.self.now
+    → GotAll (with_samples s c.args.job.now) m c.input_of-phaser.result
+    (get_or c.deref.result.now c.args.k 0) c.in-Values.count c.in-Values.phase c.in-Values.count
+    (take c.in-Values.count c.wait_in_range_on.new.out)
+some c lt s m at =
+    let is = ap (λ g. Ok g) c.in-Values.is in
+    let got = c.in-Ok.ensures.got c.in-Values.phase c.in-Values.count is lt m.history
+    (bare_cores s at.cores) in
+    got_part (with_samples s c.args.job.now) m c.input_of-phaser.result
+    (get_or c.deref.result.now c.args.k 0) c.in-Values.phase c.in-Values.count
+    (take c.in-Values.count c.wait_in_range_on.new.out) (got.0 ∙ is) got.1
+
+-- of what a wait for the whole block would get
+would : (c : In-Values) (s : List (List ℤ)) (m : Moment)
+    → IsMachineAt (with_samples s c.args.job.now) m c.args.self.now
+    → WouldGet (stream_of (value_at (with_samples s c.args.job.now) c.input_of-phaser.result)
+    (m.history c.input_of-phaser.result))
+    (wait_block_reply (limits_at (with_samples s c.args.job.now) c.input_of-phaser.result)
+    (m.history c.input_of-phaser.result) (get_or c.deref.result.now c.args.k 0)
+    (length (take c.block-steps.result c.deref_mut.result.now)))
+    c.in-Values.phase c.in-Values.count
+would c s m at =
+    would_get _ _ c.in-Values.phase c.in-Values.count
+    (c.in-Ok.ensures.reply m.history (bare_cores s at.cores) ∙ ap (λ g. Ok g) c.in-Values.is)
+
+-- no more than it asked for
+few : (c : In-Values) → c.in-Values.count
+    ≤ length (take c.block-steps.result c.deref_mut.result.now)
+few c = c.in-Ok.ensures.few c.in-Values.phase c.in-Values.count (ap (λ g. Ok g) c.in-Values.is)
+
+-- what it asks for is so many
+asks_so : (s : List (List ℤ)) (c : After-wait_in_range_on) (n : ℕ)
+    (good : IsNextGood c.args.most (with_samples s c.args.job.now) c.args.self.now c.args.t
+    (waits c.args.k)) → 1 ≤ n → n ≤ length (take c.block-steps.result c.deref_mut.result.now)
+    → AsksFirst n (with_samples s c.args.job.now) c.args.self.now c.args.t c.args.k
+    (get_or c.deref.result.now c.args.k 0) c.input_of-phaser.result n c.index.result.now
+asks_so s c n good some few =
+    let long = long s c good.next_in in
+    asks_fewer (with_samples s c.args.job.now) c.args.self.now c.args.t c.args.k
+    (get_or c.deref.result.now c.args.k 0) c.input_of-phaser.result c.block-steps.result n
+    c.index.result.now good (asks s c good.next_in) some (omega arith)
+
+pub wait_in_range_on-requires-clause-cores : goal.wait_in_range_on-requires-clause-cores
+wait_in_range_on-requires-clause-cores c =
+    let next = c.requires.next.1.next_in in
+    (next.some.0.history, bare_cores c.requires.next.0 next.some.1.cores)
+
+pub returns-in_default-clause-went : goal.returns-in_default-clause-went
+returns-in_default-clause-went c = λ s good.
+    let next = good.next_in in
+    let job = with_samples s c.args.job.now in
+    let here = (goal.at.returns-in_default-clause-went c).After-wait_in_range_on in
+    let p = c.input_of-phaser.result in
+    let n = get_or c.deref.result.now c.args.k 0 in
+    let w = c.in_default in
+    had_stayed job c.args.self.now c.wait_in_range_on.new.self c.args.t p
+    (blocked_first job c.args.self.now c.wait_in_range_on.new.self c.args.t c.args.k n p
+    c.block-steps.result c.index.result.now w.field-0 (asks s here next)
+    (λ m at. subst (λ i. wait_block_reply (limits_at job p) (m.history p) n i ≡ Err w.field-0)
+    (long s here next)
+    (would_refuse (stream_of (value_at job p) (m.history p)) _ w.field-0
+    (w.ensures.reply m.history (bare_cores s at.cores))))
+    (λ m at. full_cores s (w.ensures.cores m.history (bare_cores s at.cores)))
+    c.wait_in_range_on.ensures.others.0 c.wait_in_range_on.ensures.others.1)
+
+pub unreachable-requires : goal.unreachable-requires
+unreachable-requires c =
+    let s = c.requires.next.0 in
+    let next = c.requires.next.1.next_in in
+    let job = with_samples s c.args.job.now in
+    let here = (goal.at.unreachable-requires c).After-wait_in_range_on in
+    let p = c.input_of-phaser.result in
+    let n = get_or c.deref.result.now c.args.k 0 in
+    first_never_ended job c.args.self.now c.args.t c.args.k n p c.block-steps.result
+    c.index.result.now (asks s here next)
+    (λ m at. subst (λ i. wait_block_reply (limits_at job p) (m.history p) n i ≡ Ok block.Ended)
+    (long s here next)
+    (would_end (stream_of (value_at job p) (m.history p)) _
+    (c.in-Ok.ensures.reply m.history (bare_cores s at.cores)
+    ∙ ap (λ g. Ok g) c.in_default-answer.is)))
+
+pub returns-then-count-eq0-clause-went : goal.returns-then-count-eq0-clause-went
+returns-then-count-eq0-clause-went c = λ s good.
+    let next = good.next_in in
+    let job = with_samples s c.args.job.now in
+    let here = (goal.at.returns-then-count-eq0-clause-went c).After-wait_in_range_on in
+    let p = c.input_of-phaser.result in
+    let n = get_or c.deref.result.now c.args.k 0 in
+    let phase = c.in-Values.phase in
+    let zero_is : c.in-Values.count ≡ 0 = c.if-count-eq0.true in
+    let is = ap (λ g. Ok g) (c.in-Values.is ∙ ap (block.Values phase) zero_is) in
+    let others = c.wait_in_range_on.ensures.others in
+    let asked = asks s here next in
+    record {
+      same = machine_same c.wait_in_range_on.new.self c.args.self.now
+          (c.in-Ok.ensures.too_big phase is next.some.0.history (bare_cores s next.some.1.cores)).2
+          others.0 others.1;
+      before = λ m at.
+          (let big = c.in-Ok.ensures.too_big phase is m.history (bare_cores s at.cores) in
+          first_stands job c.args.self.now m c.args.t c.args.k n p c.block-steps.result phase
+          c.index.result.now good asked (block_some_of job c.args.self.now m c.args.t c.args.k n p
+          c.block-steps.result c.index.result.now asked at) at big.0 big.1);
+    }
+
+-- the state that takes it
+read : (c : After-index_mut) (s : List (List ℤ))
+    (next : IsNextIn c.args.most (with_samples s c.args.job.now) c.args.self.now c.args.t (waits c.args.k))
+    → c.index.result.now ≡ c.index_mut.result.now
+read c s next =
+    read_same c.args.self.now.tasks.items c.args.t c.index.result.now c.index_mut.result.now
+    (state_there next (λ e. (cc))) c.index.ensures (c.index_mut.ensures.value
+    ∙ ap (λ v. get_or v.items c.args.t c.index_mut.result.now)
+    c.wait_in_range_on.ensures.others.0)
+
+-- it may take it
+may : (s : List (List ℤ)) (c : After-index_mut) (here : In-Values)
+    → IsNextGood c.args.most (with_samples s c.args.job.now) c.args.self.now c.args.t (waits c.args.k)
+    → AsksFirst c.in-Values.count (with_samples s c.args.job.now) c.args.self.now c.args.t c.args.k
+    (get_or c.deref.result.now c.args.k 0) c.input_of-phaser.result c.in-Values.count
+    c.index.result.now
+    → ((m : Moment) → IsMachineAt (with_samples s c.args.job.now) m c.args.self.now
+    → GotAll (with_samples s c.args.job.now) m c.input_of-phaser.result
+    (get_or c.deref.result.now c.args.k 0) c.in-Values.count c.in-Values.phase c.in-Values.count
+    (take c.in-Values.count c.wait_in_range_on.new.out))
+    → MayTake (with_samples s c.args.job.now) c.args.t
+    (take c.in-Values.count c.wait_in_range_on.new.out) c.index_mut.result.now
+may s c here good asked all =
+    let job = with_samples s c.args.job.now in
+    let next = good.next_in in
+    subst (MayTake job c.args.t (take c.in-Values.count c.wait_in_range_on.new.out))
+    (read c s next)
+    (may_take job c.args.self.now next.some.0 c.args.t c.args.k (get_or c.deref.result.now c.args.k 0)
+    c.input_of-phaser.result c.in-Values.count c.in-Values.phase c.in-Values.count
+    (take c.in-Values.count c.wait_in_range_on.new.out) c.index.result.now asked next.some.1
+    (all next.some.0 next.some.1) c.input_of-phaser.ensures.within)
+
 pub slice_bounds-got-end : goal.slice_bounds-got-end
 slice_bounds-got-end c =
     let s = c.requires.next.0 in
-    let next = c.requires.next.1 in
-    let job = with_samples s c.args.job.now in
+    let next = c.requires.next.1.next_in in
     let a = goal.at.slice_bounds-got-end c in
-    sym (all s a.In-Ok-Values next (long s a.After-wait_block_on next) next.some.0
-    next.some.1).many
+    let not : c.in-Values.count ≢ 0 = c.if-count-eq0.false in
+    sym (some a.In-Values (omega arith) s next.some.0 next.some.1).many
 
 pub take-requires-clause-begun : goal.take-requires-clause-begun
 take-requires-clause-begun c =
     let s = c.requires.next.0 in
-    let next = c.requires.next.1 in
-    let job = with_samples s c.args.job.now in
+    let good = c.requires.next.1 in
     let a = goal.at.take-requires-clause-begun c in
-    (may s a.After-index_mut next (asks s a.After-wait_block_on next)
-    (all s a.In-Ok-Values next (long s a.After-wait_block_on next))).begun
+    let not : c.in-Values.count ≢ 0 = c.if-count-eq0.false in
+    let lt : 0 < c.in-Values.count = omega arith in
+    (may s a.After-index_mut a.In-Values good
+    (asks_so s a.After-wait_in_range_on c.in-Values.count good lt (few a.In-Values))
+    (some a.In-Values lt s)).begun
 
 pub take-requires-clause-block : goal.take-requires-clause-block
 take-requires-clause-block c =
     let s = c.requires.next.0 in
-    let next = c.requires.next.1 in
-    let job = with_samples s c.args.job.now in
+    let good = c.requires.next.1 in
     let a = goal.at.take-requires-clause-block c in
-    (may s a.After-index_mut next (asks s a.After-wait_block_on next)
-    (all s a.In-Ok-Values next (long s a.After-wait_block_on next))).block
+    let not : c.in-Values.count ≢ 0 = c.if-count-eq0.false in
+    let lt : 0 < c.in-Values.count = omega arith in
+    (may s a.After-index_mut a.In-Values good
+    (asks_so s a.After-wait_in_range_on c.in-Values.count good lt (few a.In-Values))
+    (some a.In-Values lt s)).block
 
 pub take-requires-clause-nothing : goal.take-requires-clause-nothing
 take-requires-clause-nothing c =
     let s = c.requires.next.0 in
-    let next = c.requires.next.1 in
-    let job = with_samples s c.args.job.now in
+    let good = c.requires.next.1 in
     let a = goal.at.take-requires-clause-nothing c in
-    (may s a.After-index_mut next (asks s a.After-wait_block_on next)
-    (all s a.In-Ok-Values next (long s a.After-wait_block_on next))).nothing
+    let not : c.in-Values.count ≢ 0 = c.if-count-eq0.false in
+    let lt : 0 < c.in-Values.count = omega arith in
+    (may s a.After-index_mut a.In-Values good
+    (asks_so s a.After-wait_in_range_on c.in-Values.count good lt (few a.In-Values))
+    (some a.In-Values lt s)).nothing
 
 pub take-requires-clause-room : goal.take-requires-clause-room
 take-requires-clause-room c =
     let s = c.requires.next.0 in
-    let next = c.requires.next.1 in
-    let job = with_samples s c.args.job.now in
+    let good = c.requires.next.1 in
     let a = goal.at.take-requires-clause-room c in
-    (may s a.After-index_mut next (asks s a.After-wait_block_on next)
-    (all s a.In-Ok-Values next (long s a.After-wait_block_on next))).room
+    let not : c.in-Values.count ≢ 0 = c.if-count-eq0.false in
+    let lt : 0 < c.in-Values.count = omega arith in
+    (may s a.After-index_mut a.In-Values good
+    (asks_so s a.After-wait_in_range_on c.in-Values.count good lt (few a.In-Values))
+    (some a.In-Values lt s)).room
 
 pub take-requires-clause-filter : goal.take-requires-clause-filter
 take-requires-clause-filter c =
     let s = c.requires.next.0 in
-    let next = c.requires.next.1 in
+    let next = c.requires.next.1.next_in in
     let job = with_samples s c.args.job.now in
+    let a = goal.at.take-requires-clause-filter c in
     let found = state_read next (λ e. (cc)) c.index.ensures in
-    let it = read_same c.args.self.now.tasks.items c.args.t c.index.result.now c.index_mut.result.now
-    (state_there next (λ e. (cc))) c.index.ensures (c.index_mut.ensures.value
-    ∙ ap (λ v. get_or v.items c.args.t c.index_mut.result.now) c.wait_block_on.ensures.tasks) in
     let m = next.some.0 in (
       m.taken c.args.t 0,
-      subst (λ s. HasFilter (task_at job.graph c.args.t) s.filter (m.taken c.args.t 0)) it
+      subst (λ s. HasFilter (task_at job.graph c.args.t) s.filter (m.taken c.args.t 0))
+          (read a.After-index_mut s next)
           (next.some.1.tasks c.args.t c.index.result.now found).filter,
     )
 
 pub take-requires-clause-some : goal.take-requires-clause-some
 take-requires-clause-some c =
     let s = c.requires.next.0 in
-    let next = c.requires.next.1 in
-    let job = with_samples s c.args.job.now in
+    let next = c.requires.next.1.next_in in
     let a = goal.at.take-requires-clause-some c in
-    (all s a.In-Ok-Values next (long s a.After-wait_block_on next) next.some.0
-    next.some.1).some
+    let not : c.in-Values.count ≢ 0 = c.if-count-eq0.false in
+    (some a.In-Values (omega arith) s next.some.0 next.some.1).some
 
 pub keep-requires-clause-there : goal.keep-requires-clause-there
 keep-requires-clause-there c =
     let s = c.requires.next.0 in
-    let next = c.requires.next.1 in
+    let next = c.requires.next.1.next_in in
     let job = with_samples s c.args.job.now in
     let found = state_read next (λ e. (cc)) c.index.ensures in
     subst (λ l. IfSome c.sink_of-sink.result (λ i. i < length l.items))
-    (sym c.wait_block_on.ensures.lines)
+    (sym c.wait_in_range_on.ensures.others.1)
     (sink_there job c.args.self.now next.some.0 c.args.t c.index.result.now
     c.sink_of-sink.result next.some.1 found (c.sink_of-sink.ensures c.index.result.now found))
 
 pub keep-requires-clause-room : goal.keep-requires-clause-room
 keep-requires-clause-room c =
     let s = c.requires.next.0 in
-    let next = c.requires.next.1 in
+    let next = c.requires.next.1.next_in in
     let job = with_samples s c.args.job.now in
     let a = goal.at.keep-requires-clause-room c in
     let old = c.args.self.now in
@@ -240,101 +350,66 @@ keep-requires-clause-room c =
     let at = c.requires.next.2.1 in
     let p = c.input_of-phaser.result in
     let n = get_or c.deref.result.now c.args.k 0 in
-    let v = c.in-Ok-Values in
-    let got = take v.count c.wait_block_on.new.out in
-    let asked = asks s a.After-wait_block_on next in
+    let v = c.in-Values in
+    let got = take v.count c.wait_in_range_on.new.out in
+    let asked = asks s a.After-wait_in_range_on next in
+    let not : v.count ≢ 0 = c.if-count-eq0.false in
+    let all = some a.In-Values (omega arith) s m at in
     subst (λ l. IfSome c.sink_of-sink.result (HasRoomIn l.items (length got)))
-    (sym c.wait_block_on.ensures.lines)
+    (sym c.wait_in_range_on.ensures.others.1)
     (room_of job old c.args.t got c.index.result.now c.sink_of-sink.result
     (c.sink_of-sink.ensures c.index.result.now asked.found)
-    (λ sink. c.requires.next.2.2 c.args.k p n got c.index.result.now (next.is m at)
-    (first_answer job old m c.args.t c.args.k n p c.block-steps.result v.phase v.count got
-    c.index.result.now asked at (all s a.In-Ok-Values next (long s a.After-wait_block_on next) m at))
-    asked.found sink))
+    (λ sink. first_room job old m c.args.t c.args.k n p c.block-steps.result v.phase v.count got
+    c.index.result.now asked at
+    (subst (λ i. WouldGet (stream_of (value_at job p) (m.history p))
+    (wait_block_reply (limits_at job p) (m.history p) n i) v.phase v.count)
+    (long s a.After-wait_in_range_on next) (would a.In-Values s m at)) all.many
+    c.requires.next.2.2 sink))
 
-pub told_got-requires : goal.told_got-requires
-told_got-requires c =
-    let s = c.requires.next.0 in
-    let next = c.requires.next.1 in
-    let job = with_samples s c.args.job.now in
-    let a = goal.at.told_got-requires c in
-    let m = next.some.0 in
-    let at = next.some.1 in
-    let p = c.input_of-phaser.result in
-    let got = all s a.In-Ok-Values next (long s a.After-wait_block_on next) m at in
-    let complete : c.in-Ok-Values.phase + c.in-Ok-Values.count ≤ done_of (m.history p) =
-    got.complete in
-    let last : done_of (m.history p) ≤ PHASES_MAX =
-    done_few job m p at.reached.ran c.input_of-phaser.ensures.within in
-    let so_many = got.many in
-    omega arith
-
-pub unreachable-requires : goal.unreachable-requires
-unreachable-requires c =
-    let s = c.requires.next.0 in
-    let next = c.requires.next.1 in
-    let job = with_samples s c.args.job.now in
-    let a = goal.at.unreachable-requires c in
-    let p = c.input_of-phaser.result in
-    let n = get_or c.deref.result.now c.args.k 0 in
-    first_never_ended job c.args.self.now c.args.t c.args.k n p c.block-steps.result
-    c.index.result.now (asks s a.After-wait_block_on next)
-    (λ m at. subst (λ i. wait_block_reply (limits_at job p) (m.history p) n i ≡ Ok block.Ended)
-    (long s a.After-wait_block_on next)
-    (c.in-Ok-Ended.ensures.reply m.history (bare_cores s at.cores) ∙ ap (λ g. Ok g) c.in-Ok-Ended.field-0-is))
-
-pub returns-clause-made : goal.returns-clause-made
-returns-clause-made c = λ s next.
+pub returns-clause-went : goal.returns-clause-went
+returns-clause-went c = λ s good.
+    let next = good.next_in in
     let job = with_samples s c.args.job.now in
     let old = c.args.self.now in
     let t = c.args.t in
     let k = c.args.k in
     let p = c.input_of-phaser.result in
     let n = get_or c.deref.result.now k 0 in
-    let steps = c.block-steps.result in
-    let places = take steps c.deref_mut.result.now in
-    let here = (goal.at.returns-clause-made c).After-wait_block_on in
-    let asked = asks s here next in
-    elim c.match-wait_block_on.branch as (λ w. HadTurn c.args.most job old c.match-wait_block_on.self t
-    c.match-wait_block_on.result) [
-      | in-Ok-Values w ↦
-          let v = w.in-Ok-Values in
-          let got = take v.count c.wait_block_on.new.out in
-          let all : (m : Moment) → IsMachineAt job m old → GotAll job m p n steps v.phase v.count got =
-          λ m at. got_answered job m p n steps v.phase v.count v.field-0 places c.wait_block_on.new.out
-          (long s here next) v.field-0-is (v.ensures.reply m.history (bare_cores s at.cores)) (v.ensures.out m.history (bare_cores s at.cores)) in
-          let tasks = ap (λ v. v.items) c.wait_block_on.ensures.tasks in
-          let it = read_same old.tasks.items t w.index_mut.result.now c.index.result.now
-          (state_there next (λ e. (cc)))
-          (w.index_mut.ensures.value ∙ ap (λ xs. get_or xs t w.index_mut.result.now) tasks)
-          c.index.ensures in
-          had_as job old c.match-wait_block_on.self _ t c.match-wait_block_on.result _ w.self-is w.result-is
-          (first_turn job old w.keep.new.self t k n p steps v.phase v.count got c.index.result.now
-          w.take.new.self c.sink_of-sink.result w.told_got.result asked
-          (subst (λ s. StateHasTaken (task_at job.graph t) (map number got) s w.take.new.self) it w.take.ensures)
-          (c.sink_of-sink.ensures c.index.result.now asked.found) all
-          (λ m at. subst (λ cs. HasCores job (with_at p (Waited n v.count ∷ m.history p) m.history) cs.items)
-          (sym w.keep.ensures.cores)
-          (subst (λ g. HasCores job (with_at p (after_wait_block (Ok g) n (m.history p)) m.history)
-          c.wait_block_on.new.self.cores.items) v.field-0-is (full_cores s (v.ensures.cores m.history (bare_cores s at.cores)))))
-          (ap (λ v. v.items) w.keep.ensures.tasks ∙ ap (λ xs. set xs t w.take.new.self) tasks)
-          (λ given. w.keep.ensures.lines given
-          ∙ ap (λ l. with_more c.sink_of-sink.result (kept_of got)
-          (map (kept_behind given) l.items)) c.wait_block_on.ensures.lines)
-          (w.keep.ensures.starts
-          ∙ ap (λ l. map (λ line. line.start) l.items) c.wait_block_on.ensures.lines)
-          (λ room own. w.keep.ensures.own room
-          (subst (λ l. All (HasRoom room) l.items) (sym c.wait_block_on.ensures.lines) own))
-          w.told_got.ensures)
-      | in-Err w ↦
-          had_as job old c.match-wait_block_on.self _ t c.match-wait_block_on.result _ w.self-is w.result-is
-          (blocked_first job old c.wait_block_on.new.self t k n p steps c.index.result.now w.in-Err.field-0
-          asked (λ m at. subst (λ i. wait_block_reply (limits_at job p) (m.history p) n i
-          ≡ Err w.in-Err.field-0) (long s here next) (w.in-Err.ensures.reply m.history (bare_cores s at.cores))) (λ m at. full_cores s (w.in-Err.ensures.cores m.history (bare_cores s at.cores)))
-          c.wait_block_on.ensures.tasks c.wait_block_on.ensures.lines)
-    ]
-
-pub wait_block_on-requires-clause-cores : goal.wait_block_on-requires-clause-cores
-wait_block_on-requires-clause-cores c =
-    let next = c.requires.next.1 in
-    (next.some.0.history, bare_cores c.requires.next.0 next.some.1.cores)
+    let a = goal.at.returns-clause-went c in
+    let v = c.in-Values in
+    let got = take v.count c.wait_in_range_on.new.out in
+    let not : v.count ≢ 0 = c.if-count-eq0.false in
+    let lt : 0 < v.count = omega arith in
+    let asked = asks_so s a.After-wait_in_range_on v.count good lt (few a.In-Values) in
+    let tasks = ap (λ v. v.items) c.wait_in_range_on.ensures.others.0 in
+    let lines = c.wait_in_range_on.ensures.others.1 in
+    let it = read_same old.tasks.items t c.index_mut.result.now c.index.result.now
+    (state_there next (λ e. (cc)))
+    (c.index_mut.ensures.value ∙ ap (λ xs. get_or xs t c.index_mut.result.now) tasks)
+    c.index.ensures in
+    let m = next.some.0 in
+    had_good job old c.keep.new.self t p asked.next.sized
+    (first_turn job old c.keep.new.self t k n p v.count v.phase v.count got c.index.result.now
+    c.take.new.self c.sink_of-sink.result turned.Moved asked
+    (subst (λ s. StateHasTaken (task_at job.graph t) (map number got) s c.take.new.self) it
+    c.take.ensures)
+    (c.sink_of-sink.ensures c.index.result.now asked.found) (some a.In-Values lt s)
+    (λ m at. subst (λ cs. HasCores job (with_at p (Waited n v.count ∷ m.history p) m.history) cs.items)
+    (sym c.keep.ensures.cores)
+    (subst (λ h. HasCores job (with_at p h m.history) c.wait_in_range_on.new.self.cores.items)
+    (after_some v.phase v.count n (m.history p) lt)
+    (subst (λ g. HasCores job (with_at p (after_in_range (Ok g) n (m.history p)) m.history)
+    c.wait_in_range_on.new.self.cores.items) c.in-Values.is
+    (full_cores s (c.in-Ok.ensures.cores m.history (bare_cores s at.cores))))))
+    (ap (λ v. v.items) c.keep.ensures.tasks ∙ ap (λ xs. set xs t c.take.new.self) tasks)
+    (λ given. c.keep.ensures.lines given
+    ∙ ap (λ l. with_more c.sink_of-sink.result (kept_of got)
+    (map (kept_behind given) l.items)) lines)
+    (c.keep.ensures.starts ∙ ap (λ l. map (λ line. line.start) l.items) lines)
+    (λ room own. c.keep.ensures.own room
+    (subst (λ l. All (HasRoom room) l.items) (sym lines) own))
+    (moved_told p v.phase got
+    (got_good (stream_of (value_at job p) (m.history p)) _ v.phase v.count got
+    (would a.In-Values s m next.some.1)
+    (c.in-Ok.ensures.got v.phase v.count (ap (λ g. Ok g) c.in-Values.is) lt m.history
+    (bare_cores s next.some.1.cores)).1).none))
