@@ -1,6 +1,6 @@
 -- What a stream stands for after a turn that takes no value out of range.
 use Rattle.std.proofs.Common.{◌≡◌, ℕ, ℤ, List, ◌+◌, ◌≤◌, ◌||◌, ◌∷◌, [], Bool, true, false, Option, Some, None, refl, sym, ap, subst, ◌∙◌, arith}
-use Rattle.std.specs.Prelude.{Result, Ok}
+use Rattle.std.specs.Prelude.{Result, Ok, Err}
 use Rattle.std.specs.List.{All}
 use Rattle.std.proofs.lemmas.List.Elements.{All-cons, All-nil}
 use Rattle.stream_eval.specs.stream_lists.Jobs.{Job, with_samples}
@@ -41,12 +41,12 @@ pub record GoesTo (least : ℕ) (old new : StreamState) (s : List (List ℤ)) (m
   pub moves : least ≤ moves_in (with_samples s old.job) m turns
   pub stands : IsStreamAt new s (after_sized (with_samples s old.job) m turns) given
 
-pub went_to : {steps : ℕ} (old : StreamState) (new : Machine) (s : List (List ℤ)) (m : Moment)
+pub went_to : (steps : ℕ) (old : StreamState) (new : Machine) (s : List (List ℤ)) (m : Moment)
     (given : ℕ → List ℤ) (t : ℕ) (word : Went) → OpensSo old s m → old.met ≡ None
     → is_hungry (with_samples s old.job) (ended_at old) m t ≡ false
     → HasGone steps (with_samples s old.job) old.machine new t word → IsStreamAt old s m given
     → GoesTo (of_went word) old (with_machine old new) s m given
-went_to old new s m given t went.On law none fed gone at =
+went_to steps old new s m given t went.On law none fed gone at =
     let job = with_samples s old.job in
     let turn : SizedTurn = record { task = t; steps = gone.steps; most = gone.most } in
     let moves = gone.moves m at.machine in
@@ -57,13 +57,13 @@ went_to old new s m given t went.On law none fed gone at =
       moves = rw is (omega arith);
       stands = moved_stands old new s m given t law none fed gone at;
     }
-went_to old new s m given t went.Stays law none fed gone at = record {
+went_to steps old new s m given t went.Stays law none fed gone at = record {
   turns = [];
   may = All-nil (MayTurn old.job);
   moves = omega arith;
   stands = stayed_stands old new s m given t gone at;
 }
-went_to old new s m given t (went.Before place phase) law none fed gone at = record {
+went_to steps old new s m given t (went.Before place phase) law none fed gone at = record {
   turns = [];
   may = All-nil (MayTurn old.job);
   moves = omega arith;
@@ -71,12 +71,12 @@ went_to old new s m given t (went.Before place phase) law none fed gone at = rec
 }
 
 -- its lines have the room that they had
-pub went_own : {steps : ℕ} (job : Job) (old new : Machine) (t : ℕ) (word : Went) (room : ℕ → ℕ)
+pub went_own : (steps : ℕ) (job : Job) (old new : Machine) (t : ℕ) (word : Went) (room : ℕ → ℕ)
     → HasGone steps job old new t word → All (HasRoom room) old.lines.items
     → All (HasRoom room) new.lines.items
-went_own job old new t went.On room gone own = gone.own room own
-went_own job old new t went.Stays room gone own = gone.own room own
-went_own job old new t (went.Before place phase) room gone own =
+went_own steps job old new t went.On room gone own = gone.own room own
+went_own steps job old new t went.Stays room gone own = gone.own room own
+went_own steps job old new t (went.Before place phase) room gone own =
     subst (λ machine. All (HasRoom room) machine.lines.items) (sym gone.same) own
 
 -- a task that rests by one of three
@@ -93,3 +93,8 @@ pub rests_full : (held hungry full : Bool) → full ≡ true → (held || hungry
 rests_full true hungry full e = refl
 rests_full false true full e = refl
 rests_full false false full e = e
+
+-- the word of an answer, or else this
+abbrev pub word_in : {E : Type 0} → Went → Result Went E → Went
+word_in other (Ok word) = word
+word_in other (Err e) = other

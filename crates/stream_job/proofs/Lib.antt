@@ -61,3 +61,5 @@ pub mod GoodSignals
 pub mod GoodWaits
 pub mod HeldUp
 pub mod FedWent
+pub mod FedStands
+pub mod FedLooks

@@ -17,20 +17,15 @@ abbrev pub of_went : Went → ℕ
 of_went went.On = 1
 of_went word = 0
 
--- where it had memory
-abbrev pub of_turn : {E : Type 0} → Result Went E → ℕ
-of_turn (Ok word) = of_went word
-of_turn (Err e) = 0
-
 -- at least, by whether some task moved
-abbrev pub of_turns : {E : Type 0} → Result Bool E → ℕ
-of_turns (Ok true) = 1
-of_turns result = 0
+abbrev pub of_moved : Bool → ℕ
+of_moved true = 1
+of_moved false = 0
 
 -- at least, by what a look tells, where so many are made before it tells that some task moved
-abbrev pub of_look : {E : Type 0} → ℕ → Result Look E → ℕ
-of_look many (Ok look.Moved) = many
-of_look many result = 0
+abbrev pub of_look : ℕ → Look → ℕ
+of_look many look.Moved = many
+of_look many (look.Still before) = 0
 
 -- the first of n tasks that does not rest stands before this, or all of them rest
 abbrev pub FirstOrRest : (ℕ → Bool) → (ℕ → Option Where) → ℕ → Option Where → Type 0

@@ -1,5 +1,5 @@
 //! The turns of a run that is fed.
-ghost use Rattle.std.specs.Prelude.{◌≡◌, ◌≢◌, ◌<◌, ◌≤◌, ◌+◌, ◌-◌, ◌||◌, nat_lt, ℕ, ℤ, List, Ok, IfOk, length, map, false, true, None, Some};
+ghost use Rattle.std.specs.Prelude.{◌≡◌, ◌≢◌, ◌<◌, ◌≤◌, ◌+◌, ◌-◌, ◌||◌, nat_lt, ℕ, ℤ, List, Ok, IfOk, OnErr, length, map, false, true, None, Some};
 ghost use Rattle.stream_eval.specs.stream_lists.Jobs.{with_samples};
 ghost use Rattle.stream_eval.specs.stream_lists.Ranges.{answer_of};
 ghost use Rattle.graph_lang.specs.graph_base.declared.place.Place.{Place as PlaceValue};
@@ -39,7 +39,7 @@ impl Stream {
     ghost use Rattle.stream_job.specs.Stepping.{HasPhases, MayStep};
     ghost use Rattle.stream_job.specs.Machines.{kept_behind};
     ghost use Rattle.stream_job.specs.InRange.{stands_before};
-    ghost use Rattle.stream_job.specs.Rounds.{LookTells, StandsSome, met_in, of_look, of_turn, of_turns};
+    ghost use Rattle.stream_job.specs.Rounds.{LookTells, StandsSome, met_in, of_look, of_moved, of_went};
     ghost use Rattle.stream_job.specs.Streams.{IsSameRun, IsStreamAt, Meets, StreamGoesOn, StreamMoves, StreamStopsAt, ended_at, rests};
     ghost use Rattle.stream_job.specs.declared.stopped.Stopped.TheVariants.{Done, Paused, TooBig};
     ghost use Rattle.stream_job.specs.declared.went.Went.TheVariants.{Before, Stays};
@@ -121,7 +121,8 @@ impl Stream {
     /// Gives rounds of turns until no task moves, or so many as one call makes at most.
     fn rounds(&mut self) -> Result<Look, AllocError>
         requires met { self.old.met ≡ None }
-        ensures moves { StreamMoves (of_look ROUNDS result) self.old self.new }
+        ensures moves { IfOk result (λ look. StreamMoves (of_look ROUNDS look) self.old self.new) }
+        ensures err { OnErr result (StreamMoves 0 self.old self.new) }
         ensures tells { IfOk result (LookTells self.new) }
     {
         for _ in 0..ROUNDS {
@@ -135,7 +136,8 @@ impl Stream {
     /// Gives a round of turns, and where no task moves in it, looks whether one can.
     fn round_or_look(&mut self) -> Result<Look, AllocError>
         requires met { self.old.met ≡ None }
-        ensures moves { StreamMoves (of_look 1 result) self.old self.new }
+        ensures moves { IfOk result (λ look. StreamMoves (of_look 1 look) self.old self.new) }
+        ensures err { OnErr result (StreamMoves 0 self.old self.new) }
         ensures tells { IfOk result (LookTells self.new) }
     {
         if self.round()? {
@@ -148,7 +150,8 @@ impl Stream {
     /// Returns whether some task moved.
     fn round(&mut self) -> Result<bool, AllocError>
         requires met { self.old.met ≡ None }
-        ensures { StreamMoves (of_turns result) self.old self.new }
+        ensures moves { IfOk result (λ moved. StreamMoves (of_moved moved) self.old self.new) }
+        ensures err { OnErr result (StreamMoves 0 self.old self.new) }
     {
         let mut moved = false;
         for t in 0..self.job.graph().tasks() {
@@ -161,7 +164,8 @@ impl Stream {
     fn turns(&mut self, t: usize) -> Result<bool, AllocError>
         requires met { self.old.met ≡ None }
         requires task { t < length self.old.job.graph.tasks }
-        ensures { StreamMoves (of_turns result) self.old self.new }
+        ensures moves { IfOk result (λ moved. StreamMoves (of_moved moved) self.old self.new) }
+        ensures err { OnErr result (StreamMoves 0 self.old self.new) }
     {
         for made in 0..TURNS {
             let most = self.own_steps(t);
@@ -176,7 +180,8 @@ impl Stream {
     /// tells where the first of them stands before a value out of range.
     fn look(&mut self) -> Result<Look, AllocError>
         requires met { self.old.met ≡ None }
-        ensures moves { StreamMoves (of_look 1 result) self.old self.new }
+        ensures moves { IfOk result (λ look. StreamMoves (of_look 1 look) self.old self.new) }
+        ensures err { OnErr result (StreamMoves 0 self.old self.new) }
         ensures tells { IfOk result (LookTells self.new) }
     {
         let mut before = None;
@@ -198,7 +203,8 @@ impl Stream {
         requires task { t < length self.old.job.graph.tasks }
         requires most { MayStep self.old.job self.old.machine t most
             × (most ≤ most_steps self.old.job t) }
-        ensures moves { StreamMoves (of_turn result) self.old self.new }
+        ensures moves { IfOk result (λ went. StreamMoves (of_went went) self.old self.new) }
+        ensures err { OnErr result (StreamMoves 0 self.old self.new) }
         ensures stays { result ≡ Ok Stays → most ≡ (task_at self.old.job.graph t).block
             → (s : List (List ℤ)) (m : Moment) (given : ℕ → List ℤ)
             → IsStreamAt self.old s m given

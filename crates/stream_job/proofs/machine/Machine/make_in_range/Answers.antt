@@ -148,3 +148,47 @@ went c it is lives s may quiet new made had word same =
     (sym same)
     (had_quiet (with_samples s c.args.job.now) c.args.self.now new c.args.t made (next_by it)
     (next_is c it is lives s may) quiet had)
+
+pub returns-in_ok-register_child-in-Register-clause-went : goal.returns-in_ok-register_child-in-Register-clause-went
+returns-in_ok-register_child-in-Register-clause-went c = λ s may.
+    let here = (goal.at.returns-in_ok-register_child-in-Register-clause-went c).After-next in
+    let it = step.Register c.in-Register.child in
+    went here it c.in-Register.is (λ e. (cc e)) s may tt c.register_child.new.self
+    c.in_ok-register_child-in-Register.field-0
+    (c.in_ok-register_child-in-Register.ensures.made s c.args.most
+    (next_is here it c.in-Register.is (λ e. (cc e)) s may)) c.went.result c.went.ensures
+
+pub returns-in-Leave-clause-went : goal.returns-in-Leave-clause-went
+returns-in-Leave-clause-went c = λ s may.
+    let here = (goal.at.returns-in-Leave-clause-went c).After-next in
+    went here step.Leave c.in-Leave.is (λ e. (cc e)) s may tt c.leave.new.self c.leave.result
+    (c.leave.ensures s c.args.most (next_is here step.Leave c.in-Leave.is (λ e. (cc e)) s may))
+    c.went-in-Leave.result c.went-in-Leave.ensures
+
+pub returns-in-Sample-clause-went : goal.returns-in-Sample-clause-went
+returns-in-Sample-clause-went c = λ s may.
+    let here = (goal.at.returns-in-Sample-clause-went c).After-next in
+    let job = with_samples s c.args.job.now in
+    let next = next_is here step.Sample c.in-Sample.is (λ e. (cc e)) s may in
+    went here step.Sample c.in-Sample.is (λ e. (cc e)) s may
+    (samples_begins job next.some.0 c.args.t (next.is next.some.0 next.some.1)).kind
+    c.signal_samples.new.self c.signal_samples.result (c.signal_samples.ensures.made s may next)
+    c.went-in-Sample.result c.went-in-Sample.ensures
+
+pub returns-in-Signal-clause-went : goal.returns-in-Signal-clause-went
+returns-in-Signal-clause-went c = λ s may.
+    c.signal_in_range.ensures.went s c.args.most
+    (good_is (goal.at.returns-in-Signal-clause-went c).After-next (step.Signal c.in-Signal.output)
+    c.in-Signal.is (λ e. (cc e)) s may)
+
+pub returns-in-Wait-clause-went : goal.returns-in-Wait-clause-went
+returns-in-Wait-clause-went c = λ s may.
+    c.wait_in_range.ensures.went s
+    (good_is (goal.at.returns-in-Wait-clause-went c).After-next (step.Wait c.in-Wait.input)
+    c.in-Wait.is (λ e. (cc e)) s may)
+
+pub returns-in-Exchange-clause-went : goal.returns-in-Exchange-clause-went
+returns-in-Exchange-clause-went c = λ s may.
+    c.exchange_in_range.ensures s c.args.most
+    (good_is (goal.at.returns-in-Exchange-clause-went c).After-next step.Exchange c.in-Exchange.is
+    (λ e. (cc e)) s may)

@@ -1,5 +1,5 @@
 -- A turn leads to a moment that the stream then stands for, of the same samples.
-use Rattle.std.proofs.Common.{◌≡◌, ℕ, ℤ, List, Some, false, refl, sym, ap, subst, ◌∙◌}
+use Rattle.std.proofs.Common.{◌≡◌, ℕ, ℤ, List, None, Some, false, true, refl, sym, ap, subst, ◌∙◌}
 use Rattle.std.specs.Prelude.{Ok}
 use Rattle.graph_lang.specs.graph_base.declared.place.Place.{Place}
 use Rattle.graph_lang.specs.graph_base.Graphs.{task_at}
@@ -8,14 +8,15 @@ use Rattle.graph_runs.specs.Moments.{Moment}
 use Rattle.stream_job.specs.Buffers.{HasPlaces}
 use Rattle.stream_job.specs.InRange.{HasGone, is_held_up, stands_before}
 use Rattle.stream_job.specs.Machines.{MayHaveCome}
-use Rattle.stream_job.specs.Rounds.{of_turn, of_went}
+use Rattle.stream_job.specs.Rounds.{of_went}
 use Rattle.stream_job.specs.Stepping.{HasRoomNext}
-use Rattle.stream_job.specs.Streams.{AreKept, IsStreamAt, StreamMoves, StreamState, ended_at, is_full, is_full_by, is_hungry, line_room}
+use Rattle.stream_job.specs.Streams.{AreKept, IsStreamAt, StreamMoves, StreamState, after_sized, ended_at, is_full, is_full_by, is_hungry, line_room, rests}
 use Rattle.stream_job.specs.contracts.stream.Stream.{the_view}
 use Rattle.stream_job.specs.declared.went.Went.{Went}
 use Rattle.stream_job.specs.declared.went.Went.TheVariants as went
 use Rattle.stream_job.proofs.FedTurns.{moves_none}
-use Rattle.stream_job.proofs.FedWent.{GoesTo, rests_full, rests_held, rests_hungry, went_own, went_to, with_machine}
+use Rattle.stream_job.proofs.Setting.{err_of}
+use Rattle.stream_job.proofs.FedWent.{GoesTo, rests_full, rests_held, rests_hungry, went_own, went_to, with_machine, word_in}
 use Rattle.stream_job.proofs.stream.Stream.turn.Goals as goal
 use Rattle.stream_job.proofs.stream.Stream.turn.Goals.{After-awaited-awaits, In_ok-went}
 
@@ -59,13 +60,13 @@ make_in_range-requires-clause-came c =
       room s m given at,
     )
 
-pub returns-in_err-went-clause-moves : goal.returns-in_err-went-clause-moves
-returns-in_err-went-clause-moves c =
+pub returns-in_err-went-clause-err : goal.returns-in_err-went-clause-err
+returns-in_err-went-clause-err c =
     let old = the_view c.self.inside in
     let P : StreamState → Type 0 = λ w. StreamMoves 0 w (with_machine old c.make_in_range.new.self) in
-    subst P c.self.view_is
+    err_of c.from_residual.result (subst P c.self.view_is
     (subst (λ machine. StreamMoves 0 old (with_machine old machine)) (sym c.in_err-went.ensures.err)
-    (moves_none old))
+    (moves_none old)))
 
 -- what the turn did
 gone : (c : In_ok-went) (s : List (List ℤ)) (m : Moment) (given : ℕ → List ℤ)
@@ -91,7 +92,7 @@ goes c s m given at =
     let N : StreamState → Type 0 = λ w. w.met ≡ None in
     let fed = subst P (sym c.self.view_is) (λ s m given at.
     c.is_hungry.ensures s m given at ∙ c.if-is_hungry.false) in
-    went_to old c.make_in_range.new.self s m given c.args.t c.in_ok-went.went
+    went_to c.args.most old c.make_in_range.new.self s m given c.args.t c.in_ok-went.went
     (λ event next ok. c.feeds_go_on.ensures.turn job (ended_at old) m event at.machine.graph
     at.machine.reached.ran next ok at.stays_open)
     (subst N (sym c.self.view_is) c.requires.met) (fed s m given at) (gone c s m given at) at
@@ -110,7 +111,7 @@ invariant_of-self-2 c =
       subst (HasPlaces c.self.inside.job) (sym c.make_in_range.ensures.places) c.self.invariant.2,
       c.self.invariant.3,
       c.self.invariant.4,
-      went_own job c.self.inside.machine c.make_in_range.new.self c.args.t c.in_ok-went.went
+      went_own c.args.most job c.self.inside.machine c.make_in_range.new.self c.args.t c.in_ok-went.went
           (line_room c.self.inside.job) (gone here s m given at) c.self.invariant.5,
     )
 
@@ -139,7 +140,7 @@ returns-clause-stays c = λ is line.
     subst P c.self.view_is (λ s m given line at.
     (let job = with_samples s c.self.inside.job in
     let stayed = subst (HasGone c.args.most job c.self.inside.machine c.make_in_range.new.self
-    c.args.t) (same_word c.in_ok-went.went went.Stays is) (gone here s m given at) in
+    c.args.t) (ap (word_in went.On) is) (gone here s m given at) in
     rests_held (is_held_up job m c.args.t)
     (is_hungry job (ended_at (the_view c.self.inside)) m c.args.t)
     (is_full job m given c.args.t) (stayed.held line m at.machine))) s m given line at
@@ -147,7 +148,7 @@ returns-clause-stays c = λ is line.
 pub returns-clause-before : goal.returns-clause-before
 returns-clause-before c = λ place phase is.
     let here = (goal.at.returns-clause-before c).In_ok-went in
-    let word = same_word c.in_ok-went.went (went.Before place phase) is in
+    let word = ap (word_in went.On) is in
     let old = the_view c.self.inside in
     let i = c.self.invariant.0 in
     let stopped = λ (s : List (List ℤ)) (m : Moment) (given : ℕ → List ℤ)
@@ -161,7 +162,3 @@ returns-clause-before c = λ place phase is.
       ap (with_machine old) (stopped i.0 i.1 i.2 i.3).same,
       λ s m given at. (stopped s m given at).before m at.machine,
     )
-
--- the word of an answer
-same_word : (a b : Went) → IsWord (Ok a) (Ok b) → a ≡ b
-same_word a b e = cc
