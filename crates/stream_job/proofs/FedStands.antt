@@ -175,3 +175,22 @@ meets_at stream s m given at some stands = record {
       stands_fault job m some.task there more (one_sized job some.task stands.machine.graph) ready
       stands.machine.reached (some.is ∙ ap (λ w. Some w) same) goes);
 }
+
+-- and the one that has met none
+pub meets_none : (stream : StreamState) (s : List (List ℤ)) (m : Moment) (given : ℕ → List ℤ)
+    → IsStreamAt stream s m given
+    → IsStreamAt record {
+      job = stream.job;
+      machine = stream.machine;
+      inputs = stream.inputs;
+      met = None;
+    } s m given
+meets_none stream s m given stands = record {
+  each = stands.each;
+  machine = stands.machine;
+  lines = stands.lines;
+  kept = stands.kept;
+  stays_open = stands.stays_open;
+  none = stands.none;
+  faults = λ there more is goes ready. absurd (cc);
+}

@@ -301,7 +301,6 @@ moves_none stream = record {
   later = λ s m given at. ([], All-nil (MayTurn stream.job), omega arith, at);
   job = refl;
   inputs = refl;
-  met = refl;
 }
 
 pub moves_on : (n k : ℕ) (a b c : StreamState) → StreamMoves n a b → StreamMoves k b c
@@ -328,7 +327,6 @@ moves_on n k a b c first then = record {
       ));
   job = then.job ∙ first.job;
   inputs = then.inputs ∙ first.inputs;
-  met = then.met ∙ first.met;
 }
 
 pub moves_less : (n k : ℕ) (a b : StreamState) → k ≤ n → StreamMoves n a b → StreamMoves k a b
@@ -339,7 +337,6 @@ moves_less n k a b le moves = record {
       (one.0, one.1, omega arith, one.3));
   job = moves.job;
   inputs = moves.inputs;
-  met = moves.met;
 }
 
 -- a stream that moves goes on
@@ -349,4 +346,34 @@ goes_on_moves n old new moves = record {
       (let one = moves.later s m given at in (one.0, one.1, one.3));
   job = moves.job;
   inputs = moves.inputs;
+}
+
+-- from a stream that stands for what this one does
+pub moves_from : (n : ℕ) (a b c : StreamState)
+    → ((s : List (List ℤ)) (m : Moment) (given : ℕ → List ℤ) → IsStreamAt a s m given
+    → IsStreamAt b s m given) → b.job ≡ a.job → b.inputs ≡ a.inputs → StreamMoves n b c
+    → StreamMoves n a c
+moves_from n a b c stands job inputs moves = record {
+  later = λ s m given at.
+      (let one = moves.later s m given (stands s m given at) in
+      let P : Job → Type 0 = λ j. All (MayTurn j) one.0
+      × (n ≤ moves_in (with_samples s j) m one.0)
+      × IsStreamAt c s (after_sized (with_samples s j) m one.0) given in
+      let all = subst P job (one.1, one.2, one.3) in
+      (one.0, all.0, all.1, all.2));
+  job = moves.job ∙ job;
+  inputs = moves.inputs ∙ inputs;
+}
+
+-- and to one that stands for what that one does
+pub moves_to : (n : ℕ) (a b c : StreamState) → StreamMoves n a b
+    → ((s : List (List ℤ)) (m : Moment) (given : ℕ → List ℤ) → IsStreamAt b s m given
+    → IsStreamAt c s m given) → c.job ≡ b.job → c.inputs ≡ b.inputs → StreamMoves n a c
+moves_to n a b c moves stands job inputs = record {
+  later = λ s m given at.
+      (let one = moves.later s m given at in
+      let now = after_sized (with_samples s a.job) m one.0 in
+      (one.0, one.1, one.2, stands s now given one.3));
+  job = job ∙ moves.job;
+  inputs = inputs ∙ moves.inputs;
 }

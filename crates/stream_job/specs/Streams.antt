@@ -287,7 +287,7 @@ pub record StreamGoesOn (old new : StreamState) : Type 0 where
   pub job : new.job ≡ old.job
   pub inputs : new.inputs ≡ old.inputs
 
--- it went on so by turns of which so many at least made an event, and met nothing
+-- it went on so by turns of which so many at least made an event
 pub record StreamMoves (least : ℕ) (old new : StreamState) : Type 0 where
   pub later : (s : List (List ℤ)) (m : Moment) (given : ℕ → List ℤ) → IsStreamAt old s m given
       → (turns : List SizedTurn) × All (MayTurn old.job) turns
@@ -295,7 +295,6 @@ pub record StreamMoves (least : ℕ) (old new : StreamState) : Type 0 where
       × IsStreamAt new s (after_sized (with_samples s old.job) m turns) given
   pub job : new.job ≡ old.job
   pub inputs : new.inputs ≡ old.inputs
-  pub met : new.met ≡ old.met
 
 -- ---- what holds of every stream
 

@@ -40,8 +40,9 @@ impl Stream {
     ghost use Rattle.stream_job.specs.Machines.{kept_behind};
     ghost use Rattle.stream_job.specs.InRange.{stands_before};
     ghost use Rattle.stream_job.specs.Rounds.{LookTells, StandsSome, met_in, of_look, of_moved, of_went};
-    ghost use Rattle.stream_job.specs.Streams.{IsSameRun, IsStreamAt, Meets, StreamGoesOn, StreamMoves, StreamStopsAt, ended_at, rests};
+    ghost use Rattle.stream_job.specs.Streams.{IsSameRun, IsStreamAt, MayMove, Meets, StreamGoesOn, StreamMoves, StreamStopsAt, ended_at, rests};
     ghost use Rattle.stream_job.specs.declared.stopped.Stopped.TheVariants.{Done, Paused, TooBig};
+    ghost use Rattle.stream_job.specs.declared.look.Look.TheVariants.{Moved};
     ghost use Rattle.stream_job.specs.declared.went.Went.TheVariants.{Before, Stays};
 
     /// Gives turns to the tasks until none can move, and returns why.
@@ -53,8 +54,8 @@ impl Stream {
     ///
     /// No task takes a value out of range: it stands before it, and the others go on. Once no other
     /// task can move, and no sink is without room, it is told where the first of these tasks stands,
-    /// in the order of their lines, and each later call tells it again. It is a value of every run
-    /// whose samples go on so.
+    /// in the order of their lines, and so it is by a later call. It is a value of every run whose
+    /// samples go on so.
     ///
     /// A child's registration may ask for memory, and nothing else does. Where there is none, no
     /// value is lost, and the call can be made again.
@@ -76,30 +77,32 @@ impl Stream {
             → IsReady (with_samples more self.new.job)
             → IsFaultAt (started (with_samples more self.new.job) m) (place, n)) }
         ensures meets { IfOk result (λ stop. (place : PlaceValue) (n : ℕ)
-            → stop ≡ TooBig place n → self.old.met ≡ None → (s : List (List ℤ)) (m : Moment)
-            (given : ℕ → List ℤ) → IsStreamAt self.new s m given
+            → stop ≡ TooBig place n → (s : List (List ℤ)) (m : Moment) (given : ℕ → List ℤ)
+            → IsStreamAt self.new s m given
             → Meets (with_samples s self.new.job) (ended_at self.new) m given (place, n)) }
         // Paused is told only behind so many events.
         ensures paused { IfOk result (λ stop. stop ≡ Paused
             → StreamMoves ROUNDS self.old self.new) }
     {
-        if let Some((place, phase)) = self.met {
-            return Ok(Stopped::TooBig { place, phase });
-        }
-        let before = match self.rounds()? {
-            Look::Still { before } => before,
-            Look::Moved => {
-                if !self.all_rest() {
-                    return Ok(Stopped::Paused);
-                }
-                None
-            }
+        self.forget_met();
+        let Look::Still { before } = self.settle()? else {
+            return Ok(Stopped::Paused);
         };
         feeds::runs_go_on();
         outcomes::all_gone();
         let stop = self.stop(before);
         self.meet(stop);
         Ok(stop)
+    }
+
+    /// Forgets where a value out of range was met: it is looked for again.
+    fn forget_met(&mut self)
+        ensures stands { (s : List (List ℤ)) (m : Moment) (given : ℕ → List ℤ)
+            → IsStreamAt self.old s m given → IsStreamAt self.new s m given }
+        ensures met { self.new.met ≡ None }
+        ensures others { IsSameRun self.old self.new }
+    {
+        self.met = None;
     }
 
     /// Keeps where a value out of range is, where a stop tells of one.
@@ -118,11 +121,31 @@ impl Stream {
         }
     }
 
+    /// Gives rounds of turns, and looks behind the last whether some task may move.
+    fn settle(&mut self) -> Result<Look, AllocError>
+        requires met { self.old.met ≡ None }
+        ensures moves { IfOk result (λ look. StreamMoves (of_look ROUNDS look) self.old self.new) }
+        ensures err { OnErr result (StreamMoves 0 self.old self.new) }
+        ensures met { self.new.met ≡ None }
+        ensures tells { IfOk result (LookTells self.new) }
+        ensures moved { result ≡ Ok Moved → (s : List (List ℤ)) (m : Moment)
+            (given : ℕ → List ℤ) → IsStreamAt self.new s m given → MayMove self.new s m given }
+    {
+        if let Look::Still { before } = self.rounds()? {
+            return Ok(Look::Still { before });
+        }
+        if self.all_rest() {
+            return Ok(Look::Still { before: None });
+        }
+        Ok(Look::Moved)
+    }
+
     /// Gives rounds of turns until no task moves, or so many as one call makes at most.
     fn rounds(&mut self) -> Result<Look, AllocError>
         requires met { self.old.met ≡ None }
         ensures moves { IfOk result (λ look. StreamMoves (of_look ROUNDS look) self.old self.new) }
         ensures err { OnErr result (StreamMoves 0 self.old self.new) }
+        ensures met { self.new.met ≡ None }
         ensures tells { IfOk result (LookTells self.new) }
     {
         for _ in 0..ROUNDS {
@@ -138,6 +161,7 @@ impl Stream {
         requires met { self.old.met ≡ None }
         ensures moves { IfOk result (λ look. StreamMoves (of_look 1 look) self.old self.new) }
         ensures err { OnErr result (StreamMoves 0 self.old self.new) }
+        ensures met { self.new.met ≡ None }
         ensures tells { IfOk result (LookTells self.new) }
     {
         if self.round()? {
@@ -152,6 +176,7 @@ impl Stream {
         requires met { self.old.met ≡ None }
         ensures moves { IfOk result (λ moved. StreamMoves (of_moved moved) self.old self.new) }
         ensures err { OnErr result (StreamMoves 0 self.old self.new) }
+        ensures met { self.new.met ≡ None }
     {
         let mut moved = false;
         for t in 0..self.job.graph().tasks() {
@@ -166,6 +191,7 @@ impl Stream {
         requires task { t < length self.old.job.graph.tasks }
         ensures moves { IfOk result (λ moved. StreamMoves (of_moved moved) self.old self.new) }
         ensures err { OnErr result (StreamMoves 0 self.old self.new) }
+        ensures met { self.new.met ≡ None }
     {
         for made in 0..TURNS {
             let most = self.own_steps(t);
@@ -182,6 +208,7 @@ impl Stream {
         requires met { self.old.met ≡ None }
         ensures moves { IfOk result (λ look. StreamMoves (of_look 1 look) self.old self.new) }
         ensures err { OnErr result (StreamMoves 0 self.old self.new) }
+        ensures met { self.new.met ≡ None }
         ensures tells { IfOk result (LookTells self.new) }
     {
         let mut before = None;
@@ -205,6 +232,7 @@ impl Stream {
             × (most ≤ most_steps self.old.job t) }
         ensures moves { IfOk result (λ went. StreamMoves (of_went went) self.old self.new) }
         ensures err { OnErr result (StreamMoves 0 self.old self.new) }
+        ensures met { self.new.met ≡ None }
         ensures stays { result ≡ Ok Stays → most ≡ (task_at self.old.job.graph t).block
             → (s : List (List ℤ)) (m : Moment) (given : ℕ → List ℤ)
             → IsStreamAt self.old s m given

@@ -126,7 +126,6 @@ returns-clause-moves c =
           (let to = goes here s m given at in (to.turns, to.may, to.moves, to.stands));
       job = refl;
       inputs = refl;
-      met = refl;
     }
 
 pub returns-clause-stays : goal.returns-clause-stays
