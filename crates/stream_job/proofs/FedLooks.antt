@@ -1,12 +1,12 @@
 -- What is known of the tasks that were looked at.
-use Rattle.std.proofs.Common.{◌≡◌, ℕ, ℤ, List, ◌+◌, ◌<◌, ◌≤◌, Bool, true, false, Option, Some, None, length, refl, sym, ap, subst, ◌∙◌, arith, ◌⊎◌, inl, inr}
-use Rattle.std.specs.Prelude.{is_some}
+use Rattle.std.proofs.Common.{◌≡◌, ℕ, ℤ, List, zero, suc, ◌+◌, ◌<◌, ◌≤◌, ◌||◌, Bool, true, false, Option, Some, None, length, refl, sym, ap, subst, ◌∙◌, arith, ◌⊎◌, inl, inr}
+use Rattle.std.specs.Prelude.{is_some, nat_lt}
 use Rattle.std.proofs.lemmas.Bool.{cases_lt}
 use Rattle.stream_eval.specs.stream_lists.Jobs.{with_samples}
 use Rattle.stream_eval.specs.stream_lists.Ranges.{Where}
 use Rattle.graph_runs.specs.Moments.{Moment}
 use Rattle.stream_job.specs.InRange.{stands_before}
-use Rattle.stream_job.specs.Rounds.{FirstOrRest, LookedAt, LooksSo, first_met}
+use Rattle.stream_job.specs.Rounds.{FirstOrRest, LookedAt, LooksSo, first_met, of_moved}
 use Rattle.stream_job.specs.Streams.{EachStands, FirstStands, IsStreamAt, StreamState, ended_at, rests}
 
 -- ---- one more task
@@ -87,3 +87,13 @@ looked_none stream s m given at = record {
   each = λ t lt not. absurd (omega arith);
   first = λ t lt. absurd (omega arith);
 }
+
+-- ---- how many events there are
+
+pub moved_few : (made : ℕ) → of_moved (nat_lt 0 made) ≤ made
+moved_few zero = omega arith
+moved_few (suc n) = omega arith
+
+pub moved_either : (a b : Bool) → of_moved (a || b) ≤ of_moved a + of_moved b
+moved_either true b = omega arith
+moved_either false b = omega arith

@@ -195,9 +195,9 @@ impl Stream {
     {
         for made in 0..TURNS {
             let most = self.own_steps(t);
-            if !matches!(self.turn(t, most)?, Went::On) {
+            let Went::On = self.turn(t, most)? else {
                 return Ok(made > 0);
-            }
+            };
         }
         Ok(true)
     }
@@ -214,7 +214,8 @@ impl Stream {
         let mut before = None;
         for t in 0..self.job.graph().tasks() {
             if !self.rests(t) {
-                match self.turn(t, line_block(&self.job, t))? {
+                let block = line_block(&self.job, t);
+                match self.turn(t, block)? {
                     Went::On => return Ok(Look::Moved),
                     Went::Before { place, phase } => before = first_of(before, place, phase),
                     Went::Stays => unreachable!(),
