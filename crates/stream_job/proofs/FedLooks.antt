@@ -92,7 +92,11 @@ looked_none stream s m given at = record {
 
 pub moved_few : (made : ℕ) → of_moved (nat_lt 0 made) ≤ made
 moved_few zero = omega arith
-moved_few (suc n) = omega arith
+moved_few (suc n) = by (nat_lt 0 (suc n))
+  where
+    by : (b : Bool) → of_moved b ≤ suc n
+    by true = omega arith
+    by false = omega arith
 
 pub moved_either : (a b : Bool) → of_moved (a || b) ≤ of_moved a + of_moved b
 moved_either true b = omega arith

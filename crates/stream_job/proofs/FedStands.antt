@@ -194,3 +194,23 @@ meets_none stream s m given stands = record {
   none = stands.none;
   faults = λ there more is goes ready. absurd (cc);
 }
+
+-- the stream that had met none stood as the one that has
+pub met_none : {at : Option Where} (stream : StreamState) (s : List (List ℤ)) (m : Moment)
+    (given : ℕ → List ℤ) → stream.met ≡ None
+    → IsStreamAt record {
+      job = stream.job;
+      machine = stream.machine;
+      inputs = stream.inputs;
+      met = at;
+    } s m given → IsStreamAt stream s m given
+met_none stream s m given none stands = record {
+  each = stands.each;
+  machine = stands.machine;
+  lines = stands.lines;
+  kept = stands.kept;
+  stays_open = stands.stays_open;
+  none = stands.none;
+  faults = λ there more is goes ready.
+      absurd (let wrong : None ≡ Some there = sym none ∙ is in cc);
+}

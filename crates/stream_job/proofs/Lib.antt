@@ -63,3 +63,4 @@ pub mod HeldUp
 pub mod FedWent
 pub mod FedStands
 pub mod FedLooks
+pub mod FedRuns

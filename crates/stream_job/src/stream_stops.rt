@@ -1,5 +1,5 @@
 //! Where a run that is fed stops.
-ghost use Rattle.std.specs.Prelude.{◌≡◌, ◌<◌, ◌+◌, ◌-◌, ◌&&◌, ℕ, ℤ, List, IfSome, None, false, length, nat_lt, not, true};
+ghost use Rattle.std.specs.Prelude.{◌≡◌, ◌≢◌, ◌<◌, ◌+◌, ◌-◌, ◌&&◌, ℕ, ℤ, List, IfSome, None, false, length, nat_lt, not, true};
 ghost use Rattle.std.specs.List.{find, list_all};
 ghost use Rattle.stream_eval.specs.stream_lists.Jobs.{with_samples};
 ghost use Rattle.stream_eval.specs.stream_lists.Lists.{is_sink_at};
@@ -28,6 +28,7 @@ use stream_eval::stream_lists::Job;
 
 impl Stream {
     ghost use Rattle.stream_job.specs.Rounds.{LooksSo, StopsSo};
+    ghost use Rattle.stream_job.specs.declared.stopped.Stopped.TheVariants.{Paused};
     ghost use Rattle.stream_job.specs.Streams.{IsStreamAt, all_tasks, ended_at, first_full, first_hungry, is_full, is_full_by, is_hungry, line_room, rests};
 
     /// Why no task can move, where the first that does not rest stands before this value out of
@@ -35,8 +36,9 @@ impl Stream {
     pub(crate) fn stop(&self, before: Option<(Place, u64)>) -> Stopped
         requires met { self.now.met ≡ None }
         requires looked { LooksSo self.now (length self.now.job.graph.tasks) before }
-        ensures { (s : List (List ℤ)) (m : Moment) (given : ℕ → List ℤ)
+        ensures stops { (s : List (List ℤ)) (m : Moment) (given : ℕ → List ℤ)
             → IsStreamAt self.now s m given → StopsSo self.now s m given before result }
+        ensures paused { result ≢ Paused }
     {
         if let Some(t) = self.first_full() {
             let sink = self.machine.tasks[t].sink;

@@ -113,6 +113,8 @@ impl Stream {
             → StandsSome (with_samples s self.old.job) m (place, n) }
         ensures stands { (s : List (List ℤ)) (m : Moment) (given : ℕ → List ℤ)
             → IsStreamAt self.old s m given → IsStreamAt self.new s m given }
+        ensures stood { (s : List (List ℤ)) (m : Moment) (given : ℕ → List ℤ)
+            → IsStreamAt self.new s m given → IsStreamAt self.old s m given }
         ensures met { self.new.met ≡ met_in stop }
         ensures others { IsSameRun self.old self.new }
     {

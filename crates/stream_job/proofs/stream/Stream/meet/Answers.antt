@@ -1,12 +1,12 @@
 -- A value before which a task stands is a fault, and nothing else changes.
-use Rattle.std.proofs.Common.{◌≡◌, ℕ, ℤ, List, Some, refl, sym, ap, subst, ◌∙◌}
+use Rattle.std.proofs.Common.{◌≡◌, ℕ, ℤ, List, None, Some, refl, sym, ap, subst, ◌∙◌}
 use Rattle.stream_eval.specs.stream_lists.Jobs.{with_samples}
 use Rattle.stream_eval.specs.stream_lists.Ranges.{Where}
 use Rattle.graph_runs.specs.Moments.{Moment}
 use Rattle.stream_job.specs.Rounds.{StandsSome}
 use Rattle.stream_job.specs.Streams.{IsStreamAt, StreamState}
 use Rattle.stream_job.specs.contracts.stream.Stream.{the_view}
-use Rattle.stream_job.proofs.FedStands.{meets_at}
+use Rattle.stream_job.proofs.FedStands.{meets_at, met_none}
 use Rattle.stream_job.proofs.stream.Stream.meet.Goals as goal
 use Rattle.stream_job.proofs.stream.Stream.meet.Goals.{In-TooBig}
 
@@ -52,3 +52,16 @@ returns-in-TooBig-clause-stands c =
     } s m given in
     subst P c.self.view_is (λ s m given stands.
     meets_at (the_view c.self.inside) s m given at (some here s m given stands) stands)
+
+pub returns-in-TooBig-clause-stood : goal.returns-in-TooBig-clause-stood
+returns-in-TooBig-clause-stood c =
+    let at : Where = (c.in-TooBig.place, c.in-TooBig.phase) in
+    let P : StreamState → Type 0 = λ w. w.met ≡ None → (s : List (List ℤ)) (m : Moment)
+    (given : ℕ → List ℤ) → IsStreamAt record {
+      job = c.self.inside.job;
+      machine = c.self.inside.machine;
+      inputs = c.self.inside.inputs.items;
+      met = Some at;
+    } s m given → IsStreamAt w s m given in
+    subst P c.self.view_is (λ none s m given stands.
+    met_none (the_view c.self.inside) s m given none stands) c.requires.met

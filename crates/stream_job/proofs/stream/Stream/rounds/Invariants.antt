@@ -4,4 +4,4 @@ use Rattle.stream_job.specs.Streams.{StreamMoves}
 use Rattle.stream_job.proofs.stream.Stream.rounds.Given as goal
 
 abbrev pub invariant-loop : goal.invariant-loop
-invariant-loop l = StreamMoves l.index l.fn.self l.self × (l.self.met ≡ None)
+invariant-loop l = StreamMoves l.counter l.fn.self l.self × (l.self.met ≡ None)

@@ -30,8 +30,17 @@ full_there c =
     (found_in (is_full (with_samples s c.self.inside.job) m given)
     (length c.self.inside.job.graph.tasks) t (found s m given c.self.invariant.0.3)).0
 
-pub returns-in-Some : goal.returns-in-Some
-returns-in-Some c =
+pub index-requires : goal.index-requires
+index-requires c =
+    let lt = full_there c in
+    let tasks = c.self.inside.machine.tasks in
+    let many : length tasks.items ≡ length c.self.inside.job.graph.tasks =
+    c.self.invariant.0.3.machine.tasks_many in
+    let long : vec_len tasks ≡ length tasks.items = tasks.ok.0 in
+    omega arith
+
+pub returns-in-Some-clause-stops : goal.returns-in-Some-clause-stops
+returns-in-Some-clause-stops c =
     let t = c.in-Some.t in
     let state = c.index.result.now in
     let Q : StreamState → Type 0 = λ w. (s : List (List ℤ)) (m : Moment) (given : ℕ → List ℤ)
@@ -40,7 +49,7 @@ returns-in-Some c =
     let place = subst Q c.self.view_is (λ s m given at full.
     (let job = with_samples s c.self.inside.job in
     (at.machine.tasks t state (state_at job c.self.inside.machine m t state at.machine
-    (full_there (goal.at.returns-in-Some c).In-Some) c.index.ensures)).sink
+    (full_there (goal.at.returns-in-Some-clause-stops c).In-Some) c.index.ensures)).sink
     (sink_kind (task_at job.graph t).kind (full_sink job m given t full)))) in
     λ s m given at.
     (let job = with_samples s c.args.self.now.job in
@@ -77,14 +86,14 @@ index-requires-in-Some-first_hungry c =
     let long : vec_len tasks ≡ length tasks.items = tasks.ok.0 in
     omega arith
 
-pub returns-in-Some-first_hungry : goal.returns-in-Some-first_hungry
-returns-in-Some-first_hungry c =
+pub returns-in-Some-first_hungry-clause-stops : goal.returns-in-Some-first_hungry-clause-stops
+returns-in-Some-first_hungry-clause-stops c =
     let t = c.in-Some-first_hungry.t in
     let one = c.index-in-Some-first_hungry.result.now in
     let Q : StreamState → Type 0 = λ w. source_number w.job.graph.tasks t ≡ one.source in
     let number = subst Q c.self.view_is (sym (planned c.self.inside.job c.self.inside.plan t one
     c.self.invariant.1
-    (hungry_there (goal.at.returns-in-Some-first_hungry c).In-Some-first_hungry)
+    (hungry_there (goal.at.returns-in-Some-first_hungry-clause-stops c).In-Some-first_hungry)
     c.index-in-Some-first_hungry.ensures)) in
     λ s m given at.
     (let job = with_samples s c.args.self.now.job in
@@ -93,7 +102,7 @@ returns-in-Some-first_hungry c =
     let hungry : first_hungry job (ended_at c.args.self.now) m ≡ Some t =
     c.first_hungry.ensures s m given at ∙ c.in-Some-first_hungry.is in
     let full : first_full job m given ≡ None =
-    c.first_full.ensures s m given at ∙ c.in_default-first_full.is in
+    c.first_full.ensures s m given at ∙ c.in_default.is in
     let S : Option ℕ → Option ℕ → Type 0 = λ o u. stop_by job o u (is_some_live job m)
     (stopped.Hungry one.source) in (
       rest s m given at,
@@ -110,26 +119,26 @@ live c =
     → IsStreamAt w s m given → is_some_live (with_samples s w.job) m ≡ c.has_live.result in
     subst P c.self.view_is (λ s m given at. c.has_live.ensures s m at.machine)
 
-pub returns-then-has_live : goal.returns-then-has_live
-returns-then-has_live c =
+pub returns-then-has_live-clause-stops : goal.returns-then-has_live-clause-stops
+returns-then-has_live-clause-stops c =
     λ s m given at.
     (let job = with_samples s c.args.self.now.job in
     let rest = rests_so c.args.self.now c.args.before c.requires.met c.in_default-before.is
     c.requires.looked in
     (rest s m given at, stalled_by job (first_full job m given)
     (first_hungry job (ended_at c.args.self.now) m) (is_some_live job m)
-    (c.first_full.ensures s m given at ∙ c.in_default-first_full.is)
+    (c.first_full.ensures s m given at ∙ c.in_default.is)
     (c.first_hungry.ensures s m given at ∙ c.in_default-first_hungry.is)
-    (live (goal.at.returns-then-has_live c).After-has_live s m given at ∙ c.if-has_live.true)))
+    (live (goal.at.returns-then-has_live-clause-stops c).After-has_live s m given at ∙ c.if-has_live.true)))
 
-pub returns : goal.returns
-returns c =
+pub returns-clause-stops : goal.returns-clause-stops
+returns-clause-stops c =
     λ s m given at.
     (let job = with_samples s c.args.self.now.job in
     let rest = rests_so c.args.self.now c.args.before c.requires.met c.in_default-before.is
     c.requires.looked in
     (rest s m given at, done_by job (first_full job m given)
     (first_hungry job (ended_at c.args.self.now) m) (is_some_live job m)
-    (c.first_full.ensures s m given at ∙ c.in_default-first_full.is)
+    (c.first_full.ensures s m given at ∙ c.in_default.is)
     (c.first_hungry.ensures s m given at ∙ c.in_default-first_hungry.is)
-    (live (goal.at.returns c).After-has_live s m given at ∙ c.if-has_live.false)))
+    (live (goal.at.returns-clause-stops c).After-has_live s m given at ∙ c.if-has_live.false)))
