@@ -36,7 +36,7 @@ returns-clause-done c = λ done s m given more at fed ready.
     let job = with_samples s stream.job in
     let was = c.meet.ensures.stood s m given at in
     let stops : StreamStopsAt stream s m given stopped.Done =
-    subst (StreamStopsAt stream s m given) done
+    subst (StopsSo stream s m given c.in-Still.before) done
     (c.stop-stop.ensures.stops s m given was) in
     let dead = none_live job m (done_dead job (first_full job m given)
     (first_hungry job (ended_at stream) m) (is_some_live job m) stops.1) in
