@@ -1,5 +1,5 @@
 -- What a run of a stream tells, by what was looked at.
-use Rattle.std.proofs.Common.{◌≡◌, ◌≢◌, ℕ, ℤ, List, Option, Some, None, length, refl, sym, ap, subst, ◌∙◌}
+use Rattle.std.proofs.Common.{◌≡◌, ℕ, ℤ, List, Option, Some, None, length, sym, subst, ◌∙◌}
 use Rattle.stream_eval.specs.stream_lists.Jobs.{Job, with_samples}
 use Rattle.stream_eval.specs.stream_lists.Ranges.{Where}
 use Rattle.graph_runs.specs.Moments.{Moment}

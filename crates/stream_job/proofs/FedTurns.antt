@@ -13,25 +13,23 @@ use Rattle.graph_lang.specs.graph_base.declared.line.Kind.{Kind}
 use Rattle.graph_lang.specs.graph_base.declared.registration.Registration.{Registration}
 use Rattle.graph_lang.specs.graph_base.Graphs.{task_at}
 use Rattle.stream_eval.specs.stream_lists.Jobs.{Job, samples_in, with_samples}
-use Rattle.stream_eval.specs.stream_lists.Ranges.{Where}
 use Rattle.stream_eval.specs.declared.whole.Lines.{Lines}
 use Rattle.graph_runs.specs.Answers.{Answer, makes, is_blocked, is_gone, has_made, is_refused, after_answer, call_leave, call_register, output_at, register_answer, answer_up_to, samples_up_to, turn_up_to, values_up_to}
 use Rattle.graph_runs.specs.Feeds.{IsOpenAt, NotStarved, is_starved}
-use Rattle.graph_runs.specs.Moments.{Moment, HasAnsweredNone, HasRun, HasSamples, input_at, value_at}
+use Rattle.graph_runs.specs.Moments.{Moment, HasRun, HasSamples, input_at, value_at}
 use Rattle.graph_runs.specs.Moves.{further}
 use Rattle.graph_runs.specs.NextBlocks.{MaySize, block_up_to}
 use Rattle.graph_runs.specs.Nexts as nexts
 use Rattle.graph_runs.specs.Nexts.{Next, first_kept, first_missing, is_live, next_of, number_on}
 use Rattle.graph_runs.specs.TaskEvents as events
 use Rattle.graph_runs.specs.TaskEvents.{TaskEvent, IsNext, after_turn}
-use Rattle.graph_runs.specs.Answers as answers
 use Rattle.graph_runs.proofs.AnsweredInTurn.{turn_answers_none}
 use Rattle.graph_runs.proofs.Calling.{accepted, answered, answered_all}
 use Rattle.graph_runs.proofs.Nexts.{further-length}
 use Rattle.graph_runs.proofs.Signalling.{signalled}
 use Rattle.graph_runs.proofs.Turning.{turn_makes_next}
 use Rattle.stream_job.specs.Stepping.{HasRoomNext, MayStep}
-use Rattle.stream_job.specs.Machines.{IsMachineAt, most_in}
+use Rattle.stream_job.specs.Machines.{IsMachineAt}
 use Rattle.stream_job.specs.InRange.{HasMoved, HasStayed}
 use Rattle.stream_job.specs.Streams.{AreKept, StreamGoesOn, IsStreamAt, InputKeeps, MayTurn, SizedTurn, StreamMoves, StreamState, after_sized, ended_at, is_hungry, moves_in}
 use Rattle.stream_job.specs.declared.input.Input.{Input}

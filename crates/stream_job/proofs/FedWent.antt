@@ -1,14 +1,14 @@
 -- What a stream stands for after a turn that takes no value out of range.
-use Rattle.std.proofs.Common.{◌≡◌, ℕ, ℤ, List, ◌+◌, ◌≤◌, ◌||◌, ◌∷◌, [], Bool, true, false, Option, Some, None, refl, sym, ap, subst, ◌∙◌, arith}
+use Rattle.std.proofs.Common.{◌≡◌, ℕ, ℤ, List, ◌≤◌, ◌||◌, ◌∷◌, [], Bool, true, false, None, refl, sym, ap, subst, arith}
 use Rattle.std.specs.Prelude.{Result, Ok, Err}
 use Rattle.std.specs.List.{All}
 use Rattle.std.proofs.lemmas.List.Elements.{All-cons, All-nil}
 use Rattle.stream_eval.specs.stream_lists.Jobs.{Job, with_samples}
-use Rattle.graph_runs.specs.Answers.{Answer, makes, turn_up_to}
+use Rattle.graph_runs.specs.Answers.{turn_up_to}
 use Rattle.graph_runs.specs.Feeds.{IsOpenAt, NotStarved}
 use Rattle.graph_runs.specs.Moments.{Moment}
 use Rattle.graph_runs.specs.TaskEvents.{IsNext, TaskEvent, after_turn}
-use Rattle.stream_job.specs.InRange.{HasGone, HasMoved, HasStayed, HasStopped}
+use Rattle.stream_job.specs.InRange.{HasGone}
 use Rattle.stream_job.specs.Machines.{HasRoom}
 use Rattle.stream_job.specs.Rounds.{of_went}
 use Rattle.stream_job.specs.Streams.{IsStreamAt, MayTurn, SizedTurn, StreamState, after_sized, ended_at, is_event, is_hungry, moves_in}

@@ -1,8 +1,7 @@
 -- Sizes of a turn that are smaller.
-use Rattle.std.proofs.Common.{◌≡◌, ℕ, List, zero, suc, ◌≤◌, ◌<◌, false, [], ◌∷◌, ◌-◌, length, get_or, refl, sym, ap, ◌∙◌, arith, cond, Bool, true, eqb, ◌&&◌}
+use Rattle.std.proofs.Common.{◌≡◌, ℕ, List, ◌≤◌, false, [], ◌∷◌, ◌-◌, length, get_or, refl, ap, ◌∙◌, arith, cond, Bool, true, eqb, ◌&&◌}
 use Rattle.std.specs.Prelude.{Option, Some, None, min, nat_lt}
 use Rattle.std.specs.List.{All, fold, range_with_len}
-use Rattle.graph_lang.specs.graph_base.declared.line.Kind.TheVariants.{Fir}
 use Rattle.graph_lang.specs.graph_base.declared.line.Parent.{Parent}
 use Rattle.graph_lang.specs.graph_base.Graphs.{Graph, phaser_at, task_at}
 use Rattle.graph_lang.specs.graph_base.TaskLines.{HasBlock}

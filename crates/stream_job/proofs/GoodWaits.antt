@@ -1,5 +1,5 @@
 -- The turn of a task that waits for values in range.
-use Rattle.std.proofs.Common.{◌≡◌, ◌≢◌, ℕ, ℤ, List, zero, suc, ◌+◌, ◌-◌, ◌<◌, ◌≤◌, Bool, true, false, cond, [], ◌∷◌, ◌++◌, Option, Some, None, length, get_or, slice_get, take, drop, take-take, refl, sym, ap, subst, ◌∙◌, arith}
+use Rattle.std.proofs.Common.{◌≡◌, ℕ, ℤ, List, zero, suc, ◌+◌, ◌-◌, ◌<◌, ◌≤◌, Bool, true, false, cond, [], ◌∷◌, ◌++◌, Option, Some, None, length, get_or, slice_get, take, drop, take-take, refl, sym, ap, subst, ◌∙◌, arith}
 use Rattle.std.specs.Prelude.{Result, Ok, Err, min, nat_lt, slice_range}
 use Rattle.std.specs.List.{position_from, prefix_len, range_with_len, take_while}
 use Rattle.std.proofs.Math.Seq.{drop-cons}
@@ -21,20 +21,20 @@ use Rattle.phase_any.specs.phase_history.Replies.{got_at, got_block_at, refused_
 use Rattle.phase_any.specs.phase_base.Limits.{Limits}
 use Rattle.graph_runs.proofs.phase_history_lemmas.BlockAnswers.{block_answers_law, block_tells}
 use Rattle.graph_lang.specs.graph_base.declared.place.Place.TheVariants as place
-use Rattle.stream_eval.specs.stream_lists.Jobs.{Job, samples_at}
+use Rattle.stream_eval.specs.stream_lists.Jobs.{Job}
 use Rattle.stream_eval.specs.stream_lists.Lists.{is_sink_at}
 use Rattle.stream_eval.specs.stream_lists.Ranges.{is_too_big}
 use Rattle.graph_runs.specs.Answers as answers
 use Rattle.graph_lang.specs.graph_base.Graphs.{task_at}
 use Rattle.graph_runs.specs.Answers.{answer_up_to, block_answer, makes, tells_up_to, told_got, turn_up_to, wait_answer, word_of_answer}
 use Rattle.graph_runs.specs.Moments.{Moment, input_at, limits_at, value_at}
-use Rattle.graph_runs.specs.NextBlocks.{MaySize, block_up_to}
+use Rattle.graph_runs.specs.NextBlocks.{MaySize}
 use Rattle.graph_runs.proofs.Blocks.{block_few, block_some}
 use Rattle.graph_runs.specs.Nexts as turns
 use Rattle.graph_runs.specs.Nexts.{Next, next_of}
 use Rattle.graph_runs.specs.TaskEvents.{exchange_wait, first_wait}
 use Rattle.graph_runs.proofs.SizedTurns.{turn_reached}
-use Rattle.stream_job.specs.InRange.{HasMoved, HasStopped, IsNextGood, stands_before, told_too_big}
+use Rattle.stream_job.specs.InRange.{HasMoved, IsNextGood, stands_before, told_too_big}
 use Rattle.stream_job.specs.Machines.{IsMachineAt, most_in}
 use Rattle.stream_job.specs.Stepping.{HasRoomAt, HasRoomIn, IsNextIn}
 use Rattle.stream_job.specs.Turning.{HadTurn, turn_in}

@@ -1,5 +1,5 @@
 -- Whether the signal of what a task owes before a value out of range would be blocked.
-use Rattle.std.proofs.Common.{◌≡◌, ℕ, ℤ, List, zero, suc, ◌+◌, ◌-◌, ◌<◌, ◌≤◌, Bool, true, false, cond, [], ◌∷◌, Option, Some, None, length, map, take, drop, refl, sym, ap, subst, ◌∙◌, arith}
+use Rattle.std.proofs.Common.{◌≡◌, ℕ, ℤ, List, zero, suc, ◌+◌, ◌<◌, Bool, true, false, cond, [], ◌∷◌, Option, Some, None, length, map, take, drop, refl, sym, ap, ◌∙◌, arith}
 use Rattle.std.specs.Prelude.{Result, Ok, Err}
 use Rattle.std.specs.List.{position_from}
 use Rattle.std.proofs.lemmas.List.{length-take-le}
@@ -7,18 +7,16 @@ use Rattle.std.proofs.lemmas.Option.{same_Some}
 use Rattle.phase_any.specs.phase_accum.Sends.{AreSends}
 use Rattle.graph_lang.specs.stream_filters.Range.{ranged}
 use Rattle.graph_lang.specs.stream_filters.declared.fault.TooBigValue.{TooBigValue}
-use Rattle.graph_lang.specs.graph_base.Graphs.{task_at}
 use Rattle.graph_lang.specs.graph_base.TaskLines.{IsGraph}
 use Rattle.stream_eval.specs.stream_lists.Jobs.{Job, samples_at}
 use Rattle.stream_eval.specs.stream_lists.Ranges.{is_out_of_range}
-use Rattle.graph_runs.specs.Answers.{answer_up_to, output_at, values_up_to, was_blocked}
+use Rattle.graph_runs.specs.Answers.{output_at, values_up_to}
 use Rattle.graph_runs.specs.Moments.{Moment, limits_at, made_now}
 use Rattle.graph_runs.specs.NextBlocks.{MaySize}
 use Rattle.graph_runs.specs.Nexts.{next_of, number_on, signals}
 use Rattle.graph_runs.specs.Reached.{IsReachable}
 use Rattle.graph_runs.specs.TaskEvents.{signal}
 use Rattle.graph_runs.specs.TaskPlaces.{StandsUpTo, TaskPlace}
-use Rattle.graph_runs.proofs.Stepping.{line_sizes}
 use Rattle.stream_job.specs.InRange.{are_blocked, blocks_before, good_many, is_blocked_before}
 use Rattle.stream_job.specs.Places.{MaySignal}
 use Rattle.stream_job.specs.Stepping.{blocks_signal, good_in, is_value_out}

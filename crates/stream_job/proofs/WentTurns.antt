@@ -1,28 +1,26 @@
 -- The turn of a task that takes no value out of range, by what a turn of these sizes did.
-use Rattle.std.proofs.Common.{◌≡◌, ◌≢◌, ℕ, ℤ, List, zero, suc, ◌+◌, ◌<◌, ◌||◌, Bool, true, false, cond, Option, Some, None, length, map, refl, sym, ap, subst, ◌∙◌, arith}
-use Rattle.std.specs.List.{All, position_from}
-use Rattle.phase_any.specs.phase_base.declared.mode.Mode.{Mode}
+use Rattle.std.proofs.Common.{◌≡◌, ◌≢◌, ℕ, ℤ, List, ◌+◌, ◌||◌, Bool, true, false, cond, Option, Some, None, length, map, refl, sym, ap, subst, ◌∙◌, arith}
+use Rattle.std.specs.List.{position_from}
 use Rattle.phase_any.specs.phase_history.declared.refusal.SignalRefusal.{SignalRefusal}
 use Rattle.phase_any.specs.phase_history.declared.refusal.SignalRefusal.TheVariants as refusals
 use Rattle.phase_any.specs.phase_history.Histories.{greatest_used}
 use Rattle.phase_any.specs.phase_history.Refusals.{register_refusal, register_now_refusal, drop_refusal, signal_refusal}
 use Rattle.graph_lang.specs.graph_base.declared.line.Kind.{Kind}
 use Rattle.graph_lang.specs.graph_base.declared.line.Kind.TheVariants.{Source, Fir, Split, Join, Peer, Sink}
-use Rattle.graph_lang.specs.graph_base.declared.place.Place.TheVariants as place
 use Rattle.graph_lang.specs.graph_base.declared.registration.Registration.{Registration}
 use Rattle.graph_lang.specs.graph_base.Graphs.{task_at, phaser_at}
 use Rattle.stream_eval.specs.stream_lists.Jobs.{Job}
-use Rattle.stream_eval.specs.stream_lists.Ranges.{Where, are_made, is_out_of_range}
+use Rattle.stream_eval.specs.stream_lists.Ranges.{are_made, is_out_of_range}
 use Rattle.graph_runs.specs.Answers as answers
 use Rattle.graph_runs.specs.Answers.{Answer, Told, Moved, Ended, TooBig, accepted_answer, after_answer, answer_up_to, call_leave, call_register, has_made, is_blocked, is_gone, is_refused, makes, output_at, register_answer, samples_up_to, signal_answer, signal_turn, tells_up_to, turn_up_to, values_up_to, was_blocked, word_of_answer}
-use Rattle.graph_runs.specs.Moments.{one, Moment, HasAnsweredNone, limits_at}
+use Rattle.graph_runs.specs.Moments.{one, Moment, limits_at}
 use Rattle.graph_runs.specs.NextBlocks.{MaySize}
 use Rattle.graph_runs.specs.Nexts as nexts
 use Rattle.graph_runs.specs.Nexts.{Next, at_boundary, first_due, first_kept, first_missing, first_owed, has_input_ended, is_cut, is_live, next_of, next_step, number_on, of_live, waits_first}
 use Rattle.graph_runs.specs.TaskEvents as events
 use Rattle.graph_runs.specs.TaskEvents.{TaskEvent, after_turn}
-use Rattle.stream_job.specs.InRange.{HasGone, HasMoved, HasStayed, is_blocked_before, is_held_up, went_by}
-use Rattle.stream_job.specs.Machines.{HasRoom, IsMachine, IsMachineAt, KeepsLines, most_in}
+use Rattle.stream_job.specs.InRange.{HasGone, HasMoved, HasStayed, is_blocked_before, went_by}
+use Rattle.stream_job.specs.Machines.{IsMachine, IsMachineAt, KeepsLines, most_in}
 use Rattle.stream_job.specs.Places.{place_in_state}
 use Rattle.stream_job.specs.Stepping.{IsNextIn, is_at_rest, would_block}
 use Rattle.stream_job.specs.Turning.{HadTurn, MadeShows, turn_in}
@@ -31,7 +29,7 @@ use Rattle.stream_job.specs.declared.made.Made.{Made}
 use Rattle.stream_job.specs.declared.made.Made.TheVariants as made
 use Rattle.stream_job.specs.declared.turned.Turned.{Turned}
 use Rattle.stream_job.proofs.Lively.{live_next}
-use Rattle.stream_job.proofs.Mosts.{element, most_is, stands_in}
+use Rattle.stream_job.proofs.Mosts.{element, stands_in}
 use Rattle.stream_job.proofs.Stalling.{all_blocks}
 use Rattle.graph_runs.proofs.Signalling.{live-is}
 

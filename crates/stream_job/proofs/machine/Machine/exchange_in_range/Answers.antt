@@ -1,19 +1,15 @@
 -- A peer waits as the number that stands at its second registration, and takes a value in range.
-use Rattle.std.proofs.Common.{rules, ℕ, ◌≡◌, ◌<◌, ◌≤◌, ◌+◌, ◌≢◌, ◌∷◌, [], None, pos, SFits, w64, to_z, of_z, length, get_or, take, refl, sym, ap, subst, ◌∙◌, arith, to_z-of_z, List, ℤ}
-use Rattle.std.specs.Prelude.{Ok, Some, slice_range}
+use Rattle.std.proofs.Common.{rules, ◌≡◌, ◌<◌, ◌+◌, ◌≢◌, ◌∷◌, [], None, pos, SFits, w64, to_z, of_z, length, get_or, refl, sym, ap, subst, ◌∙◌, arith, to_z-of_z, List, ℤ}
+use Rattle.std.specs.Prelude.{Ok, slice_range}
 use Rattle.std.specs.List.{position_from}
 use Rattle.stream_eval.specs.stream_lists.Ranges.{is_too_big}
 use Rattle.phase_any.specs.phase_accum.declared.outcome.Outcome.{Outcome}
 use Rattle.phase_any.specs.phase_accum.declared.outcome.Outcome.TheVariants as outcome
 use Rattle.phase_any.specs.phase_core.Blocks.{after_in_range}
-use Rattle.phase_any.specs.phase_history.declared.event.Event.TheVariants.{Waited}
 use Rattle.phase_any.specs.phase_history.declared.got.GotBlock.TheVariants as block
 use Rattle.phase_any.specs.phase_history.Phases.{stream_of}
-use Rattle.phase_any.specs.phase_history.Replies.{wait_block_reply}
 use Rattle.graph_lang.specs.graph_base.Graphs.{task_at}
-use Rattle.graph_lang.specs.graph_base.declared.place.Place.TheVariants as place
 use Rattle.graph_runs.specs.Moments.{Moment, limits_at, value_at}
-use Rattle.graph_runs.specs.Nexts.{exchanges}
 use Rattle.graph_runs.specs.TaskPlaces.{owed_after_exchange, exchange}
 use Rattle.graph_runs.specs.Turned.{with_at}
 use Rattle.stream_eval.specs.stream_lists.Jobs.{with_samples}

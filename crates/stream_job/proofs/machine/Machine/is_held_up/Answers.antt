@@ -1,5 +1,5 @@
 -- A task that signals is held up before a value out of range, too.
-use Rattle.std.proofs.Common.{◌||◌, ℤ, List, sym, ap, ◌∙◌}
+use Rattle.std.proofs.Common.{◌||◌, ℤ, List, ap, ◌∙◌}
 use Rattle.stream_eval.specs.stream_lists.Jobs.{with_samples}
 use Rattle.graph_runs.specs.Nexts.{signals}
 use Rattle.stream_job.specs.InRange.{is_blocked_before}

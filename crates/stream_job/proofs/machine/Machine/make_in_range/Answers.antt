@@ -1,15 +1,12 @@
 -- What a task does next is a turn that tells no value out of range, or one that stops before it.
 use Rattle.std.proofs.Common.{◌≡◌, ◌≢◌, ℤ, List, ap, ◌∙◌, sym, subst}
 use Rattle.stream_eval.specs.stream_lists.Jobs.{with_samples}
-use Rattle.graph_lang.specs.graph_base.Graphs.{task_at}
-use Rattle.graph_lang.specs.graph_base.declared.line.Kind.TheVariants.{Source}
 use Rattle.graph_runs.proofs.Signalling.{live-is}
-use Rattle.graph_runs.specs.Moments.{Moment}
-use Rattle.graph_runs.specs.Nexts.{Next, is_not_live, next_of}
+use Rattle.graph_runs.specs.Nexts.{is_not_live}
 use Rattle.stream_job.specs.InRange.{HasGone, IsNextGood, went_by}
 use Rattle.stream_job.specs.Stepping.{IsNextIn, MayDo}
-use Rattle.stream_job.specs.Machines.{IsMachineAt, MayHaveCome, most_in, next_by}
-use Rattle.stream_job.specs.Turning.{HadTurn, turn_in}
+use Rattle.stream_job.specs.Machines.{MayHaveCome, most_in, next_by}
+use Rattle.stream_job.specs.Turning.{HadTurn}
 use Rattle.stream_job.specs.declared.machine.Machine.{Machine}
 use Rattle.stream_job.specs.declared.made.Made.{Made}
 use Rattle.stream_job.specs.declared.step.Step.{Step}
@@ -17,7 +14,6 @@ use Rattle.stream_job.specs.declared.step.Step.TheVariants as step
 use Rattle.stream_job.specs.declared.went.Went.{Went}
 use Rattle.stream_job.proofs.Lively.{live_next}
 use Rattle.stream_job.proofs.Numbering.{few_after}
-use Rattle.stream_job.proofs.Setting.{if_ok, on_err}
 use Rattle.stream_job.proofs.WentTurns.{IsQuiet, gone_stays, had_quiet}
 use Rattle.stream_job.proofs.WhatNext.{samples_begins}
 use Rattle.stream_job.proofs.machine.Machine.make_in_range.Goals.{After-next}

@@ -1,20 +1,15 @@
 -- What is made is signalled up to the first value that is out of range.
-use Rattle.std.proofs.Common.{ℕ, ◌≡◌, ◌≢◌, eqb, true, false, take, subst, ◌<◌, ◌≤◌, ◌+◌, ◌-◌, [], map, length, get_or, refl, sym, ap, ◌∙◌, arith, List, ℤ}
-use Rattle.std.specs.Prelude.{Ok, Result, ℤ}
-use Rattle.std.specs.List.{position_from}
-use Rattle.std.proofs.lemmas.List.{length-map}
-use Rattle.graph_lang.specs.stream_filters.declared.fault.TooBigValue.{TooBigValue}
+use Rattle.std.proofs.Common.{ℕ, ◌≡◌, ◌≢◌, true, false, subst, ◌≤◌, ◌+◌, ◌-◌, length, get_or, refl, sym, ap, ◌∙◌, arith, List, ℤ}
+use Rattle.std.specs.Prelude.{ℤ}
 use Rattle.graph_lang.specs.graph_base.Graphs.{task_at}
 use Rattle.graph_runs.specs.Moments.{Moment}
 use Rattle.graph_runs.specs.Nexts.{signals}
-use Rattle.graph_runs.specs.TaskEvents.{signal}
 use Rattle.stream_eval.specs.stream_lists.Jobs.{with_samples}
-use Rattle.stream_job.specs.Stepping.{is_value_out, IsNextIn}
+use Rattle.stream_job.specs.Stepping.{IsNextIn}
 use Rattle.stream_job.specs.Machines.{IsMachineAt}
-use Rattle.stream_job.specs.Places.{owed_in}
 use Rattle.stream_job.proofs.Lively.{state_read, state_there}
 use Rattle.stream_job.proofs.Setting.{read_same, set_read, bare_cores, full_cores}
-use Rattle.std.specs.Prelude.{Some, None, drop}
+use Rattle.std.specs.Prelude.{Some, drop}
 use Rattle.std.proofs.lemmas.Bool.{eq-eqb}
 use Rattle.std.proofs.lemmas.Option.{same_Some}
 use Rattle.graph_lang.specs.graph_base.declared.place.Place.TheVariants as place

@@ -1,16 +1,14 @@
 -- A task waits as the number that stands at the registration of its input, for the steps of its next
 -- block, and takes those values that are in range.
-use Rattle.std.proofs.Common.{ℕ, ◌≡◌, ◌≢◌, ◌<◌, ◌≤◌, ◌+◌, ◌*◌, ◌∷◌, length, get_or, map, set, take, refl, sym, ap, subst, ◌∙◌, arith, List, ℤ}
-use Rattle.std.specs.Prelude.{Ok, Err, IfSome, Some}
+use Rattle.std.proofs.Common.{ℕ, ◌≡◌, ◌≢◌, ◌<◌, ◌≤◌, ◌*◌, ◌∷◌, length, get_or, map, set, take, sym, ap, subst, ◌∙◌, arith, List, ℤ}
+use Rattle.std.specs.Prelude.{Ok, Err, IfSome}
 use Rattle.std.specs.List.{All}
-use Rattle.std.proofs.lemmas.Option.{same_Some}
 use Rattle.phase_any.specs.phase_history.declared.event.Event.TheVariants.{Waited}
 use Rattle.phase_any.specs.phase_history.declared.got.GotBlock.TheVariants as block
 use Rattle.phase_any.specs.phase_core.Blocks.{after_in_range}
 use Rattle.phase_any.specs.phase_history.Phases.{stream_of}
 use Rattle.phase_any.specs.phase_history.Replies.{wait_block_reply}
 use Rattle.graph_lang.specs.graph_base.Graphs.{task_at}
-use Rattle.graph_lang.specs.graph_base.declared.place.Place.TheVariants as place
 use Rattle.stream_eval.specs.stream_lists.Lists.{number}
 use Rattle.graph_runs.specs.Moments.{Moment, limits_at, value_at}
 use Rattle.graph_runs.specs.Nexts.{waits}

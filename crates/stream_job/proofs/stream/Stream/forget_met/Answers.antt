@@ -1,5 +1,5 @@
 -- Nothing is asked of a value that was not met.
-use Rattle.std.proofs.Common.{◌≡◌, ℕ, ℤ, List, None, subst}
+use Rattle.std.proofs.Common.{ℕ, ℤ, List, None, subst}
 use Rattle.graph_runs.specs.Moments.{Moment}
 use Rattle.stream_job.specs.Streams.{IsStreamAt, StreamState}
 use Rattle.stream_job.specs.contracts.stream.Stream.{the_view}

@@ -1,15 +1,13 @@
 -- A task that rests is left, and one that does not moves or stands.
-use Rattle.std.proofs.Common.{◌≡◌, ◌<◌, ◌≤◌, ◌+◌, ℕ, ℤ, List, Some, length, sym, ap, subst, ◌∙◌, arith}
+use Rattle.std.proofs.Common.{◌≡◌, ◌≤◌, ◌+◌, ℕ, ℤ, List, Some, length, sym, ap, subst, ◌∙◌, arith}
 use Rattle.std.specs.Prelude.{Ok, true}
 use Rattle.stream_eval.specs.stream_lists.Jobs.{with_samples}
-use Rattle.graph_lang.specs.graph_base.Graphs.{task_at}
 use Rattle.graph_runs.specs.Moments.{Moment}
 use Rattle.stream_job.specs.Buffers.{most_steps}
 use Rattle.stream_job.specs.InRange.{stands_before}
 use Rattle.stream_job.specs.Rounds.{LooksSo}
 use Rattle.stream_job.specs.Stepping.{MayStep}
 use Rattle.stream_job.specs.Streams.{IsStreamAt, StreamState, ended_at, rests}
-use Rattle.stream_job.specs.contracts.stream.Stream.{the_view}
 use Rattle.stream_job.proofs.FedLooks.{looked_rest, looked_stands}
 use Rattle.stream_job.proofs.Mosts.{line_may}
 use Rattle.stream_job.proofs.stream.Stream.look.Goals.{then-not-rests+in_ok-turn+in-Before, else-not-rests}

@@ -1,5 +1,5 @@
 -- A value before which a task stands is a fault, and nothing else changes.
-use Rattle.std.proofs.Common.{◌≡◌, ℕ, ℤ, List, None, Some, refl, sym, ap, subst, ◌∙◌}
+use Rattle.std.proofs.Common.{◌≡◌, ℕ, ℤ, List, None, Some, sym, subst}
 use Rattle.stream_eval.specs.stream_lists.Jobs.{with_samples}
 use Rattle.stream_eval.specs.stream_lists.Ranges.{Where}
 use Rattle.graph_runs.specs.Moments.{Moment}

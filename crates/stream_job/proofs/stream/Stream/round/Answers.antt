@@ -1,5 +1,5 @@
 -- One more task's turns go on from where the others led.
-use Rattle.std.proofs.Common.{◌+◌, ◌≤◌, ◌||◌, arith}
+use Rattle.std.proofs.Common.{◌+◌, ◌||◌, arith}
 use Rattle.stream_job.specs.Rounds.{of_moved}
 use Rattle.stream_job.proofs.FedLooks.{moved_either}
 use Rattle.stream_job.proofs.FedTurns.{moves_less, moves_on}

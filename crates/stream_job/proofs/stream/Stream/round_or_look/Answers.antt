@@ -1,5 +1,5 @@
 -- The look goes on from where the round led.
-use Rattle.std.proofs.Common.{◌+◌, ◌≤◌, arith}
+use Rattle.std.proofs.Common.{◌+◌, arith}
 use Rattle.stream_job.specs.Rounds.{of_look, of_moved}
 use Rattle.stream_job.proofs.FedTurns.{moves_less, moves_on}
 use Rattle.stream_job.proofs.Setting.{if_ok, on_err}

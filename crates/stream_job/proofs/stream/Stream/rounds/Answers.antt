@@ -1,5 +1,5 @@
 -- In one more round one more event was made.
-use Rattle.std.proofs.Common.{◌+◌, ◌≤◌, arith, subst, sym}
+use Rattle.std.proofs.Common.{◌+◌, arith, subst}
 use Rattle.stream_job.specs.Rounds.{of_look}
 use Rattle.stream_job.specs.Streams.{StreamMoves}
 use Rattle.stream_job.proofs.FedTurns.{moves_less, moves_on}

@@ -1,25 +1,21 @@
 -- It goes on by rounds, and keeps where a value out of range is.
-use Rattle.std.proofs.Common.{◌≡◌, ◌≤◌, ◌+◌, ℕ, ℤ, List, Some, None, length, sym, ap, subst, ◌∙◌, arith}
+use Rattle.std.proofs.Common.{◌≡◌, List, length, sym, ap, subst, ◌∙◌}
 use Rattle.std.specs.Prelude.{Ok, map}
 use Rattle.graph_lang.specs.graph_base.Graphs.{source_number}
 use Rattle.stream_eval.specs.stream_lists.Jobs.{Job, with_samples}
 use Rattle.stream_eval.specs.stream_lists.Ranges.{answer_of}
 use Rattle.graph_runs.specs.Feeds.{IsFed}
-use Rattle.graph_runs.specs.Moments.{Moment, started}
+use Rattle.graph_runs.specs.Moments.{started}
 use Rattle.graph_runs.specs.Settled.{IsReady}
 use Rattle.graph_runs.proofs.FedFeeds.{feed_continues}
 use Rattle.stream_job.specs.Machines.{kept_behind}
-use Rattle.stream_job.specs.Rounds.{LookTells, LooksSo, StandsSome, StopsSo, met_in, of_look}
-use Rattle.stream_job.specs.Streams.{IsStreamAt, Meets, StreamMoves, StreamStopsAt, ended_at, first_full, first_hungry, has_ended, is_some_live}
+use Rattle.stream_job.specs.Rounds.{LookTells, LooksSo, StopsSo, met_in}
+use Rattle.stream_job.specs.Streams.{Meets, StreamStopsAt, ended_at, first_full, first_hungry, has_ended, is_some_live}
 use Rattle.stream_job.specs.declared.input.Input.{Input}
-use Rattle.stream_job.specs.declared.look.Look.TheVariants as look
 use Rattle.stream_job.specs.declared.machine.Machine.{Machine}
 use Rattle.stream_job.specs.declared.stopped.Stopped.TheVariants as stopped
-use Rattle.stream_job.specs.declared.stream_turns.TheConstants.{ROUNDS}
-use Rattle.stream_job.proofs.FedRuns.{meets_so, same_run, some_stands, stops_met}
+use Rattle.stream_job.proofs.FedRuns.{meets_so, same_run}
 use Rattle.stream_job.proofs.FedStops.{done_dead, none_live}
-use Rattle.stream_job.proofs.FedTurns.{goes_on_moves, moves_from, moves_to}
-use Rattle.stream_job.proofs.Setting.{err_of}
 use Rattle.stream_job.proofs.SinksKeep.{lines_taken}
 use Rattle.stream_job.proofs.stream.Stream.run.Goals as goal
 use Rattle.stream_job.proofs.stream.Stream.run.Goals.{In-Still}

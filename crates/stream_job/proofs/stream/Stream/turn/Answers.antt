@@ -1,7 +1,5 @@
 -- A turn leads to a moment that the stream then stands for, of the same samples.
 use Rattle.std.proofs.Common.{◌≡◌, ℕ, ℤ, List, None, Some, false, true, refl, sym, ap, subst, ◌∙◌}
-use Rattle.std.specs.Prelude.{Ok}
-use Rattle.graph_lang.specs.graph_base.declared.place.Place.{Place}
 use Rattle.graph_lang.specs.graph_base.Graphs.{task_at}
 use Rattle.stream_eval.specs.stream_lists.Jobs.{with_samples}
 use Rattle.graph_runs.specs.Moments.{Moment}
@@ -12,7 +10,6 @@ use Rattle.stream_job.specs.Rounds.{of_went}
 use Rattle.stream_job.specs.Stepping.{HasRoomNext}
 use Rattle.stream_job.specs.Streams.{AreKept, IsStreamAt, StreamMoves, StreamState, after_sized, ended_at, is_full, is_full_by, is_hungry, line_room, rests}
 use Rattle.stream_job.specs.contracts.stream.Stream.{the_view}
-use Rattle.stream_job.specs.declared.went.Went.{Went}
 use Rattle.stream_job.specs.declared.went.Went.TheVariants as went
 use Rattle.stream_job.proofs.FedTurns.{moves_none}
 use Rattle.stream_job.proofs.Setting.{err_of}

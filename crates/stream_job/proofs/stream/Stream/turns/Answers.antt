@@ -1,5 +1,5 @@
 -- One more turn makes one more event.
-use Rattle.std.proofs.Common.{◌+◌, ◌≤◌, ap, arith, ◌∙◌, subst}
+use Rattle.std.proofs.Common.{◌+◌, arith, subst}
 use Rattle.std.specs.Prelude.{nat_lt}
 use Rattle.stream_job.specs.Rounds.{of_moved, of_went}
 use Rattle.stream_job.specs.Streams.{StreamMoves}
