@@ -97,8 +97,8 @@ pub record StandsBy {R : Type 0} (remaining : R → Option (List ℕ)) (held : K
 
 -- ---- a stop
 
--- whether task t makes no event now: it is not live, its turn would be blocked, also by what it owes
--- before a value out of range, or it is a source that waits for a sample and has not ended
+-- whether task t makes no event now: it is not live, its turn would be blocked, also by what it
+-- owes before a value out of range, or it is a source that waits for a sample and has not ended
 abbrev pub waits_now : Job → (ℕ → Bool) → List (List ℤ) → Moment → ℕ → Bool
 waits_now job ended s m t =
     let came = with_samples s job in

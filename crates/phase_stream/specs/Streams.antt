@@ -164,8 +164,8 @@ pub record IsStandstill (job : Job) (samples : List (List ℤ)) (moment : Moment
   pub live : is_some_live job moment ≡ true
   pub rest : list_all (is_held_up (with_samples samples job) moment) (all_tasks job) ≡ true
 
--- a value is out of range in every run whose samples go on behind those that came, and no task makes
--- an event but those that stand before one, of which the first stands before this one
+-- a value is out of range in every run whose samples go on behind those that came, and no task
+-- makes an event but those that stand before one, of which the first stands before this one
 pub record IsFaultBehind (job : Job) (samples : List (List ℤ)) (ended : ℕ → Bool) (moment : Moment)
     (at : Where) : Type 0 where
   pub fault : (more : List (List ℤ)) → GoesOnBehind job ended samples more

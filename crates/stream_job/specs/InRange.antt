@@ -51,8 +51,8 @@ blocks_before job m t next = false
 abbrev pub is_blocked_before : Job → Moment → ℕ → Bool
 is_blocked_before job m t = blocks_before job m t (next_of job m t)
 
--- whether task t is held up: it is not live, or its turn would be blocked, which signals all that it
--- owes, or all that it owes before a value out of range
+-- whether task t is held up: it is not live, or its turn would be blocked, which signals all
+-- that it owes, or all that it owes before a value out of range
 abbrev pub is_held_up : Job → Moment → ℕ → Bool
 is_held_up job m t = is_at_rest job m t || is_blocked_before job m t
 
@@ -81,7 +81,8 @@ pub record HasMoved (job : Job) (old new : Machine) (t : ℕ) : Type 0 where
   pub own : (room : ℕ → ℕ) → All (HasRoom room) old.lines.items
       → All (HasRoom room) new.lines.items
 
--- it made none by a turn of at most so many steps: by one of a block of its line the task is held up
+-- it made none by a turn of at most so many steps: by one of a block of its line the task is held
+-- up
 pub record HasStayed (steps : ℕ) (job : Job) (old new : Machine) (t : ℕ) : Type 0 where
   pub held : steps ≡ (task_at job.graph t).block → (m : Moment) → IsMachineAt job m old
       → is_held_up job m t ≡ true
@@ -93,7 +94,7 @@ pub record HasStayed (steps : ℕ) (job : Job) (old new : Machine) (t : ℕ) : T
       → All (HasRoom room) new.lines.items
 
 -- nothing changed, and task t stands before a value out of range
-pub record HasStopped (job : Job) (old new : Machine) (t : ℕ) (at : Where) : Type 0 where
+pub record HasHalted (job : Job) (old new : Machine) (t : ℕ) (at : Where) : Type 0 where
   pub same : new ≡ old
   pub before : (m : Moment) → IsMachineAt job m old → stands_before job m t ≡ Some at
 
@@ -101,7 +102,7 @@ pub record HasStopped (job : Job) (old new : Machine) (t : ℕ) (at : Where) : T
 abbrev pub HasGone : ℕ → Job → Machine → Machine → ℕ → Went → Type 0
 HasGone steps job old new t went.On = HasMoved job old new t
 HasGone steps job old new t went.Stays = HasStayed steps job old new t
-HasGone steps job old new t (went.Before place phase) = HasStopped job old new t (place, phase)
+HasGone steps job old new t (went.Before place phase) = HasHalted job old new t (place, phase)
 
 -- this is what task t does next, by a turn of at most so many steps, and its samples can be sent
 pub record IsNextGood (steps : ℕ) (job : Job) (machine : Machine) (t : ℕ) (next : Next) : Type 0

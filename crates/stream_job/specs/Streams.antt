@@ -157,8 +157,8 @@ is_hungry job ended m t = of (call_of job ended m t)
     of call = false
 
 -- whether task t makes no event now: it is not live, its turn would be blocked, which signals all
--- that it owes, or all that it owes before a value out of range, it waits for a sample, or it has no
--- room
+-- that it owes, or all that it owes before a value out of range, it waits for a sample, or it has
+-- no room
 abbrev pub rests : Job → (ℕ → Bool) → Moment → (ℕ → List ℤ) → ℕ → Bool
 rests job ended m given t = is_held_up job m t || is_hungry job ended m t || is_full job m given t
 
@@ -217,7 +217,7 @@ pub record Rests (stream : StreamState) (s : List (List ℤ)) (m : Moment) (give
       list_all (rests job (ended_at stream) m given) (all_tasks job) ≡ true
 
 -- none was, and each task that makes one would stand before a value out of range
-pub record Stands (stream : StreamState) (s : List (List ℤ)) (m : Moment) (given : ℕ → List ℤ)
+pub record AllStand (stream : StreamState) (s : List (List ℤ)) (m : Moment) (given : ℕ → List ℤ)
     : Type 0 where
   pub none : stream.met ≡ None
   pub each : let job = with_samples s stream.job in
@@ -238,7 +238,7 @@ StreamStopsAt stream s m given (stopped.TooBig place phase) = stream.met ≡ Som
 StreamStopsAt stream s m given stopped.Paused = MayMove stream s m given
 StreamStopsAt stream s m given (stopped.Full sink) =
     let job = with_samples s stream.job in
-    Stands stream s m given
+    AllStand stream s m given
     × stop_by job (first_full job m given) (first_hungry job (ended_at stream) m)
     (is_some_live job m) (stopped.Full sink)
 StreamStopsAt stream s m given stop =

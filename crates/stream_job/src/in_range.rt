@@ -1,5 +1,5 @@
-//! The turn of a task that takes no value out of range, and makes none known: where the next one is,
-//! the task stands before it.
+//! The turn of a task that takes no value out of range, and makes none known: where the next one
+//! is, the task stands before it.
 ghost use Rattle.std.specs.Prelude.{◌≡◌, ◌≢◌, ◌≤◌, ℕ, ℤ, List, drop, length, vec_capacity, IfOk, OnErr};
 ghost use Rattle.graph_lang.specs.stream_filters.declared.fault.TooBigValue.{TooBigValue as OutValue};
 ghost use Rattle.graph_runs.specs.Nexts as turns;

@@ -53,9 +53,9 @@ impl Stream {
     /// all that they get, whatever samples go on so.
     ///
     /// No task takes a value out of range: it stands before it, and the others go on. Once no other
-    /// task can move, and no sink is without room, it is told where the first of these tasks stands,
-    /// in the order of their lines, and so it is by a later call. It is a value of every run whose
-    /// samples go on so.
+    /// task can move, and no sink is without room, it is told where the first of these tasks
+    /// stands, in the order of their lines, and so it is by a later call. It is a value of every
+    /// run whose samples go on so.
     ///
     /// A child's registration may ask for memory, and nothing else does. Where there is none, no
     /// value is lost, and the call can be made again.

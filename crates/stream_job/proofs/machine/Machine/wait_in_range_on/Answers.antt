@@ -17,18 +17,17 @@ pub returns-clause-got : goal.returns-clause-got
 returns-clause-got c = λ phase count is some h at. (
   c.wait_in_range.ensures.block phase count is some (phaser_at c.args.job.now.graph c.args.p).op
       (limits_at c.args.job.now c.args.p) (h c.args.p) (lent_core c.args.job.now h c.args.self.now.cores.items c.args.p
-    c.index_mut.result.now at c.requires.phaser c.index_mut.ensures.value),
+      c.index_mut.result.now at c.requires.phaser c.index_mut.ensures.value),
   c.wait_in_range.ensures.out phase count is (phaser_at c.args.job.now.graph c.args.p).op
       (limits_at c.args.job.now c.args.p) (h c.args.p) (lent_core c.args.job.now h c.args.self.now.cores.items c.args.p
-    c.index_mut.result.now at c.requires.phaser c.index_mut.ensures.value),
+      c.index_mut.result.now at c.requires.phaser c.index_mut.ensures.value),
 )
 
 pub returns-clause-too_big : goal.returns-clause-too_big
 returns-clause-too_big c = λ phase is h at.
     let it = c.wait_in_range.ensures.too_big phase is (phaser_at c.args.job.now.graph c.args.p).op
     (limits_at c.args.job.now c.args.p) (h c.args.p) (lent_core c.args.job.now h c.args.self.now.cores.items c.args.p
-    c.index_mut.result.now at c.requires.phaser c.index_mut.ensures.value) in
-    (
+    c.index_mut.result.now at c.requires.phaser c.index_mut.ensures.value) in (
       it.0,
       it.1,
       ap (with_item c.args.self.now.cores c.args.p) it.2

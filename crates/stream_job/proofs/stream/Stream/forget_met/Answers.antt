@@ -8,8 +8,7 @@ use Rattle.stream_job.proofs.stream.Stream.forget_met.Goals as goal
 
 pub invariant_of-self : goal.invariant_of-self
 invariant_of-self c =
-    let i = c.self.invariant in
-    (
+    let i = c.self.invariant in (
       (i.0.0, i.0.1, i.0.2, meets_none (the_view c.self.inside) i.0.0 i.0.1 i.0.2 i.0.3),
       i.1,
       i.2,

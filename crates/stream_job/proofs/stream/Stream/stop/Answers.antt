@@ -124,21 +124,25 @@ returns-then-has_live-clause-stops c =
     λ s m given at.
     (let job = with_samples s c.args.self.now.job in
     let rest = rests_so c.args.self.now c.args.before c.requires.met c.in_default-before.is
-    c.requires.looked in
-    (rest s m given at, stalled_by job (first_full job m given)
-    (first_hungry job (ended_at c.args.self.now) m) (is_some_live job m)
-    (c.first_full.ensures s m given at ∙ c.in_default.is)
-    (c.first_hungry.ensures s m given at ∙ c.in_default-first_hungry.is)
-    (live (goal.at.returns-then-has_live-clause-stops c).After-has_live s m given at ∙ c.if-has_live.true)))
+    c.requires.looked in (
+      rest s m given at,
+      stalled_by job (first_full job m given)
+          (first_hungry job (ended_at c.args.self.now) m) (is_some_live job m)
+          (c.first_full.ensures s m given at ∙ c.in_default.is)
+          (c.first_hungry.ensures s m given at ∙ c.in_default-first_hungry.is)
+          (live (goal.at.returns-then-has_live-clause-stops c).After-has_live s m given at ∙ c.if-has_live.true),
+    ))
 
 pub returns-clause-stops : goal.returns-clause-stops
 returns-clause-stops c =
     λ s m given at.
     (let job = with_samples s c.args.self.now.job in
     let rest = rests_so c.args.self.now c.args.before c.requires.met c.in_default-before.is
-    c.requires.looked in
-    (rest s m given at, done_by job (first_full job m given)
-    (first_hungry job (ended_at c.args.self.now) m) (is_some_live job m)
-    (c.first_full.ensures s m given at ∙ c.in_default.is)
-    (c.first_hungry.ensures s m given at ∙ c.in_default-first_hungry.is)
-    (live (goal.at.returns-clause-stops c).After-has_live s m given at ∙ c.if-has_live.false)))
+    c.requires.looked in (
+      rest s m given at,
+      done_by job (first_full job m given)
+          (first_hungry job (ended_at c.args.self.now) m) (is_some_live job m)
+          (c.first_full.ensures s m given at ∙ c.in_default.is)
+          (c.first_hungry.ensures s m given at ∙ c.in_default-first_hungry.is)
+          (live (goal.at.returns-clause-stops c).After-has_live s m given at ∙ c.if-has_live.false),
+    ))
