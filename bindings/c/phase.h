@@ -387,7 +387,8 @@ enum {
     /* No task is left. */
     PHASE_DONE = 4,
     /* A value is out of range, in every stream whose samples go on so: value stop->at of the phaser
-     * or task stop->number, by stop->place. Later feeds take nothing. */
+     * or task stop->number, by stop->place. No task moves but for those that stand before such a
+     * value, the sinks have all that comes about without it, and feeds take nothing. */
     PHASE_TOO_BIG = 5,
     /* As many turns were made as a call makes at most, and there may be more to do: call again. */
     PHASE_PAUSED = 6

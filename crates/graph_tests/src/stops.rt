@@ -13,7 +13,7 @@ struct Case {
     told: &'static str,
 }
 
-const CASES: [Case; 10] = [
+const CASES: [Case; 12] = [
     Case {
         name: "a sum waits for the source that has no sample, and then goes on without it",
         graph: "phaser X sum 2\nsource a a.csv -> X\nsource b b.csv -> X\nsink out X\n",
@@ -123,6 +123,22 @@ const CASES: [Case; 10] = [
         ],
         told: "2 2 TooBig { place: Phaser(0), phase: 1 } 0: 2 0 \
             TooBig { place: Phaser(0), phase: 1 } 0: ",
+    },
+    Case {
+        name: "each value before one out of range comes out, whatever the bounds",
+        graph: "phaser X sum 9\nphaser Y sum 9\nsource s s.csv -> X\n\
+            fir f X -> Y shift 0 taps 1 1\nsink out Y\n",
+        samples: &["1\n2\n3\n9223372036854775807\n9223372036854775807\n"],
+        acts: &[Feed(0, 5), Run, Take],
+        told: "5 TooBig { place: Task(1), phase: 3 } 0: 1 3 5 ",
+    },
+    Case {
+        name: "of two branches the one without a value out of range goes on",
+        graph: "phaser X sum 1\nphaser Y sum 1\nphaser Z sum 1\nsource s s.csv -> X\n\
+            fir f X -> Y shift 0 taps 2\nfir g X -> Z shift 0 taps 1\nsink y Y\nsink z Z\n",
+        samples: &["1\n9223372036854775807\n3\n4\n"],
+        acts: &[Feed(0, 4), Finish(0), Run, Take],
+        told: "4 TooBig { place: Task(1), phase: 1 } 0: 2 1: 1 9223372036854775807 3 ",
     },
     Case {
         name: "two tasks that could meet, were there samples enough, are refused",

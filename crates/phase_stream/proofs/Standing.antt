@@ -1,14 +1,15 @@
 -- What of a session stays while its run goes on.
-use Rattle.std.proofs.Common.{◌≡◌, ◌≢◌, ◌⊎◌, inl, inr, ◌<◌, ℕ, ℤ, Bool, true, false, List, [], ◌∷◌, Option, Some, None, Ok, Err, get_or, map, slice_get, set, zero, suc, refl, sym, ap, subst, ◌∙◌, rules, arith}
+use Rattle.std.proofs.Common.{◌≡◌, ◌≢◌, ◌⊎◌, inl, inr, ◌<◌, ◌≤◌, ◌+◌, cond, length, ℕ, ℤ, Bool, true, false, List, [], ◌∷◌, Option, Some, None, Ok, Err, get_or, map, slice_get, set, zero, suc, refl, sym, ap, subst, ◌∙◌, rules, arith}
+use Rattle.std.proofs.lemmas.Bool.{cases_lt}
 use Rattle.std.proofs.lemmas.Option.{same_Some}
 use Rattle.std.specs.Prelude.{◌||◌, IfOk}
-use Rattle.std.specs.List.{find, list_all}
+use Rattle.std.specs.List.{find, list_all, range_with_len}
 use Rattle.std.specs.declared.result.Result.{Result}
 use Rattle.graph_commands.specs.FileJobs.{Known}
 use Rattle.stream_job.specs.Machines.{kept_behind}
 use Rattle.stream_job.specs.SinkLines.{kept_by}
-use Rattle.stream_job.specs.Stepping.{is_at_rest}
-use Rattle.stream_job.specs.Streams.{IsSourceAt, IsStreamAt, StreamState, StreamStopsAt, all_tasks, ended_at, first_full, first_hungry, has_ended, is_full, is_hungry, is_some_live, stop_by}
+use Rattle.stream_job.specs.InRange.{is_held_up, stands_before}
+use Rattle.stream_job.specs.Streams.{IsSourceAt, IsStreamAt, Meets, StreamState, StreamStopsAt, all_tasks, ended_at, first_full, first_hungry, has_ended, is_full, is_hungry, is_some_live, rests, stop_by}
 use Rattle.stream_job.specs.declared.input.Input.{Input}
 use Rattle.stream_job.specs.declared.stopped.Stopped.{Stopped}
 use Rattle.stream_job.specs.declared.stopped.Stopped.TheVariants as stopped
@@ -19,8 +20,8 @@ use Rattle.stream_job.specs.graph_runs.Moments.{Moment, started}
 use Rattle.stream_job.specs.graph_runs.Settled.{IsFaultAt, IsReady}
 use Rattle.stream_job.specs.stream_lists.Jobs.{Job, with_samples}
 use Rattle.stream_job.specs.stream_lists.Lists.{sinks_of}
-use Rattle.stream_job.specs.stream_lists.Ranges.{answer_of}
-use Rattle.phase_stream.specs.Sessions.{AllWait, AreCome, AreSources, HasStopped, IsSameSession}
+use Rattle.stream_job.specs.stream_lists.Ranges.{Where, answer_of}
+use Rattle.phase_stream.specs.Sessions.{AllWait, AreCome, AreSources, HasStopped, IsSameSession, StandsBefore, waits_now}
 use Rattle.phase_stream.specs.Sources.{HasComeOf, IsSource}
 use Rattle.phase_stream.specs.declared.session.Session.{Session}
 use Rattle.phase_stream.specs.declared.source.Source.{Source}
@@ -94,6 +95,54 @@ stalled_so job None (Some t) live e = absurd e
 stalled_so job None None false e = absurd e
 stalled_so job None None true e = (refl, refl, refl)
 
+-- where no sink is without room, a task waits that rests
+room_free : (test : ℕ → Bool) (from n t : ℕ) → find test (range_with_len from n) ≡ None
+    → from ≤ t → t < from + n → test t ≡ false
+room_free test from zero t none low high = absurd (omega arith)
+room_free test from (suc n) t none low high =
+    by (test from) refl none (room_free test (from + 1) n t) (cases_lt from t)
+  where
+    by : (b : Bool) → test from ≡ b
+        → cond b (Some from) (find test (range_with_len (from + 1) n)) ≡ None
+        → (find test (range_with_len (from + 1) n) ≡ None → from + 1 ≤ t → t < from + 1 + n
+        → test t ≡ false)
+        → (from < t) ⊎ (t ≤ from) → test t ≡ false
+    by true is none rest same = absurd (cc)
+    by false is none rest (inl less) = rest none (omega arith) (omega arith)
+    by false is none rest (inr past) =
+        let same : t ≡ from = omega arith in ap test same ∙ is
+
+stands_so : (stream : StreamState) (s : List (List ℤ)) (m : Moment) (given : ℕ → List ℤ)
+    (at : Where) → Meets (with_samples s stream.job) (ended_at stream) m given at
+    → StandsBefore stream.job (has_ended stream.inputs) s m at
+stands_so stream s m given at meets =
+    let job = with_samples s stream.job in
+    let n = length stream.job.graph.tasks in
+    let f = meets.first in
+    record {
+      each = λ t lt not. meets.each t lt (waits t lt ∙ not);
+      first = record {
+        task = f.task;
+        there = f.there;
+        first = λ t less. (let there : f.task < n = f.there in
+            sym (waits t (omega arith)) ∙ f.first t less);
+        is = f.is;
+      };
+    }
+  where
+    or_none : (a b : Bool) → b ≡ false → (a || b) ≡ a
+    or_none true b e = refl
+    or_none false b e = e
+
+    waits : (t : ℕ) → t < length stream.job.graph.tasks
+        → rests (with_samples s stream.job) (ended_at stream) m given t
+        ≡ waits_now stream.job (has_ended stream.inputs) s m t
+    waits t lt =
+        let job = with_samples s stream.job in
+        or_none (waits_now stream.job (has_ended stream.inputs) s m t) (is_full job m given t)
+        (room_free (is_full job m given) 0 (length stream.job.graph.tasks) t meets.room (omega arith)
+        (omega arith))
+
 pub stop_means : (stream : StreamState) (s : List (List ℤ)) (m : Moment) (given : ℕ → List ℤ)
     (stop : Stopped) → IsStreamAt stream s m given → StreamStopsAt stream s m given stop
     → (stop ≡ stopped.Done → (more : List (List ℤ))
@@ -105,32 +154,36 @@ pub stop_means : (stream : StreamState) (s : List (List ℤ)) (m : Moment) (give
     → IsFed (with_samples s stream.job) (ended_at stream) more
     → IsReady (with_samples more stream.job)
     → IsFaultAt (started (with_samples more stream.job) m) (place, n))
+    → ((place : Place) (n : ℕ) → stop ≡ stopped.TooBig place n
+    → Meets (with_samples s stream.job) (ended_at stream) m given (place, n))
     → HasStopped stream s m stop
-stop_means stream s m given stopped.Done at stops done big =
+stop_means stream s m given stopped.Done at stops done big meets =
     λ more fed ready. done refl more fed ready ∙ ap (λ l. Ok l) at.lines.values
-stop_means stream s m given (stopped.TooBig place n) at stops done big = big place n refl
-stop_means stream s m given stopped.Stalled at stops done big =
+stop_means stream s m given (stopped.TooBig place n) at stops done big meets =
+    (big place n refl, stands_so stream s m given (place, n) (meets place n refl))
+stop_means stream s m given stopped.Stalled at stops done big meets =
     let job = with_samples s stream.job in
     let so = stalled_so job (first_full job m given) (first_hungry job (ended_at stream) m)
     (is_some_live job m) stops.1 in (
       so.2,
-      still (is_at_rest job m) (is_hungry job (ended_at stream) m) (is_full job m given)
+      still (is_held_up job m) (is_hungry job (ended_at stream) m) (is_full job m given)
           (all_tasks job) stops.0.rest so.1 so.0,
     )
-stop_means stream s m given (stopped.Hungry source) at stops done big =
+stop_means stream s m given (stopped.Hungry source) at stops done big meets =
     let job = with_samples s stream.job in
-    waiting (is_at_rest job m) (is_hungry job (ended_at stream) m) (is_full job m given)
+    waiting (is_held_up job m) (is_hungry job (ended_at stream) m) (is_full job m given)
     (all_tasks job) stops.0.rest
     (hungry_so job (first_full job m given) (first_hungry job (ended_at stream) m)
     (is_some_live job m) source stops.1)
-stop_means stream s m given (stopped.Full sink) at stops done big = tt
-stop_means stream s m given stopped.Paused at stops done big = tt
+stop_means stream s m given (stopped.Full sink) at stops done big meets = tt
+stop_means stream s m given stopped.Paused at stops done big meets = tt
 
--- three facts of a good answer give a fourth
-pub with_three : {X E : Type 0} (r : Result X E) (A B C D : X → Type 0)
-    → ((x : X) → A x → B x → C x → D x) → IfOk r A → IfOk r B → IfOk r C → IfOk r D
-with_three (Ok x) A B C D f a b c = f x a b c
-with_three (Err e) A B C D f a b c = tt
+-- four facts of a good answer give a fifth
+pub with_four : {X E : Type 0} (r : Result X E) (A B C D F : X → Type 0)
+    → ((x : X) → A x → B x → C x → D x → F x) → IfOk r A → IfOk r B → IfOk r C → IfOk r D
+    → IfOk r F
+with_four (Ok x) A B C D F f a b c d = f x a b c d
+with_four (Err e) A B C D F f a b c d = tt
 
 -- samples that go on behind those of a stream do so behind those of one with the same inputs
 fed_same : (old new : StreamState) (s more : List (List ℤ)) → new.job ≡ old.job
@@ -146,13 +199,17 @@ stopped_same old new s m stopped.Done job inputs is = λ more fed ready.
     ≡ Ok (map (λ t. (t, kept_by j m t)) (sinks_of j))) (sym job)
     (is more (fed_same old new s more job inputs fed)
     (subst (λ (j : Job). IsReady (with_samples more j)) job ready))
-stopped_same old new s m (stopped.TooBig place n) job inputs is = λ more fed ready.
-    subst (λ (j : Job). IsFaultAt (started (with_samples more j) m) (place, n)) (sym job)
-    (is more (fed_same old new s more job inputs fed)
-    (subst (λ (j : Job). IsReady (with_samples more j)) job ready))
+stopped_same old new s m (stopped.TooBig place n) job inputs is = (
+  λ more fed ready.
+      subst (λ (j : Job). IsFaultAt (started (with_samples more j) m) (place, n)) (sym job)
+      (is.0 more (fed_same old new s more job inputs fed)
+      (subst (λ (j : Job). IsReady (with_samples more j)) job ready)),
+  subst (λ (i : List Input). StandsBefore new.job (has_ended i) s m (place, n)) (sym inputs)
+      (subst (λ j. StandsBefore j (has_ended old.inputs) s m (place, n)) (sym job) is.1),
+)
 stopped_same old new s m stopped.Stalled job inputs is =
     subst (λ (j : Job). (is_some_live j m ≡ true)
-    × (list_all (is_at_rest (with_samples s j) m) (all_tasks j) ≡ true)) (sym job) is
+    × (list_all (is_held_up (with_samples s j) m) (all_tasks j) ≡ true)) (sym job) is
 stopped_same old new s m (stopped.Hungry source) job inputs is =
     subst (λ (i : List Input). AllWait new.job (has_ended i) s m) (sym inputs)
     (subst (λ j. AllWait j (has_ended old.inputs) s m) (sym job) is)

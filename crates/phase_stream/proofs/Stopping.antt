@@ -103,7 +103,10 @@ too_big_stops remaining held old new first session at n same right st =
       record {
         kept = stopped_kept remaining held old.written new.written session (stopped.TooBig at n)
             right st;
-        cause = λ more goes. st.stopped_is more goes.feeds goes.ready;
+        cause = record {
+          fault = λ more goes. st.stopped_is.0 more goes.feeds goes.ready;
+          before = st.stopped_is.1;
+        };
       },
     )
 
@@ -118,7 +121,7 @@ too_big_there remaining held old now session at n there st =
     let machine = stands.reaches.at.machine in
     let job = started (with_samples stands.samples session.stream.job) stands.moment in
     of job at
-    (there job (at, n) (st.stopped_is stands.samples
+    (there job (at, n) (st.stopped_is.0 stands.samples
     (fed_self session.stream.job (ended_at session.stream) stands.samples)
     (record { graph = machine.graph; apart = machine.apart })))
   where

@@ -11,9 +11,9 @@ use Rattle.graph_commands.specs.declared.failure.Failure.TheVariants as failure
 use Rattle.graph_commands.specs.declared.fault.JobFault.{JobFault}
 use Rattle.stream_job.specs.Machines.{none_given}
 use Rattle.stream_job.specs.graph_runs.Beginnings.{opening}
-use Rattle.stream_job.specs.Streams.{IsSourceAt, IsStreamAt, StreamState, all_tasks, ended_at, has_ended, is_hungry, is_some_live, none_came}
+use Rattle.stream_job.specs.InRange.{is_held_up, stands_before}
+use Rattle.stream_job.specs.Streams.{EachStands, FirstStands, IsSourceAt, IsStreamAt, StreamState, all_tasks, ended_at, has_ended, is_hungry, is_some_live, none_came}
 use Rattle.stream_job.specs.SinkLines.{kept_by}
-use Rattle.stream_job.specs.Stepping.{is_at_rest}
 use Rattle.stream_job.specs.declared.stopped.Stopped.{Stopped}
 use Rattle.stream_job.specs.declared.stopped.Stopped.TheVariants as stopped
 use Rattle.stream_job.specs.graph_base.Graphs.{file_at, source_number, sources_of, task_at}
@@ -22,7 +22,7 @@ use Rattle.stream_job.specs.graph_runs.Moments.{Moment, started}
 use Rattle.stream_job.specs.graph_runs.Settled.{IsFaultAt, IsReady}
 use Rattle.stream_job.specs.stream_lists.Jobs.{Job, with_samples}
 use Rattle.stream_job.specs.stream_lists.Lists.{numbers_of, sinks_of, taken_from}
-use Rattle.stream_job.specs.stream_lists.Ranges.{answer_of}
+use Rattle.stream_job.specs.stream_lists.Ranges.{Where, answer_of}
 use Rattle.stream_job.specs.stream_lists.Spans.{span_in}
 use Rattle.phase_stream.specs.Sources.{HasComeOf, IsSource, Lacks}
 use Rattle.phase_stream.specs.declared.session.Session.{Session}
@@ -97,32 +97,47 @@ pub record StandsBy {R : Type 0} (remaining : R → Option (List ℕ)) (held : K
 
 -- ---- a stop
 
--- each task makes no event now: it is not live, its turn would be blocked, or it is a source that
--- waits for a sample and has not ended
-abbrev pub AllWait : Job → (ℕ → Bool) → List (List ℤ) → Moment → Type 0
-AllWait job ended s m =
+-- whether task t makes no event now: it is not live, its turn would be blocked, also by what it
+-- owes before a value out of range, or it is a source that waits for a sample and has not ended
+abbrev pub waits_now : Job → (ℕ → Bool) → List (List ℤ) → Moment → ℕ → Bool
+waits_now job ended s m t =
     let came = with_samples s job in
-    list_all (λ t. is_at_rest came m t
-    || is_hungry came (λ u. ended (source_number job.graph.tasks u)) m t) (all_tasks job) ≡ true
+    is_held_up came m t
+    || is_hungry came (λ u. ended (source_number job.graph.tasks u)) m t
+
+-- each task makes none
+abbrev pub AllWait : Job → (ℕ → Bool) → List (List ℤ) → Moment → Type 0
+AllWait job ended s m = list_all (waits_now job ended s m) (all_tasks job) ≡ true
+
+-- each task makes none but those that stand before a value out of range, and the first of them
+-- stands before this one
+pub record StandsBefore (job : Job) (ended : ℕ → Bool) (s : List (List ℤ)) (m : Moment)
+    (at : Where) : Type 0 where
+  pub each : EachStands (waits_now job ended s m) (stands_before (with_samples s job) m)
+      (length job.graph.tasks)
+  pub first : FirstStands (waits_now job ended s m) (stands_before (with_samples s job) m)
+      (length job.graph.tasks) at
 
 -- what a stop tells of samples and a moment, whatever was handed over: where it is done, what each
 -- sink has kept is its whole list in every run whose samples go on so; a value too big is one of
--- every such run; where a source is hungry, no task makes an event without more samples; and a
--- stalled run has a live task, and no task can move
+-- every such run, and no task makes an event but those that stand before one; where a source is
+-- hungry, no task makes one without more samples; and a stalled run has a live task, and no task
+-- can move
 abbrev pub HasStopped : StreamState → List (List ℤ) → Moment → Stopped → Type 0
 HasStopped stream s m stopped.Done = (more : List (List ℤ))
     → IsFed (with_samples s stream.job) (ended_at stream) more
     → IsReady (with_samples more stream.job)
     → answer_of (started (with_samples more stream.job) m)
     ≡ Ok (map (λ t. (t, kept_by stream.job m t)) (sinks_of stream.job))
-HasStopped stream s m (stopped.TooBig place n) = (more : List (List ℤ))
-    → IsFed (with_samples s stream.job) (ended_at stream) more
+HasStopped stream s m (stopped.TooBig place n) =
+    ((more : List (List ℤ)) → IsFed (with_samples s stream.job) (ended_at stream) more
     → IsReady (with_samples more stream.job)
-    → IsFaultAt (started (with_samples more stream.job) m) (place, n)
+    → IsFaultAt (started (with_samples more stream.job) m) (place, n))
+    × StandsBefore stream.job (has_ended stream.inputs) s m (place, n)
 HasStopped stream s m (stopped.Hungry source) = AllWait stream.job (has_ended stream.inputs) s m
 HasStopped stream s m stopped.Stalled =
     (is_some_live stream.job m ≡ true)
-    × (list_all (is_at_rest (with_samples s stream.job) m) (all_tasks stream.job) ≡ true)
+    × (list_all (is_held_up (with_samples s stream.job) m) (all_tasks stream.job) ≡ true)
 HasStopped stream s m stop = Unit {0}
 
 -- the session stands so, it stopped so, and all that its sink has kept was written

@@ -25,7 +25,7 @@ use Rattle.graph_commands.specs.watched_io.declared.status.Status.TheVariants.{D
 use Rattle.graph_commands.specs.watched_io.declared.watched.Watched.{Watched}
 use Rattle.stream_job.specs.Gone.{has_gone}
 use Rattle.stream_job.specs.SinkLines.{kept_by}
-use Rattle.stream_job.specs.Stepping.{is_at_rest}
+use Rattle.stream_job.specs.InRange.{is_held_up}
 use Rattle.stream_job.specs.Streams.{IsSourceAt, all_tasks, is_some_live, most_of}
 use Rattle.stream_job.specs.graph_base.Graphs.{file_at, name_at, source_number, sources_of}
 use Rattle.stream_job.specs.graph_base.declared.place.Place.TheVariants as place
@@ -38,8 +38,8 @@ use Rattle.stream_job.specs.graph_runs.Settled.{IsFaultAt, IsReady}
 use Rattle.stream_job.specs.stream_lists.Jobs.{Job, counted, with_samples, with_starts}
 use Rattle.stream_job.specs.stream_lists.Lists.{sinks_of}
 use Rattle.stream_job.specs.stream_lists.Meetings.{meeting_line}
-use Rattle.stream_job.specs.stream_lists.Ranges.{Fits}
-use Rattle.phase_stream.specs.Sessions.{AllWait, sink_list}
+use Rattle.stream_job.specs.stream_lists.Ranges.{Fits, Where}
+use Rattle.phase_stream.specs.Sessions.{AllWait, StandsBefore, sink_list}
 use Rattle.phase_stream.specs.Sources.{HasBadFrom, HasComeOf}
 
 -- ---- what came
@@ -162,7 +162,15 @@ pub record EndsInRecord (held : Known) (job : Job) (named : List ℕ) (number : 
 -- some task is live, and no task can move
 pub record IsStandstill (job : Job) (samples : List (List ℤ)) (moment : Moment) : Type 0 where
   pub live : is_some_live job moment ≡ true
-  pub rest : list_all (is_at_rest (with_samples samples job) moment) (all_tasks job) ≡ true
+  pub rest : list_all (is_held_up (with_samples samples job) moment) (all_tasks job) ≡ true
+
+-- a value is out of range in every run whose samples go on behind those that came, and no task
+-- makes an event but those that stand before one, of which the first stands before this one
+pub record IsFaultBehind (job : Job) (samples : List (List ℤ)) (ended : ℕ → Bool) (moment : Moment)
+    (at : Where) : Type 0 where
+  pub fault : (more : List (List ℤ)) → GoesOnBehind job ended samples more
+      → IsFaultAt (started (with_samples more job) moment) at
+  pub before : StandsBefore job ended samples moment at
 
 -- why it stopped once it had begun
 abbrev pub StopsOf : Known → Job → ℕ → WriterState → WriterState → Failure → Type 0
@@ -177,8 +185,7 @@ StopsOf held job sink old new (failure.Graph fault.OutOfMemory text) =
 StopsOf held job sink old new (failure.NoSink other wanted) = ⊥
 StopsOf held job sink old new (failure.TooBig other at phase) =
     (other ≡ job) × StopsKept held job sink old new
-    (λ samples ended m. (more : List (List ℤ)) → GoesOnBehind job ended samples more
-    → IsFaultAt (started (with_samples more job) m) (at, phase))
+    (λ samples ended m. IsFaultBehind job samples ended m (at, phase))
 StopsOf held job sink old new (failure.Stalled further) =
     AreFurtherLines further.items × StopsKept held job sink old new
     (λ samples ended m. IsStandstill job samples m)

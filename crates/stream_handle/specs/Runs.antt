@@ -21,7 +21,7 @@ use Rattle.stream_job.specs.graph_runs.Settled.{IsFaultAt, IsReady}
 use Rattle.stream_job.specs.graph_runs.Turned.{with_at}
 use Rattle.stream_job.specs.Machines.{kept_behind, none_given}
 use Rattle.stream_job.specs.SinkLines.{kept_by, sink_begins_at}
-use Rattle.stream_job.specs.Streams.{FeedTakes, IsSameBut, IsStreamAt, StreamState, StreamStopsAt, ended_at, ended_with, fed, has_ended, most_of, none_came}
+use Rattle.stream_job.specs.Streams.{FeedTakes, IsSameBut, IsStreamAt, Meets, StreamState, StreamStopsAt, ended_at, ended_with, fed, has_ended, most_of, none_came}
 use Rattle.stream_job.specs.declared.stopped.Stopped.{Stopped}
 use Rattle.stream_job.specs.declared.stopped.Stopped.TheVariants.{Done, TooBig}
 use Rattle.graph_numbers.specs.declared.fault.PhaseCounts.{PhaseCounts}
@@ -78,7 +78,8 @@ pub record Finishes (source : ℕ) (old new : StreamState) : Type 0 where
 -- ---- a stop
 
 -- the run stopped so: where it is done its sinks got what the definitions give of every run whose
--- samples go on so, and a value out of range is so in each of them
+-- samples go on so, and a value out of range is so in each of them and told where no task makes an
+-- event but those that stand before one
 pub record StopsFor (run : StreamState) (stop : Stopped) : Type 0 where
   pub stops : (s : List (List ℤ)) (m : Moment) (given : ℕ → List ℤ) → IsStreamAt run s m given
       → StreamStopsAt run s m given stop
@@ -91,6 +92,9 @@ pub record StopsFor (run : StreamState) (stop : Stopped) : Type 0 where
       (given : ℕ → List ℤ) (more : List (List ℤ)) → IsStreamAt run s m given
       → IsFed (with_samples s run.job) (ended_at run) more → IsReady (with_samples more run.job)
       → IsFaultAt (started (with_samples more run.job) m) (place, n)
+  pub meets : (place : Place) (n : ℕ) → stop ≡ TooBig place n → (s : List (List ℤ)) (m : Moment)
+      (given : ℕ → List ℤ) → IsStreamAt run s m given
+      → Meets (with_samples s run.job) (ended_at run) m given (place, n)
 
 -- ---- values
 

@@ -1,10 +1,13 @@
 -- Why a run that is fed stops.
 use Rattle.std.proofs.Common.{◌≡◌, ℕ, zero, suc, ℤ, List, ◌+◌, ◌-◌, ◌<◌, ◌&&◌, Bool, true, false, cond, Option, Some, None, length, refl, sym, subst, ◌∙◌, arith}
 use Rattle.std.specs.Prelude.{nat_lt}
-use Rattle.std.specs.List.{find, range_with_len}
+use Rattle.std.specs.List.{find, list_all, range_with_len}
+use Rattle.stream_job.specs.InRange.{stands_before}
+use Rattle.stream_job.specs.Rounds.{FirstOrRest, LooksSo}
+use Rattle.stream_eval.specs.stream_lists.Ranges.{Where}
 use Rattle.std.proofs.lemmas.Bool.{and_parts}
 use Rattle.std.proofs.lemmas.Option.{none-some, same_Some}
-use Rattle.stream_eval.specs.stream_lists.Jobs.{Job}
+use Rattle.stream_eval.specs.stream_lists.Jobs.{Job, with_samples}
 use Rattle.stream_eval.specs.stream_lists.Lists.{is_sink_at}
 use Rattle.graph_runs.specs.Moments.{Moment}
 use Rattle.graph_runs.specs.NextBlocks.{block_of}
@@ -12,9 +15,9 @@ use Rattle.graph_runs.specs.Nexts as nexts
 use Rattle.graph_runs.specs.Nexts.{Next, is_live, next_of}
 use Rattle.graph_runs.proofs.Signalling.{live-is}
 use Rattle.stream_job.specs.SinkLines.{kept_by}
-use Rattle.stream_job.specs.Streams.{is_full, is_some_live, line_room, stop_by}
+use Rattle.stream_job.specs.Streams.{IsStreamAt, Rests, StreamState, all_tasks, ended_at, is_full, is_some_live, line_room, rests, stop_by}
 use Rattle.stream_job.specs.declared.stopped.Stopped.TheVariants as stopped
-use Rattle.stream_job.proofs.Searching.{any_in_range}
+use Rattle.stream_job.proofs.Searching.{all_in_range, any_in_range, not_all_in_range}
 
 -- the first that passes a test is one of those that were looked at, and passes
 found_from : (test : ℕ → Bool) (from n t : ℕ) → find test (range_with_len from n) ≡ Some t
@@ -78,3 +81,52 @@ none_live job m none t = by (is_live job m t) refl
         let some = any_in_range (is_live job m) (length job.graph.tasks) t
         (live-is job m t e).there e in
         absurd (let wrong : true ≡ false = sym some ∙ none in cc)
+
+-- ---- what it stops by
+
+pub stalled_by : (job : Job) (full hungry : Option ℕ) (live : Bool) → full ≡ None → hungry ≡ None
+    → live ≡ true → stop_by job full hungry live stopped.Stalled
+stalled_by job full hungry live none fed some = rw none (rw fed (rw some tt))
+
+pub done_by : (job : Job) (full hungry : Option ℕ) (live : Bool) → full ≡ None → hungry ≡ None
+    → live ≡ false → stop_by job full hungry live stopped.Done
+done_by job full hungry live none fed gone = rw none (rw fed (rw gone tt))
+
+-- where no task stands before a value out of range, all rest
+pub rests_so : (stream : StreamState) (before : Option Where) → stream.met ≡ None
+    → before ≡ None → LooksSo stream (length stream.job.graph.tasks) before
+    → (s : List (List ℤ)) (m : Moment) (given : ℕ → List ℤ) → IsStreamAt stream s m given
+    → Rests stream s m given
+rests_so stream before none is looked s m given at =
+    let job = with_samples s stream.job in
+    let n = length stream.job.graph.tasks in
+    record {
+      none = none;
+      rest = all_in_range (rests job (ended_at stream) m given) n
+          (subst (FirstOrRest (rests job (ended_at stream) m given) (stands_before job m) n) is
+          (looked s m given at).first);
+    }
+
+below_all : (test : ℕ → Bool) (n : ℕ) → list_all test (range_with_len 0 n) ≡ true
+    → (d : ℕ) → d < n → test d ≡ true
+below_all test n all d lt = by (test d) refl
+  where
+    by : (b : Bool) → test d ≡ b → test d ≡ true
+    by true e = e
+    by false e =
+        absurd (let wrong : true ≡ false = sym all ∙ not_all_in_range test n d lt e in cc)
+
+-- where all rest, none stands
+pub looks_rest : (stream : StreamState)
+    → ((s : List (List ℤ)) (m : Moment) (given : ℕ → List ℤ) → IsStreamAt stream s m given
+    → let job = with_samples s stream.job in
+    list_all (rests job (ended_at stream) m given) (all_tasks job) ≡ true)
+    → LooksSo stream (length stream.job.graph.tasks) None
+looks_rest stream all s m given at =
+    let job = with_samples s stream.job in
+    let each = below_all (rests job (ended_at stream) m given) (length stream.job.graph.tasks)
+    (all s m given at) in
+    record {
+      each = λ t lt not. absurd (let wrong : true ≡ false = sym (each t lt) ∙ not in cc);
+      first = each;
+    }

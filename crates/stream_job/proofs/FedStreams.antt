@@ -11,7 +11,6 @@ use Rattle.stream_eval.specs.stream_lists.Ranges.{Where}
 use Rattle.graph_runs.specs.Moments.{Moment}
 use Rattle.graph_runs.proofs.FedFeeds.{feed_continues}
 use Rattle.stream_job.specs.Streams.{StreamState, AreInputs, AreKept, IsApart, IsInputOf, IsStreamAt, HasInputRoom, FeedTakes, InputKeeps, feed_takes, ended_at, fed, has_ended}
-use Rattle.stream_job.specs.Worlds.{HasMet}
 use Rattle.stream_job.specs.declared.input.Input.{Input}
 use Rattle.stream_job.specs.declared.task_state.TaskState.{TaskState}
 use Rattle.stream_eval.specs.stream_lists.declared.sample_counts.TheConstants.{COUNT_MAX}
@@ -92,8 +91,7 @@ stream_fed stream s m given source xs input new at apart many none found opens s
       stays_open = λ t p n there pp kind over. at.stays_open t p n there pp kind
           (sym (ended_stays stream.inputs source (source_number stream.job.graph.tasks t) input new
           found same) ∙ over);
-      met = subst (HasMet (with_samples more stream.job) m) (sym none)
-          (subst (HasMet job m) none at.met);
+      none = at.none;
       faults = λ there others is. absurd (let wrong : None ≡ Some there = sym none ∙ is in cc);
     }
   where
@@ -269,6 +267,6 @@ stream_ends stream s m given source input at found = record {
       (let k = source_number stream.job.graph.tasks t in
       or_right (k == source) (has_ended stream.inputs k)
       (sym (ended_then stream.inputs source k input (that_ended input) found refl) ∙ over));
-  met = at.met;
+  none = at.none;
   faults = at.faults;
 }

@@ -13,38 +13,30 @@ use Rattle.graph_lang.specs.graph_base.declared.line.Kind.{Kind}
 use Rattle.graph_lang.specs.graph_base.declared.registration.Registration.{Registration}
 use Rattle.graph_lang.specs.graph_base.Graphs.{task_at}
 use Rattle.stream_eval.specs.stream_lists.Jobs.{Job, samples_in, with_samples}
-use Rattle.stream_eval.specs.stream_lists.Ranges.{Where}
 use Rattle.stream_eval.specs.declared.whole.Lines.{Lines}
 use Rattle.graph_runs.specs.Answers.{Answer, makes, is_blocked, is_gone, has_made, is_refused, after_answer, call_leave, call_register, output_at, register_answer, answer_up_to, samples_up_to, turn_up_to, values_up_to}
 use Rattle.graph_runs.specs.Feeds.{IsOpenAt, NotStarved, is_starved}
-use Rattle.graph_runs.specs.Moments.{Moment, HasAnsweredNone, HasRun, HasSamples, input_at, value_at}
+use Rattle.graph_runs.specs.Moments.{Moment, HasRun, HasSamples, input_at, value_at}
 use Rattle.graph_runs.specs.Moves.{further}
 use Rattle.graph_runs.specs.NextBlocks.{MaySize, block_up_to}
 use Rattle.graph_runs.specs.Nexts as nexts
 use Rattle.graph_runs.specs.Nexts.{Next, first_kept, first_missing, is_live, next_of, number_on}
 use Rattle.graph_runs.specs.TaskEvents as events
 use Rattle.graph_runs.specs.TaskEvents.{TaskEvent, IsNext, after_turn}
-use Rattle.graph_runs.specs.Answers as answers
-use Rattle.graph_runs.proofs.FedFaults.{fault_fed}
+use Rattle.graph_runs.proofs.AnsweredInTurn.{turn_answers_none}
 use Rattle.graph_runs.proofs.Calling.{accepted, answered, answered_all}
 use Rattle.graph_runs.proofs.Nexts.{further-length}
 use Rattle.graph_runs.proofs.Signalling.{signalled}
 use Rattle.graph_runs.proofs.Turning.{turn_makes_next}
 use Rattle.stream_job.specs.Stepping.{HasRoomNext, MayStep}
-use Rattle.stream_job.specs.Machines.{IsMachineAt, most_in}
-use Rattle.stream_job.specs.Streams.{AreKept, StreamGoesOn, IsStreamAt, InputKeeps, MayTurn, SizedTurn, StreamState, after_sized, ended_at, is_hungry}
-use Rattle.stream_job.specs.Turning.{HadTurn, met_by, told_of, turn_in}
-use Rattle.stream_job.specs.Tellings.{told_by}
-use Rattle.stream_job.specs.Worlds.{HasMet}
+use Rattle.stream_job.specs.Machines.{IsMachineAt}
+use Rattle.stream_job.specs.InRange.{HasMoved, HasStayed}
+use Rattle.stream_job.specs.Streams.{AreKept, StreamGoesOn, IsStreamAt, InputKeeps, MayTurn, SizedTurn, StreamMoves, StreamState, after_sized, ended_at, is_hungry, moves_in}
 use Rattle.stream_job.specs.declared.input.Input.{Input}
 use Rattle.stream_job.specs.declared.machine.Machine.{Machine}
-use Rattle.stream_job.specs.declared.made.Made.{Made}
-use Rattle.stream_job.specs.declared.turned.Turned.{Turned}
-use Rattle.stream_job.specs.declared.turned.Turned.TheVariants as turned
 use Rattle.stream_job.specs.declared.task_state.TaskState.{TaskState}
 use Rattle.stream_job.proofs.Makes.{makes_event}
 use Rattle.stream_job.proofs.Stopping.{with_samples_lines, without_samples_lines}
-use Rattle.stream_job.proofs.Tellings.{turn_met_so, turn_told_so}
 
 -- ---- room
 
@@ -234,51 +226,57 @@ pub none_met : {X : Type 0} (o : Option X) → is_some o ≡ false → o ≡ Non
 none_met None none = refl
 none_met (Some x) none = absurd (let wrong : true ≡ false = none in cc)
 
--- what is met is what the turn told
-met_told : (word : Turned) (at : Where) → met_by None word ≡ Some at
-    → told_of word ≡ answers.TooBig at
-met_told turned.Moved at e = absurd (cc)
-met_told turned.Blocked at e = absurd (cc)
-met_told turned.Ended at e = absurd (cc)
-met_told turned.Gone at e = absurd (cc)
-met_told (turned.TooBig place phase) at e =
-    ap (λ there. answers.TooBig there) (same_Some (place, phase) at e)
-
--- what a stream stands for after the turn of a task that is not hungry
-pub turn_stands : (steps : ℕ) (old : StreamState) (new : Machine) (met : Option Where) (s : List (List ℤ))
-    (m : Moment) (given : ℕ → List ℤ) (t : ℕ) (it : Made) (word : Turned)
+-- what a stream stands for after a turn of a task that is not hungry, which made an event and took no
+-- value out of range
+pub moved_stands : (old : StreamState) (new : Machine) (s : List (List ℤ)) (m : Moment)
+    (given : ℕ → List ℤ) (t : ℕ)
     → ((event : TaskEvent) → IsNext (with_samples s old.job) m event
     → NotStarved (with_samples s old.job) (ended_at old) m event
     → IsOpenAt (with_samples s old.job) (ended_at old)
     (after_turn (with_samples s old.job) event m))
-    → MayStep old.job old.machine t steps → old.met ≡ None → is_hungry (with_samples s old.job) (ended_at old) m t ≡ false
-    → HadTurn steps (with_samples s old.job) old.machine new t it → word ≡ told_by it t
-    → met ≡ met_by None word → IsStreamAt old s m given
-    → IsStreamAt record { job = old.job; machine = new; inputs = old.inputs; met = met } s
-    (after_answer (with_samples s old.job) (turn_in steps (with_samples s old.job) old.machine m t) m) given
-turn_stands steps old new met s m given t it word law sized none fed had told is at =
+    → old.met ≡ None → is_hungry (with_samples s old.job) (ended_at old) m t ≡ false
+    → (moved : HasMoved (with_samples s old.job) old.machine new t) → IsStreamAt old s m given
+    → IsStreamAt record { job = old.job; machine = new; inputs = old.inputs; met = old.met } s
+    (after_answer (with_samples s old.job)
+    (turn_up_to moved.steps moved.most (with_samples s old.job) m t) m) given
+moved_stands old new s m given t law none fed moved at =
     let job = with_samples s old.job in
-    let now = after_answer job (turn_in steps job old.machine m t) m in
-    let answered : HasAnsweredNone job m = subst (HasMet job m) none at.met in
-    let after : IsMachineAt job now new = had.after m at.machine answered in
+    let answer = turn_up_to moved.steps moved.most job m t in
+    let now = after_answer job answer m in
+    let after : IsMachineAt job now new = moved.after m at.machine at.none in
     record {
       each = at.each;
       machine = after;
       lines = without_samples_lines s old.job given now new.lines.items
-          (had.lines given m at.machine answered
+          (moved.lines given m at.machine at.none
           (with_samples_lines s old.job given m old.machine.lines.items at.lines));
-      kept = kept_after old.job s m (turn_in steps job old.machine m t) old.inputs after.reached.ran at.kept;
-      stays_open = turn_opens job (ended_at old) m old.machine t sized law at.machine fed at.stays_open;
-      met = subst (HasMet job now) (sym is)
-          (turn_met_so job old.machine m t word sized at.machine after answered
-          (turn_told_so steps (most_in old.machine t) job m t it word (had.shows m at.machine) told));
-      faults = λ there more is_met goes ready. fault_fed steps (most_in old.machine t) job m t there more
-          sized ready
-          at.machine.reached after.reached.ran
-          (turn_told_so steps (most_in old.machine t) job m t it word (had.shows m at.machine) told
-          ∙ ap (λ w. Some w) (met_told word there (sym is ∙ is_met)))
-          goes;
+      kept = kept_after old.job s m answer old.inputs after.reached.ran at.kept;
+      stays_open = turn_opens job (ended_at old) m old.machine t moved.sized law at.machine fed
+          at.stays_open;
+      none = turn_answers_none moved.steps moved.most job m t moved.sized at.machine.graph
+          at.machine.reached at.none (λ there told. moved.good m there at.machine told);
+      faults = λ there more is goes ready.
+          absurd (let wrong : None ≡ Some there = sym none ∙ is in cc);
     }
+
+-- and after one that made none
+pub stayed_stands : {steps : ℕ} (old : StreamState) (new : Machine) (s : List (List ℤ)) (m : Moment)
+    (given : ℕ → List ℤ) (t : ℕ)
+    → (stayed : HasStayed steps (with_samples s old.job) old.machine new t)
+    → IsStreamAt old s m given
+    → IsStreamAt record { job = old.job; machine = new; inputs = old.inputs; met = old.met } s m
+    given
+stayed_stands old new s m given t stayed at = record {
+  each = at.each;
+  machine = stayed.stands m at.machine at.none;
+  lines = without_samples_lines s old.job given m new.lines.items
+      (stayed.lines given m at.machine at.none
+      (with_samples_lines s old.job given m old.machine.lines.items at.lines));
+  kept = at.kept;
+  stays_open = at.stays_open;
+  none = at.none;
+  faults = at.faults;
+}
 
 -- ---- turns one after the other
 
@@ -288,28 +286,92 @@ turns_twice job m [] us = refl
 turns_twice job m (t ∷ ts) us =
     turns_twice job (after_answer job (turn_up_to t.steps t.most job m t.task) m) ts us
 
-pub goes_on_none : (stream : StreamState) → StreamGoesOn stream stream
-goes_on_none stream = record {
-  later = λ s m given at. ([], All-nil (MayTurn stream.job), at);
+moves_twice : (job : Job) (m : Moment) (ts us : List SizedTurn)
+    → moves_in job m (ts ++ us) ≡ moves_in job m ts + moves_in job (after_sized job m ts) us
+moves_twice job m [] us = omega arith
+moves_twice job m (t ∷ ts) us =
+    let answer = turn_up_to t.steps t.most job m t.task in
+    let rest = moves_twice job (after_answer job answer m) ts us in
+    omega arith
+
+pub moves_none : (stream : StreamState) → StreamMoves 0 stream stream
+moves_none stream = record {
+  later = λ s m given at. ([], All-nil (MayTurn stream.job), omega arith, at);
   job = refl;
   inputs = refl;
 }
 
-pub goes_on_twice : (a b c : StreamState) → StreamGoesOn a b → StreamGoesOn b c → StreamGoesOn a c
-goes_on_twice a b c first then = record {
+pub moves_on : (n k : ℕ) (a b c : StreamState) → StreamMoves n a b → StreamMoves k b c
+    → StreamMoves (n + k) a c
+moves_on n k a b c first then = record {
   later = λ s m given at.
       (let one = first.later s m given at in
-      let two = then.later s (after_sized (with_samples s a.job) m one.0) given one.2 in
+      let job = with_samples s a.job in
+      let middle = after_sized job m one.0 in
+      let two = then.later s middle given one.3 in
+      let same : b.job ≡ a.job = first.job in
       let P : Job → Type 0 = λ j.
-      IsStreamAt c s (after_sized (with_samples s j) (after_sized (with_samples s a.job) m one.0)
-      two.0) given in (
+      IsStreamAt c s (after_sized (with_samples s j) middle two.0) given in
+      let more : k ≤ moves_in job middle two.0 =
+      subst (λ j. k ≤ moves_in (with_samples s j) middle two.0) same two.2 in
+      let some : n ≤ moves_in job m one.0 = one.2 in
+      let all = moves_twice job m one.0 two.0 in (
         one.0 ++ two.0,
         All-append (MayTurn a.job) one.0 two.0 one.1
-            (subst (λ j. All (MayTurn j) two.0) first.job two.1),
-        subst (λ now. IsStreamAt c s now given)
-            (sym (turns_twice (with_samples s a.job) m one.0 two.0))
-            (subst P first.job two.2),
+            (subst (λ j. All (MayTurn j) two.0) same two.1),
+        omega arith,
+        subst (λ now. IsStreamAt c s now given) (sym (turns_twice job m one.0 two.0))
+            (subst P same two.3),
       ));
   job = then.job ∙ first.job;
   inputs = then.inputs ∙ first.inputs;
+}
+
+pub moves_less : (n k : ℕ) (a b : StreamState) → k ≤ n → StreamMoves n a b → StreamMoves k a b
+moves_less n k a b le moves = record {
+  later = λ s m given at.
+      (let one = moves.later s m given at in
+      let some : n ≤ moves_in (with_samples s a.job) m one.0 = one.2 in
+      (one.0, one.1, omega arith, one.3));
+  job = moves.job;
+  inputs = moves.inputs;
+}
+
+-- a stream that moves goes on
+pub goes_on_moves : (n : ℕ) (old new : StreamState) → StreamMoves n old new → StreamGoesOn old new
+goes_on_moves n old new moves = record {
+  later = λ s m given at.
+      (let one = moves.later s m given at in (one.0, one.1, one.3));
+  job = moves.job;
+  inputs = moves.inputs;
+}
+
+-- from a stream that stands for what this one does
+pub moves_from : (n : ℕ) (a b c : StreamState)
+    → ((s : List (List ℤ)) (m : Moment) (given : ℕ → List ℤ) → IsStreamAt a s m given
+    → IsStreamAt b s m given) → b.job ≡ a.job → b.inputs ≡ a.inputs → StreamMoves n b c
+    → StreamMoves n a c
+moves_from n a b c stands job inputs moves = record {
+  later = λ s m given at.
+      (let one = moves.later s m given (stands s m given at) in
+      let P : Job → Type 0 = λ j. All (MayTurn j) one.0
+      × (n ≤ moves_in (with_samples s j) m one.0)
+      × IsStreamAt c s (after_sized (with_samples s j) m one.0) given in
+      let all = subst P job (one.1, one.2, one.3) in
+      (one.0, all.0, all.1, all.2));
+  job = moves.job ∙ job;
+  inputs = moves.inputs ∙ inputs;
+}
+
+-- and to one that stands for what that one does
+pub moves_to : (n : ℕ) (a b c : StreamState) → StreamMoves n a b
+    → ((s : List (List ℤ)) (m : Moment) (given : ℕ → List ℤ) → IsStreamAt b s m given
+    → IsStreamAt c s m given) → c.job ≡ b.job → c.inputs ≡ b.inputs → StreamMoves n a c
+moves_to n a b c moves stands job inputs = record {
+  later = λ s m given at.
+      (let one = moves.later s m given at in
+      let now = after_sized (with_samples s a.job) m one.0 in
+      (one.0, one.1, one.2, stands s now given one.3));
+  job = job ∙ moves.job;
+  inputs = inputs ∙ moves.inputs;
 }

@@ -55,3 +55,12 @@ pub mod OpenedInputs
 pub mod OpenedStreams
 pub use Rattle.graph_runs.proofs as graph_runs_lemmas
 pub use Rattle.stream_eval.proofs.stream_lists_lemmas as stream_lists_lemmas
+pub mod GoodSizes
+pub mod WentTurns
+pub mod GoodSignals
+pub mod GoodWaits
+pub mod HeldUp
+pub mod FedWent
+pub mod FedStands
+pub mod FedLooks
+pub mod FedRuns

@@ -60,6 +60,6 @@ stream_opens job machine inputs none at values starts empty =
           let wrong : true ≡ false = sym gone
           ∙ none_dropped q.founder ((opening job).history p) n q.opening (q.apart t n number) in
           cc);
-      met = opening_answers_none job;
+      none = opening_answers_none job;
       faults = λ there more is. absurd (cc);
     }

@@ -32,7 +32,7 @@ in_range z x e = by (nat_le (unsigned_abs z) 9223372036854775807) refl e
     by false le e = absurd (cc)
 
 -- a number out of range
-out_of_range : (z : ℤ) (e : TooBigValue) → ranged z ≡ Err e → is_out_of_range z ≡ true
+pub out_of_range : (z : ℤ) (e : TooBigValue) → ranged z ≡ Err e → is_out_of_range z ≡ true
 out_of_range z e f = by (nat_le (unsigned_abs z) 9223372036854775807) refl f
   where
     by : (b : Bool) → nat_le (unsigned_abs z) 9223372036854775807 ≡ b

@@ -257,7 +257,7 @@ block_blocked event limits h n steps = by (entry_of (members_of h) n)
 -- ---- what a task does next
 
 -- the answer to what is next is none of a refusal
-never_refused : {steps most : ℕ} (job : Job) (m : Moment) (t : ℕ) (next : Next)
+pub never_refused : {steps most : ℕ} (job : Job) (m : Moment) (t : ℕ) (next : Next)
     → MaySize job.graph t steps most → IsGraph job.graph → AreSends (samples_at job t)
     → IsReachable job m → next_of job m t ≡ next → answer_up_to steps most job m t next ≢ is_refused
 never_refused {steps} {most} job m t next sized is sends reached at refused =
@@ -293,7 +293,7 @@ register_moves job m t c = by (first_missing job m c)
     by (Some r) = register_answer_moves m t c r (task_at job.graph c).joins_now
 
 -- values in range are signalled
-signal_turn_blocked : (job : Job) (m : Moment) (t j : ℕ) (vs : List ℤ) (event : TaskEvent)
+pub signal_turn_blocked : (job : Job) (m : Moment) (t j : ℕ) (vs : List ℤ) (event : TaskEvent)
     → 1 ≤ length vs → position_from is_out_of_range (length (m.put t j)) vs ≡ None
     → signal_turn job m t j vs event ≢ is_refused
     → was_blocked (signal_turn job m t j vs event)
@@ -386,14 +386,14 @@ values_many most job m t j owed owes next =
     sym (length-map (values_up_to most job m t j) ranged) ∙ ap length o.2 ∙ sym (ap owed_many o.1)
 
 -- of a list no longer than this all is taken
-take_all : {X : Type 0} (n : ℕ) (xs : List X) → length xs ≤ n → take n xs ≡ xs
+pub take_all : {X : Type 0} (n : ℕ) (xs : List X) → length xs ≤ n → take n xs ≡ xs
 take_all zero [] few = refl
 take_all (suc n) [] few = refl
 take_all zero (x ∷ xs) few = absurd (omega arith)
 take_all (suc n) (x ∷ xs) few = ap (λ l. x ∷ l) (take_all n xs (omega arith))
 
 -- no more is owed than one event signals
-rest_few : (most : ℕ) (job : Job) (m : Moment) (t j : ℕ) (at : TaskPlace)
+pub rest_few : (most : ℕ) (job : Job) (m : Moment) (t j : ℕ) (at : TaskPlace)
     → StandsUpTo most job m t at → next_of job m t ≡ signals j
     → length (drop (length (m.put t j)) (made_now job m t j)) ≤ most
 rest_few most job m t j at stands next =
@@ -428,7 +428,7 @@ all_is most job m t j at stands next =
     (rest_few most job m t j at stands next))
 
 -- so the turn would be blocked as its signal is
-all_blocks : (most : ℕ) (job : Job) (m : Moment) (t j : ℕ) (at : TaskPlace)
+pub all_blocks : (most : ℕ) (job : Job) (m : Moment) (t j : ℕ) (at : TaskPlace)
     → StandsUpTo most job m t at → next_of job m t ≡ signals j → would_block job m t (signals j)
     ≡ was_blocked (answer_up_to (task_at job.graph t).block most job m t (signals j))
 all_blocks most job m t j at stands next =

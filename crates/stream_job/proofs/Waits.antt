@@ -119,7 +119,7 @@ pub record GotAll (job : Job) (m : Moment) (p n steps phase count : ℕ) (outcom
   pub complete : phase + count ≤ done_of (m.history p)
 
 -- it stands in the places of the wait
-got_all : (job : Job) (m : Moment) (p n steps phase count : ℕ) (old now : List Outcome)
+pub got_all : (job : Job) (m : Moment) (p n steps phase count : ℕ) (old now : List Outcome)
     → wait_block_reply (limits_at job p) (m.history p) n steps ≡ Ok (block.Values phase count)
     → now ≡ written (Ok (block.Values phase count)) (stream_of (value_at job p) (m.history p)) old
     → GotAll job m p n steps phase count (take count now)

@@ -1,11 +1,13 @@
 pub mod Blocking
 pub mod Buffers
 pub mod Gone
+pub mod InRange
 pub mod Stepping
 pub mod Machines
 pub mod Parking
 pub mod Places
 pub mod Plans
+pub mod Rounds
 pub mod Runs
 pub mod SinkLines
 pub mod Stalls

@@ -1,6 +1,6 @@
 -- What the code keeps while tasks take turns: what a wait tells, and when a call is blocked.
 use Rattle.std.specs.Prelude.{◌≡◌, ℕ, ◌+◌, ◌≤◌, ℤ, List, [], ◌∷◌, ◌++◌, Option, Some, None, slice_get, set, get_or, Bool, true, false, ◌&&◌, ◌||◌, nat_le, Ok, Err, ◌≢◌, ◌==◌, length, map, nat_lt, ◌-◌, Result, if◌then◌else◌}
-use Rattle.std.specs.List.{All}
+use Rattle.std.specs.List.{All, position_from}
 use Rattle.std.specs.Vec.{vec_len, vec_capacity}
 use Rattle.graph_runs.specs.Answers.{answer_up_to, was_blocked, after_answer, makes, output_at}
 use Rattle.graph_runs.specs.TaskEvents.{first_wait}
@@ -85,6 +85,11 @@ would_block job m t next =
 abbrev pub is_at_rest : Job → Moment → ℕ → Bool
 is_at_rest job m t = if is_live job m t then would_block job m t (next_of job m t) else true
 
+-- whether a value is out of range
+abbrev pub is_value_out : Result ℤ TooBigValue → Bool
+is_value_out (Ok v) = false
+is_value_out (Err out) = true
+
 -- whether all of these are in range
 abbrev pub in_range : List (Result ℤ TooBigValue) → Bool
 in_range [] = true
@@ -96,6 +101,12 @@ abbrev pub are_in_range : Owed → Bool
 are_in_range nothing = false
 are_in_range (values j vs) = in_range vs
 are_in_range (exchange x) = false
+
+-- how many values are owed before the first that is out of range, where one is
+abbrev pub good_in : Owed → Option ℕ
+good_in nothing = None
+good_in (values j vs) = position_from is_value_out 0 vs
+good_in (exchange x) = None
 
 -- how many values are owed
 abbrev pub owed_many : Owed → ℕ
@@ -150,11 +161,6 @@ HasRoomNext steps job machine t =
 abbrev pub OwesMade : Machine → ℕ → Type 0
 OwesMade machine t = (state : TaskState) → slice_get machine.tasks.items t ≡ Some state
     → state.made.items ≢ []
-
--- whether a value is out of range
-abbrev pub is_value_out : Result ℤ TooBigValue → Bool
-is_value_out (Ok v) = false
-is_value_out (Err out) = true
 
 -- task t may signal so many phases on its first output now
 abbrev pub HasPhases : Job → Moment → ℕ → ℕ → Type 0

@@ -9,17 +9,16 @@ use Rattle.stream_eval.specs.stream_lists.Jobs.{Job, samples_in, with_samples}
 use Rattle.stream_eval.specs.stream_lists.Lists.{is_sink_at, sinks_of}
 use Rattle.stream_eval.specs.stream_lists.Meetings.{meeting_line}
 use Rattle.stream_eval.specs.stream_lists.Ranges.{Where}
-use Rattle.graph_runs.specs.Answers.{after_answer, turn_up_to}
+use Rattle.graph_runs.specs.Answers.{Answer, after_answer, makes, turn_up_to}
 use Rattle.graph_runs.specs.Feeds.{Call, Continues, IsOpenAt, call_of, hungers}
-use Rattle.graph_runs.specs.Moments.{Moment, started}
+use Rattle.graph_runs.specs.Moments.{HasAnsweredNone, Moment, started}
 use Rattle.graph_runs.specs.NextBlocks.{MaySize, block_up_to}
 use Rattle.graph_runs.specs.Nexts as nexts
 use Rattle.graph_runs.specs.Settled.{IsFaultAt, IsReady}
 use Rattle.graph_runs.specs.Nexts.{Next, is_live, next_of}
+use Rattle.stream_job.specs.InRange.{is_held_up, stands_before}
 use Rattle.stream_job.specs.Machines.{IsMachineAt, KeepsLines}
 use Rattle.stream_job.specs.SinkLines.{kept_by}
-use Rattle.stream_job.specs.Stepping.{is_at_rest}
-use Rattle.stream_job.specs.Worlds.{HasMet}
 use Rattle.stream_job.specs.declared.input.Input.{Input}
 use Rattle.stream_eval.specs.stream_lists.declared.sample_counts.TheConstants.{COUNT_MAX}
 use Rattle.stream_job.specs.declared.input.TheConstants.{INPUT_ROOM}
@@ -97,6 +96,12 @@ pub record IsSameBut (old new : StreamState) : Type 0 where
   pub machine : new.machine ≡ old.machine
   pub met : new.met ≡ old.met
 
+-- but for where it met a value out of range
+pub record IsSameRun (old new : StreamState) : Type 0 where
+  pub job : new.job ≡ old.job
+  pub machine : new.machine ≡ old.machine
+  pub inputs : new.inputs ≡ old.inputs
+
 -- a source has ended, and of the others those that had
 abbrev pub ended_with : List Input → ℕ → ℕ → Bool
 ended_with inputs source k = k == source || has_ended inputs k
@@ -115,8 +120,9 @@ pub record IsStreamAt (stream : StreamState) (s : List (List ℤ)) (m : Moment)
   pub lines : KeepsLines stream.job given m stream.machine.lines.items
   pub kept : AreKept stream.job s m stream.inputs
   pub stays_open : IsOpenAt (with_samples s stream.job) (ended_at stream) m
-  pub met : HasMet (with_samples s stream.job) m stream.met
-  -- a value out of range is so in every job that goes on so
+  -- no task has taken a value out of range
+  pub none : HasAnsweredNone (with_samples s stream.job) m
+  -- one that was met is so in every job that goes on so
   pub faults : (at : Where) (more : List (List ℤ)) → stream.met ≡ Some at
       → Continues (with_samples s stream.job) m more → IsReady (with_samples more stream.job)
       → IsFaultAt (started (with_samples more stream.job) m) at
@@ -151,9 +157,10 @@ is_hungry job ended m t = of (call_of job ended m t)
     of call = false
 
 -- whether task t makes no event now: it is not live, its turn would be blocked, which signals all
--- that it owes, it waits for a sample, or it has no room
+-- that it owes, or all that it owes before a value out of range, it waits for a sample, or it has
+-- no room
 abbrev pub rests : Job → (ℕ → Bool) → Moment → (ℕ → List ℤ) → ℕ → Bool
-rests job ended m given t = is_at_rest job m t || is_hungry job ended m t || is_full job m given t
+rests job ended m given t = is_held_up job m t || is_hungry job ended m t || is_full job m given t
 
 -- the numbers of all tasks
 abbrev pub all_tasks : Job → List ℕ
@@ -181,12 +188,41 @@ stop_by job None None true stopped.Stalled = Unit {0}
 stop_by job None None false stopped.Done = Unit {0}
 stop_by job full hungry live stop = ⊥
 
+-- each of n tasks rests, or stands before a value out of range
+abbrev pub EachStands : (ℕ → Bool) → (ℕ → Option Where) → ℕ → Type 0
+EachStands rest before n = (t : ℕ) → t < n → rest t ≡ false → is_some (before t) ≡ true
+
+-- the first of n tasks that does not rest stands before this one
+pub record FirstStands (rest : ℕ → Bool) (before : ℕ → Option Where) (n : ℕ) (at : Where) : Type 0
+  where
+    pub task : ℕ
+    pub there : task < n
+    pub first : (t : ℕ) → t < task → rest t ≡ true
+    pub is : before task ≡ Some at
+
+-- where a value out of range is told, no task makes an event but those that stand before one, it is
+-- the one that the first of these stands before, and no sink is without room
+pub record Meets (job : Job) (ended : ℕ → Bool) (m : Moment) (given : ℕ → List ℤ) (at : Where)
+    : Type 0 where
+  pub each : EachStands (rests job ended m given) (stands_before job m) (length job.graph.tasks)
+  pub first : FirstStands (rests job ended m given) (stands_before job m)
+      (length job.graph.tasks) at
+  pub room : first_full job m given ≡ None
+
 -- no value was out of range, and no task makes an event now
 pub record Rests (stream : StreamState) (s : List (List ℤ)) (m : Moment) (given : ℕ → List ℤ)
     : Type 0 where
   pub none : stream.met ≡ None
   pub rest : let job = with_samples s stream.job in
       list_all (rests job (ended_at stream) m given) (all_tasks job) ≡ true
+
+-- none was, and each task that makes one would stand before a value out of range
+pub record AllStand (stream : StreamState) (s : List (List ℤ)) (m : Moment) (given : ℕ → List ℤ)
+    : Type 0 where
+  pub none : stream.met ≡ None
+  pub each : let job = with_samples s stream.job in
+      EachStands (rests job (ended_at stream) m given) (stands_before job m)
+      (length job.graph.tasks)
 
 -- none was, and some task makes one
 pub record MayMove (stream : StreamState) (s : List (List ℤ)) (m : Moment) (given : ℕ → List ℤ)
@@ -195,11 +231,16 @@ pub record MayMove (stream : StreamState) (s : List (List ℤ)) (m : Moment) (gi
   pub moves : let job = with_samples s stream.job in
       list_all (rests job (ended_at stream) m given) (all_tasks job) ≡ false
 
--- it stops so at a moment: a sink without room is told first, and then a source that waits for a
--- sample
+-- it stops so at a moment: a sink without room is told first, then a value out of range, and then a
+-- source that waits for a sample
 abbrev pub StreamStopsAt : StreamState → List (List ℤ) → Moment → (ℕ → List ℤ) → Stopped → Type 0
 StreamStopsAt stream s m given (stopped.TooBig place phase) = stream.met ≡ Some (place, phase)
 StreamStopsAt stream s m given stopped.Paused = MayMove stream s m given
+StreamStopsAt stream s m given (stopped.Full sink) =
+    let job = with_samples s stream.job in
+    AllStand stream s m given
+    × stop_by job (first_full job m given) (first_hungry job (ended_at stream) m)
+    (is_some_live job m) (stopped.Full sink)
 StreamStopsAt stream s m given stop =
     let job = with_samples s stream.job in
     Rests stream s m given
@@ -223,6 +264,18 @@ after_sized job m (turn ∷ turns) =
     after_sized job
     (after_answer job (turn_up_to turn.steps turn.most job m turn.task) m) turns
 
+-- whether an answer is an event
+abbrev pub is_event : Answer → Bool
+is_event (makes event) = true
+is_event answer = false
+
+-- how many of such turns make an event
+abbrev pub moves_in : Job → Moment → List SizedTurn → ℕ
+moves_in job m [] = 0
+moves_in job m (turn ∷ turns) =
+    let answer = turn_up_to turn.steps turn.most job m turn.task in
+    (if is_event answer then 1 else 0) + moves_in job (after_answer job answer m) turns
+
 -- a stream went on by turns, in which a source, a filter or a sink may make more steps than its
 -- line names: for whatever samples came, whatever moment it stood at, and whatever the sinks had
 -- handed over, it stands for the same samples at a moment that turns lead to, and no sink has
@@ -230,6 +283,15 @@ after_sized job m (turn ∷ turns) =
 pub record StreamGoesOn (old new : StreamState) : Type 0 where
   pub later : (s : List (List ℤ)) (m : Moment) (given : ℕ → List ℤ) → IsStreamAt old s m given
       → (turns : List SizedTurn) × All (MayTurn old.job) turns
+      × IsStreamAt new s (after_sized (with_samples s old.job) m turns) given
+  pub job : new.job ≡ old.job
+  pub inputs : new.inputs ≡ old.inputs
+
+-- it went on so by turns of which so many at least made an event
+pub record StreamMoves (least : ℕ) (old new : StreamState) : Type 0 where
+  pub later : (s : List (List ℤ)) (m : Moment) (given : ℕ → List ℤ) → IsStreamAt old s m given
+      → (turns : List SizedTurn) × All (MayTurn old.job) turns
+      × (least ≤ moves_in (with_samples s old.job) m turns)
       × IsStreamAt new s (after_sized (with_samples s old.job) m turns) given
   pub job : new.job ≡ old.job
   pub inputs : new.inputs ≡ old.inputs

@@ -1,11 +1,11 @@
 //! The calls of a task on its phasers.
-ghost use Rattle.std.specs.Prelude.{◌≡◌, ◌≢◌, ◌<◌, ◌≤◌, ℕ, [], ◌∷◌, length, map, Some, None, IfOk, IfErr, OnOk, OnErr};
+ghost use Rattle.std.specs.Prelude.{◌≡◌, ◌≢◌, ◌<◌, ◌≤◌, ◌+◌, ℕ, [], ◌∷◌, length, map, take, slice_range, Some, None, Ok, IfOk, IfErr, OnOk, OnErr};
 ghost use Rattle.phase_any.specs.phase_accum.Sends.{AreSends, IsSend};
 ghost use Rattle.phase_any.specs.phase_accum.Values.{value_by};
 ghost use Rattle.phase_any.specs.phase_history.declared.event.Event.TheVariants.{Dropped, Registered, RegisteredNow};
 ghost use Rattle.phase_any.specs.phase_history.Histories.{History, done_of};
 ghost use Rattle.phase_any.specs.phase_history.Phases.{stream_of};
-ghost use Rattle.phase_any.specs.phase_core.Blocks.{written};
+ghost use Rattle.phase_any.specs.phase_core.Blocks.{written, before_too_big, after_in_range};
 ghost use Rattle.phase_any.specs.phase_history.Refusals.{drop_refusal, register_refusal, register_now_refusal};
 ghost use Rattle.phase_any.specs.phase_history.Replies.{signal_reply, wait_reply, wait_block_reply, after_signal, after_wait, after_wait_block};
 ghost use Rattle.graph_lang.specs.graph_base.Graphs.{phaser_at};
@@ -138,6 +138,44 @@ impl Machine {
         ensures lines { self.new.lines ≡ self.old.lines }
     {
         self.cores[p].wait_block(number, out)
+    }
+
+    /// Waits on phaser `p` for a block of values in range, for at most as many phases as there are
+    /// places.
+    pub fn wait_in_range_on(
+        &mut self,
+        job: &Job,
+        p: usize,
+        number: u64,
+        out: &mut [Outcome],
+    ) -> Result<GotBlock, WaitRefusal>
+        requires cores { HasSomeCores job.now self.old.cores.items }
+        requires phaser { p < length job.now.graph.phasers }
+        ensures reply { (h : ℕ → History)
+            → HasCores job.now h self.old.cores.items
+            → before_too_big (stream_of (value_at job.now p) (h p))
+            (wait_block_reply (limits_at job.now p) (h p) number (length out.old)) ≡ result }
+        ensures got { (phase count : ℕ) → result ≡ Ok (GotBlock.Values phase count) → 0 < count
+            → (h : ℕ → History) → HasCores job.now h self.old.cores.items
+            → (wait_block_reply (limits_at job.now p) (h p) number count ≡ result)
+            × (take count out.new
+            ≡ slice_range (stream_of (value_at job.now p) (h p)) phase (phase + count)) }
+        ensures few { (phase count : ℕ) → result ≡ Ok (GotBlock.Values phase count)
+            → count ≤ length out.old }
+        ensures too_big { (phase : ℕ) → result ≡ Ok (GotBlock.Values phase 0)
+            → (h : ℕ → History) → HasCores job.now h self.old.cores.items
+            → (wait_block_reply (limits_at job.now p) (h p) number 1
+            ≡ Ok (GotBlock.Values phase 1))
+            × (slice_range (stream_of (value_at job.now p) (h p)) phase (phase + 1)
+            ≡ Outcome.TooBig ∷ []) × (self.new.cores ≡ self.old.cores) }
+        ensures cores { (h : ℕ → History)
+            → HasCores job.now h self.old.cores.items
+            → HasCores job.now (with_at p (after_in_range result number (h p)) h)
+            self.new.cores.items }
+        ensures err { OnErr result (self.new.cores ≡ self.old.cores) }
+        ensures others { (self.new.tasks ≡ self.old.tasks) × (self.new.lines ≡ self.old.lines) }
+    {
+        self.cores[p].wait_in_range(number, out)
     }
 
     /// Registers a task as this child of a task on phaser `p`, at the first phase that is not

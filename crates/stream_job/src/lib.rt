@@ -10,7 +10,9 @@
 
 mod buffers;
 mod calls;
+mod in_range;
 mod input;
+mod look;
 mod machine;
 mod made;
 mod next;
@@ -37,6 +39,7 @@ mod task_state;
 mod text_jobs;
 mod turned;
 mod turns;
+mod went;
 mod world;
 
 pub use graph_lang;

@@ -13,6 +13,7 @@ ghost use Rattle.graph_runs.specs.Nexts.{has_signaller, is_live, number_on, samp
 ghost use Rattle.graph_runs.specs.Answers.{is_stalled, is_still, output_at};
 ghost use Rattle.stream_job.specs.Stepping.{blocks_signal, blocks_wait, is_at_rest, would_block};
 ghost use Rattle.stream_job.specs.Blocking.{AreBlocked};
+ghost use Rattle.stream_job.specs.InRange.{is_blocked_before, is_held_up};
 ghost use Rattle.stream_job.specs.Machines.{next_by};
 ghost use Rattle.stream_job.specs.Plans.{IsPlan};
 ghost use Rattle.stream_eval.specs.stream_lists.Jobs.{with_samples};
@@ -91,6 +92,41 @@ impl Machine {
             return true;
         }
         self.step_blocks(job, plan, t, awaits, self.next(job, plan, t, awaits))
+    }
+
+    /// Whether task number `t`, which, where it is a source, has these samples still to signal, is
+    /// not live, or its turn would be blocked, which signals all that it owes, or all that it owes
+    /// before a value out of range.
+    pub fn is_held_up(&self, job: &Job, plan: &Plan, t: usize, awaits: &[i64]) -> bool
+        requires came { (s : List (List ℤ)) × MayHaveCome job.now self.now t awaits.now s }
+        requires plan { IsPlan job.now plan.now }
+        requires task { t < length job.now.graph.tasks }
+        ensures { (s : List (List ℤ)) (m : Moment) → MayHaveCome job.now self.now t awaits.now s
+            → IsMachineAt (with_samples s job.now) m self.now
+            → is_held_up (with_samples s job.now) m t ≡ result }
+    {
+        if self.is_still(job, plan, t, awaits) {
+            return true;
+        }
+        match self.next(job, plan, t, awaits) {
+            Step::Signal { output } => self.is_blocked_before(job, t, output),
+            _ => false,
+        }
+    }
+
+    /// Whether the signal of the values that are owed on output `j` before one that is out of range
+    /// would be blocked.
+    fn is_blocked_before(&self, job: &Job, t: usize, j: usize) -> bool
+        requires { MayMakeNext job.now self.now t (signals j) }
+        ensures { (s : List (List ℤ)) (m : Moment)
+            → MakesNext (with_samples s job.now) self.now t (signals j)
+            → IsMachineAt (with_samples s job.now) m self.now
+            → is_blocked_before (with_samples s job.now) m t ≡ result }
+    {
+        let Some(many) = self.state(job, t).good_many() else {
+            return false;
+        };
+        many > 0 && self.signal_blocks(job, t, j, many as u64)
     }
 
     /// Whether a live task's turn would be blocked, where this is what it does next.

@@ -1,5 +1,5 @@
 //! Where a run that is fed stops.
-ghost use Rattle.std.specs.Prelude.{◌≡◌, ◌<◌, ◌+◌, ◌-◌, ◌&&◌, ℕ, ℤ, List, IfSome, None, false, length, nat_lt, not, true};
+ghost use Rattle.std.specs.Prelude.{◌≡◌, ◌≢◌, ◌<◌, ◌+◌, ◌-◌, ◌&&◌, ℕ, ℤ, List, IfSome, None, false, length, nat_lt, not, true};
 ghost use Rattle.std.specs.List.{find, list_all};
 ghost use Rattle.stream_eval.specs.stream_lists.Jobs.{with_samples};
 ghost use Rattle.stream_eval.specs.stream_lists.Lists.{is_sink_at};
@@ -22,26 +22,30 @@ use crate::sink_lines::line_room;
 use crate::step::Step;
 use crate::stopped::Stopped;
 use crate::stream::Stream;
+use graph_lang::Place;
 use graph_runs::{is_cut, until_of};
 use stream_eval::stream_lists::Job;
 
 impl Stream {
-    ghost use Rattle.stream_job.specs.Streams.{IsStreamAt, StreamStopsAt, all_tasks, ended_at, first_full, first_hungry, is_full, is_full_by, is_hungry, line_room, rests};
+    ghost use Rattle.stream_job.specs.Rounds.{LooksSo, StopsSo};
+    ghost use Rattle.stream_job.specs.declared.stopped.Stopped.TheVariants.{Paused};
+    ghost use Rattle.stream_job.specs.Streams.{IsStreamAt, all_tasks, ended_at, first_full, first_hungry, is_full, is_full_by, is_hungry, line_room, rests};
 
-    /// Why no task can move, or that one can.
-    pub fn stop(&self) -> Stopped
-        ensures { (s : List (List ℤ)) (m : Moment) (given : ℕ → List ℤ)
-            → IsStreamAt self.now s m given → StreamStopsAt self.now s m given result }
+    /// Why no task can move, where the first that does not rest stands before this value out of
+    /// range.
+    pub(crate) fn stop(&self, before: Option<(Place, u64)>) -> Stopped
+        requires met { self.now.met ≡ None }
+        requires looked { LooksSo self.now (length self.now.job.graph.tasks) before }
+        ensures stops { (s : List (List ℤ)) (m : Moment) (given : ℕ → List ℤ)
+            → IsStreamAt self.now s m given → StopsSo self.now s m given before result }
+        ensures paused { result ≢ Paused }
     {
-        if let Some((place, phase)) = self.met {
-            return Stopped::TooBig { place, phase };
-        }
-        if !self.all_rest() {
-            return Stopped::Paused;
-        }
         if let Some(t) = self.first_full() {
             let sink = self.machine.tasks[t].sink;
             return Stopped::Full { sink };
+        }
+        if let Some((place, phase)) = before {
+            return Stopped::TooBig { place, phase };
         }
         if let Some(t) = self.first_hungry() {
             let source = self.plan.tasks[t].source;
@@ -54,7 +58,7 @@ impl Stream {
     }
 
     /// Whether no task makes an event now.
-    fn all_rest(&self) -> bool
+    pub(crate) fn all_rest(&self) -> bool
         requires { self.now.met ≡ None }
         ensures { (s : List (List ℤ)) (m : Moment) (given : ℕ → List ℤ)
             → IsStreamAt self.now s m given → let job = with_samples s self.now.job in
@@ -97,14 +101,14 @@ impl Stream {
     }
 
     /// Whether a task makes no event now.
-    fn rests(&self, t: usize) -> bool
+    pub(crate) fn rests(&self, t: usize) -> bool
         requires { t < length self.now.job.graph.tasks }
         ensures { (s : List (List ℤ)) (m : Moment) (given : ℕ → List ℤ)
             → IsStreamAt self.now s m given
             → rests (with_samples s self.now.job) (ended_at self.now) m given t ≡ result }
     {
         let awaits = awaited(&self.job, &self.plan, &self.machine, &self.inputs, t);
-        if self.machine.is_still(&self.job, &self.plan, t, awaits) {
+        if self.machine.is_held_up(&self.job, &self.plan, t, awaits) {
             return true;
         }
         if self.is_hungry(t) {

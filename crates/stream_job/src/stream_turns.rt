@@ -1,5 +1,5 @@
 //! The turns of a run that is fed.
-ghost use Rattle.std.specs.Prelude.{◌≡◌, ◌≢◌, ◌<◌, ◌≤◌, ◌+◌, ◌-◌, ◌||◌, nat_lt, ℕ, ℤ, List, Ok, IfOk, length, map, false, true, None, Some};
+ghost use Rattle.std.specs.Prelude.{◌≡◌, ◌≢◌, ◌<◌, ◌≤◌, ◌+◌, ◌-◌, ◌||◌, nat_lt, ℕ, ℤ, List, Ok, IfOk, OnErr, length, map, false, true, None, Some};
 ghost use Rattle.stream_eval.specs.stream_lists.Jobs.{with_samples};
 ghost use Rattle.stream_eval.specs.stream_lists.Ranges.{answer_of};
 ghost use Rattle.graph_lang.specs.graph_base.declared.place.Place.{Place as PlaceValue};
@@ -12,14 +12,17 @@ ghost use Rattle.graph_runs.specs.Moments.{Moment, started};
 ghost use Rattle.graph_runs.specs.Settled.{IsFaultAt, IsReady};
 ghost use Rattle.graph_runs.specs.TaskPlaces.{registration_of_output};
 ghost use Rattle.phase_any.specs.phase_history.Refusals.{is_ahead};
+ghost use Rattle.stream_job.specs.Rounds.{first_met};
 
 use crate::buffers::OWN_STEPS;
+use crate::look::Look;
 use crate::plan_blocks::line_block;
 use crate::sink_lines::LINE_ROOM;
 use crate::stopped::Stopped;
 use crate::stream::Stream;
 use crate::stream_stops::awaited;
-use crate::turned::Turned;
+use crate::went::Went;
+use graph_lang::Place;
 use graph_lang::graph_base::Kind;
 use graph_runs::{feeds, input_of, kind_of, outcomes, output_of};
 use phase_any::phase_base::PHASES_MAX;
@@ -28,20 +31,31 @@ use std::alloc::AllocError;
 /// The turns that a task gets one after the other, while it moves, at most.
 const TURNS: usize = 64;
 
+/// The rounds of turns that one call makes at most, in each of which some task moves.
+pub const ROUNDS: u32 = u32::MAX;
+
 impl Stream {
     ghost use Rattle.stream_job.specs.Buffers.{most_steps};
     ghost use Rattle.stream_job.specs.Stepping.{HasPhases, MayStep};
     ghost use Rattle.stream_job.specs.Machines.{kept_behind};
-    ghost use Rattle.stream_job.specs.Streams.{StreamGoesOn, IsStreamAt, StreamStopsAt, ended_at};
-    ghost use Rattle.stream_job.specs.declared.stopped.Stopped.TheVariants.{Done, TooBig};
+    ghost use Rattle.stream_job.specs.InRange.{stands_before};
+    ghost use Rattle.stream_job.specs.Rounds.{LookTells, StandsSome, met_in, of_look, of_moved, of_went};
+    ghost use Rattle.stream_job.specs.Streams.{IsSameRun, IsStreamAt, MayMove, Meets, StreamGoesOn, StreamMoves, StreamStopsAt, ended_at, rests};
+    ghost use Rattle.stream_job.specs.declared.stopped.Stopped.TheVariants.{Done, Paused, TooBig};
+    ghost use Rattle.stream_job.specs.declared.look.Look.TheVariants.{Moved};
+    ghost use Rattle.stream_job.specs.declared.went.Went.TheVariants.{Before, Stays};
 
     /// Gives turns to the tasks until none can move, and returns why.
     ///
     /// A source that was not told to have ended waits for a sample where it has none left, but a
     /// child that is due there comes first. A sink without room is told before a hungry source,
     /// since to read it may let others move. Done is said once no task is left: then the sinks have
-    /// all that they get, whatever samples go on so. A value out of range is the first that a turn
-    /// meets, and one of every run whose samples go on so; it is told again by each later call.
+    /// all that they get, whatever samples go on so.
+    ///
+    /// No task takes a value out of range: it stands before it, and the others go on. Once no other
+    /// task can move, and no sink is without room, it is told where the first of these tasks
+    /// stands, in the order of their lines, and so it is by a later call. It is a value of every
+    /// run whose samples go on so.
     ///
     /// A child's registration may ask for memory, and nothing else does. Where there is none, no
     /// value is lost, and the call can be made again.
@@ -62,29 +76,109 @@ impl Stream {
             → IsFed (with_samples s self.new.job) (ended_at self.new) more
             → IsReady (with_samples more self.new.job)
             → IsFaultAt (started (with_samples more self.new.job) m) (place, n)) }
+        ensures meets { IfOk result (λ stop. (place : PlaceValue) (n : ℕ)
+            → stop ≡ TooBig place n → (s : List (List ℤ)) (m : Moment) (given : ℕ → List ℤ)
+            → IsStreamAt self.new s m given
+            → Meets (with_samples s self.new.job) (ended_at self.new) m given (place, n)) }
+        // Paused is told only behind so many events.
+        ensures paused { IfOk result (λ stop. stop ≡ Paused
+            → StreamMoves ROUNDS self.old self.new) }
     {
-        self.rounds()?;
+        self.forget_met();
+        let Look::Still { before } = self.settle()? else {
+            return Ok(Stopped::Paused);
+        };
         feeds::runs_go_on();
         outcomes::all_gone();
-        Ok(self.stop())
+        let stop = self.stop(before);
+        self.meet(stop);
+        Ok(stop)
     }
 
-    /// Gives rounds of turns until no task moves in one, or so many as one call makes at most.
-    fn rounds(&mut self) -> Result<(), AllocError>
-        ensures { StreamGoesOn self.old self.new }
+    /// Forgets where a value out of range was met: it is looked for again.
+    fn forget_met(&mut self)
+        ensures stands { (s : List (List ℤ)) (m : Moment) (given : ℕ → List ℤ)
+            → IsStreamAt self.old s m given → IsStreamAt self.new s m given }
+        ensures met { self.new.met ≡ None }
+        ensures others { IsSameRun self.old self.new }
     {
-        for _ in 0..u32::MAX {
-            if !self.round()? {
-                break;
+        self.met = None;
+    }
+
+    /// Keeps where a value out of range is, where a stop tells of one.
+    fn meet(&mut self, stop: Stopped)
+        requires met { self.old.met ≡ None }
+        requires stands { (s : List (List ℤ)) (m : Moment) (given : ℕ → List ℤ)
+            (place : PlaceValue) (n : ℕ) → stop ≡ TooBig place n → IsStreamAt self.old s m given
+            → StandsSome (with_samples s self.old.job) m (place, n) }
+        ensures stands { (s : List (List ℤ)) (m : Moment) (given : ℕ → List ℤ)
+            → IsStreamAt self.old s m given → IsStreamAt self.new s m given }
+        ensures stood { (s : List (List ℤ)) (m : Moment) (given : ℕ → List ℤ)
+            → IsStreamAt self.new s m given → IsStreamAt self.old s m given }
+        ensures met { self.new.met ≡ met_in stop }
+        ensures others { IsSameRun self.old self.new }
+    {
+        if let Stopped::TooBig { place, phase } = stop {
+            self.met = Some((place, phase));
+        }
+    }
+
+    /// Gives rounds of turns, and looks behind the last whether some task may move.
+    fn settle(&mut self) -> Result<Look, AllocError>
+        requires met { self.old.met ≡ None }
+        ensures moves { IfOk result (λ look. StreamMoves (of_look ROUNDS look) self.old self.new) }
+        ensures err { OnErr result (StreamMoves 0 self.old self.new) }
+        ensures met { self.new.met ≡ None }
+        ensures tells { IfOk result (LookTells self.new) }
+        ensures moved { result ≡ Ok Moved → (s : List (List ℤ)) (m : Moment)
+            (given : ℕ → List ℤ) → IsStreamAt self.new s m given → MayMove self.new s m given }
+    {
+        if let Look::Still { before } = self.rounds()? {
+            return Ok(Look::Still { before });
+        }
+        if self.all_rest() {
+            return Ok(Look::Still { before: None });
+        }
+        Ok(Look::Moved)
+    }
+
+    /// Gives rounds of turns until no task moves, or so many as one call makes at most.
+    fn rounds(&mut self) -> Result<Look, AllocError>
+        requires met { self.old.met ≡ None }
+        ensures moves { IfOk result (λ look. StreamMoves (of_look ROUNDS look) self.old self.new) }
+        ensures err { OnErr result (StreamMoves 0 self.old self.new) }
+        ensures met { self.new.met ≡ None }
+        ensures tells { IfOk result (LookTells self.new) }
+    {
+        for _ in 0..ROUNDS {
+            if let Look::Still { before } = self.round_or_look()? {
+                return Ok(Look::Still { before });
             }
         }
-        Ok(())
+        Ok(Look::Moved)
+    }
+
+    /// Gives a round of turns, and where no task moves in it, looks whether one can.
+    fn round_or_look(&mut self) -> Result<Look, AllocError>
+        requires met { self.old.met ≡ None }
+        ensures moves { IfOk result (λ look. StreamMoves (of_look 1 look) self.old self.new) }
+        ensures err { OnErr result (StreamMoves 0 self.old self.new) }
+        ensures met { self.new.met ≡ None }
+        ensures tells { IfOk result (LookTells self.new) }
+    {
+        if self.round()? {
+            return Ok(Look::Moved);
+        }
+        self.look()
     }
 
     /// Gives turns to each task, in the order of their lines, and to each of them while it moves.
     /// Returns whether some task moved.
     fn round(&mut self) -> Result<bool, AllocError>
-        ensures { StreamGoesOn self.old self.new }
+        requires met { self.old.met ≡ None }
+        ensures moves { IfOk result (λ moved. StreamMoves (of_moved moved) self.old self.new) }
+        ensures err { OnErr result (StreamMoves 0 self.old self.new) }
+        ensures met { self.new.met ≡ None }
     {
         let mut moved = false;
         for t in 0..self.job.graph().tasks() {
@@ -95,37 +189,76 @@ impl Stream {
 
     /// Gives turns to a task while it moves, and returns whether it did.
     fn turns(&mut self, t: usize) -> Result<bool, AllocError>
-        requires { t < length self.old.job.graph.tasks }
-        ensures { StreamGoesOn self.old self.new }
+        requires met { self.old.met ≡ None }
+        requires task { t < length self.old.job.graph.tasks }
+        ensures moves { IfOk result (λ moved. StreamMoves (of_moved moved) self.old self.new) }
+        ensures err { OnErr result (StreamMoves 0 self.old self.new) }
+        ensures met { self.new.met ≡ None }
     {
         for made in 0..TURNS {
-            if !self.turn(t)? {
+            let most = self.own_steps(t);
+            let Went::On = self.turn(t, most)? else {
                 return Ok(made > 0);
-            }
+            };
         }
         Ok(true)
     }
 
-    /// Gives a turn to a task, where it waits for no sample and has room, and returns whether it
-    /// moved.
-    fn turn(&mut self, t: usize) -> Result<bool, AllocError>
-        requires { t < length self.old.job.graph.tasks }
-        ensures { StreamGoesOn self.old self.new }
+    /// Gives a turn by its line to each task that does not rest, until one moves. Where none does,
+    /// tells where the first of them stands before a value out of range.
+    fn look(&mut self) -> Result<Look, AllocError>
+        requires met { self.old.met ≡ None }
+        ensures moves { IfOk result (λ look. StreamMoves (of_look 1 look) self.old self.new) }
+        ensures err { OnErr result (StreamMoves 0 self.old self.new) }
+        ensures met { self.new.met ≡ None }
+        ensures tells { IfOk result (LookTells self.new) }
     {
-        let most = self.own_steps(t);
-        if self.met.is_some() || self.is_hungry(t) || self.is_full_by(t, most) {
-            return Ok(false);
+        let mut before = None;
+        for t in 0..self.job.graph().tasks() {
+            if !self.rests(t) {
+                let block = line_block(&self.job, t);
+                match self.turn(t, block)? {
+                    Went::On => return Ok(Look::Moved),
+                    Went::Before { place, phase } => before = first_of(before, place, phase),
+                    Went::Stays => unreachable!(),
+                }
+            }
+        }
+        Ok(Look::Still { before })
+    }
+
+    /// Gives a turn of at most so many steps to a task, where it waits for no sample and has room.
+    fn turn(&mut self, t: usize, most: u64) -> Result<Went, AllocError>
+        requires met { self.old.met ≡ None }
+        requires task { t < length self.old.job.graph.tasks }
+        requires most { MayStep self.old.job self.old.machine t most
+            × (most ≤ most_steps self.old.job t) }
+        ensures moves { IfOk result (λ went. StreamMoves (of_went went) self.old self.new) }
+        ensures err { OnErr result (StreamMoves 0 self.old self.new) }
+        ensures met { self.new.met ≡ None }
+        ensures stays { result ≡ Ok Stays → most ≡ (task_at self.old.job.graph t).block
+            → (s : List (List ℤ)) (m : Moment) (given : ℕ → List ℤ)
+            → IsStreamAt self.old s m given
+            → rests (with_samples s self.old.job) (ended_at self.old) m given t ≡ true }
+        ensures before { (place : PlaceValue) (phase : ℕ) → result ≡ Ok (Before place phase)
+            → (self.new ≡ self.old) × ((s : List (List ℤ)) (m : Moment) (given : ℕ → List ℤ)
+            → IsStreamAt self.old s m given
+            → stands_before (with_samples s self.old.job) m t ≡ Some (place, phase)) }
+    {
+        if self.is_hungry(t) {
+            return Ok(Went::Stays);
+        }
+        if self.is_full_by(t, most) {
+            return Ok(Went::Stays);
         }
         feeds::feeds_go_on();
         let awaits = awaited(&self.job, &self.plan, &self.machine, &self.inputs, t);
         let (plan, buffers) = (&self.plan, &mut self.buffers);
-        let made = self
+        let went = self
             .machine
-            .make(&self.job, plan, buffers, t, awaits, most)?;
+            .make_in_range(&self.job, plan, buffers, t, awaits, most)?;
         self.plan.pass(&self.job, &self.machine.tasks, t);
-        let told = made.told(t);
-        self.met = told.too_big();
-        Ok(matches!(told, Turned::Moved | Turned::Ended))
+        Ok(went)
     }
 
     /// How many steps the next turn of a task makes at most: a block of its line; or, of a source,
@@ -233,5 +366,15 @@ fn phases_left(from: u64, slowest: Option<u64>, bound: u64) -> u64
     match slowest {
         None => left,
         Some(slowest) => left.min(slowest.saturating_add(bound).saturating_sub(from)),
+    }
+}
+
+/// Where the first of two values is, where there is one before this.
+fn first_of(before: Option<(Place, u64)>, place: Place, phase: u64) -> Option<(Place, u64)>
+    ensures { result ≡ first_met before (place, phase) }
+{
+    match before {
+        None => Some((place, phase)),
+        Some(at) => Some(at),
     }
 }

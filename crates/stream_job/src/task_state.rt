@@ -1,6 +1,8 @@
 //! How far a task has come.
 ghost use Rattle.std.specs.Prelude.{◌≡◌, ◌<◌, ◌≤◌, ◌+◌, [], not, is_some, length, map, List, ℤ, vec_capacity};
+ghost use Rattle.std.specs.List.{position_from};
 ghost use Rattle.graph_lang.specs.graph_base.declared.line.Kind.TheVariants.{Fir as filters};
+ghost use Rattle.stream_job.specs.Stepping.{is_value_out};
 ghost use Rattle.stream_eval.specs.stream_lists.Lists.{number};
 ghost use Rattle.graph_runs.specs.Moves.{IsBlock};
 ghost use Rattle.graph_runs.specs.declared.owed.Owed.TheVariants.{Nothing};
@@ -41,7 +43,7 @@ pub struct TaskState {
 
 impl TaskState {
     ghost use Rattle.stream_job.specs.Places.{place_in_state, owed_in, StateHasTaken};
-    ghost use Rattle.stream_job.specs.Stepping.{are_in_range, owed_many};
+    ghost use Rattle.stream_job.specs.Stepping.{are_in_range, good_in, owed_many};
 
     /// Whether task number `t` is registered on all phasers of its line.
     pub fn is_registered(&self, job: &Job, t: usize) -> bool
@@ -104,6 +106,19 @@ impl TaskState {
         true
     }
 
+    /// How many values the task owes before the first that is out of range, where one is.
+    pub fn good_many(&self) -> Option<usize>
+        ensures { good_in (owed_in self.now.owed self.now.made.items) ≡ result }
+    {
+        if !self.made.is_empty() {
+            return first_out(&self.made);
+        }
+        match self.owed {
+            Owed::Value { value: Err(_), .. } => Some(0),
+            _ => None,
+        }
+    }
+
     /// How many values the task owes.
     pub fn owed_many(&self) -> u64
         ensures { owed_many (owed_in self.now.owed self.now.made.items) ≡ result }
@@ -113,4 +128,16 @@ impl TaskState {
         }
         self.made.len() as u64
     }
+}
+
+/// The place of the first of these values that is out of range, where one is.
+fn first_out(made: &[Result<i64, TooBigValue>]) -> Option<usize>
+    ensures { result ≡ position_from is_value_out 0 made.now }
+{
+    for place in 0..made.len() {
+        if made[place].is_err() {
+            return Some(place);
+        }
+    }
+    None
 }

@@ -1,5 +1,5 @@
 //! The turn of a task, by what it does next.
-ghost use Rattle.std.specs.Prelude.{◌≡◌, ◌≢◌, ◌<◌, ◌≤◌, ◌+◌, ◌++◌, ◌∷◌, [], ℕ, ℤ, List, true, length, map, slice_get, Some, None, Ok, IfSome, IfOk, IfErr, OnOk, OnErr, if◌then◌else◌, vec_capacity};
+ghost use Rattle.std.specs.Prelude.{◌≡◌, ◌≢◌, ◌<◌, ◌≤◌, ◌+◌, ◌++◌, ◌∷◌, [], ℕ, ℤ, List, true, length, map, take, slice_get, Some, None, Ok, IfSome, IfOk, IfErr, OnOk, OnErr, if◌then◌else◌, vec_capacity};
 ghost use Rattle.std.specs.List.{All, position_from};
 ghost use Rattle.graph_lang.specs.graph_base.Graphs.{task_at};
 ghost use Rattle.graph_lang.specs.graph_base.declared.line.Kind.TheVariants.{Fir as filters};
@@ -79,7 +79,7 @@ impl Machine {
     }
 
     /// A task leaves the first phaser that it has not left.
-    fn leave(&mut self, job: &Job, t: usize) -> Made
+    pub fn leave(&mut self, job: &Job, t: usize) -> Made
         requires { MayDo job.now self.old t turns.leaves }
         ensures { HasDone job.now self.old self.new t turns.leaves result }
     {
@@ -99,7 +99,7 @@ impl Machine {
     }
 
     /// A source signals the next of the samples that it has still to signal, at most so many.
-    fn signal_samples(
+    pub fn signal_samples(
         &mut self,
         job: &Job,
         plan: &Plan,
@@ -184,7 +184,7 @@ impl Machine {
     }
 
     /// A task that is no filter signals this value, which is in range, on this output.
-    fn signal_value(&mut self, job: &Job, t: usize, output: usize, x: i64) -> Made
+    pub fn signal_value(&mut self, job: &Job, t: usize, output: usize, x: i64) -> Made
         requires next { MayDo job.now self.old t (turns.signals output) }
         requires kind { (task_at job.now.graph t).kind ≢ filters }
         requires value { (s : List (List ℤ)) (steps : ℕ) (m : Moment)
@@ -247,7 +247,7 @@ impl Machine {
     }
 
     /// The place among the lines of a task that is a sink.
-    fn sink_of(&self, job: &Job, t: usize) -> Option<usize>
+    pub fn sink_of(&self, job: &Job, t: usize) -> Option<usize>
         requires task { t < length job.now.graph.tasks }
         requires state { t < length self.now.tasks.items }
         ensures { (state : TaskState) → slice_get self.now.tasks.items t ≡ Some state
@@ -260,7 +260,7 @@ impl Machine {
     }
 
     /// Keeps the values of a sink before the first that is too big, for which there is room.
-    fn keep(&mut self, sink: Option<usize>, outcomes: &[Outcome])
+    pub fn keep(&mut self, sink: Option<usize>, outcomes: &[Outcome])
         requires there { IfSome sink (λ i. i < length self.old.lines.items) }
         requires room { IfSome sink (HasRoomIn self.old.lines.items (length outcomes.now)) }
         ensures lines { (given : ℕ → List ℤ) → map (kept_behind given) self.new.lines.items
@@ -302,7 +302,7 @@ impl Machine {
     }
 
     /// A task registers its child on the next phaser of the child's line.
-    fn register_child(&mut self, job: &Job, t: usize, c: usize) -> Result<Made, AllocError>
+    pub fn register_child(&mut self, job: &Job, t: usize, c: usize) -> Result<Made, AllocError>
         requires { MayDo job.now self.old t (turns.registers c) }
         ensures made { IfOk result
             (HasDone job.now self.old self.new t (turns.registers c)) }
@@ -400,12 +400,14 @@ fn keep_values(values: &mut Vec<i64>, outcomes: &[Outcome])
     }
 }
 
-/// Puts these values in place of those that are there, and answers the place of the first that is
-/// out of range, where one is.
-fn put_values(made: &[Result<i64, TooBigValue>], values: &mut Vec<i64>) -> Option<usize>
+/// Puts these values in place of those that are there, up to the first that is out of range, and
+/// answers its place, where one is.
+pub fn put_values(made: &[Result<i64, TooBigValue>], values: &mut Vec<i64>) -> Option<usize>
     requires room { length made.now ≤ vec_capacity values.old }
     ensures some { result ≡ position_from is_value_out 0 made.now }
     ensures none { result ≡ None → map (λ x. Ok x) values.new.items ≡ made.now }
+    ensures before { (place : ℕ) → result ≡ Some place
+        → map (λ x. Ok x) values.new.items ≡ take place made.now }
     ensures room { vec_capacity values.new ≡ vec_capacity values.old }
 {
     values.clear();

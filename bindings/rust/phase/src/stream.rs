@@ -199,9 +199,10 @@ impl Stream {
     /// # Errors
     ///
     /// It fails as `TooBig` where a value is out of range, in every stream whose samples go on so,
-    /// or as `Stalled`, and then each later call does too. What the sinks have can still be taken,
-    /// but perhaps not each value before the one that is too big. At `OutOfMemory` there was no
-    /// memory for a child's registration; no value is lost, and the call can be made again.
+    /// or as `Stalled`, and then each later call does too, but that behind a `finish` a sink may be
+    /// without room first. What the sinks have can still be taken: all that comes about without the
+    /// value that is too big. At `OutOfMemory` there was no memory for a child's registration; no
+    /// value is lost, and the call can be made again.
     ///
     /// # Example
     ///

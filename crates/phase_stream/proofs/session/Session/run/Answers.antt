@@ -2,7 +2,7 @@
 use Rattle.std.proofs.Common.{refl}
 use Rattle.stream_job.specs.Streams.{after_sized}
 use Rattle.stream_job.specs.stream_lists.Jobs.{with_samples}
-use Rattle.phase_stream.proofs.Standing.{came_same, sources_same, stop_means, with_three}
+use Rattle.phase_stream.proofs.Standing.{came_same, sources_same, stop_means, with_four}
 use Rattle.phase_stream.proofs.session.Session.run.Goals as goal
 
 pub returns-clause-stands : goal.returns-clause-stands
@@ -25,8 +25,9 @@ returns-clause-stands g c = λ held old now st.
 
 pub returns-clause-stops : goal.returns-clause-stops
 returns-clause-stops g c =
-    with_three c.run.result _ _ _ _
-    (λ stop stops done big s m given at. stop_means c.run.new.self s m given stop at
+    with_four c.run.result _ _ _ _ _
+    (λ stop stops done big meets s m given at. stop_means c.run.new.self s m given stop at
     (stops s m given at) (λ e more fed ready. done e s m given more at fed ready)
-    (λ place n e more fed ready. big place n e s m given more at fed ready))
-    c.run.ensures.stops c.run.ensures.done c.run.ensures.too_big
+    (λ place n e more fed ready. big place n e s m given more at fed ready)
+    (λ place n e. meets place n e s m given at))
+    c.run.ensures.stops c.run.ensures.done c.run.ensures.too_big c.run.ensures.meets

@@ -60,7 +60,7 @@ stands c s m given at =
       kept = at.kept;
       stays_open = at.stays_open;
       faults = at.faults;
-      met = at.met;
+      none = at.none;
     }
 
 pub invariant_of-self : goal.invariant_of-self

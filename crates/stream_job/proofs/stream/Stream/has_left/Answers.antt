@@ -1,5 +1,5 @@
 -- The line of the sink names its task, and the machine has how that stands.
-use Rattle.std.proofs.Common.{◌≡◌, ◌<◌, ℕ, ℤ, Bool, true, false, refl, List, length, not, sym, ap, subst, ◌∙◌, arith}
+use Rattle.std.proofs.Common.{◌≡◌, ◌<◌, ℕ, ℤ, Bool, true, false, refl, List, None, length, not, sym, ap, subst, ◌∙◌, arith}
 use Rattle.graph_lang.specs.graph_base.Graphs.{task_at}
 use Rattle.stream_eval.specs.stream_lists.Jobs.{with_samples}
 use Rattle.stream_eval.specs.stream_lists.Lists.{is_sink_at, numbers_of, sinks_of, taken_from}
@@ -133,7 +133,7 @@ returns-then-is_registered-clause-whole c = λ is.
     let right = with_samples more bare in
     subst (λ u. kept_by bare m u ≡ taken_from (numbers_of (started right m)) (task_at bare.graph u)
     (span_in (started right m) u) 0) (named w.After-index)
-    (gone_kept job m c.self.inside.met t at.machine.graph at.machine.reached.ran at.met lt some left
+    (gone_kept job m None t at.machine.graph at.machine.reached.ran at.none lt some left
     ∙ gone_whole right m t ready ran lt (sink_kind (task_at bare.graph t).kind sinks) some left
     (c.members.ensures.stands right m t ready ran lt
     (input_at (task_at bare.graph t) 0, left.n, left.number))

@@ -9,39 +9,39 @@ use Rattle.stream_job.specs.Streams.{IsStreamAt, StreamState, ended_at, first_fu
 use Rattle.stream_job.specs.contracts.stream.Stream.{the_view}
 use Rattle.stream_job.specs.declared.stopped.Stopped.TheVariants as stopped
 use Rattle.stream_job.proofs.Awaiting.{planned}
-use Rattle.stream_job.proofs.FedStops.{found_in, full_sink}
+use Rattle.stream_job.proofs.FedStops.{done_by, found_in, full_sink, rests_so, stalled_by}
 use Rattle.stream_job.proofs.Stopping.{state_at}
 use Rattle.stream_job.proofs.FirstTurns.{sink_kind}
 use Rattle.stream_job.proofs.stream.Stream.stop.Goals as goal
-use Rattle.stream_job.proofs.stream.Stream.stop.Goals.{In-Some-first_full, In-Some-first_hungry}
+use Rattle.stream_job.proofs.stream.Stream.stop.Goals.{After-has_live, In-Some, In-Some-first_hungry}
 
 -- the sink stands among the tasks
-full_there : (c : In-Some-first_full)
-    → c.in-Some-first_full.t < length c.self.inside.job.graph.tasks
+full_there : (c : In-Some)
+    → c.in-Some.t < length c.self.inside.job.graph.tasks
 full_there c =
     let s = c.self.invariant.0.0 in
     let m = c.self.invariant.0.1 in
     let given = c.self.invariant.0.2 in
-    let t = c.in-Some-first_full.t in
+    let t = c.in-Some.t in
     let P : StreamState → Type 0 = λ w. (s : List (List ℤ)) (m : Moment) (given : ℕ → List ℤ)
     → IsStreamAt w s m given → first_full (with_samples s w.job) m given ≡ Some t in
     let found = subst P (sym c.self.view_is) (λ s m given at.
-    c.first_full.ensures s m given at ∙ c.in-Some-first_full.is) in
+    c.first_full.ensures s m given at ∙ c.in-Some.is) in
     (found_in (is_full (with_samples s c.self.inside.job) m given)
     (length c.self.inside.job.graph.tasks) t (found s m given c.self.invariant.0.3)).0
 
 pub index-requires : goal.index-requires
 index-requires c =
-    let lt = full_there (goal.at.index-requires c).In-Some-first_full in
+    let lt = full_there c in
     let tasks = c.self.inside.machine.tasks in
     let many : length tasks.items ≡ length c.self.inside.job.graph.tasks =
     c.self.invariant.0.3.machine.tasks_many in
     let long : vec_len tasks ≡ length tasks.items = tasks.ok.0 in
     omega arith
 
-pub returns-in-Some-first_full : goal.returns-in-Some-first_full
-returns-in-Some-first_full c =
-    let t = c.in-Some-first_full.t in
+pub returns-in-Some-clause-stops : goal.returns-in-Some-clause-stops
+returns-in-Some-clause-stops c =
+    let t = c.in-Some.t in
     let state = c.index.result.now in
     let Q : StreamState → Type 0 = λ w. (s : List (List ℤ)) (m : Moment) (given : ℕ → List ℤ)
     → IsStreamAt w s m given → is_full (with_samples s w.job) m given t ≡ true
@@ -49,21 +49,16 @@ returns-in-Some-first_full c =
     let place = subst Q c.self.view_is (λ s m given at full.
     (let job = with_samples s c.self.inside.job in
     (at.machine.tasks t state (state_at job c.self.inside.machine m t state at.machine
-    (full_there (goal.at.returns-in-Some-first_full c).In-Some-first_full) c.index.ensures)).sink
+    (full_there (goal.at.returns-in-Some-clause-stops c).In-Some) c.index.ensures)).sink
     (sink_kind (task_at job.graph t).kind (full_sink job m given t full)))) in
-    let N : StreamState → Type 0 = λ w. w.met ≡ None in
-    let none = subst N c.self.view_is c.in_default.is in
     λ s m given at.
     (let job = with_samples s c.args.self.now.job in
     let found : first_full job m given ≡ Some t =
-    c.first_full.ensures s m given at ∙ c.in-Some-first_full.is in
+    c.first_full.ensures s m given at ∙ c.in-Some.is in
     let full = (found_in (is_full job m given) (length job.graph.tasks) t found).1 in
     let S : Option ℕ → Type 0 = λ o. stop_by job o (first_hungry job (ended_at c.args.self.now) m)
     (is_some_live job m) (stopped.Full state.sink) in (
-      record {
-        none = none;
-        rest = c.all_rest.ensures s m given at ∙ c.if-not-all_rest.false;
-      },
+      record { none = c.requires.met; each = (c.requires.looked s m given at).each },
       subst S (sym found) (place s m given at full),
     ))
 
@@ -91,39 +86,63 @@ index-requires-in-Some-first_hungry c =
     let long : vec_len tasks ≡ length tasks.items = tasks.ok.0 in
     omega arith
 
-pub returns-in-Some-first_hungry : goal.returns-in-Some-first_hungry
-returns-in-Some-first_hungry c =
+pub returns-in-Some-first_hungry-clause-stops : goal.returns-in-Some-first_hungry-clause-stops
+returns-in-Some-first_hungry-clause-stops c =
     let t = c.in-Some-first_hungry.t in
     let one = c.index-in-Some-first_hungry.result.now in
     let Q : StreamState → Type 0 = λ w. source_number w.job.graph.tasks t ≡ one.source in
     let number = subst Q c.self.view_is (sym (planned c.self.inside.job c.self.inside.plan t one
     c.self.invariant.1
-    (hungry_there (goal.at.returns-in-Some-first_hungry c).In-Some-first_hungry)
+    (hungry_there (goal.at.returns-in-Some-first_hungry-clause-stops c).In-Some-first_hungry)
     c.index-in-Some-first_hungry.ensures)) in
-    let N : StreamState → Type 0 = λ w. w.met ≡ None in
-    let none = subst N c.self.view_is c.in_default.is in
     λ s m given at.
     (let job = with_samples s c.args.self.now.job in
+    let rest = rests_so c.args.self.now c.args.before c.requires.met c.in_default-before.is
+    c.requires.looked in
     let hungry : first_hungry job (ended_at c.args.self.now) m ≡ Some t =
     c.first_hungry.ensures s m given at ∙ c.in-Some-first_hungry.is in
     let full : first_full job m given ≡ None =
-    c.first_full.ensures s m given at ∙ c.in_default-first_full.is in
+    c.first_full.ensures s m given at ∙ c.in_default.is in
     let S : Option ℕ → Option ℕ → Type 0 = λ o u. stop_by job o u (is_some_live job m)
     (stopped.Hungry one.source) in (
-      record {
-        none = none;
-        rest = c.all_rest.ensures s m given at ∙ c.if-not-all_rest.false;
-      },
+      rest s m given at,
       subst (λ o. S o (first_hungry job (ended_at c.args.self.now) m)) (sym full)
           (subst (S None) (sym hungry) number),
     ))
 
--- some task moves
-pub returns-then-not-all_rest : goal.returns-then-not-all_rest
-returns-then-not-all_rest c =
-    let N : StreamState → Type 0 = λ w. w.met ≡ None in
-    let none = subst N c.self.view_is c.in_default.is in
-    λ s m given at. record {
-      none = none;
-      moves = c.all_rest.ensures s m given at ∙ c.if-not-all_rest.true;
-    }
+-- whether some task is live
+live : (c : After-has_live) (s : List (List ℤ)) (m : Moment) (given : ℕ → List ℤ)
+    → IsStreamAt c.args.self.now s m given
+    → is_some_live (with_samples s c.args.self.now.job) m ≡ c.has_live.result
+live c =
+    let P : StreamState → Type 0 = λ w. (s : List (List ℤ)) (m : Moment) (given : ℕ → List ℤ)
+    → IsStreamAt w s m given → is_some_live (with_samples s w.job) m ≡ c.has_live.result in
+    subst P c.self.view_is (λ s m given at. c.has_live.ensures s m at.machine)
+
+pub returns-then-has_live-clause-stops : goal.returns-then-has_live-clause-stops
+returns-then-has_live-clause-stops c =
+    λ s m given at.
+    (let job = with_samples s c.args.self.now.job in
+    let rest = rests_so c.args.self.now c.args.before c.requires.met c.in_default-before.is
+    c.requires.looked in (
+      rest s m given at,
+      stalled_by job (first_full job m given)
+          (first_hungry job (ended_at c.args.self.now) m) (is_some_live job m)
+          (c.first_full.ensures s m given at ∙ c.in_default.is)
+          (c.first_hungry.ensures s m given at ∙ c.in_default-first_hungry.is)
+          (live (goal.at.returns-then-has_live-clause-stops c).After-has_live s m given at ∙ c.if-has_live.true),
+    ))
+
+pub returns-clause-stops : goal.returns-clause-stops
+returns-clause-stops c =
+    λ s m given at.
+    (let job = with_samples s c.args.self.now.job in
+    let rest = rests_so c.args.self.now c.args.before c.requires.met c.in_default-before.is
+    c.requires.looked in (
+      rest s m given at,
+      done_by job (first_full job m given)
+          (first_hungry job (ended_at c.args.self.now) m) (is_some_live job m)
+          (c.first_full.ensures s m given at ∙ c.in_default.is)
+          (c.first_hungry.ensures s m given at ∙ c.in_default-first_hungry.is)
+          (live (goal.at.returns-clause-stops c).After-has_live s m given at ∙ c.if-has_live.false),
+    ))

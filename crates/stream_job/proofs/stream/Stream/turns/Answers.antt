@@ -1,18 +1,35 @@
--- One more turn goes on from where the others led.
-use Rattle.stream_job.proofs.FedTurns.{goes_on_twice}
+-- One more turn makes one more event.
+use Rattle.std.proofs.Common.{◌+◌, arith, subst}
+use Rattle.std.specs.Prelude.{nat_lt}
+use Rattle.stream_job.specs.Rounds.{of_moved, of_went}
+use Rattle.stream_job.specs.Streams.{StreamMoves}
+use Rattle.stream_job.proofs.FedLooks.{moved_few}
+use Rattle.stream_job.proofs.FedTurns.{moves_less, moves_on}
+use Rattle.stream_job.proofs.Setting.{err_of}
 use Rattle.stream_job.proofs.stream.Stream.turns.Goals as goal
 
-pub returns-in_err-turn : goal.returns-in_err-turn
-returns-in_err-turn c =
-    goes_on_twice c.args.self.now c.loop-made.self c.turn.new.self c.loop-made.invariant
-    c.turn.ensures
+pub returns-in_err-turn-clause-err : goal.returns-in_err-turn-clause-err
+returns-in_err-turn-clause-err c =
+    let n = c.loop-made.made in
+    err_of c.from_residual.result
+    (moves_less (n + 0) 0 c.args.self.now c.turn.new.self (omega arith)
+    (moves_on n 0 c.args.self.now c.loop-made.self c.turn.new.self c.loop-made.invariant.0
+    c.in_err-turn.ensures.err))
 
-pub returns-then-not-branch : goal.returns-then-not-branch
-returns-then-not-branch c =
-    goes_on_twice c.args.self.now c.loop-made.self c.turn.new.self c.loop-made.invariant
-    c.turn.ensures
+pub returns-in_default-clause-moves : goal.returns-in_default-clause-moves
+returns-in_default-clause-moves c =
+    let n = c.loop-made.made in
+    let few = moved_few n in
+    moves_less (n + of_went c.in_ok-turn.field-0) (of_moved (nat_lt 0 n)) c.args.self.now
+    c.turn.new.self (omega arith)
+    (moves_on n (of_went c.in_ok-turn.field-0) c.args.self.now c.loop-made.self c.turn.new.self
+    c.loop-made.invariant.0 c.in_ok-turn.ensures.moves)
 
 pub loop-made-preserved : goal.loop-made-preserved
 loop-made-preserved c =
-    goes_on_twice c.args.self.now c.loop-made.self c.turn.new.self c.loop-made.invariant
-    c.turn.ensures
+    let n = c.loop-made.made in (
+      moves_on n 1 c.args.self.now c.loop-made.self c.turn.new.self c.loop-made.invariant.0
+          (subst (λ w. StreamMoves (of_went w) c.loop-made.self c.turn.new.self) c.in-On.is
+          c.in_ok-turn.ensures.moves),
+      c.turn.ensures.met,
+    )

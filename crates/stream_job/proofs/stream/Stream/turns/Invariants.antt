@@ -1,6 +1,7 @@
--- The turns so far went on.
-use Rattle.stream_job.specs.Streams.{StreamGoesOn}
+-- Each turn so far made an event.
+use Rattle.std.proofs.Common.{◌≡◌, None}
+use Rattle.stream_job.specs.Streams.{StreamMoves}
 use Rattle.stream_job.proofs.stream.Stream.turns.Given as goal
 
 abbrev pub invariant-loop-made : goal.invariant-loop-made
-invariant-loop-made l = StreamGoesOn l.fn.self l.self
+invariant-loop-made l = StreamMoves l.made l.fn.self l.self × (l.self.met ≡ None)

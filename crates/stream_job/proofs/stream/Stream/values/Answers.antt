@@ -1,5 +1,5 @@
 -- The line of the sink keeps what was not forgotten, and it is right whatever comes.
-use Rattle.std.proofs.Common.{◌≡◌, ◌<◌, ◌++◌, ℕ, ℤ, List, length, sym, ap, subst, ◌∙◌}
+use Rattle.std.proofs.Common.{◌≡◌, ◌<◌, ◌++◌, ℕ, ℤ, List, None, length, sym, ap, subst, ◌∙◌}
 use mathlib.Core.List.{IsPrefix}
 use Rattle.graph_lang.specs.graph_base.Graphs.{task_at}
 use Rattle.stream_eval.specs.stream_lists.Jobs.{with_samples}
@@ -61,7 +61,7 @@ returns-clause-right c =
     begins_further (given t ++ read) (m.taken t 0)
     (taken_from (numbers_of right) (task_at bare.graph t) (span_in right t) 0)
     (subst (λ l. IsPrefix l (m.taken t 0)) (sym (whole c s m given at))
-    (met_begins job m machine c.self.inside.met at.machine at.met t it.1 it.0))
+    (met_begins job m machine None at.machine at.none t it.1 it.0))
     (c.taken_is_right.ensures job m more t 0 ready at.machine.reached.ran
     (c.feeds_go_on.ensures.continues job (ended_at record {
       job = c.self.inside.job;

@@ -1,0 +1,155 @@
+-- By what the state owes.
+use Rattle.std.proofs.Common.{ℕ, ◌≡◌, rules, ◌-◌, [], ◌∷◌, refl, sym, ap, subst, ◌∙◌, arith, SFits, w64, to_z-of_z, List, ℤ}
+use Rattle.std.specs.Prelude.{Ok, Err, Some, length}
+use Rattle.std.proofs.lemmas.Option.{same_Some}
+use Rattle.graph_runs.specs.Moments.{Moment}
+use Rattle.graph_runs.specs.Nexts.{signals}
+use Rattle.graph_runs.specs.declared.owed.Owed.TheVariants as code
+use Rattle.stream_eval.specs.stream_lists.Jobs.{with_samples}
+use Rattle.graph_lang.specs.graph_base.declared.place.Place.TheVariants as place
+use Rattle.stream_job.specs.InRange.{HasGone}
+use Rattle.stream_job.specs.Stepping.{IsNextIn}
+use Rattle.stream_job.specs.Machines.{IsMachineAt}
+use Rattle.stream_job.proofs.GoodSignals.{owes_out, value_none}
+use Rattle.stream_job.proofs.Lively.{state_read}
+use Rattle.stream_job.proofs.WentTurns.{had_gone}
+use Rattle.stream_job.proofs.Signals.{MadeOver, has_made, made_over, none_items, one_no_filter, owes_some, owes_this, some_items}
+use Rattle.stream_job.proofs.machine.Machine.signal_in_range.Goals.{In-Err}
+use Rattle.stream_job.proofs.machine.Machine.signal_in_range.Goals as goal
+
+-- a value that is too big, which it owes
+over : {steps : ℕ} (s : List (List ℤ)) (c : In-Err)
+    (next : IsNextIn steps (with_samples s c.args.job.now) c.args.self.now c.args.t (signals c.args.output)) (m : Moment) → IsMachineAt (with_samples s c.args.job.now) m c.args.self.now
+    → MadeOver steps (with_samples s c.args.job.now) c.args.self.now m c.args.t c.args.output 0 c.index-state.result.now
+    (Err c.in-Err.field-0 ∷ [])
+over s c next m at =
+    let found = state_read next (λ e. (cc)) c.index-state.ensures in
+    made_over (with_samples s c.args.job.now) c.args.self.now m c.args.t c.args.output 0 c.index-state.result.now
+    (Err c.in-Err.field-0 ∷ []) next at found
+    (owes_this (with_samples s c.args.job.now) c.args.self.now m c.args.t c.args.output c.in-Value.output
+    c.index-state.result.now (Err c.in-Err.field-0) next at found
+    (none_items c.index-state.result.now.made (sym c.is_empty.ensures ∙ c.if-not-is_empty.false))
+    (c.in-Value.is ∙ ap (code.Value c.in-Value.output) c.in-Err.is)) refl
+
+pub signal_good-requires-clause-next : goal.signal_good-requires-clause-next
+signal_good-requires-clause-next c =
+    let s = c.requires.next.0 in
+    let next = c.requires.next.2.next_in in
+    let job = with_samples s c.args.job.now in
+    let found = state_read next (λ e. (cc)) c.index-state.ensures in
+    let some = some_items c.index-state.result.now.made
+    (sym c.is_empty.ensures ∙ c.if-not-is_empty.true) in
+    let made = has_made job c.args.self.now next.some.0 c.args.t
+    c.args.output c.index-state.result.now next next.some.1 found some in (
+      s,
+      c.requires.next.1,
+      record {
+        next_in = subst (λ j. IsNextIn c.requires.next.1 job c.args.self.now c.args.t (signals j))
+            (sym made.first) next;
+        sends = c.requires.next.2.sends;
+      },
+    )
+
+pub returns-then-not-is_empty-clause-went : goal.returns-then-not-is_empty-clause-went
+returns-then-not-is_empty-clause-went c = λ s steps good.
+    let next = good.next_in in
+    let job = with_samples s c.args.job.now in
+    let found = state_read next (λ e. (cc)) c.index-state.ensures in
+    let some = some_items c.index-state.result.now.made
+    (sym c.is_empty.ensures ∙ c.if-not-is_empty.true) in
+    let made = has_made job c.args.self.now next.some.0 c.args.t
+    c.args.output c.index-state.result.now next next.some.1 found some in
+    c.signal_good.ensures.went s steps record {
+      next_in = subst (λ j. IsNextIn steps job c.args.self.now c.args.t (signals j)) (sym made.first)
+          next;
+      sends = good.sends;
+    }
+
+pub signal_good-requires-clause-made : goal.signal_good-requires-clause-made
+signal_good-requires-clause-made c = λ state there none.
+    let s = c.requires.next.0 in
+    let next = c.requires.next.2.next_in in
+    let job = with_samples s c.args.job.now in
+    let found = state_read next (λ e. (cc)) c.index-state.ensures in
+    let some = some_items c.index-state.result.now.made
+    (sym c.is_empty.ensures ∙ c.if-not-is_empty.true) in
+    some (ap (λ s. s.made.items) (same_Some c.index-state.result.now state (sym found ∙ there))
+    ∙ none)
+
+pub unreachable-requires : goal.unreachable-requires
+unreachable-requires c =
+    let s = c.requires.next.0 in
+    let next = c.requires.next.2.next_in in
+    let job = with_samples s c.args.job.now in
+    let found = state_read next (λ e. (cc)) c.index-state.ensures in
+    let none = none_items c.index-state.result.now.made
+    (sym c.is_empty.ensures ∙ c.if-not-is_empty.false) in
+    owes_some job c.args.self.now c.args.t c.args.output c.index-state.result.now
+    next found none (λ i w e. c.in_default.not-Value i w e)
+
+pub signal_value-requires-clause-kind : goal.signal_value-requires-clause-kind
+signal_value-requires-clause-kind c =
+    let s = c.requires.next.0 in
+    let next = c.requires.next.2.next_in in
+    let job = with_samples s c.args.job.now in
+    let found = state_read next (λ e. (cc)) c.index-state.ensures in
+    one_no_filter job c.args.self.now next.some.0 c.args.t c.in-Value.output
+    c.index-state.result.now (Ok c.in-Ok.x) next.some.1 found
+    (c.in-Value.is ∙ ap (code.Value c.in-Value.output) c.in-Ok.is)
+
+pub signal_value-requires-clause-value : goal.signal_value-requires-clause-value
+signal_value-requires-clause-value c = λ s steps m next at.
+    let job = with_samples s c.args.job.now in
+    let found = state_read next (λ e. (cc)) c.index-state.ensures in
+    let none = none_items c.index-state.result.now.made
+    (sym c.is_empty.ensures ∙ c.if-not-is_empty.false) in
+    let fits : SFits w64 c.in-Ok.x = search rules in
+    (owes_this job c.args.self.now m c.args.t c.args.output c.in-Value.output
+    c.index-state.result.now (Ok c.in-Ok.x) next at found none
+    (c.in-Value.is ∙ ap (code.Value c.in-Value.output) c.in-Ok.is)).next
+    ∙ ap (λ x. Ok x ∷ []) (sym (to_z-of_z fits))
+
+pub overflow_sub-result : goal.overflow_sub-result
+overflow_sub-result c =
+    let s = c.requires.next.0 in
+    let next = c.requires.next.2.next_in in
+    let job = with_samples s c.args.job.now in
+    let over = over s (goal.at.overflow_sub-result c).In-Err next in
+    omega (arith, (over next.some.0 next.some.1).begun)
+
+pub returns-in-Err-clause-went : goal.returns-in-Err-clause-went
+returns-in-Err-clause-went c = λ s steps good.
+    let next = good.next_in in
+    let job = with_samples s c.args.job.now in
+    let here = (goal.at.returns-in-Err-clause-went c).In-Err in
+    let found = state_read next (λ e. (cc)) c.index-state.ensures in
+    record {
+      same = refl;
+      before = λ m at.
+          (let begun = (over s here next m at).begun in
+          let step : length (m.put c.args.t c.args.output) ≡ c.index-state.result.now.begun - 1 =
+          omega arith in
+          owes_out job c.args.self.now m c.args.t c.args.output c.index-state.result.now
+          c.in-Err.field-0 [] next at
+          (owes_this job c.args.self.now m c.args.t c.args.output c.in-Value.output
+          c.index-state.result.now (Err c.in-Err.field-0) next at found
+          (none_items c.index-state.result.now.made (sym c.is_empty.ensures ∙ c.if-not-is_empty.false))
+          (c.in-Value.is ∙ ap (code.Value c.in-Value.output) c.in-Err.is))
+          ∙ ap (λ n. Some (place.Task c.args.t, n)) step);
+    }
+
+pub returns-in-Ok-clause-went : goal.returns-in-Ok-clause-went
+returns-in-Ok-clause-went c = λ s steps good.
+    let next = good.next_in in
+    let job = with_samples s c.args.job.now in
+    let found = state_read next (λ e. (cc)) c.index-state.ensures in
+    let none = none_items c.index-state.result.now.made
+    (sym c.is_empty.ensures ∙ c.if-not-is_empty.false) in
+    subst (HasGone steps job c.args.self.now c.signal_value.new.self c.args.t) (sym c.went.ensures)
+    (had_gone job c.args.self.now c.signal_value.new.self c.args.t c.signal_value.result next.sized
+    next.some (c.signal_value.ensures s steps next)
+    (λ m at. value_none job c.args.self.now m c.args.t c.args.output c.index-state.result.now
+    c.in-Ok.x next at
+    (owes_this job c.args.self.now m c.args.t c.args.output c.in-Value.output
+    c.index-state.result.now (Ok c.in-Ok.x) next at found none
+    (c.in-Value.is ∙ ap (code.Value c.in-Value.output) c.in-Ok.is)).next))
