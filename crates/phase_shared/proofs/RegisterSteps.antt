@@ -32,6 +32,10 @@ use Rattle.phase_shared.specs.Rule.{Allows, IsGoodAt, HasOneHistory, StandsWithi
 use Rattle.phase_shared.specs.Calls.{Tries, number_after, next_child, RefusesRegister}
 use Rattle.phase_shared.specs.Entries.{entry_stays}
 use Rattle.phase_shared.specs.Steps.{IsStep, GivesEven}
+use Rattle.phase_shared.specs.declared.seats.locked.LockedPhaser.{LockedPhaser}
+use Rattle.phase_shared.specs.LockedPhasers.{locked_place, locked_terms, RestsOn}
+use Rattle.turn_lock.specs.declared.seat.Seat.{Seat}
+use Rattle.turn_lock.specs.Seats.{seat_view}
 use Rattle.phase_shared.specs.declared.tried.Tried.{Tried}
 use Rattle.phase_shared.specs.declared.tried.Tried.TheVariants.{Refused}
 use Rattle.phase_core.proofs.phase_history_lemmas.Used.{IsUsed-longer}
@@ -208,25 +212,27 @@ module _ {A K : Type 0} (op : Operation A) (allows : K → Allows) (terms : Term
   gives_refused number told v w z old x e before same =
       gives_same op allows terms me number told entry v z x w e (subst (λ (q : CoreState A). StandsWithin op terms.limits q e.now) (sym same) before)
 
+module _ {A K : Type 0} (op : Operation A) (allows : K → Allows) (phaser : LockedPhaser A K) (me : ℕ) (entry : Entry) where
   -- the step whose call was refused
   pub refused_step : {X : Type 0} (now : History) (child greatest : ℕ) (mode : Mode) (refusal : RegisterRefusal) (same : Type 0)
-      (call : Result X RegisterRefusal → Type 0) (old u w : View) (claims : List Ask) (said : Outcome) → u ≡ resting (known_of w).seen (speaks_of w)
+      (call : Result X RegisterRefusal → Type 0) (old u : Seat (CoreState A) (Terms K) View) (w : View) (claims : List Ask) (said : Outcome)
+      → RestsOn (locked_place phaser) u (λ v. v ≡ resting (known_of w).seen (speaks_of w))
       → w ≡ turning now (me ∷ []) claims said None
-      → IsGoodAt allows terms now → entry_of (members_of now) me ≡ Some entry → OthersCame (me ∷ []) (known_of old).seen now
+      → IsGoodAt allows (locked_terms phaser) now → entry_of (members_of now) me ≡ Some entry → OthersCame (me ∷ []) (known_of (seat_view old)).seen now
       → greatest ≡ greatest_used now → child ≡ number_after greatest
       → (refusal ≢ register.OutOfMemory → register_refusal now me child mode ≡ Some refusal)
       → (refusal ≡ register.OutOfMemory → register_refusal now me child mode ≡ None)
-      → (RefusesRegister me mode (known_of old).seen (known_of u).seen refusal → call (Err refusal))
-      → IsStep {X = X} allows terms me register.NoTask entry_stays (Tries same call (Err (Refused refusal))) entry entry old u (Err (Refused refusal))
+      → (RefusesRegister me mode (known_of (seat_view old)).seen (known_of (seat_view u)).seen refusal → call (Err refusal))
+      → IsStep allows phaser {X = X} me register.NoTask entry_stays (Tries same call (Err (Refused refusal))) entry entry old u (Err (Refused refusal))
   refused_step {X} now child greatest mode refusal same call old u w claims said told is good member others greatest_is next refused memory answered =
-      let rests : u ≡ resting now (me ∷ []) = told ∙ ap (λ (v : View). resting (known_of v).seen (speaks_of v)) is in
+      let rests : seat_view u ≡ resting now (me ∷ []) = told.knows ∙ ap (λ (v : View). resting (known_of v).seen (speaks_of v)) is in
       let next' : child ≡ number_after (greatest_used now) = next ∙ ap number_after greatest_is in
       record {
         call = answered (rw (ap (λ (v : View). (known_of v).seen) rests)
-            (refuses refusal me mode (known_of old).seen now others
+            (refuses refusal me mode (known_of (seat_view old)).seen now others
             (λ other. ap (λ n. register_refusal now me n mode) (sym next') ∙ refused other)
             (λ none. ap (λ n. register_refusal now me n mode) (sym next') ∙ memory none)));
-        at = stays op allows terms me entry u now rests good member;
+        at = record { here = told.here; knows = stays op allows (locked_terms phaser) me entry (seat_view u) now rests good member };
         entry_is = refl;
         known = λ none. never_unknown now child mode refusal member refused (same_refusal refusal none);
         alone = λ only busy. cc;

@@ -77,17 +77,6 @@ pub record AfterTake {A K : Type 0} (op : Operation A) (allows : K → Allows) (
   pub member : entry_of (members_of now) me ≡ Some entry
   pub used : IsUsed now me
 
--- two seats at rest that met have seen one good history, and each speaks for what it spoke for
-pub record HaveMet {K : Type 0} (allows : K → Allows) (terms : Terms K) (v w new_v new_w : View)
-    : Type 0 where
-  pub now : History
-  pub left : new_v ≡ resting now (known_of v).speaks
-  pub right : new_w ≡ resting now (known_of w).speaks
-  pub first : OthersCame (known_of v).speaks (known_of v).seen now
-  pub second : OthersCame (known_of w).speaks (known_of w).seen now
-  pub distinct : is_distinct ((known_of v).speaks ++ (known_of w).speaks) ≡ true
-  pub good : IsGoodAt allows terms now
-
 -- a look, at a phaser's terms
 abbrev pub LearnedAt : {K : Type 0} → (K → Allows) → Terms K → View → View → Type 0
 LearnedAt allows terms v w = Learned terms.limits (allows terms.rule) v w

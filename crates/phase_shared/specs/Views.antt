@@ -67,6 +67,10 @@ first_part v = resting (known_of v).seen (take 1 (known_of v).speaks)
 abbrev pub other_part : View → View
 other_part v = resting (known_of v).seen (drop 1 (known_of v).speaks)
 
+-- the view is at rest
+abbrev pub IsResting : View → Type 0
+IsResting v = v ≡ Resting (known_of v)
+
 -- the view is at rest and speaks for one number
 pub record SpeaksForOne (v : View) : Type 0 where
   pub task : ℕ
