@@ -60,12 +60,10 @@ later_value value limits a more middle log is legal first low =
 
 -- an ask that was answered does not stand as one that waits
 not_waiting : (limits : Limits) (a : Ask) (seen seen' log : History) → IsAnsweredAsk limits a seen log → IsUnmade a seen' log ⊎ IsMade limits a seen' log → ⊥
-not_waiting limits a seen seen' log n q = ⊎_elim
-    (λ (u : IsUnmade a seen' log).
-    apart_phases a.phase (sym (signal_is log a.task (a.phase + 1) (a.phase + 1) n.stands) ∙ signal_is log a.task a.phase a.phase u.stands))
-    (λ (m : IsMade limits a seen' log).
-    apart_phases a.phase (sym (wait_is log a.task (a.phase + 1) (a.phase + 1) n.stands) ∙ wait_is log a.task (a.phase + 1) a.phase m.stands))
-    q
+not_waiting limits a seen seen' log n (inl u) =
+    apart_phases a.phase (sym (signal_is log a.task (a.phase + 1) (a.phase + 1) n.stands) ∙ signal_is log a.task a.phase a.phase u.stands)
+not_waiting limits a seen seen' log n (inr m) =
+    apart_phases a.phase (sym (wait_is log a.task (a.phase + 1) (a.phase + 1) n.stands) ∙ wait_is log a.task (a.phase + 1) a.phase m.stands)
 
 module _ {T : Type 0} (value : List ℤ → Outcome) (limits : Limits) (allows : Allows) (StandsFor : T → History → Type 0)
     (number : ℕ) (f : Knowledge) (a : Ask) (home : Option T) (told : ℕ) (words : List ℕ) (views : List View)

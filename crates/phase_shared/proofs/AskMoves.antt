@@ -164,14 +164,12 @@ module _ {T : Type 0} (value : List ℤ → Outcome) (limits : Limits) (allows :
 
     -- a lane that the holder did not write
     pub lane_still : lane' ≡ lane → (i n : ℕ) → IsLane k.log views i n → IsLane k.log (set views number (Turning f claims' said' lane')) i n
-    lane_still same i n l = ⊎_elim
-        (λ (z : n ≡ 0). inl z)
-        (λ (r : AskedAt views i ⊎ (IsPast k.log i n ⊎ HeldAt views i)). inr (⊎_elim
-        (λ (q : AskedAt views i). inl record { seat = q.seat; knows = q.knows; ask = q.ask; at = asking_stays q.seat q.knows q.ask q.at; is = q.is })
-        (λ (r' : IsPast k.log i n ⊎ HeldAt views i). inr (⊎_elim
-        (λ (p : IsPast k.log i n). inl p)
-        (λ (h : HeldAt views i).
-        let lane_has : lane' ≡ Some h.n = same ∙ sym (ap (λ (u : View). lane_of u) (held_is i h)) in
+    lane_still same i n (inl z) = inl z
+    lane_still same i n (inr (inl q)) =
+        inr (inl record { seat = q.seat; knows = q.knows; ask = q.ask; at = asking_stays q.seat q.knows q.ask q.at; is = q.is })
+    lane_still same i n (inr (inr (inl p))) = inr (inr (inl p))
+    lane_still same i n (inr (inr (inr h))) =
+        inr (inr (let lane_has : lane' ≡ Some h.n = same ∙ sym (ap (λ (u : View). lane_of u) (held_is i h)) in
         inr record {
           seat = number;
           knows = f;
@@ -180,10 +178,7 @@ module _ {T : Type 0} (value : List ℤ → Outcome) (limits : Limits) (allows :
           n = h.n;
           at = there ∙ ap (λ (o : Option ℕ). some (Turning f claims' said' o)) lane_has;
           speaks = held_speaks i h;
-        })
-        r'))
-        r))
-        l
+        }))
 
     pub holds : ((i : ℕ) → i < lanes_most → IsLane k.log (set views number (Turning f claims' said' lane')) i (posted after i))
         → Kept value limits allows StandsFor None told after (set views number (Turning f claims' said' lane'))

@@ -40,7 +40,7 @@ use Rattle.phase_shared.proofs.AskAnswering.{asked_signals, asked_waits, same_re
 use Rattle.phase_shared.proofs.Giving.{member_after}
 use Rattle.phase_shared.proofs.NextSteps.{made}
 use Rattle.phase_shared.proofs.Small.{apart_phases, same_some}
-use Rattle.phase_shared.proofs.Stages.{wait_is}
+use Rattle.phase_shared.proofs.Stages.{at_entry, wait_is}
 
 no_event_is_none : (e : Event) (h : History) → e ∷ h ≡ [] → ⊥
 no_event_is_none e h none = cc
@@ -61,36 +61,29 @@ module _ {A K : Type 0} (op : Operation A) (allows : K → Allows) (terms : Term
           member_after terms.limits r.task st.entry (known_of v).seen e.now e.others e.good.legal st.member in
           record {
             turned = record {
-              now = e.now;
-              claims = e.claims;
-              said = e.said;
-              lane = None;
-              later = [];
+              did = record {
+                now = e.now;
+                claims = e.claims;
+                said = e.said;
+                lane = None;
+                later = [];
+                some = λ none.
+                    let gone : None ≡ Some entry = ap (λ (h : History). entry_of (members_of h) r.task) (sym none) ∙ e.member in
+                    cc;
+                batch = tt;
+                theirs = λ a one. (e.read a one).1;
+                own = inl refl;
+              };
               is = e.is;
-              some = λ none.
-                  let gone : None ≡ Some entry = ap (λ (h : History). entry_of (members_of h) r.task) (sym none) ∙ e.member in
-                  cc;
-              batch = tt;
               good = e.good;
               stands = e.stands;
-              theirs = λ a one. (e.read a one).1;
-              own = inl refl;
               quiet = λ none a one st'. apart_phases a.phase (sym (wait_is e.now a.task (a.phase + 1) (a.phase + 1) st')
                   ∙ wait_is e.now a.task (a.phase + 1) a.phase (e.read a one).0);
               complete = λ serves. absurd (cc);
               served = λ a one low at. absurd (omega arith);
             };
             first = refl;
-            unmade = record {
-              others = e.others;
-              stands = record {
-                entry = st.entry;
-                member = there;
-                signals = st.signals;
-                signal_at = st.signal_at;
-                wait_at = st.wait_at;
-              };
-            };
+            unmade = record { others = e.others; stands = at_entry (known_of v).seen e.now r.task r.phase r.phase st there };
             waits = λ other member.
                 ap (λ (f : Entry). mode_waits f.mode) (same_some other st.entry (sym member ∙ there)) ∙ waiter st.entry st.member;
             may = may.may;

@@ -18,7 +18,7 @@ use Rattle.phase_shared.specs.Asks.{Ask, IsAtPhases, IsMade, IsAnsweredAsk}
 use Rattle.phase_shared.specs.Lanes.{lanes_most, phase_place, send_place, posted, send_word, sends_of}
 use Rattle.phase_shared.specs.Desks.{View, Resting, Turning, Posting, Asking, MayMakeAsk, AskStands, Posts, AskedAt, IsPast, HeldAt, IsLane, Kept}
 use Rattle.phase_shared.proofs.Small.{apart_phases}
-use Rattle.phase_shared.proofs.Stages.{signal_is}
+use Rattle.phase_shared.proofs.Stages.{at_entry, signal_is}
 use Rattle.phase_shared.proofs.Places.{is_asking, ask_in, stays, asked_stays, lane_stays, ne_of}
 use Rattle.phase_shared.proofs.LaneWords.{send_else, send_posted, send_here, phase_else, phase_sent, phase_here}
 use Rattle.phase_shared.proofs.AskMoves.{this_is_in, same_task, else_sound, moves, held_speaks, holds}
@@ -28,13 +28,8 @@ stands_others : (limits : Limits) (seen log : History) (task s w : ℕ) → IsLe
 stands_others limits seen log task s w legal came st =
     let legal' : IsLegal limits (came.later ++ seen) = subst (λ (h : History). IsLegal limits h) came.is legal in
     let none : events_of task came.later ≡ [] = came.others task (this_is_in task (task ∷ []) refl) in
-    subst (λ (h : History). IsAtPhases h task s w) (sym came.is) (record {
-      entry = st.entry;
-      member = entry_of-others limits came.later seen task st.entry legal' none st.member;
-      signals = st.signals;
-      signal_at = st.signal_at;
-      wait_at = st.wait_at;
-    })
+    subst (λ (h : History). IsAtPhases h task s w) (sym came.is) (at_entry seen (came.later ++ seen) task s w st
+    (entry_of-others limits came.later seen task st.entry legal' none st.member))
 
 module _ {T : Type 0} (value : List ℤ → Outcome) (limits : Limits) (allows : Allows) (StandsFor : T → History → Type 0) where
   -- a send is posted

@@ -219,22 +219,16 @@ module _ {T : Type 0} (value : List ℤ → Outcome) (limits : Limits) (allows :
         lane_new i h.n (sym (ap lane_of same)) (ap (λ v. (known_of v).speaks) (sym same) ∙ h.speaks)
 
     lane_given : (i : ℕ) → IsLane k.log views i (posted words i) → IsLane (later ++ k.log) (set views number w) i (posted words i)
-    lane_given i l = ⊎_elim
-        (λ (z : posted words i ≡ 0). inl z)
-        (λ (r : AskedAt views i ⊎ (IsPast k.log i (posted words i) ⊎ HeldAt views i)). ⊎_elim
-        (λ (q : AskedAt views i). inr (inl record {
+    lane_given i (inl z) = inl z
+    lane_given i (inr (inl q)) = inr (inl record {
           seat = q.seat;
           knows = q.knows;
           ask = q.ask;
           at = stays is_asking views number q.seat (Turning f claims said lane) w (Asking q.knows q.ask) at refl refl q.at;
           is = q.is;
-        }))
-        (λ (r' : IsPast k.log i (posted words i) ⊎ HeldAt views i). ⊎_elim
-        (λ (p : IsPast k.log i (posted words i)). inr (inr (inl (past_goes limits later k.log i (posted words i) good.legal p))))
-        (λ (h : HeldAt views i). lane_held i h)
-        r')
-        r)
-        l
+        })
+    lane_given i (inr (inr (inl p))) = inr (inr (inl (past_goes limits later k.log i (posted words i) good.legal p)))
+    lane_given i (inr (inr (inr h))) = lane_held i h
 
     gave : Kept value limits allows StandsFor (Some y) next words (set views number w)
     gave = record {

@@ -1,5 +1,5 @@
 -- What a longer history leaves: a task's phases only grow.
-use Rattle.std.proofs.Common.{◌≡◌, ℕ, ◌+◌, ◌≤◌, true, false, cond, eqb, List, [], ◌∷◌, ◌++◌, ◌⊎◌, length, Some, refl, sym, ap, ◌∙◌, inl, ⊎_elim, arith}
+use Rattle.std.proofs.Common.{◌≡◌, ℕ, ◌+◌, ◌≤◌, true, false, cond, eqb, List, [], ◌∷◌, ◌++◌, ◌⊎◌, length, Some, refl, sym, ap, ◌∙◌, inl, arith, inr}
 use Rattle.std.proofs.lemmas.Option.{same_Some}
 use Rattle.phase_core.specs.phase_base.Limits.{Limits}
 use Rattle.phase_core.specs.phase_base.Lists.{is_in}
@@ -75,15 +75,11 @@ signals_grow limits later h task s w s' w' legal legal' st st' =
 -- an ask that is unmade later was unmade
 pub unmade_before : (limits : Limits) (a : Ask) (seen later h : History) → IsLegal limits h → IsLegal limits (later ++ h)
     → Stage limits a seen h → IsAtPhases (later ++ h) a.task a.phase a.phase → IsAtPhases h a.task a.phase a.phase
-unmade_before limits a seen later h legal legal' stage st = ⊎_elim
-    (λ (u : IsUnmade a seen h). u.stands)
-    (λ (r : IsMade limits a seen h ⊎ IsAnsweredAsk limits a seen h). absurd (⊎_elim
-    (λ (m : IsMade limits a seen h).
-    let low = signals_grow limits later h a.task (a.phase + 1) a.phase a.phase a.phase legal legal' m.stands st in omega arith)
-    (λ (n : IsAnsweredAsk limits a seen h).
-    let low = signals_grow limits later h a.task (a.phase + 1) (a.phase + 1) a.phase a.phase legal legal' n.stands st in omega arith)
-    r))
-    stage
+unmade_before limits a seen later h legal legal' (inl u) st = u.stands
+unmade_before limits a seen later h legal legal' (inr (inl m)) st =
+    absurd (let low = signals_grow limits later h a.task (a.phase + 1) a.phase a.phase a.phase legal legal' m.stands st in omega arith)
+unmade_before limits a seen later h legal legal' (inr (inr n)) st =
+    absurd (let low = signals_grow limits later h a.task (a.phase + 1) (a.phase + 1) a.phase a.phase legal legal' n.stands st in omega arith)
 
 -- no complete phase is undone
 pub done_grows : (limits : Limits) (later h : History) → (h ≡ [] → ⊥) → IsLegal limits (later ++ h) → done_of h ≤ done_of (later ++ h)

@@ -89,10 +89,8 @@ module _ {T : Type 0} (value : List ℤ → Outcome) (limits : Limits) (allows :
   module _ (j : ℕ) (g : Knowledge) (a : Ask) (there : get_elem? views j ≡ some (Asking g a)) (is : a.task ≡ i) (out : is_in i f.speaks ≡ false)
       (waits_on : IsUnmade a g.seen k.log ⊎ IsMade limits a g.seen k.log) where
     each : (b : Ask) → IsOneOf (a ∷ claims) b → StandsAsked limits k.log views b
-    each b one = ⊎_elim
-        (λ (same : a ≡ b). subst (λ (x : Ask). StandsAsked limits k.log views x) same (record { seat = j; knows = g; at = there; waits_on = waits_on }))
-        (λ (rest : IsOneOf claims b). k.claimed number f claims said lane at b rest)
-        one
+    each b (inl same) = subst (λ (x : Ask). StandsAsked limits k.log views x) same (record { seat = j; knows = g; at = there; waits_on = waits_on })
+    each b (inr rest) = k.claimed number f claims said lane at b rest
 
     kept : Kept value limits allows StandsFor None told words (set views number (Turning f (a ∷ claims) said lane))
     kept =
@@ -152,17 +150,13 @@ module _ {T : Type 0} (value : List ℤ → Outcome) (limits : Limits) (allows :
 
       asked : (q : AskedAt views i) → Stage limits q.ask q.knows.seen k.log
           → (w : View) × Kept value limits allows StandsFor None told words (set views number w) × LaneRead limits allows i f claims said lane (posted words i) w
-      asked q stage = ⊎_elim
-          (λ (u : IsUnmade q.ask q.knows.seen k.log). reads_ask q.seat q.knows q.ask q.at q.is out (inl u))
-          (λ (r : IsMade limits q.ask q.knows.seen k.log ⊎ IsAnsweredAsk limits q.ask q.knows.seen k.log). ⊎_elim
-          (λ (m : IsMade limits q.ask q.knows.seen k.log). reads_ask q.seat q.knows q.ask q.at q.is out (inr m))
-          (λ (n : IsAnsweredAsk limits q.ask q.knows.seen k.log).
+      asked q (inl u) = reads_ask q.seat q.knows q.ask q.at q.is out (inl u)
+      asked q (inr (inl m)) = reads_ask q.seat q.knows q.ask q.at q.is out (inr m)
+      asked q (inr (inr n)) =
           let p : IsPast k.log q.ask.task (q.ask.phase + 1) = answered_past limits q.ask q.knows.seen k.log k.good.legal n in
           let p' : IsPast k.log i (q.ask.phase + 1) = subst (λ (t : ℕ). IsPast k.log t (q.ask.phase + 1)) q.is p in
           let p'' : IsPast k.log i (posted words i) = subst (λ (m : ℕ). IsPast k.log i m) (sym (posted_is q.seat q.knows q.ask q.at q.is)) p' in
-          reads_none (inr (subst (λ (h : History). IsPast h i (posted words i)) (sym log_is) p'')))
-          r)
-          stage
+          reads_none (inr (subst (λ (h : History). IsPast h i (posted words i)) (sym log_is) p''))
 
   -- the second word has what is sent, where the signal is still to be made
   pub send_read : (set views number (Turning f claims said lane) ≡ views)

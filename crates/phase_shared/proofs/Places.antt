@@ -61,13 +61,11 @@ asked_stays limits log views after a stay c = record { seat = c.seat; knows = c.
 
 pub lane_stays : (log : History) (views after : List View) (i n : ℕ) → AskingStay views after → TurningStay views after
     → IsLane log views i n → IsLane log after i n
-lane_stays log views after i n stay stay' l = ⊎_elim
-    (λ (z : n ≡ 0). inl z)
-    (λ (r : AskedAt views i ⊎ (IsPast log i n ⊎ HeldAt views i)). inr (⊎_elim
-    (λ (q : AskedAt views i). inl record { seat = q.seat; knows = q.knows; ask = q.ask; at = stay q.seat q.knows q.ask q.at; is = q.is })
-    (λ (r' : IsPast log i n ⊎ HeldAt views i). inr (⊎_elim
-    (λ (p : IsPast log i n). inl p)
-    (λ (h : HeldAt views i). inr record {
+lane_stays log views after i n stay stay' (inl z) = inl z
+lane_stays log views after i n stay stay' (inr (inl q)) =
+    inr (inl record { seat = q.seat; knows = q.knows; ask = q.ask; at = stay q.seat q.knows q.ask q.at; is = q.is })
+lane_stays log views after i n stay stay' (inr (inr (inl p))) = inr (inr (inl p))
+lane_stays log views after i n stay stay' (inr (inr (inr h))) = inr (inr (inr record {
       seat = h.seat;
       knows = h.knows;
       claims = h.claims;
@@ -75,7 +73,4 @@ lane_stays log views after i n stay stay' l = ⊎_elim
       n = h.n;
       at = stay' h.seat h.knows h.claims h.said (Some h.n) h.at;
       speaks = h.speaks;
-    })
-    r'))
-    r))
-    l
+    }))

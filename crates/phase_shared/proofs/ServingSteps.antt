@@ -35,14 +35,14 @@ use Rattle.phase_shared.specs.Asks.{Ask, IsAtPhases, IsUnmade, IsMade, IsAnswere
 use Rattle.phase_shared.specs.Desks.{IsPast}
 use Rattle.phase_shared.specs.Goods.{Allows}
 use Rattle.phase_shared.specs.Lanes.{sends_of}
-use Rattle.phase_shared.specs.Servings.{ask_of, Serving, ServingOpen, Finished, HasToSignal, IsBetween, IsPhaseDone, IsWaiterIn}
+use Rattle.phase_shared.specs.Servings.{ask_of, OwesWait, Serving, ServingOpen, Finished, HasToSignal, IsBetween, IsPhaseDone, IsWaiterIn}
 use Rattle.phase_shared.specs.Tells.{IsClaim, MayBeMade}
 use Rattle.phase_shared.specs.Views.{knowledge, known_of}
 use Rattle.phase_shared.specs.WordTells.{IsOther, LaneReadAt, SendReadAt}
 use Rattle.phase_shared.proofs.Growing.{done_grows, signals_grow}
 use Rattle.phase_shared.proofs.LaneReading.{not_past}
 use Rattle.phase_shared.proofs.Small.{one_of, is_in_self, not_both, not_true_is, apart_phases}
-use Rattle.phase_shared.proofs.Stages.{signal_is, wait_is, stage_goes, stands_other, stands_signalled, stands_waited, further}
+use Rattle.phase_shared.proofs.Stages.{at_entry, signal_is, wait_is, stage_goes, stands_other, stands_signalled, stands_waited, further}
 use Rattle.phase_shared.proofs.Steadies.{found, none_of, same_value, stands_still}
 
 -- ---- lists of asks
@@ -53,13 +53,12 @@ in_more (b ∷ new) claims a one = inr (in_more new claims a one)
 
 pub in_either : (new claims : List Ask) (a : Ask) → IsOneOf (new ++ claims) a → IsOneOf new a ⊎ IsOneOf claims a
 in_either [] claims a one = inr one
-in_either (b ∷ new) claims a one = ⊎_elim
-    (λ (same : b ≡ a). inl (inl same))
-    (λ (rest : IsOneOf (new ++ claims) a). ⊎_elim
+in_either (b ∷ new) claims a (inl same) = inl (inl same)
+in_either (b ∷ new) claims a (inr rest) =
+    ⊎_elim
     (λ (here : IsOneOf new a). inl (inr here))
     (λ (there : IsOneOf claims a). inr there)
-    (in_either new claims a rest))
-    one
+    (in_either new claims a rest)
 
 -- who has read more asks may do what it could
 pub batch_more : (C D : Ask → Type 0) → ((a : Ask) → C a → D a) → (speaks : List ℕ) (later log : History)
@@ -123,9 +122,9 @@ module _ {A : Type 0} (op : Operation A) (limits : Limits) (allows : Allows) (as
   -- it has read what was asked in a lane
   pub record HasRead (serves : Bool) (k task r : ℕ) (w : View) (x : CoreState A) : Type 0 where
     pub serving : Serving op limits allows ask seen serves k w x
-    pub read : (a : Ask) → IsOneOf serving.turned.claims a → a.task ≡ task → r ≡ a.phase + 1
-    pub found : ((r ≡ 0) ⊎ IsPast serving.turned.now task r)
-        ⊎ ((a : Ask) × (a.task ≡ task) × IsClaim limits allows (knowledge serving.turned.now (ask.task ∷ [])) serving.turned.claims a)
+    pub read : (a : Ask) → IsOneOf serving.turned.did.claims a → a.task ≡ task → r ≡ a.phase + 1
+    pub found : ((r ≡ 0) ⊎ IsPast serving.turned.did.now task r)
+        ⊎ ((a : Ask) × (a.task ≡ task) × IsClaim limits allows (knowledge serving.turned.did.now (ask.task ∷ [])) serving.turned.did.claims a)
 
   -- an ask that was not read before has no events in the turn
   quiet_claim : (now later : History) (claims new : List Ask) → (now ≡ [] → ⊥) → Batch (IsOneOf claims) (ask.task ∷ []) later now
@@ -153,40 +152,34 @@ module _ {A : Type 0} (op : Operation A) (limits : Limits) (allows : Allows) (as
       → LaneReadAt limits allows task v r w → k ≤ task → HasRead serves k task r w x
   reads_more serves k task r v w x s read low =
       let t = s.turned in
-      let l = read (knowledge t.now (ask.task ∷ [])) t.claims t.said t.lane t.is in
+      let l = read (knowledge t.did.now (ask.task ∷ [])) t.did.claims t.did.said t.did.lane t.is in
       record {
         serving = record {
           turned = record {
-            now = t.now;
-            claims = l.new ++ t.claims;
-            said = t.said;
-            lane = t.lane;
-            later = t.later;
+            did = record t.did {
+              claims = l.new ++ t.did.claims;
+              batch = batch_more (IsOneOf t.did.claims) (IsOneOf (l.new ++ t.did.claims)) (in_more l.new t.did.claims) (ask.task ∷ []) t.did.later t.did.now t.did.batch;
+              theirs = λ a one. ⊎_elim
+                  (λ (here : IsOneOf l.new a). (l.fresh a here).1.theirs)
+                  (λ (there : IsOneOf t.did.claims a). t.did.theirs a there)
+                  (in_either l.new t.did.claims a one);
+            };
             is = l.is;
-            some = t.some;
-            batch = batch_more (IsOneOf t.claims) (IsOneOf (l.new ++ t.claims)) (in_more l.new t.claims) (ask.task ∷ []) t.later t.now t.batch;
             good = t.good;
             stands = t.stands;
-            theirs = λ a one. ⊎_elim
-                (λ (here : IsOneOf l.new a). (l.fresh a here).1.theirs)
-                (λ (there : IsOneOf t.claims a). t.theirs a there)
-                (in_either l.new t.claims a one);
-            own = t.own;
             quiet = λ not a one st. ⊎_elim
                 (λ (here : IsOneOf l.new a).
-                quiet_claim t.now t.later t.claims l.new t.some t.batch t.good.legal a (l.fresh a here).1 (t.quiet not) st)
-                (λ (there : IsOneOf t.claims a). t.quiet not a there st)
-                (in_either l.new t.claims a one);
+                quiet_claim t.did.now t.did.later t.did.claims l.new t.did.some t.did.batch t.good.legal a (l.fresh a here).1 (t.quiet not) st)
+                (λ (there : IsOneOf t.did.claims a). t.quiet not a there st)
+                (in_either l.new t.did.claims a one);
             complete = t.complete;
             served = λ a one below same. ⊎_elim
                 (λ (here : IsOneOf l.new a).
                 absurd (let is : a.task ≡ task = (l.fresh a here).0 in omega arith))
-                (λ (there : IsOneOf t.claims a). t.served a there below same)
-                (in_either l.new t.claims a one);
+                (λ (there : IsOneOf t.did.claims a). t.served a there below same)
+                (in_either l.new t.did.claims a one);
           };
-          made = s.made;
-          waits = s.waits;
-          may = s.may;
+          owes = s.owes;
         };
         read = l.read;
         found = l.found;
@@ -196,16 +189,16 @@ module _ {A : Type 0} (op : Operation A) (limits : Limits) (allows : Allows) (as
   pub asked_there : (serves : Bool) (k task r : ℕ) (w : View) (x : CoreState A) (h : HasRead serves k task r w x) (entry : Entry)
       → r ≡ ask.phase + 1 → entry_of x.members task ≡ Some entry → entry.wait_phase ≡ ask.phase
       → (a : Ask) × (a.task ≡ task) × (a.phase ≡ ask.phase)
-      × IsClaim limits allows (knowledge h.serving.turned.now (ask.task ∷ [])) h.serving.turned.claims a
+      × IsClaim limits allows (knowledge h.serving.turned.did.now (ask.task ∷ [])) h.serving.turned.did.claims a
   asked_there serves k task r w x h entry is member waits =
       let t = h.serving.turned in
-      let there : entry_of (members_of (t.later ++ t.now)) task ≡ Some entry = ap (λ ms. entry_of ms task) (sym t.stands.stands.members_are) ∙ member in
+      let there : entry_of (members_of (t.did.later ++ t.did.now)) task ≡ Some entry = ap (λ ms. entry_of ms task) (sym t.stands.stands.members_are) ∙ member in
       ⊎_elim
-      (λ (none : (r ≡ 0) ⊎ IsPast t.now task r). absurd (⊎_elim
+      (λ (none : (r ≡ 0) ⊎ IsPast t.did.now task r). absurd (⊎_elim
       (λ (zero' : r ≡ 0). apart_zero zero')
-      (λ (past : IsPast t.now task r). apart_past (not_past limits t.later t.now task r entry past t.good.legal there))
+      (λ (past : IsPast t.did.now task r). apart_past (not_past limits t.did.later t.did.now task r entry past t.good.legal there))
       none))
-      (λ (a : (a : Ask) × (a.task ≡ task) × IsClaim limits allows (knowledge t.now (ask.task ∷ [])) t.claims a).
+      (λ (a : (a : Ask) × (a.task ≡ task) × IsClaim limits allows (knowledge t.did.now (ask.task ∷ [])) t.did.claims a).
       let read : r ≡ a.0.phase + 1 = h.read a.0 a.2.one a.1 in
       (a.0, a.1, (omega arith), a.2))
       h.found
@@ -216,6 +209,14 @@ module _ {A : Type 0} (op : Operation A) (limits : Limits) (allows : Allows) (as
       apart_past : r ≤ entry.wait_phase → ⊥
       apart_past low = omega arith
 
+  -- another's event leaves what it owes
+  owes_other : (h : History) (e : Event) → IsLegal limits (e ∷ h) → is_by ask.task e ≡ false → OwesWait op limits allows ask seen h → OwesWait op limits allows ask seen (e ∷ h)
+  owes_other h e legal other o = record {
+    made = made_other limits ask seen h e legal other o.made;
+    waits = waiter_other limits h e ask.task (ask.phase + 1) ask.phase legal other o.made.stands o.waits;
+    may = o.may;
+  }
+
   -- an event of a task that the seat does not speak for is not its own
   not_by_me : (a : Ask) → is_in a.task (ask.task ∷ []) ≡ false → eqb a.task ask.task ≡ false
   not_by_me a theirs = ne_eqb a.task ask.task (λ same. not_both (is_in a.task (ask.task ∷ []))
@@ -225,56 +226,48 @@ module _ {A : Type 0} (op : Operation A) (limits : Limits) (allows : Allows) (as
 
   pub signals_more : (task r n : ℕ) (w v : View) (x y : CoreState A) (h : HasRead false 0 task r w x) → r ≡ ask.phase + 1
       → SendReadAt task w n v → HasToSignal x.members task ask.phase → y.limits ≡ x.limits
-      → StandsFor op y (Signalled task (sends_of n ∷ []) None ∷ h.serving.turned.later ++ h.serving.turned.now)
+      → StandsFor op y (Signalled task (sends_of n ∷ []) None ∷ h.serving.turned.did.later ++ h.serving.turned.did.now)
       → Serving op limits allows ask seen false 0 v y
   signals_more task r n w v x y h is sent before same_limits stands' =
       let s = h.serving in
       let t = s.turned in
-      let old : History = t.later ++ t.now in
+      let old : History = t.did.later ++ t.did.now in
       let there : entry_of (members_of old) task ≡ Some before.entry = ap (λ ms. entry_of ms task) (sym t.stands.stands.members_are) ∙ before.member in
       let q = asked_there false 0 task r w x h before.entry is before.member before.wait_at in
       let a : Ask = q.0 in
       let c = q.3 in
       let at_old : IsAtPhases old a.task a.phase a.phase = stands_at a before.entry q.1 q.2 there before.signals before.signal_at before.wait_at in
-      let legal_now : IsLegal limits t.now = IsLegal-beginning limits t.now old t.some t.good.legal (record { later = t.later; is = refl }) in
-      let claim : IsAtPhases t.now a.task a.phase a.phase × MayBeMade limits allows t.now a = ⊎_elim
-      (λ (u : IsAtPhases t.now a.task a.phase a.phase × MayBeMade limits allows t.now a). u)
-      (λ (m : IsAtPhases t.now a.task (a.phase + 1) a.phase).
-      absurd (let low = signals_grow limits t.later t.now a.task (a.phase + 1) a.phase a.phase a.phase legal_now t.good.legal m at_old in omega arith))
+      let legal_now : IsLegal limits t.did.now = IsLegal-beginning limits t.did.now old t.did.some t.good.legal (record { later = t.did.later; is = refl }) in
+      let claim : IsAtPhases t.did.now a.task a.phase a.phase × MayBeMade limits allows t.did.now a = ⊎_elim
+      (λ (u : IsAtPhases t.did.now a.task a.phase a.phase × MayBeMade limits allows t.did.now a). u)
+      (λ (m : IsAtPhases t.did.now a.task (a.phase + 1) a.phase).
+      absurd (let low = signals_grow limits t.did.later t.did.now a.task (a.phase + 1) a.phase a.phase a.phase legal_now t.good.legal m at_old in omega arith))
       c.stands in
-      let sends_are : sends_of n ≡ a.sends = (sent (knowledge t.now (ask.task ∷ [])) t.claims t.said t.lane t.is).1 a c.one q.1 claim.0 in
+      let sends_are : sends_of n ≡ a.sends = (sent (knowledge t.did.now (ask.task ∷ [])) t.did.claims t.did.said t.did.lane t.is).1 a c.one q.1 claim.0 in
       let e : Event = Signalled a.task (a.sends ∷ []) None in
       let event_is : Signalled task (sends_of n ∷ []) None ≡ e = λ i. Signalled (sym q.1 i) (sends_are i ∷ []) None in
       let stands'' : StandsFor op y (e ∷ old) = subst (λ (z : Event). StandsFor op y (z ∷ old)) event_is stands' in
       let limits_are : y.limits ≡ limits = same_limits ∙ t.stands.limits_are in
       let legal' : IsLegal limits (e ∷ old) = subst (λ (l : Limits). IsLegal l (e ∷ old)) limits_are stands''.legal in
       let stage : Stage limits a claim.1.seen old =
-      stage_goes limits (IsOneOf t.claims) (ask.task ∷ []) t.now t.some a claim.1.seen c.theirs c.only t.later t.batch t.good.legal
+      stage_goes limits (IsOneOf t.did.claims) (ask.task ∷ []) t.did.now t.did.some a claim.1.seen c.theirs c.only t.did.later t.did.batch t.good.legal
       (inl record { others = claim.1.others; stands = claim.0 }) in
       let came : OthersCame (a.task ∷ []) claim.1.seen old = unmade_others a claim.1.seen old at_old stage in
       let mine : is_by ask.task e ≡ false = not_by_me a c.theirs in
-      let was_stands = s.made.stands in
       record {
         turned = record {
-          now = t.now;
-          claims = t.claims;
-          said = t.said;
-          lane = t.lane;
-          later = e ∷ t.later;
-          is = (sent (knowledge t.now (ask.task ∷ [])) t.claims t.said t.lane t.is).0 ∙ t.is;
-          some = t.some;
-          batch = (t.batch, inr (inl record { ask = a; claimed = c.one; is = refl; at = signal_is old a.task a.phase a.phase at_old }));
+          did = record t.did {
+            later = e ∷ t.did.later;
+            batch = (t.did.batch, inr (inl record { ask = a; claimed = c.one; is = refl; at = signal_is old a.task a.phase a.phase at_old }));
+          };
+          is = (sent (knowledge t.did.now (ask.task ∷ [])) t.did.claims t.did.said t.did.lane t.is).0 ∙ t.is;
           good = record { legal = legal'; keeps = (claim.1.may old t.good came, t.good.keeps) };
           stands = record { stands = stands''; limits_are = limits_are };
-          theirs = t.theirs;
-          own = t.own;
-          quiet = λ not b one st. still_quiet t.claims old a b at_old c.only one legal' (t.quiet not b one) st;
+          quiet = λ not b one st. still_quiet t.did.claims old a b at_old c.only one legal' (t.quiet not b one) st;
           complete = λ no'. absurd (not_both false no' refl);
           served = λ b one below. absurd (none_below b.task below);
         };
-        made = made_other limits ask seen old e legal' mine s.made;
-        waits = waiter_other limits old e ask.task (ask.phase + 1) ask.phase legal' mine was_stands s.waits;
-        may = s.may;
+        owes = owes_other old e legal' mine s.owes;
       }
     where
       none_below : (m : ℕ) → m < 0 → ⊥
@@ -291,15 +284,11 @@ module _ {A : Type 0} (op : Operation A) (limits : Limits) (allows : Allows) (as
       }
 
       unmade_others : (a : Ask) (g old : History) → IsAtPhases old a.task a.phase a.phase → Stage limits a g old → OthersCame (a.task ∷ []) g old
-      unmade_others a g old st stage = ⊎_elim
-          (λ (u : IsUnmade a g old). u.others)
-          (λ (r : IsMade limits a g old ⊎ IsAnsweredAsk limits a g old). absurd (⊎_elim
-          (λ (m : IsMade limits a g old).
-          apart_phases a.phase (sym (signal_is old a.task (a.phase + 1) a.phase m.stands) ∙ signal_is old a.task a.phase a.phase st))
-          (λ (n : IsAnsweredAsk limits a g old).
-          apart_phases a.phase (sym (signal_is old a.task (a.phase + 1) (a.phase + 1) n.stands) ∙ signal_is old a.task a.phase a.phase st))
-          r))
-          stage
+      unmade_others a g old st (inl u) = u.others
+      unmade_others a g old st (inr (inl m)) =
+          absurd (apart_phases a.phase (sym (signal_is old a.task (a.phase + 1) a.phase m.stands) ∙ signal_is old a.task a.phase a.phase st))
+      unmade_others a g old st (inr (inr n)) =
+          absurd (apart_phases a.phase (sym (signal_is old a.task (a.phase + 1) (a.phase + 1) n.stands) ∙ signal_is old a.task a.phase a.phase st))
 
       still_quiet : (claims : List Ask) (old : History) (a b : Ask) → IsAtPhases old a.task a.phase a.phase
           → ((d : Ask) → IsOneOf claims d → d.task ≡ a.task → d ≡ a) → IsOneOf claims b → IsLegal limits (Signalled a.task (a.sends ∷ []) None ∷ old)
@@ -313,13 +302,9 @@ module _ {A : Type 0} (op : Operation A) (limits : Limits) (allows : Allows) (as
             let here = stands_signalled old a.task a.phase a.phase a.sends at_old in
             apart_phases a.phase (sym (wait_is (Signalled a.task (a.sends ∷ []) None ∷ old) a.task (a.phase + 1) (a.phase + 1) st')
             ∙ wait_is (Signalled a.task (a.sends ∷ []) None ∷ old) a.task (a.phase + 1) a.phase here)
-        | false ↦ λ n. quiet (record {
-          entry = st.entry;
-          member = sym (entry_of-changed_other a.task b.task (signalled 1) (members_of old) n) ∙ st.member;
-          signals = st.signals;
-          signal_at = st.signal_at;
-          wait_at = st.wait_at;
-        })
+        | false ↦ λ n.
+            quiet (at_entry (Signalled a.task (a.sends ∷ []) None ∷ old) old b.task (b.phase + 1) (b.phase + 1) st
+            (sym (entry_of-changed_other a.task b.task (signalled 1) (members_of old) n) ∙ st.member))
       ] refl
 
   -- ---- a wait for another task
@@ -327,13 +312,13 @@ module _ {A : Type 0} (op : Operation A) (limits : Limits) (allows : Allows) (as
   -- where a claim's wait is made
   pub waits_more : (k task r : ℕ) (w : View) (x y : CoreState A) (h : HasRead true k task r w x) → r ≡ ask.phase + 1
       → IsBetween x.members task ask.phase → y.limits ≡ x.limits
-      → StandsFor op y (Waited task 1 ∷ h.serving.turned.later ++ h.serving.turned.now)
+      → StandsFor op y (Waited task 1 ∷ h.serving.turned.did.later ++ h.serving.turned.did.now)
       → (j : ℕ) → ((b : Ask) → b.task < j → (b.task < k) ⊎ (b.task ≡ task))
       → Serving op limits allows ask seen true j w y
   waits_more k task r w x y h is between same_limits stands' j cover =
       let s = h.serving in
       let t = s.turned in
-      let old : History = t.later ++ t.now in
+      let old : History = t.did.later ++ t.did.now in
       let there : entry_of (members_of old) task ≡ Some between.entry = ap (λ ms. entry_of ms task) (sym t.stands.stands.members_are) ∙ between.member in
       let q = asked_there true k task r w x h between.entry is between.member between.wait_at in
       let a : Ask = q.0 in
@@ -353,34 +338,27 @@ module _ {A : Type 0} (op : Operation A) (limits : Limits) (allows : Allows) (as
       let mine : is_by ask.task e ≡ false = not_by_me a c.theirs in
       record {
         turned = record {
-          now = t.now;
-          claims = t.claims;
-          said = t.said;
-          lane = t.lane;
-          later = e ∷ t.later;
+          did = record t.did {
+            later = e ∷ t.did.later;
+            batch = (
+              t.did.batch,
+              inr (inr record {
+                ask = a;
+                claimed = c.one;
+                is = refl;
+                signalled = signal_is old a.task (a.phase + 1) a.phase at_old;
+                at = wait_is old a.task (a.phase + 1) a.phase at_old;
+              }),
+            );
+          };
           is = t.is;
-          some = t.some;
-          batch = (
-            t.batch,
-            inr (inr record {
-              ask = a;
-              claimed = c.one;
-              is = refl;
-              signalled = signal_is old a.task (a.phase + 1) a.phase at_old;
-              at = wait_is old a.task (a.phase + 1) a.phase at_old;
-            }),
-          );
           good = record { legal = legal'; keeps = t.good.keeps };
           stands = record { stands = stands''; limits_are = limits_are };
-          theirs = t.theirs;
-          own = t.own;
           quiet = λ no'. absurd (not_both true refl no');
-          complete = λ yes'. further_done old e legal' (some_longer t.later t.now t.some) (t.complete refl);
-          served = λ b one below same. served_more t.claims old a b at_old c.only one legal' (t.served b one) (cover b below) q.1 same;
+          complete = λ yes'. further_done old e legal' (some_longer t.did.later t.did.now t.did.some) (t.complete refl);
+          served = λ b one below same. served_more t.did.claims old a b at_old c.only one legal' (t.served b one) (cover b below) q.1 same;
         };
-        made = made_other limits ask seen old e legal' mine s.made;
-        waits = waiter_other limits old e ask.task (ask.phase + 1) ask.phase legal' mine s.made.stands s.waits;
-        may = s.may;
+        owes = owes_other old e legal' mine s.owes;
       }
     where
       some_longer : (later now : History) → (now ≡ [] → ⊥) → later ++ now ≡ [] → ⊥
@@ -421,7 +399,7 @@ module _ {A : Type 0} (op : Operation A) (limits : Limits) (allows : Allows) (as
       → LaneReadAt limits allows task v r w → known_of w ≡ known_of v
   reads_knows serves k task r v w x s read =
       let t = s.turned in
-      let l = read (knowledge t.now (ask.task ∷ [])) t.claims t.said t.lane t.is in
+      let l = read (knowledge t.did.now (ask.task ∷ [])) t.did.claims t.did.said t.did.lane t.is in
       ap known_of l.is ∙ sym (ap known_of t.is)
 
   -- its phase was open, as what it knows says
@@ -436,10 +414,10 @@ module _ {A : Type 0} (op : Operation A) (limits : Limits) (allows : Allows) (as
   -- another's lane
   pub is_other : (serves : Bool) (k task : ℕ) (v : View) (x : CoreState A) → task ≢ ask.task → Serving op limits allows ask seen serves k v x → IsOther task v
   is_other serves k task v x apart s = record {
-    knows = knowledge s.turned.now (ask.task ∷ []);
-    claims = s.turned.claims;
-    said = s.turned.said;
-    lane = s.turned.lane;
+    knows = knowledge s.turned.did.now (ask.task ∷ []);
+    claims = s.turned.did.claims;
+    said = s.turned.did.said;
+    lane = s.turned.did.lane;
     is = s.turned.is;
     theirs = not_true_is (is_in task (ask.task ∷ [])) (λ yes'. apart (sym (one_of ask.task task yes')));
   }
@@ -451,60 +429,40 @@ module _ {A : Type 0} (op : Operation A) (limits : Limits) (allows : Allows) (as
   -- where it read what is sent
   pub send_knows : (serves : Bool) (k task n : ℕ) (w v : View) (x : CoreState A) → Serving op limits allows ask seen serves k w x → SendReadAt task w n v → v ≡ w
   send_knows serves k task n w v x s sent =
-      (sent (knowledge s.turned.now (ask.task ∷ [])) s.turned.claims s.turned.said s.turned.lane s.turned.is).0
+      (sent (knowledge s.turned.did.now (ask.task ∷ [])) s.turned.did.claims s.turned.did.said s.turned.did.lane s.turned.is).0
 
   -- the core stands for what it stood for
   pub core_stays : (serves : Bool) (k : ℕ) (v : View) (x y : CoreState A) (s : Serving op limits allows ask seen serves k v x) → y.limits ≡ x.limits
-      → StandsFor op y (s.turned.later ++ s.turned.now) → Serving op limits allows ask seen serves k v y
+      → StandsFor op y (s.turned.did.later ++ s.turned.did.now) → Serving op limits allows ask seen serves k v y
   core_stays serves k v x y s same_limits stands' = record {
     turned = record {
-      now = s.turned.now;
-      claims = s.turned.claims;
-      said = s.turned.said;
-      lane = s.turned.lane;
-      later = s.turned.later;
+      did = s.turned.did;
       is = s.turned.is;
-      some = s.turned.some;
-      batch = s.turned.batch;
       good = s.turned.good;
       stands = record { stands = stands'; limits_are = same_limits ∙ s.turned.stands.limits_are };
-      theirs = s.turned.theirs;
-      own = s.turned.own;
       quiet = s.turned.quiet;
       complete = s.turned.complete;
       served = s.turned.served;
     };
-    made = s.made;
-    waits = s.waits;
-    may = s.may;
+    owes = s.owes;
   }
 
   -- it has come as far as task k
   pub serves_to : (serves : Bool) (k j : ℕ) (v : View) (x : CoreState A) (s : Serving op limits allows ask seen serves k v x)
-      → ((a : Ask) → IsOneOf s.turned.claims a → a.task < j → a.phase ≡ ask.phase
-      → IsAtPhases (s.turned.later ++ s.turned.now) a.task (a.phase + 1) (a.phase + 1))
+      → ((a : Ask) → IsOneOf s.turned.did.claims a → a.task < j → a.phase ≡ ask.phase
+      → IsAtPhases (s.turned.did.later ++ s.turned.did.now) a.task (a.phase + 1) (a.phase + 1))
       → Serving op limits allows ask seen serves j v x
   serves_to serves k j v x s served = record {
     turned = record {
-      now = s.turned.now;
-      claims = s.turned.claims;
-      said = s.turned.said;
-      lane = s.turned.lane;
-      later = s.turned.later;
+      did = s.turned.did;
       is = s.turned.is;
-      some = s.turned.some;
-      batch = s.turned.batch;
       good = s.turned.good;
       stands = s.turned.stands;
-      theirs = s.turned.theirs;
-      own = s.turned.own;
       quiet = s.turned.quiet;
       complete = s.turned.complete;
       served = served;
     };
-    made = s.made;
-    waits = s.waits;
-    may = s.may;
+    owes = s.owes;
   }
 
   -- it has served those below j, where it has served those below k
@@ -520,7 +478,7 @@ module _ {A : Type 0} (op : Operation A) (limits : Limits) (allows : Allows) (as
   none_own k v x own s = serves_to true k (k + 1) v x s (λ a one below same. ⊎_elim
       (λ (low : a.task < k). s.turned.served a one low same)
       (λ (here : a.task ≡ k). absurd (not_both (is_in a.task (ask.task ∷ []))
-      (subst (λ (m : ℕ). is_in m (ask.task ∷ []) ≡ true) (sym (here ∙ own)) (is_in_self ask.task [])) (s.turned.theirs a one)))
+      (subst (λ (m : ℕ). is_in m (ask.task ∷ []) ≡ true) (sym (here ∙ own)) (is_in_self ask.task [])) (s.turned.did.theirs a one)))
       (below_or a.task k below))
 
   -- where the lane has no ask for the phase
@@ -535,11 +493,11 @@ module _ {A : Type 0} (op : Operation A) (limits : Limits) (allows : Allows) (as
 
   -- it is accepted, and gets the value
   pub own_reply : (serves : Bool) (k : ℕ) (v : View) (x : CoreState A) (s : Serving op limits allows ask seen serves k v x) → IsPhaseDone s
-      → wait_reply op.value limits (s.turned.later ++ s.turned.now) ask.task
-      ≡ Ok (got.Value ask.phase (value_of_phase op.value (s.turned.later ++ s.turned.now) ask.phase))
+      → wait_reply op.value limits (s.turned.did.later ++ s.turned.did.now) ask.task
+      ≡ Ok (got.Value ask.phase (value_of_phase op.value (s.turned.did.later ++ s.turned.did.now) ask.phase))
   own_reply serves k v x s done =
-      let h = s.turned.later ++ s.turned.now in
-      let st = s.made.stands in
+      let h = s.turned.did.later ++ s.turned.did.now in
+      let st = s.owes.made.stands in
       let e = st.entry in
       let bound : 1 ≤ limits.bound = (limits_of limits h s.turned.good.legal).bound_least in
       let first : (mode_signals e.mode && eqb e.signal_phase e.wait_phase) ≡ false =
@@ -548,7 +506,7 @@ module _ {A : Type 0} (op : Operation A) (limits : Limits) (allows : Allows) (as
       ap (λ b. b && is_some (least (signal_phases (members_of h)))) (not_leb (done_of h) e.wait_phase (let at : e.wait_phase ≡ ask.phase = st.wait_at in let d : ask.phase < done_of h = done in omega arith)) in
       let none : wait_refusal limits h ask.task 1 ≡ None =
       ap (λ o. refusal_at o wait.NoTask (wait_rows limits (positions_of h) 1)) st.member
-      ∙ first_row_none (wait_rows limits (positions_of h) 1 e) (ap not (s.waits e st.member), (le-ltb limits.bound 1 bound, (first, (yet, tt)))) in
+      ∙ first_row_none (wait_rows limits (positions_of h) 1 e) (ap not (s.owes.waits e st.member), (le-ltb limits.bound 1 bound, (first, (yet, tt)))) in
       ap (λ o. refused_or o (got_at op.value h (wait_phase h ask.task))) none
       ∙ ap (λ (n : ℕ). refused_or None (got_at op.value h n)) (wait_is h ask.task (ask.phase + 1) ask.phase st)
       ∙ ap (λ (b : Bool). Ok (cond b (got.Value ask.phase (value_of_phase op.value h ask.phase)) got.Ended)) (lt-ltb ask.phase (done_of h) done)
@@ -564,47 +522,34 @@ module _ {A : Type 0} (op : Operation A) (limits : Limits) (allows : Allows) (as
 
   -- the turn with it
   pub own_waited : (serves : Bool) (k : ℕ) (outcome : Outcome) (phase : ℕ) (v : View) (x y : CoreState A) (s : Serving op limits allows ask seen serves k v x)
-      → IsPhaseDone s → Ok (got.Value phase outcome) ≡ wait_reply op.value limits (s.turned.later ++ s.turned.now) ask.task → y.limits ≡ x.limits
-      → StandsFor op y (Waited ask.task 1 ∷ s.turned.later ++ s.turned.now)
+      → IsPhaseDone s → Ok (got.Value phase outcome) ≡ wait_reply op.value limits (s.turned.did.later ++ s.turned.did.now) ask.task → y.limits ≡ x.limits
+      → StandsFor op y (Waited ask.task 1 ∷ s.turned.did.later ++ s.turned.did.now)
       → Finished op limits allows ask seen serves k outcome v y
   own_waited serves k outcome phase v x y s done reply same_limits stands' =
       let t = s.turned in
-      let h : History = t.later ++ t.now in
+      let h : History = t.did.later ++ t.did.now in
       let e : Event = Waited ask.task 1 in
       let limits_are : y.limits ≡ limits = same_limits ∙ t.stands.limits_are in
       let legal' : IsLegal limits (e ∷ h) = subst (λ (l : Limits). IsLegal l (e ∷ h)) limits_are stands'.legal in
-      let others : (a : Ask) → IsOneOf t.claims a → is_by a.task e ≡ false = λ a one. not_mine a (t.theirs a one) in
+      let others : (a : Ask) → IsOneOf t.did.claims a → is_by a.task e ≡ false = λ a one. not_mine a (t.did.theirs a one) in
       record {
         turned = record {
-          now = t.now;
-          claims = t.claims;
-          said = t.said;
-          lane = t.lane;
-          later = e ∷ t.later;
+          did = record t.did { later = e ∷ t.did.later; batch = (t.did.batch, inl (λ task out. not_in task out)) };
           is = t.is;
-          some = t.some;
-          batch = (t.batch, inl (λ task out. not_in task out));
           good = record { legal = legal'; keeps = t.good.keeps };
           stands = record { stands = stands'; limits_are = limits_are };
-          theirs = t.theirs;
-          own = t.own;
-          quiet = λ not a one st. t.quiet not a one (record {
-            entry = st.entry;
-            member = sym (entry_of-changed_other ask.task a.task (waited 1) (members_of h) (others a one)) ∙ st.member;
-            signals = st.signals;
-            signal_at = st.signal_at;
-            wait_at = st.wait_at;
-          });
-          complete = λ _. further h e legal' (some_later t.later t.now t.some) done;
+          quiet = λ not a one st. t.quiet not a one (at_entry (e ∷ h) h a.task (a.phase + 1) (a.phase + 1) st
+              (sym (entry_of-changed_other ask.task a.task (waited 1) (members_of h) (others a one)) ∙ st.member));
+          complete = λ _. further h e legal' (some_later t.did.later t.did.now t.did.some) done;
           served = λ a one below same. stands_other limits h e a.task (a.phase + 1) (a.phase + 1) legal' (others a one) (t.served a one below same);
         };
         middle = h;
         last = refl;
-        made = s.made;
+        made = s.owes.made;
         accepted = legal'.1.0;
         complete = done;
         has = same_value_of (reply ∙ own_reply serves k v x s done)
-            ∙ sym (same_value limits t.claims (ask.task ∷ []) h (some_later t.later t.now t.some) op.value ask.phase (e ∷ []) legal' done).1;
+            ∙ sym (same_value limits t.did.claims (ask.task ∷ []) h (some_later t.did.later t.did.now t.did.some) op.value ask.phase (e ∷ []) legal' done).1;
       }
     where
       not_mine : (a : Ask) → is_in a.task (ask.task ∷ []) ≡ false → eqb ask.task a.task ≡ false

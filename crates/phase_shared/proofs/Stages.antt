@@ -1,11 +1,11 @@
 -- An ask goes on by the events of a turn: unmade, made, answered, and no further.
-use Rattle.std.proofs.Common.{◌≡◌, ℕ, ℤ, ◌+◌, ◌<◌, ◌≤◌, true, false, cond, eqb, List, [], ◌∷◌, ◌++◌, ◌⊎◌, None, refl, sym, ap, subst, ◌∙◌, inl, inr, ⊎_elim, arith}
+use Rattle.std.proofs.Common.{◌≡◌, ℕ, ℤ, ◌+◌, ◌<◌, ◌≤◌, true, false, cond, eqb, List, [], ◌∷◌, ◌++◌, ◌⊎◌, None, Some, refl, sym, ap, subst, ◌∙◌, inl, inr, ⊎_elim, arith}
 use Rattle.std.proofs.lemmas.Bool.{eqb-true}
 use Rattle.phase_core.specs.phase_base.Limits.{Limits}
 use Rattle.phase_core.specs.phase_base.Lists.{is_in}
 use Rattle.phase_core.specs.phase_base.Modes.{mode_signals}
 use Rattle.phase_core.specs.phase_base.declared.entry.Entry.{Entry}
-use Rattle.phase_core.specs.phase_base.Members.{signalled, waited}
+use Rattle.phase_core.specs.phase_base.Members.{entry_of, signalled, waited}
 use Rattle.phase_core.specs.phase_history.declared.event.Event.{Event}
 use Rattle.phase_core.specs.phase_history.declared.event.Event.TheVariants.{Signalled, Waited}
 use Rattle.phase_core.specs.phase_history.Histories.{History, positions_of, members_of, signal_phase, wait_phase, done_of}
@@ -21,15 +21,14 @@ use Rattle.phase_shared.specs.Asks.{Ask, IsAtPhases, IsUnmade, IsMade, IsAnswere
 
 -- ---- where a task stands
 
+-- where its entry is the same
+pub at_entry : (h now : History) (task s w : ℕ) (st : IsAtPhases h task s w) → entry_of (members_of now) task ≡ Some st.entry → IsAtPhases now task s w
+at_entry h now task s w st member = record { entry = st.entry; member = member; signals = st.signals; signal_at = st.signal_at; wait_at = st.wait_at }
+
 pub stands_other : (limits : Limits) (h : History) (e : Event) (task s w : ℕ) → IsLegal limits (e ∷ h) → is_by task e ≡ false
     → IsAtPhases h task s w → IsAtPhases (e ∷ h) task s w
-stands_other limits h e task s w legal other st = record {
-  entry = st.entry;
-  member = entry_of-others limits (e ∷ []) h task st.entry legal (ap (λ b. cond b (e ∷ []) []) other) st.member;
-  signals = st.signals;
-  signal_at = st.signal_at;
-  wait_at = st.wait_at;
-}
+stands_other limits h e task s w legal other st =
+    at_entry h (e ∷ h) task s w st (entry_of-others limits (e ∷ []) h task st.entry legal (ap (λ b. cond b (e ∷ []) []) other) st.member)
 
 pub stands_signalled : (h : History) (task s w : ℕ) (sends : List ℤ) → IsAtPhases h task s w → IsAtPhases (Signalled task (sends ∷ []) None ∷ h) task (s + 1) w
 stands_signalled h task s w sends st = record {
@@ -80,13 +79,11 @@ further task old h e other came = OthersCame-trans (task ∷ []) old h (e ∷ h)
 
 pub stage_other : (limits : Limits) (ask : Ask) (seen h : History) (e : Event) → IsLegal limits (e ∷ h) → is_by ask.task e ≡ false
     → Stage limits ask seen h → Stage limits ask seen (e ∷ h)
-stage_other limits ask seen h e legal other stage = ⊎_elim
-    (λ (u : IsUnmade ask seen h). inl record {
+stage_other limits ask seen h e legal other (inl u) = inl record {
       others = further ask.task seen h e other u.others;
       stands = stands_other limits h e ask.task ask.phase ask.phase legal other u.stands;
-    })
-    (λ (r : IsMade limits ask seen h ⊎ IsAnsweredAsk limits ask seen h). inr (⊎_elim
-    (λ (m : IsMade limits ask seen h). inl record {
+    }
+stage_other limits ask seen h e legal other (inr (inl m)) = inr (inl record {
       before = m.before;
       others = m.others;
       accepted = m.accepted;
@@ -94,7 +91,7 @@ stage_other limits ask seen h e legal other stage = ⊎_elim
       since = further ask.task (Signalled ask.task (ask.sends ∷ []) None ∷ m.before) h e other m.since;
       stands = stands_other limits h e ask.task (ask.phase + 1) ask.phase legal other m.stands;
     })
-    (λ (a : IsAnsweredAsk limits ask seen h). inr record {
+stage_other limits ask seen h e legal other (inr (inr a)) = inr (inr record {
       middle = a.middle;
       made = a.made;
       accepted = a.accepted;
@@ -103,8 +100,6 @@ stage_other limits ask seen h e legal other stage = ⊎_elim
       since = further ask.task (Waited ask.task 1 ∷ a.middle) h e other a.since;
       stands = stands_other limits h e ask.task (ask.phase + 1) (ask.phase + 1) legal other a.stands;
     })
-    r))
-    stage
 
 apart : (n : ℕ) → n + 1 ≡ n → ⊥
 apart n e = omega arith
@@ -113,29 +108,26 @@ apart n e = omega arith
 pub stage_signalled : (limits : Limits) (ask : Ask) (seen h : History) → IsLegal limits h
     → IsAccepted limits h (Signalled ask.task (ask.sends ∷ []) None) → signal_phase h ask.task ≡ ask.phase
     → Stage limits ask seen h → IsMade limits ask seen (Signalled ask.task (ask.sends ∷ []) None ∷ h)
-stage_signalled limits ask seen h legal accepted at stage = ⊎_elim
-    (λ (u : IsUnmade ask seen h). record {
+stage_signalled limits ask seen h legal accepted at (inl u) = record {
       before = h;
       others = u.others;
       accepted = accepted.0;
       signalled_in = at;
       since = OthersCame-refl (ask.task ∷ []) (Signalled ask.task (ask.sends ∷ []) None ∷ h);
       stands = stands_signalled h ask.task ask.phase ask.phase ask.sends u.stands;
-    })
-    (λ (r : IsMade limits ask seen h ⊎ IsAnsweredAsk limits ask seen h). absurd (⊎_elim
-    (λ (m : IsMade limits ask seen h). apart ask.phase (sym (signal_is h ask.task (ask.phase + 1) ask.phase m.stands) ∙ at))
-    (λ (a : IsAnsweredAsk limits ask seen h). apart ask.phase (sym (signal_is h ask.task (ask.phase + 1) (ask.phase + 1) a.stands) ∙ at))
-    r))
-    stage
+    }
+stage_signalled limits ask seen h legal accepted at (inr (inl m)) =
+    absurd (apart ask.phase (sym (signal_is h ask.task (ask.phase + 1) ask.phase m.stands) ∙ at))
+stage_signalled limits ask seen h legal accepted at (inr (inr a)) =
+    absurd (apart ask.phase (sym (signal_is h ask.task (ask.phase + 1) (ask.phase + 1) a.stands) ∙ at))
 
 -- its own wait: only where its signal was made, and the phase is complete
 pub stage_waited : (limits : Limits) (ask : Ask) (seen h : History) → IsLegal limits h → IsAccepted limits h (Waited ask.task 1)
     → signal_phase h ask.task ≡ ask.phase + 1 → wait_phase h ask.task ≡ ask.phase
     → Stage limits ask seen h → IsAnsweredAsk limits ask seen (Waited ask.task 1 ∷ h)
-stage_waited limits ask seen h legal accepted signalled at stage = ⊎_elim
-    (λ (u : IsUnmade ask seen h). absurd (apart ask.phase (sym signalled ∙ signal_is h ask.task ask.phase ask.phase u.stands)))
-    (λ (r : IsMade limits ask seen h ⊎ IsAnsweredAsk limits ask seen h). ⊎_elim
-    (λ (m : IsMade limits ask seen h). record {
+stage_waited limits ask seen h legal accepted signalled at (inl u) =
+    absurd (apart ask.phase (sym signalled ∙ signal_is h ask.task ask.phase ask.phase u.stands))
+stage_waited limits ask seen h legal accepted signalled at (inr (inl m)) = record {
       middle = h;
       made = m;
       accepted = accepted.0;
@@ -143,10 +135,9 @@ stage_waited limits ask seen h legal accepted signalled at stage = ⊎_elim
       below = (let fits : wait_phase h ask.task + 1 ≤ done_of h = accepted.1 in let more = (steps limits h (Waited ask.task 1) legal (sound_of limits h legal) accepted).grows in omega arith);
       since = OthersCame-refl (ask.task ∷ []) (Waited ask.task 1 ∷ h);
       stands = stands_waited h ask.task (ask.phase + 1) ask.phase m.stands;
-    })
-    (λ (a : IsAnsweredAsk limits ask seen h). absurd (apart ask.phase (sym (wait_is h ask.task (ask.phase + 1) (ask.phase + 1) a.stands) ∙ at)))
-    r)
-    stage
+    }
+stage_waited limits ask seen h legal accepted signalled at (inr (inr a)) =
+    absurd (apart ask.phase (sym (wait_is h ask.task (ask.phase + 1) (ask.phase + 1) a.stands) ∙ at))
 
 -- ---- the events of a turn
 
@@ -199,10 +190,6 @@ module _ (limits : Limits) (Claimed : Ask → Type 0) (speaks : List ℕ) (log :
 
 pub answered : (limits : Limits) (ask : Ask) (seen h : History) (told : ℕ) → told ≤ done_of h → ask.phase < told
     → (IsMade limits ask seen h → told ≤ ask.phase) → Stage limits ask seen h → IsAnsweredAsk limits ask seen h
-answered limits ask seen h told within found waits stage = ⊎_elim
-    (λ (u : IsUnmade ask seen h). let low = done_within h ask.task ask.phase ask.phase u.stands in absurd (omega arith))
-    (λ (r : IsMade limits ask seen h ⊎ IsAnsweredAsk limits ask seen h). ⊎_elim
-    (λ (m : IsMade limits ask seen h). let low = waits m in absurd (omega arith))
-    (λ (a : IsAnsweredAsk limits ask seen h). a)
-    r)
-    stage
+answered limits ask seen h told within found waits (inl u) = let low = done_within h ask.task ask.phase ask.phase u.stands in absurd (omega arith)
+answered limits ask seen h told within found waits (inr (inl m)) = let low = waits m in absurd (omega arith)
+answered limits ask seen h told within found waits (inr (inr a)) = a

@@ -18,18 +18,17 @@ use Rattle.phase_core.proofs.phase_history_lemmas.Used.{entry_of-others}
 use Rattle.phase_core.proofs.phase_history_lemmas.OthersEvents.{OthersCame-trans}
 use Rattle.phase_shared.specs.Asks.{Ask, IsAtPhases, IsUnmade, IsMade, IsAnsweredAsk, Stage, IsOwn, SignalsFor, WaitsFor, Batch, IsOneOf, asks_for}
 use Rattle.phase_shared.proofs.Small.{one_of, not_true_is, not_both, apart_phases}
-use Rattle.phase_shared.proofs.Stages.{wait_is}
+use Rattle.phase_shared.proofs.Stages.{at_entry, wait_is}
 
 -- who asked for one of these is named among them
 pub named : (claims : List Ask) (a : Ask) → IsOneOf claims a → asks_for claims a.task ≡ true
 named [] a one = absurd one
-named (first ∷ others) a one = ⊎_elim
-    (λ (same : first ≡ a). rw (eq-eqb first.task a.task (ap (λ (x : Ask). x.task) same)) refl)
-    (λ (rest : IsOneOf others a). elim (eqb first.task a.task) as (λ b. (b || asks_for others a.task) ≡ true) [
+named (first ∷ others) a (inl same) = rw (eq-eqb first.task a.task (ap (λ (x : Ask). x.task) same)) refl
+named (first ∷ others) a (inr rest) =
+    elim (eqb first.task a.task) as (λ b. (b || asks_for others a.task) ≡ true) [
       | true ↦ refl
       | false ↦ named others a rest
-    ])
-    one
+    ]
 
 pub found : (claims : List Ask) (task : ℕ) → asks_for claims task ≡ true → (a : Ask) × IsOneOf claims a × (a.task ≡ task)
 found [] task none = absurd (cc)
@@ -73,13 +72,7 @@ module _ (limits : Limits) (claims : List Ask) (speaks : List ℕ) (log : Histor
       ((omega arith), step.same value p so_far.0 ∙ so_far.1)
 
   pub stands_still : (task s w : ℕ) (later : History) → IsLegal limits (later ++ log) → events_of task later ≡ [] → IsAtPhases log task s w → IsAtPhases (later ++ log) task s w
-  stands_still task s w later legal none st = record {
-    entry = st.entry;
-    member = entry_of-others limits later log task st.entry legal none st.member;
-    signals = st.signals;
-    signal_at = st.signal_at;
-    wait_at = st.wait_at;
-  }
+  stands_still task s w later legal none st = at_entry log (later ++ log) task s w st (entry_of-others limits later log task st.entry legal none st.member)
 
   -- an ask that was not read stays where it is
   pub stage_still : (a : Ask) (seen : History) (later : History) → is_in a.task speaks ≡ false → asks_for claims a.task ≡ false → Batch (IsOneOf claims) speaks later log

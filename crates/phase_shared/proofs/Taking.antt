@@ -176,19 +176,14 @@ module _ {T : Type 0} (value : List ℤ → Outcome) (limits : Limits) (allows :
   ] refl
 
   lane_now : (i n : ℕ) → IsLane k.log views i n → IsLane k.log (set views number taken) i n
-  lane_now i n l = ⊎_elim
-      (λ (z : n ≡ 0). inl z)
-      (λ (r : AskedAt views i ⊎ (IsPast k.log i n ⊎ HeldAt views i)). inr (⊎_elim
-      (λ (q : AskedAt views i). ⊎_elim
+  lane_now i n (inl z) = inl z
+  lane_now i n (inr (inl q)) =
+      inr (⊎_elim
       (λ (q' : AskedAt (set views number taken) i). inl q')
       (λ (h : HeldAt (set views number taken) i). inr (inr h))
       (lane_asked i q))
-      (λ (r' : IsPast k.log i n ⊎ HeldAt views i). ⊎_elim
-      (λ (p : IsPast k.log i n). inr (inl p))
-      (λ (h : HeldAt views i). absurd (no_turn h.seat h.knows h.claims h.said (Some h.n) h.at))
-      r')
-      r))
-      l
+  lane_now i n (inr (inr (inl p))) = inr (inr (inl p))
+  lane_now i n (inr (inr (inr h))) = inr (absurd (no_turn h.seat h.knows h.claims h.said (Some h.n) h.at))
 
   took : Kept value limits allows StandsFor None told words (set views number taken)
   took = record {

@@ -70,10 +70,10 @@ returns-in-Ok-Value-clause-serving g c =
     (subst (λ (n : ℕ). IsBetween (turn_value c.args.self.turn).members c.args.task n) (ap (λ a. a.phase) asked)
     (subst (λ (x : CoreState _). IsBetween x.members c.args.task c.args.self.of.request.phase) value (c.is_between.ensures c.if-not-is_between.false)))
     (c.wait.ensures.limits ∙ ap (λ (x : CoreState _). x.limits) value)
-    (subst (λ (r : Result Got WaitRefusal). StandsFor g.A.Accumulate.operation c.wait.new.self (after_wait r c.args.task (h.serving.turned.later ++ h.serving.turned.now)))
+    (subst (λ (r : Result Got WaitRefusal). StandsFor g.A.Accumulate.operation c.wait.new.self (after_wait r c.args.task (h.serving.turned.did.later ++ h.serving.turned.did.now)))
     (c.in-Ok-Value.is ∙ ap Ok c.in-Ok-Value.field-0-is)
-    (c.wait.ensures.after (h.serving.turned.later ++ h.serving.turned.now)
-    (subst (λ (x : CoreState _). StandsFor g.A.Accumulate.operation x (h.serving.turned.later ++ h.serving.turned.now)) (sym value) h.serving.turned.stands.stands)))
+    (c.wait.ensures.after (h.serving.turned.did.later ++ h.serving.turned.did.now)
+    (subst (λ (x : CoreState _). StandsFor g.A.Accumulate.operation x (h.serving.turned.did.later ++ h.serving.turned.did.now)) (sym value) h.serving.turned.stands.stands)))
     0 (λ b low. absurd (omega arith)))
 
 pub returns-in-Ok-Value-clause-served : goal.returns-in-Ok-Value-clause-served
@@ -86,10 +86,10 @@ returns-in-Ok-Value-clause-served g c _ s =
     (subst (λ (n : ℕ). IsBetween (turn_value c.args.self.turn).members c.args.task n) (ap (λ a. a.phase) asked)
     (subst (λ (x : CoreState _). IsBetween x.members c.args.task c.args.self.of.request.phase) value (c.is_between.ensures c.if-not-is_between.false)))
     (c.wait.ensures.limits ∙ ap (λ (x : CoreState _). x.limits) value)
-    (subst (λ (r : Result Got WaitRefusal). StandsFor g.A.Accumulate.operation c.wait.new.self (after_wait r c.args.task (h.serving.turned.later ++ h.serving.turned.now)))
+    (subst (λ (r : Result Got WaitRefusal). StandsFor g.A.Accumulate.operation c.wait.new.self (after_wait r c.args.task (h.serving.turned.did.later ++ h.serving.turned.did.now)))
     (c.in-Ok-Value.is ∙ ap Ok c.in-Ok-Value.field-0-is)
-    (c.wait.ensures.after (h.serving.turned.later ++ h.serving.turned.now)
-    (subst (λ (x : CoreState _). StandsFor g.A.Accumulate.operation x (h.serving.turned.later ++ h.serving.turned.now)) (sym value) h.serving.turned.stands.stands)))
+    (c.wait.ensures.after (h.serving.turned.did.later ++ h.serving.turned.did.now)
+    (subst (λ (x : CoreState _). StandsFor g.A.Accumulate.operation x (h.serving.turned.did.later ++ h.serving.turned.did.now)) (sym value) h.serving.turned.stands.stands)))
     (c.args.task + 1) (λ b low. below_or b.task c.args.task low)
 
 pub returns-in-Ok-Ended-clause-serving : goal.returns-in-Ok-Ended-clause-serving
@@ -98,8 +98,8 @@ returns-in-Ok-Ended-clause-serving g c =
     let s = (as_read g at c.value_in-core.result.now (c.value_in-core.ensures.value ∙ c.read_lane-on.ensures.value)).serving in
     goes_on g at c.wait.new.self
     (core_stays g.A.Accumulate.operation g.S.Since.terms.limits (allows_or g.K.SignalRule.allows g.S.Since.terms.rule) g.S.Since.ask g.S.Since.seen true 0 (turn_view c.read_lane-on.result.0.turn) c.value_in-core.result.now c.wait.new.self s c.wait.ensures.limits
-    (subst (λ (r : Result Got WaitRefusal). StandsFor g.A.Accumulate.operation c.wait.new.self (after_wait r c.args.task (s.turned.later ++ s.turned.now)))
-    (c.in-Ok-Ended.is ∙ ap Ok c.in-Ok-Ended.field-0-is) (c.wait.ensures.after (s.turned.later ++ s.turned.now) s.turned.stands.stands)))
+    (subst (λ (r : Result Got WaitRefusal). StandsFor g.A.Accumulate.operation c.wait.new.self (after_wait r c.args.task (s.turned.did.later ++ s.turned.did.now)))
+    (c.in-Ok-Ended.is ∙ ap Ok c.in-Ok-Ended.field-0-is) (c.wait.ensures.after (s.turned.did.later ++ s.turned.did.now) s.turned.stands.stands)))
 
 pub returns-in-Err-clause-serving : goal.returns-in-Err-clause-serving
 returns-in-Err-clause-serving g c =

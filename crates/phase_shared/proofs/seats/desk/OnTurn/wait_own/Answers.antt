@@ -14,7 +14,7 @@ pub returns-clause-finished : goal.returns-clause-finished
 returns-clause-finished g c serves k s done =
     let task = g.S.Since.ask.task in
     let asked = ap (λ a. a.task) (sym c.args.self.of.ask_is) in
-    let h = s.turned.later ++ s.turned.now in
+    let h = s.turned.did.later ++ s.turned.did.now in
     let x = c.value_in-core.result.now in
     let new = c.wait.new.self in
     let value = c.value_in-core.ensures.value in
@@ -35,7 +35,7 @@ unreachable-requires-in-Err g c =
     let task = g.S.Since.ask.task in
     let asked = ap (λ a. a.task) (sym c.args.self.of.ask_is) in
     let s = c.requires.serving.2 in
-    let h = s.turned.later ++ s.turned.now in
+    let h = s.turned.did.later ++ s.turned.did.now in
     let x = c.value_in-core.result.now in
     let value = c.value_in-core.ensures.value in
     let stands : StandsFor g.A.Accumulate.operation x h = subst (λ (y : CoreState _). StandsFor g.A.Accumulate.operation y h) (sym value) s.turned.stands.stands in
