@@ -6,20 +6,13 @@ use Rattle.std.proofs.lemmas.Bool.{lt-ltb, eq-eqb, eqb-true, ltb-true}
 use mathlib.Core.Option.{some}
 use lib.ListN.{get_elem?}
 use Rattle.atomic_table.proofs.Lists.{set_again, set_else}
-use Rattle.phase_core.specs.phase_base.Limits.{Limits}
-use Rattle.phase_core.specs.phase_base.Members.{entry_of, wait_phases, least}
-use Rattle.phase_core.specs.phase_accum.Operations.{Operation}
-use Rattle.phase_core.specs.phase_accum.Parcels.{Parcel, StandsForSends}
-use Rattle.phase_core.specs.phase_accum.declared.outcome.Outcome.{Outcome}
+use Rattle.phase_shared.specs.Phasers.{Limits, entry_of, least, Operation, Parcel, StandsForSends, Outcome, SignalRefusal, History, members_of, signal_phase, wait_phase, done_of, value_of_phase, IsLegal, signal_refusal, refusal_at, refused_or, got_at}
+use Rattle.phase_core.specs.phase_base.Members.{wait_phases}
 use Rattle.phase_core.specs.phase_history.declared.event.Event.TheVariants.{Made, Registered, RegisteredNow, Signalled, Waited, Dropped}
 use Rattle.phase_core.specs.phase_history.declared.got.Got.TheVariants as got
-use Rattle.phase_core.specs.phase_history.declared.refusal.SignalRefusal.{SignalRefusal}
 use Rattle.phase_core.specs.phase_history.declared.refusal.SignalRefusal.TheVariants as signal
-use Rattle.phase_core.specs.phase_history.Histories.{History, members_of, signal_phase, wait_phase, done_of}
-use Rattle.phase_core.specs.phase_history.Phases.{value_of_phase, sends_of_phase, named_in_phase}
-use Rattle.phase_core.specs.phase_history.Legal.{IsLegal}
-use Rattle.phase_core.specs.phase_history.Refusals.{signal_refusal, refusal_at, signal_rows_before, phase_rows}
-use Rattle.phase_core.specs.phase_history.Replies.{refused_or, got_at}
+use Rattle.phase_core.specs.phase_history.Phases.{sends_of_phase, named_in_phase}
+use Rattle.phase_core.specs.phase_history.Refusals.{signal_rows_before, phase_rows}
 use Rattle.phase_core.proofs.phase_history_lemmas.Steps.{steps, sound_of}
 use Rattle.phase_core.proofs.phase_history_lemmas.Used.{IsLegal-beginning}
 use Rattle.phase_shared.specs.declared.seats.view.Knowledge.{Knowledge}

@@ -1,20 +1,16 @@
 -- A step of one seat, at which one word may change: what it has to show that the rule stays.
-use Rattle.std.proofs.Common.{◌≡◌, ◌≢◌, ℕ, ℤ, ◌<◌, true, false, List, [], ◌∷◌, ◌⊎◌, Option, Some, None, set, refl, sym, ap, subst, ◌∙◌, inl, inr, ⊎_elim}
+use Rattle.std.proofs.Common.{◌≡◌, ◌≢◌, ℕ, ℤ, ◌<◌, true, false, List, [], ◌∷◌, Option, Some, None, set, refl, sym, ap, subst, ◌∙◌, inl, inr, ⊎_elim}
 use mathlib.Core.Option.{some}
 use lib.ListN.{get_elem?}
 use Rattle.atomic_table.proofs.Lists.{at_set, set_here}
 use Rattle.turn_lock.proofs.Keeping.{within}
-use Rattle.phase_core.specs.phase_base.Limits.{Limits}
-use Rattle.phase_core.specs.phase_base.Lists.{is_in}
-use Rattle.phase_core.specs.phase_accum.declared.outcome.Outcome.{Outcome}
-use Rattle.phase_core.specs.phase_history.Histories.{History}
-use Rattle.phase_core.specs.phase_history.Others.{IsUsed}
+use Rattle.phase_shared.specs.Phasers.{Limits, is_in, Outcome, History, IsUsed}
 use Rattle.phase_shared.specs.declared.seats.view.Knowledge.{Knowledge}
 use Rattle.phase_shared.specs.Goods.{Allows}
 use Rattle.phase_shared.specs.Views.{speaks_of, known_of, claims_of, lane_of, is_turning}
 use Rattle.phase_shared.specs.Asks.{Ask, IsMade, IsOneOf}
 use Rattle.phase_shared.specs.Lanes.{lanes_most, board, posted, sends_of}
-use Rattle.phase_shared.specs.Desks.{View, Resting, Turning, Joining, Posting, Asking, Reading, Spent, IsSound, AskStands, HasToRead, Posts, HasLane, LaneIs, StandsAsked, AskedAt, IsPast, HeldAt, IsLane, Kept}
+use Rattle.phase_shared.specs.Desks.{View, Resting, Turning, Joining, Posting, Asking, Reading, Spent, IsSound, AskStands, HasToRead, Posts, HasLane, LaneIs, StandsAsked, HeldAt, IsLane, Kept}
 use Rattle.phase_shared.proofs.Small.{not_true_is, not_both, none_some, is_in_self}
 use Rattle.phase_shared.proofs.Places.{is_asking, same_view, was, stays, asked_stays}
 use Rattle.phase_shared.proofs.LaneWords.{SameElse}

@@ -2,22 +2,10 @@
 -- calls say it.
 use Rattle.std.proofs.Common.{◌≡◌, ℕ, ◌+◌, ◌<◌, Bool, true, false, [], ◌∷◌, Some, None, refl, sym, ap, subst, ◌∙◌, inl, arith}
 use Rattle.std.specs.Prelude.{Ok, Err, is_some}
-use Rattle.phase_core.specs.phase_base.declared.entry.Entry.{Entry}
-use Rattle.phase_core.specs.phase_base.Modes.{mode_signals, mode_waits}
-use Rattle.phase_core.specs.phase_base.Members.{entry_of, signalled, waited}
-use Rattle.phase_core.specs.phase_accum.Operations.{Operation}
-use Rattle.phase_core.specs.phase_accum.declared.outcome.Outcome.{Outcome}
-use Rattle.phase_core.specs.phase_history.declared.event.Event.{Event}
+use Rattle.phase_shared.specs.Phasers.{Entry, mode_signals, mode_waits, entry_of, signalled, waited, Operation, Outcome, Event, Got, SignalRefusal, History, IsAlive, members_of, signal_phase, IsLegal, OthersCame, refused_or, CoreState}
 use Rattle.phase_core.specs.phase_history.declared.event.Event.TheVariants.{Signalled, Waited}
-use Rattle.phase_core.specs.phase_history.declared.got.Got.{Got}
 use Rattle.phase_core.specs.phase_history.declared.got.Got.TheVariants as got
-use Rattle.phase_core.specs.phase_history.declared.refusal.SignalRefusal.{SignalRefusal}
 use Rattle.phase_core.specs.phase_history.declared.refusal.SignalRefusal.TheVariants as signal
-use Rattle.phase_core.specs.phase_history.Histories.{History, IsAlive, members_of, signal_phase}
-use Rattle.phase_core.specs.phase_history.Legal.{IsLegal}
-use Rattle.phase_core.specs.phase_history.Others.{OthersCame}
-use Rattle.phase_core.specs.phase_history.Replies.{refused_or}
-use Rattle.phase_core.specs.Cores.{CoreState}
 use Rattle.phase_core.proofs.phase_history_lemmas.Answered.{signal_refusal-never}
 use Rattle.phase_core.proofs.phase_history_lemmas.MemberLemmas.{entry_of-changed_same}
 use Rattle.phase_core.proofs.phase_history_lemmas.Used.{IsLegal-beginning}

@@ -5,12 +5,7 @@ use mathlib.Core.Option.{some}
 use lib.ListN.{get_elem?}
 use Rattle.atomic_table.proofs.Lists.{at_set, set_here}
 use Rattle.turn_lock.proofs.Keeping.{within}
-use Rattle.phase_core.specs.phase_base.Limits.{Limits}
-use Rattle.phase_core.specs.phase_base.Lists.{is_distinct, is_in}
-use Rattle.phase_core.specs.phase_accum.declared.outcome.Outcome.{Outcome}
-use Rattle.phase_core.specs.phase_history.Histories.{History, done_of}
-use Rattle.phase_core.specs.phase_history.Phases.{value_of_phase}
-use Rattle.phase_core.specs.phase_history.Others.{IsUsed, events_of, OthersCame}
+use Rattle.phase_shared.specs.Phasers.{Limits, is_distinct, is_in, Outcome, History, done_of, value_of_phase, IsUsed, events_of, OthersCame}
 use Rattle.phase_core.proofs.phase_history_lemmas.Used.{IsUsed-longer}
 use Rattle.phase_core.proofs.phase_history_lemmas.OthersEvents.{OthersCame-refl, OthersCame-trans}
 use Rattle.phase_shared.specs.declared.seats.view.Knowledge.{Knowledge}
@@ -18,7 +13,7 @@ use Rattle.phase_shared.specs.Views.{knowledge, speaks_of, is_turning, known_of,
 use Rattle.phase_shared.specs.Goods.{Allows, IsGood}
 use Rattle.phase_shared.specs.Asks.{Ask, IsAtPhases, IsUnmade, IsMade, IsAnsweredAsk, Stage, Batch, IsOneOf, asks_for}
 use Rattle.phase_shared.specs.Lanes.{lanes_most, board, posted}
-use Rattle.phase_shared.specs.Desks.{View, Resting, Turning, Joining, Posting, Asking, Reading, Spent, IsSound, AskStands, HasToRead, HasLane, LaneIs, AskedAt, IsPast, HeldAt, IsLane, Kept}
+use Rattle.phase_shared.specs.Desks.{View, Resting, Turning, Joining, Posting, Asking, Reading, Spent, IsSound, AskStands, HasToRead, HasLane, LaneIs, IsPast, HeldAt, IsLane, Kept}
 use Rattle.phase_shared.specs.Tells.{StillAsks, LaneIsPast, EndsTurn, Leaves}
 use Rattle.phase_shared.proofs.Small.{same_some, none_some, not_true_is, not_both, apart_phases, is_in_self, in_left, in_right, used_some}
 use Rattle.phase_shared.proofs.Stages.{stage_goes, signal_is, wait_is, done_within}
@@ -221,12 +216,12 @@ module _ {T : Type 0} (value : List ℤ → Outcome) (limits : Limits) (allows :
     lane_given : (i : ℕ) → IsLane k.log views i (posted words i) → IsLane (later ++ k.log) (set views number w) i (posted words i)
     lane_given i (inl z) = inl z
     lane_given i (inr (inl q)) = inr (inl record {
-          seat = q.seat;
-          knows = q.knows;
-          ask = q.ask;
-          at = stays is_asking views number q.seat (Turning f claims said lane) w (Asking q.knows q.ask) at refl refl q.at;
-          is = q.is;
-        })
+      seat = q.seat;
+      knows = q.knows;
+      ask = q.ask;
+      at = stays is_asking views number q.seat (Turning f claims said lane) w (Asking q.knows q.ask) at refl refl q.at;
+      is = q.is;
+    })
     lane_given i (inr (inr (inl p))) = inr (inr (inl (past_goes limits later k.log i (posted words i) good.legal p)))
     lane_given i (inr (inr (inr h))) = lane_held i h
 

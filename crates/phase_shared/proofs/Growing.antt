@@ -1,20 +1,15 @@
 -- What a longer history leaves: a task's phases only grow.
-use Rattle.std.proofs.Common.{◌≡◌, ℕ, ◌+◌, ◌≤◌, true, false, cond, eqb, List, [], ◌∷◌, ◌++◌, ◌⊎◌, length, Some, refl, sym, ap, ◌∙◌, inl, arith, inr}
+use Rattle.std.proofs.Common.{◌≡◌, ℕ, ◌+◌, ◌≤◌, true, false, cond, eqb, List, [], ◌∷◌, ◌++◌, length, Some, refl, sym, ap, ◌∙◌, inl, arith, inr}
 use Rattle.std.proofs.lemmas.Option.{same_Some}
-use Rattle.phase_core.specs.phase_base.Limits.{Limits}
-use Rattle.phase_core.specs.phase_base.Lists.{is_in}
-use Rattle.phase_core.specs.phase_base.declared.entry.Entry.{Entry}
+use Rattle.phase_shared.specs.Phasers.{Limits, is_in, Entry, History, start_of, phases_waited, done_of, IsLegal, HasCounted, events_of}
 use Rattle.phase_core.specs.phase_history.declared.event.Event.TheVariants.{Made, Registered, RegisteredNow, Signalled, Waited, Dropped}
-use Rattle.phase_core.specs.phase_history.Histories.{History, start_of, phases_signalled, phases_waited, done_of}
-use Rattle.phase_core.specs.phase_history.Legal.{IsLegal}
-use Rattle.phase_core.specs.phase_history.Laws.{HasCounted}
-use Rattle.phase_core.specs.phase_history.Others.{events_of}
+use Rattle.phase_core.specs.phase_history.Histories.{phases_signalled}
 use Rattle.phase_core.proofs.phase_history_lemmas.LawProofs.{counted_of}
 use Rattle.phase_core.proofs.phase_history_lemmas.Steps.{steps, sound_of}
 use Rattle.phase_core.proofs.phase_history_lemmas.Streams.{legal_rest}
 use Rattle.phase_core.proofs.phase_history_lemmas.Used.{start_of-longer}
 use Rattle.phase_core.proofs.phase_history_lemmas.OthersEvents.{skips}
-use Rattle.phase_shared.specs.Asks.{Ask, IsAtPhases, IsUnmade, IsMade, IsAnsweredAsk, Stage, Batch}
+use Rattle.phase_shared.specs.Asks.{Ask, IsAtPhases, Stage, Batch}
 use Rattle.phase_shared.specs.Desks.{IsPast}
 
 more_signals : (task : ℕ) (later h : History) → phases_signalled h task ≤ phases_signalled (later ++ h) task

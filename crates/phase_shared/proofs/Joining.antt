@@ -6,13 +6,8 @@ use mathlib.Core.Option.{some, some-injective, some-ne-none}
 use Rattle.std.proofs.lemmas.List.{get_or-replicate}
 use lib.ListN.{get_elem?}
 use Rattle.atomic_table.proofs.Lists.{at_set, at_longer, set_else}
-use Rattle.phase_core.specs.phase_base.Limits.{Limits}
-use Rattle.phase_core.specs.phase_base.Lists.{is_distinct, is_in}
-use Rattle.phase_core.specs.phase_accum.declared.outcome.Outcome.{Outcome}
+use Rattle.phase_shared.specs.Phasers.{Limits, is_distinct, is_in, Outcome, History, IsLegal, IsUsed, OnlyUsed}
 use Rattle.phase_core.specs.phase_history.declared.event.Event.TheVariants.{Made}
-use Rattle.phase_core.specs.phase_history.Histories.{History}
-use Rattle.phase_core.specs.phase_history.Legal.{IsLegal}
-use Rattle.phase_core.specs.phase_history.Others.{IsUsed, OnlyUsed}
 use Rattle.phase_core.proofs.phase_history_lemmas.OthersEvents.{OthersCame-refl, OthersCame-fewer}
 use Rattle.phase_core.proofs.phase_history_lemmas.Used.{OnlyUsed-others}
 use Rattle.phase_shared.specs.declared.seats.view.Knowledge.{Knowledge}

@@ -4,15 +4,7 @@ use Rattle.std.proofs.lemmas.Option.{same_Some}
 use mathlib.Core.Option.{some}
 use lib.ListN.{get_elem?}
 use Rattle.atomic_table.proofs.Lists.{set_again}
-use Rattle.phase_core.specs.phase_base.Limits.{Limits}
-use Rattle.phase_core.specs.phase_base.Lists.{is_in}
-use Rattle.phase_core.specs.phase_base.declared.entry.Entry.{Entry}
-use Rattle.phase_core.specs.phase_base.Members.{entry_of}
-use Rattle.phase_core.specs.phase_accum.declared.outcome.Outcome.{Outcome}
-use Rattle.phase_core.specs.phase_history.Histories.{History, members_of, phases_waited}
-use Rattle.phase_core.specs.phase_history.Legal.{IsLegal}
-use Rattle.phase_core.specs.phase_history.Laws.{HasCounted}
-use Rattle.phase_core.specs.phase_history.Others.{OthersCame}
+use Rattle.phase_shared.specs.Phasers.{Limits, is_in, Entry, entry_of, Outcome, History, members_of, phases_waited, IsLegal, HasCounted, OthersCame}
 use Rattle.phase_core.proofs.phase_history_lemmas.LawProofs.{counted_of}
 use Rattle.phase_shared.specs.declared.seats.view.Knowledge.{Knowledge}
 use Rattle.phase_shared.specs.Goods.{Allows}

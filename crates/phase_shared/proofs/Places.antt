@@ -1,15 +1,13 @@
 -- What is said of the seats that asked or that have the turn stays while these seats stay.
-use Rattle.std.proofs.Common.{◌≡◌, ◌≢◌, ℕ, Bool, true, false, eqb, List, ◌⊎◌, Option, Some, set, sym, ap, ◌∙◌, inl, inr, ⊎_elim}
+use Rattle.std.proofs.Common.{◌≡◌, ◌≢◌, ℕ, Bool, true, false, eqb, List, Option, Some, set, sym, ap, ◌∙◌, inl, inr, ⊎_elim}
 use Rattle.std.proofs.lemmas.Bool.{eq-eqb}
 use mathlib.Core.Option.{some, some-injective}
 use lib.ListN.{get_elem?}
 use Rattle.atomic_table.proofs.Lists.{at_set, set_else}
-use Rattle.phase_core.specs.phase_base.Limits.{Limits}
-use Rattle.phase_core.specs.phase_accum.declared.outcome.Outcome.{Outcome}
-use Rattle.phase_core.specs.phase_history.Histories.{History}
+use Rattle.phase_shared.specs.Phasers.{Limits, Outcome, History}
 use Rattle.phase_shared.specs.declared.seats.view.Knowledge.{Knowledge}
 use Rattle.phase_shared.specs.Asks.{Ask}
-use Rattle.phase_shared.specs.Desks.{View, Turning, Asking, StandsAsked, AskedAt, IsPast, HeldAt, IsLane}
+use Rattle.phase_shared.specs.Desks.{View, Turning, Asking, StandsAsked, IsLane}
 use Rattle.phase_shared.proofs.Small.{not_both}
 
 abbrev pub is_asking : View → Bool
@@ -66,11 +64,11 @@ lane_stays log views after i n stay stay' (inr (inl q)) =
     inr (inl record { seat = q.seat; knows = q.knows; ask = q.ask; at = stay q.seat q.knows q.ask q.at; is = q.is })
 lane_stays log views after i n stay stay' (inr (inr (inl p))) = inr (inr (inl p))
 lane_stays log views after i n stay stay' (inr (inr (inr h))) = inr (inr (inr record {
-      seat = h.seat;
-      knows = h.knows;
-      claims = h.claims;
-      said = h.said;
-      n = h.n;
-      at = stay' h.seat h.knows h.claims h.said (Some h.n) h.at;
-      speaks = h.speaks;
-    }))
+  seat = h.seat;
+  knows = h.knows;
+  claims = h.claims;
+  said = h.said;
+  n = h.n;
+  at = stay' h.seat h.knows h.claims h.said (Some h.n) h.at;
+  speaks = h.speaks;
+}))

@@ -4,28 +4,15 @@ use Rattle.std.specs.Prelude.{◌||◌, is_some, Result, Err}
 use Rattle.std.proofs.lemmas.Bool.Decides.{nat_tests}
 use Rattle.std.proofs.lemmas.Bool.{eqb-true, ne_eqb}
 use Rattle.turn_lock.specs.WordSteps.{GivesOf, ForksOf}
-use Rattle.phase_core.specs.phase_base.Limits.{Limits}
-use Rattle.phase_core.specs.phase_base.declared.mode.Mode.{Mode}
-use Rattle.phase_core.specs.phase_base.declared.entry.Entry.{Entry}
-use Rattle.phase_core.specs.phase_accum.Operations.{Operation}
-use Rattle.phase_core.specs.phase_history.declared.event.Event.{Event}
+use Rattle.phase_shared.specs.Phasers.{Limits, Mode, Entry, Operation, Event, RegisterRefusal, History, start_of, greatest_used, members_of, entry_at, signal_phase, wait_phase, entry_of, register_refusal, IsLegal, CoreState, StandsFor, IsUsed, is_by, OthersCame, is_in, Outcome}
 use Rattle.phase_core.specs.phase_history.declared.event.Event.TheVariants.{Registered}
-use Rattle.phase_core.specs.phase_history.declared.refusal.RegisterRefusal.{RegisterRefusal}
 use Rattle.phase_core.specs.phase_history.declared.refusal.RegisterRefusal.TheVariants as register
-use Rattle.phase_core.specs.phase_history.Histories.{History, start_of, greatest_used, members_of, entry_at, signal_phase, wait_phase}
-use Rattle.phase_core.specs.phase_base.Members.{entry_of}
 use Rattle.phase_core.proofs.phase_history_lemmas.MemberLemmas.{entry_of-push_new, entry_of-push_old}
 use Rattle.phase_core.proofs.phase_history_lemmas.Steps.{sound_of, member_entry_is}
-use Rattle.phase_core.specs.phase_history.Refusals.{register_refusal}
-use Rattle.phase_core.specs.phase_history.Legal.{IsLegal}
-use Rattle.phase_core.specs.Cores.{CoreState, StandsFor}
 use Rattle.phase_core.proofs.phase_history_lemmas.Refused.{registers_from}
 use Rattle.phase_core.proofs.phase_history_lemmas.Answered.{register_refusal-never}
 use Rattle.phase_shared.specs.declared.seats.view.View.{View}
 use Rattle.phase_shared.specs.declared.rule.Terms.{Terms}
-use Rattle.phase_core.specs.phase_history.Others.{IsUsed, is_by, OthersCame}
-use Rattle.phase_core.specs.phase_base.Lists.{is_in}
-use Rattle.phase_core.specs.phase_accum.declared.outcome.Outcome.{Outcome}
 use Rattle.phase_shared.specs.declared.seats.view.Ask.{Ask}
 use Rattle.phase_shared.specs.Views.{knowledge, resting, turning, known_of, speaks_of, first_part, other_part, SpeaksForTwo}
 use Rattle.phase_shared.specs.Rule.{Allows, IsGoodAt, HasOneHistory, StandsWithin, IsSeatOfTask, AfterTake}

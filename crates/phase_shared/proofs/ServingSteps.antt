@@ -2,36 +2,18 @@
 use Rattle.std.proofs.Common.{◌≡◌, ◌≢◌, ℕ, ◌+◌, ◌<◌, ◌≤◌, Bool, true, false, cond, eqb, ltb, leb, List, [], ◌∷◌, ◌++◌, ◌⊎◌, None, Some, refl, sym, ap, subst, ◌∙◌, inl, inr, ⊎_elim, arith}
 use Rattle.std.proofs.lemmas.Bool.{eqb-true, eq-eqb, ne_eqb, ltb-true, ltb-false, lt-ltb, le-ltb, leb-true}
 use Rattle.std.proofs.lemmas.Option.{same_Some}
-use Rattle.phase_core.specs.phase_base.Limits.{Limits}
-use Rattle.phase_core.specs.phase_base.Lists.{is_in}
-use Rattle.phase_core.specs.phase_base.Modes.{mode_signals, mode_waits}
-use Rattle.phase_core.specs.phase_base.Members.{entry_of, signalled, waited}
-use Rattle.phase_core.specs.phase_base.declared.entry.Entry.{Entry}
-use Rattle.phase_core.specs.phase_accum.Operations.{Operation}
-use Rattle.phase_core.specs.phase_accum.declared.outcome.Outcome.{Outcome}
-use Rattle.phase_core.specs.phase_history.declared.event.Event.{Event}
+use Rattle.phase_shared.specs.Phasers.{Limits, is_in, mode_signals, mode_waits, entry_of, signalled, waited, Entry, Operation, Outcome, Event, History, members_of, done_of, wait_phase, least, signal_phases, positions_of, value_of_phase, refusal_at, wait_rows, wait_refusal, wait_reply, refused_or, got_at, Got, WaitRefusal, IsLegal, is_by, events_of, OthersCame, CoreState, StandsFor}
 use Rattle.phase_core.specs.phase_history.declared.event.Event.TheVariants.{Made, Registered, RegisteredNow, Signalled, Waited, Dropped}
-use Rattle.phase_core.specs.phase_history.Histories.{History, members_of, done_of, wait_phase}
 use Rattle.std.specs.Prelude.{Ok, Result, is_some, not, ◌&&◌}
 use Rattle.phase_core.specs.phase_base.Limits.{AreLimits}
-use Rattle.phase_core.specs.phase_base.Members.{least, signal_phases}
-use Rattle.phase_core.specs.phase_history.Histories.{positions_of}
-use Rattle.phase_core.specs.phase_history.Phases.{value_of_phase}
-use Rattle.phase_core.specs.phase_history.Refusals.{refusal_at, wait_rows, wait_refusal}
-use Rattle.phase_core.specs.phase_history.Replies.{wait_reply, refused_or, got_at}
-use Rattle.phase_core.specs.phase_history.declared.got.Got.{Got}
 use Rattle.phase_core.specs.phase_history.declared.got.Got.TheVariants as got
-use Rattle.phase_core.specs.phase_history.declared.refusal.WaitRefusal.{WaitRefusal}
 use Rattle.phase_core.specs.phase_history.declared.refusal.WaitRefusal.TheVariants as wait
-use Rattle.phase_core.specs.phase_history.Legal.{IsLegal}
 use Rattle.phase_core.proofs.phase_history_lemmas.Refused.{first_row_none}
-use Rattle.phase_core.specs.phase_history.Others.{is_by, events_of, OthersCame}
-use Rattle.phase_core.specs.Cores.{CoreState, StandsFor}
 use Rattle.phase_core.proofs.phase_history_lemmas.MemberLemmas.{entry_of-changed_other}
 use Rattle.phase_core.proofs.phase_history_lemmas.Used.{entry_of-others, IsLegal-beginning}
 use Rattle.phase_shared.specs.declared.seats.request.Request.{Request}
 use Rattle.phase_shared.specs.declared.seats.view.View.{View}
-use Rattle.phase_shared.specs.Asks.{Ask, IsAtPhases, IsUnmade, IsMade, IsAnsweredAsk, Stage, IsOwn, SignalsFor, WaitsFor, Batch, IsOneOf, asks_for}
+use Rattle.phase_shared.specs.Asks.{Ask, IsAtPhases, IsMade, Stage, IsOwn, SignalsFor, WaitsFor, Batch, IsOneOf, asks_for}
 use Rattle.phase_shared.specs.Desks.{IsPast}
 use Rattle.phase_shared.specs.Goods.{Allows}
 use Rattle.phase_shared.specs.Lanes.{sends_of}

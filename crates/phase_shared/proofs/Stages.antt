@@ -1,23 +1,15 @@
 -- An ask goes on by the events of a turn: unmade, made, answered, and no further.
 use Rattle.std.proofs.Common.{◌≡◌, ℕ, ℤ, ◌+◌, ◌<◌, ◌≤◌, true, false, cond, eqb, List, [], ◌∷◌, ◌++◌, ◌⊎◌, None, Some, refl, sym, ap, subst, ◌∙◌, inl, inr, ⊎_elim, arith}
 use Rattle.std.proofs.lemmas.Bool.{eqb-true}
-use Rattle.phase_core.specs.phase_base.Limits.{Limits}
-use Rattle.phase_core.specs.phase_base.Lists.{is_in}
-use Rattle.phase_core.specs.phase_base.Modes.{mode_signals}
-use Rattle.phase_core.specs.phase_base.declared.entry.Entry.{Entry}
-use Rattle.phase_core.specs.phase_base.Members.{entry_of, signalled, waited}
-use Rattle.phase_core.specs.phase_history.declared.event.Event.{Event}
+use Rattle.phase_shared.specs.Phasers.{Limits, is_in, mode_signals, Entry, entry_of, signalled, waited, Event, History, positions_of, members_of, signal_phase, wait_phase, done_of, IsLegal, IsAccepted, is_by, OthersCame}
 use Rattle.phase_core.specs.phase_history.declared.event.Event.TheVariants.{Signalled, Waited}
-use Rattle.phase_core.specs.phase_history.Histories.{History, positions_of, members_of, signal_phase, wait_phase, done_of}
-use Rattle.phase_core.specs.phase_history.Legal.{IsLegal, IsAccepted}
-use Rattle.phase_core.specs.phase_history.Others.{is_by, OthersCame}
 use Rattle.phase_core.proofs.phase_history_lemmas.MemberLemmas.{Each-entry, entry_of-changed_same}
 use Rattle.phase_core.proofs.phase_history_lemmas.Steps.{done_low, member_entry_is, steps, sound_of}
 use Rattle.phase_core.proofs.phase_history_lemmas.Streams.{legal_rest}
 use Rattle.phase_core.proofs.phase_history_lemmas.Used.{entry_of-others}
 use Rattle.phase_core.proofs.phase_history_lemmas.OthersEvents.{OthersCame-refl, OthersCame-event, OthersCame-trans}
 use Rattle.phase_shared.proofs.Small.{one_of}
-use Rattle.phase_shared.specs.Asks.{Ask, IsAtPhases, IsUnmade, IsMade, IsAnsweredAsk, Stage, IsOwn, SignalsFor, WaitsFor, Batch}
+use Rattle.phase_shared.specs.Asks.{Ask, IsAtPhases, IsMade, IsAnsweredAsk, Stage, IsOwn, SignalsFor, WaitsFor, Batch}
 
 -- ---- where a task stands
 
@@ -80,26 +72,26 @@ further task old h e other came = OthersCame-trans (task ∷ []) old h (e ∷ h)
 pub stage_other : (limits : Limits) (ask : Ask) (seen h : History) (e : Event) → IsLegal limits (e ∷ h) → is_by ask.task e ≡ false
     → Stage limits ask seen h → Stage limits ask seen (e ∷ h)
 stage_other limits ask seen h e legal other (inl u) = inl record {
-      others = further ask.task seen h e other u.others;
-      stands = stands_other limits h e ask.task ask.phase ask.phase legal other u.stands;
-    }
+  others = further ask.task seen h e other u.others;
+  stands = stands_other limits h e ask.task ask.phase ask.phase legal other u.stands;
+}
 stage_other limits ask seen h e legal other (inr (inl m)) = inr (inl record {
-      before = m.before;
-      others = m.others;
-      accepted = m.accepted;
-      signalled_in = m.signalled_in;
-      since = further ask.task (Signalled ask.task (ask.sends ∷ []) None ∷ m.before) h e other m.since;
-      stands = stands_other limits h e ask.task (ask.phase + 1) ask.phase legal other m.stands;
-    })
+  before = m.before;
+  others = m.others;
+  accepted = m.accepted;
+  signalled_in = m.signalled_in;
+  since = further ask.task (Signalled ask.task (ask.sends ∷ []) None ∷ m.before) h e other m.since;
+  stands = stands_other limits h e ask.task (ask.phase + 1) ask.phase legal other m.stands;
+})
 stage_other limits ask seen h e legal other (inr (inr a)) = inr (inr record {
-      middle = a.middle;
-      made = a.made;
-      accepted = a.accepted;
-      complete = a.complete;
-      below = (let more = grows limits h e (some_of h ask.task (ask.phase + 1) (ask.phase + 1) a.stands) legal in let low = a.below in omega arith);
-      since = further ask.task (Waited ask.task 1 ∷ a.middle) h e other a.since;
-      stands = stands_other limits h e ask.task (ask.phase + 1) (ask.phase + 1) legal other a.stands;
-    })
+  middle = a.middle;
+  made = a.made;
+  accepted = a.accepted;
+  complete = a.complete;
+  below = (let more = grows limits h e (some_of h ask.task (ask.phase + 1) (ask.phase + 1) a.stands) legal in let low = a.below in omega arith);
+  since = further ask.task (Waited ask.task 1 ∷ a.middle) h e other a.since;
+  stands = stands_other limits h e ask.task (ask.phase + 1) (ask.phase + 1) legal other a.stands;
+})
 
 apart : (n : ℕ) → n + 1 ≡ n → ⊥
 apart n e = omega arith
@@ -109,13 +101,13 @@ pub stage_signalled : (limits : Limits) (ask : Ask) (seen h : History) → IsLeg
     → IsAccepted limits h (Signalled ask.task (ask.sends ∷ []) None) → signal_phase h ask.task ≡ ask.phase
     → Stage limits ask seen h → IsMade limits ask seen (Signalled ask.task (ask.sends ∷ []) None ∷ h)
 stage_signalled limits ask seen h legal accepted at (inl u) = record {
-      before = h;
-      others = u.others;
-      accepted = accepted.0;
-      signalled_in = at;
-      since = OthersCame-refl (ask.task ∷ []) (Signalled ask.task (ask.sends ∷ []) None ∷ h);
-      stands = stands_signalled h ask.task ask.phase ask.phase ask.sends u.stands;
-    }
+  before = h;
+  others = u.others;
+  accepted = accepted.0;
+  signalled_in = at;
+  since = OthersCame-refl (ask.task ∷ []) (Signalled ask.task (ask.sends ∷ []) None ∷ h);
+  stands = stands_signalled h ask.task ask.phase ask.phase ask.sends u.stands;
+}
 stage_signalled limits ask seen h legal accepted at (inr (inl m)) =
     absurd (apart ask.phase (sym (signal_is h ask.task (ask.phase + 1) ask.phase m.stands) ∙ at))
 stage_signalled limits ask seen h legal accepted at (inr (inr a)) =
@@ -128,14 +120,14 @@ pub stage_waited : (limits : Limits) (ask : Ask) (seen h : History) → IsLegal 
 stage_waited limits ask seen h legal accepted signalled at (inl u) =
     absurd (apart ask.phase (sym signalled ∙ signal_is h ask.task ask.phase ask.phase u.stands))
 stage_waited limits ask seen h legal accepted signalled at (inr (inl m)) = record {
-      middle = h;
-      made = m;
-      accepted = accepted.0;
-      complete = (let fits : wait_phase h ask.task + 1 ≤ done_of h = accepted.1 in omega arith);
-      below = (let fits : wait_phase h ask.task + 1 ≤ done_of h = accepted.1 in let more = (steps limits h (Waited ask.task 1) legal (sound_of limits h legal) accepted).grows in omega arith);
-      since = OthersCame-refl (ask.task ∷ []) (Waited ask.task 1 ∷ h);
-      stands = stands_waited h ask.task (ask.phase + 1) ask.phase m.stands;
-    }
+  middle = h;
+  made = m;
+  accepted = accepted.0;
+  complete = (let fits : wait_phase h ask.task + 1 ≤ done_of h = accepted.1 in omega arith);
+  below = (let fits : wait_phase h ask.task + 1 ≤ done_of h = accepted.1 in let more = (steps limits h (Waited ask.task 1) legal (sound_of limits h legal) accepted).grows in omega arith);
+  since = OthersCame-refl (ask.task ∷ []) (Waited ask.task 1 ∷ h);
+  stands = stands_waited h ask.task (ask.phase + 1) ask.phase m.stands;
+}
 stage_waited limits ask seen h legal accepted signalled at (inr (inr a)) =
     absurd (apart ask.phase (sym (wait_is h ask.task (ask.phase + 1) (ask.phase + 1) a.stands) ∙ at))
 

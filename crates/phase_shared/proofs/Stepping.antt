@@ -4,12 +4,7 @@ use Rattle.std.specs.Prelude.{Result, Err, is_some}
 use Rattle.std.specs.Result.{result_ok}
 use Rattle.turn_lock.specs.declared.seat.Seat.{Seat}
 use Rattle.turn_lock.specs.Seats.{IsSeatAt, seat_view}
-use Rattle.phase_core.specs.phase_base.Members.{entry_of}
-use Rattle.phase_core.specs.phase_base.declared.entry.Entry.{Entry}
-use Rattle.phase_core.specs.phase_accum.Operations.{Operation}
-use Rattle.phase_core.specs.phase_history.Histories.{History, members_of}
-use Rattle.phase_core.specs.phase_history.Others.{OnlyUsed}
-use Rattle.phase_core.specs.Cores.{CoreState, StandsFor}
+use Rattle.phase_shared.specs.Phasers.{entry_of, Entry, Operation, History, members_of, OnlyUsed, CoreState, StandsFor}
 use Rattle.phase_shared.specs.declared.seats.locked.LockedPhaser.{LockedPhaser}
 use Rattle.phase_shared.specs.declared.seats.view.View.{View}
 use Rattle.phase_shared.specs.declared.rule.Terms.{Terms}

@@ -5,16 +5,13 @@ use mathlib.Core.Option.{some, some-injective, some-ne-none}
 use lib.ListN.{get_elem?}
 use Rattle.atomic_table.proofs.Lists.{at_set, set_here, set_else}
 use Rattle.turn_lock.proofs.Keeping.{within}
-use Rattle.phase_core.specs.phase_base.Limits.{Limits}
-use Rattle.phase_core.specs.phase_base.Lists.{is_distinct, is_in}
-use Rattle.phase_core.specs.phase_accum.declared.outcome.Outcome.{Outcome}
-use Rattle.phase_core.specs.phase_history.Histories.{History, signal_phase, wait_phase}
+use Rattle.phase_shared.specs.Phasers.{Limits, is_distinct, is_in, Outcome, History, signal_phase, wait_phase}
 use Rattle.phase_shared.specs.declared.seats.view.Knowledge.{Knowledge}
 use Rattle.phase_shared.specs.Views.{knowledge, speaks_of, claims_of}
 use Rattle.phase_shared.specs.Goods.{Allows}
 use Rattle.phase_shared.specs.Asks.{Ask, IsAtPhases, Stage, IsUnmade, IsMade, IsAnsweredAsk, IsOneOf}
 use Rattle.phase_shared.specs.Lanes.{board, posted}
-use Rattle.phase_shared.specs.Desks.{View, Resting, Turning, Joining, Posting, Asking, Reading, Spent, IsSound, AskStands, LaneIs, StandsAsked, AskedAt, IsPast, HeldAt, IsLane, Kept, is_made, made_asks}
+use Rattle.phase_shared.specs.Desks.{View, Resting, Turning, Joining, Posting, Asking, Reading, Spent, IsSound, AskStands, LaneIs, StandsAsked, AskedAt, HeldAt, IsLane, Kept, is_made, made_asks}
 use Rattle.phase_shared.specs.Tells.{Took, TookAsked}
 use Rattle.phase_shared.proofs.Small.{none_some, not_true_is, apart_phases, is_in_self}
 use Rattle.phase_shared.proofs.Stages.{signal_is, wait_is}

@@ -1,15 +1,8 @@
 -- A seat that asked goes on under its turn, from where its ask stands.
 use Rattle.std.proofs.Common.{◌≡◌, ℕ, ◌+◌, ◌<◌, ◌≤◌, true, false, [], ◌∷◌, ◌⊎◌, Option, Some, None, refl, sym, ap, subst, ◌∙◌, inr, ⊎_elim, arith, inl}
 use Rattle.std.specs.Prelude.{is_some}
-use Rattle.phase_core.specs.phase_base.Limits.{Limits}
-use Rattle.phase_core.specs.phase_base.Modes.{mode_waits}
-use Rattle.phase_core.specs.phase_base.Members.{entry_of, signalled, waited}
-use Rattle.phase_core.specs.phase_base.declared.entry.Entry.{Entry}
-use Rattle.phase_core.specs.phase_accum.Operations.{Operation}
+use Rattle.phase_shared.specs.Phasers.{Limits, mode_waits, entry_of, signalled, waited, Entry, Operation, History, members_of, done_of, IsAlive, IsLegal, CoreState, StandsFor}
 use Rattle.phase_core.specs.phase_history.declared.event.Event.TheVariants.{Signalled, Waited}
-use Rattle.phase_core.specs.phase_history.Histories.{History, members_of, done_of, IsAlive}
-use Rattle.phase_core.specs.phase_history.Legal.{IsLegal}
-use Rattle.phase_core.specs.Cores.{CoreState, StandsFor}
 use Rattle.phase_core.proofs.phase_history_lemmas.MemberLemmas.{entry_of-changed_same}
 use Rattle.phase_core.proofs.phase_history_lemmas.Used.{IsLegal-beginning}
 use Rattle.phase_shared.specs.Asks.{Ask, IsAtPhases, IsUnmade, IsMade, IsAnsweredAsk, Stage}

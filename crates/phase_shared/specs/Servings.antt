@@ -1,22 +1,10 @@
 -- A turn of a seat that asked: what it read of others' asks, and what it did so far.
 use Rattle.std.specs.Prelude.{◌≡◌, ℕ, ◌+◌, ◌<◌, ◌≤◌, List, [], ◌∷◌, ◌++◌, ◌⊎◌, Bool, true, false, Option, Some, None, Result, Ok, Err}
 use Rattle.turn_lock.specs.Seats.{Place}
-use Rattle.phase_core.specs.phase_base.Limits.{Limits}
-use Rattle.phase_core.specs.phase_base.Modes.{mode_signals, mode_waits}
-use Rattle.phase_core.specs.phase_base.Members.{Members, entry_of}
-use Rattle.phase_core.specs.phase_base.declared.entry.Entry.{Entry}
-use Rattle.phase_core.specs.phase_accum.Operations.{Operation}
-use Rattle.phase_core.specs.phase_accum.Parcels.{StandsForSends}
+use Rattle.phase_shared.specs.Phasers.{Limits, mode_signals, mode_waits, entry_of, Entry, Operation, StandsForSends, Outcome, SignalRefusal, History, IsAlive, members_of, done_of, value_of_phase, signal_refusal, wait_refusal, OthersCame, CoreState, StandsFor, is_in}
+use Rattle.phase_core.specs.phase_base.Members.{Members}
 use Rattle.phase_shared.specs.Regs.{RegState}
-use Rattle.phase_core.specs.phase_accum.declared.outcome.Outcome.{Outcome}
 use Rattle.phase_core.specs.phase_history.declared.event.Event.TheVariants.{Waited}
-use Rattle.phase_core.specs.phase_history.declared.refusal.SignalRefusal.{SignalRefusal}
-use Rattle.phase_core.specs.phase_history.Histories.{History, IsAlive, members_of, done_of}
-use Rattle.phase_core.specs.phase_history.Phases.{value_of_phase}
-use Rattle.phase_core.specs.phase_history.Refusals.{signal_refusal, wait_refusal}
-use Rattle.phase_core.specs.phase_history.Others.{OthersCame}
-use Rattle.phase_core.specs.Cores.{CoreState, StandsFor}
-use Rattle.phase_core.specs.phase_base.Lists.{is_in}
 use Rattle.phase_shared.specs.declared.seats.view.View.{View}
 use Rattle.phase_shared.specs.declared.seats.view.View.TheVariants.{Asking}
 use Rattle.phase_shared.specs.declared.seats.request.Request.{Request}

@@ -57,7 +57,9 @@ pub(crate) fn taken<T>(kept: &mut Option<T>) -> T
     requires { is_some kept.old ≡ true }
     ensures { kept.old ≡ Some result }
 {
-    let Some(seat) = kept.take() else { unreachable!() };
+    let Some(seat) = kept.take() else {
+        unreachable!()
+    };
     seat
 }
 

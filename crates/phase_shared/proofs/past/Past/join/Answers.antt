@@ -1,8 +1,6 @@
 use Rattle.std.proofs.Common.{◌≡◌, ◌++◌, sym, subst, ap, ◌∙◌}
 use Rattle.turn_lock.specs.Seats.{seat_view}
-use Rattle.phase_core.specs.phase_history.Histories.{History}
-use Rattle.phase_core.specs.phase_history.Others.{OthersCame}
-use Rattle.phase_core.specs.phase_base.Lists.{is_distinct}
+use Rattle.phase_shared.specs.Phasers.{History, OthersCame, is_distinct}
 use Rattle.phase_shared.specs.Views.{known_of, resting}
 use Rattle.phase_shared.specs.declared.seats.view.View.{View}
 use Rattle.phase_shared.specs.Regs.{phaser_terms}

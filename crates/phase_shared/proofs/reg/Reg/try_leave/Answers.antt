@@ -1,8 +1,6 @@
 use Rattle.std.proofs.Common.{◌≡◌, [], ◌∷◌, true, false, sym, subst, ap, ◌∙◌}
 use Rattle.std.specs.Prelude.{is_some}
-use Rattle.phase_core.specs.phase_history.Histories.{History}
-use Rattle.phase_core.specs.phase_history.Others.{OnlyUsed}
-use Rattle.phase_core.specs.phase_base.Lists.{is_distinct}
+use Rattle.phase_shared.specs.Phasers.{History, OnlyUsed, is_distinct}
 use Rattle.phase_shared.specs.Views.{known_of, resting}
 use Rattle.phase_shared.specs.Rule.{IsGoodAt}
 use Rattle.phase_shared.specs.declared.seats.view.View.{View}

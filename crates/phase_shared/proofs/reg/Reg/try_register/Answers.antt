@@ -3,10 +3,7 @@ use Rattle.std.specs.Prelude.{Ok, Result}
 use Rattle.turn_lock.specs.Seats.{seat_view, IsSameSeat}
 use Rattle.phase_core.specs.phase_history.declared.refusal.RegisterRefusal.TheVariants.{NoTask}
 use Rattle.turn_lock.specs.declared.seat.Seat.{Seat}
-use Rattle.phase_core.specs.phase_base.declared.entry.Entry.{Entry}
-use Rattle.phase_core.specs.phase_history.Histories.{History}
-use Rattle.phase_core.specs.phase_history.declared.refusal.RegisterRefusal.{RegisterRefusal}
-use Rattle.phase_core.specs.Cores.{CoreState}
+use Rattle.phase_shared.specs.Phasers.{Entry, History, RegisterRefusal, CoreState}
 use Rattle.phase_shared.specs.declared.rule.Terms.{Terms}
 use Rattle.phase_shared.specs.declared.seats.view.View.{View}
 use Rattle.phase_shared.specs.Views.{known_of}

@@ -1,15 +1,11 @@
 use Rattle.std.proofs.Common.{◌≡◌, ℕ, Option, Some, None, true, false, refl, sym, subst}
 use Rattle.std.specs.Prelude.{Result, IsErr}
-use Rattle.phase_core.specs.phase_base.declared.entry.Entry.{Entry}
-use Rattle.phase_core.specs.phase_accum.Parcels.{Parcel}
-use Rattle.phase_core.specs.phase_history.declared.got.Got.{Got}
-use Rattle.phase_core.specs.phase_history.declared.refusal.SignalRefusal.{SignalRefusal}
+use Rattle.phase_shared.specs.Phasers.{Entry, Parcel, Got, SignalRefusal, StandsForSends}
 use Rattle.phase_core.specs.phase_history.declared.refusal.SignalRefusal.TheVariants.{NoTask}
 use Rattle.phase_shared.specs.declared.rule.Terms.{Terms}
 use Rattle.phase_shared.specs.declared.tried.Tried.{Tried}
 use Rattle.phase_shared.specs.Regs.{RegState, reg_state, phaser_terms}
 use Rattle.phase_shared.specs.Calls.{IsTry, Tries, MaySignal}
-use Rattle.phase_core.specs.phase_accum.Parcels.{StandsForSends}
 use Rattle.turn_lock.specs.Seats.{IsSameSeat, seat_view}
 use Rattle.phase_shared.specs.Views.{known_of}
 use Rattle.phase_shared.specs.Steps.{IsStep}

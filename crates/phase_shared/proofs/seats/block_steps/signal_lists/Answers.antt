@@ -2,14 +2,9 @@ use Rattle.std.proofs.Common.{◌≡◌, ℕ, ℤ, List, [], ◌∷◌, None, le
 use Rattle.std.specs.Prelude.{is_some, Result}
 use Rattle.std.specs.Result.{result_ok}
 use Rattle.turn_lock.specs.Seats.{seat_view, turn_view, turn_value, turn_number, turn_told, IsSameSeat}
-use Rattle.phase_core.specs.phase_history.declared.refusal.SignalRefusal.{SignalRefusal}
+use Rattle.phase_shared.specs.Phasers.{SignalRefusal, History, signal_phase, signal_refusal, signal_reply, after_signal, StandForLists, StandsFor}
 use Rattle.phase_core.specs.phase_history.declared.refusal.SignalRefusal.TheVariants as signal
-use Rattle.phase_core.specs.phase_history.Histories.{History, signal_phase}
-use Rattle.phase_core.specs.phase_history.Refusals.{signal_refusal}
-use Rattle.phase_core.specs.phase_history.Replies.{signal_reply, after_signal}
 use Rattle.phase_core.proofs.phase_history_lemmas.Answered.{signal_refusal-never}
-use Rattle.phase_core.specs.Blocks.{StandForLists}
-use Rattle.phase_core.specs.Cores.{StandsFor}
 use Rattle.phase_core.proofs.SignalSlots.{lists-length}
 use Rattle.phase_shared.specs.LockedPhasers.{locked_terms}
 use Rattle.phase_shared.specs.Views.{resting, turning, known_of, speaks_of}

@@ -2,12 +2,9 @@ use Rattle.std.proofs.Common.{◌≡◌, [], ◌∷◌, None, length, false, tru
 use Rattle.std.specs.Prelude.{Result, is_some}
 use Rattle.std.specs.Result.{result_ok}
 use Rattle.turn_lock.specs.Seats.{seat_view, turn_view, turn_value, turn_number, turn_told, IsSameSeat}
-use Rattle.phase_core.specs.phase_history.declared.got.GotBlock.{GotBlock}
-use Rattle.phase_core.specs.phase_history.declared.refusal.WaitRefusal.{WaitRefusal}
+use Rattle.phase_shared.specs.Phasers.{GotBlock, WaitRefusal, wait_phase, wait_refusal, wait_block_reply, after_wait_block}
 use Rattle.phase_core.specs.phase_history.declared.refusal.WaitRefusal.TheVariants as wait
-use Rattle.phase_core.specs.phase_history.Histories.{wait_phase}
-use Rattle.phase_core.specs.phase_history.Refusals.{wait_refusal}
-use Rattle.phase_core.specs.phase_history.Replies.{got_block_at, wait_block_reply, after_wait_block}
+use Rattle.phase_core.specs.phase_history.Replies.{got_block_at}
 use Rattle.phase_core.proofs.phase_history_lemmas.Answered.{wait_refusal-never}
 use Rattle.phase_shared.specs.LockedPhasers.{locked_terms}
 use Rattle.phase_shared.specs.Views.{resting, turning, known_of, speaks_of}

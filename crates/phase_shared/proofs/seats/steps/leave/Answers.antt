@@ -2,7 +2,7 @@ use Rattle.std.proofs.Common.{◌≡◌, ◌∷◌, Ok, Err, true, ap, refl, ◌
 use Rattle.std.specs.Prelude.{Result, IsOk, is_some}
 use Rattle.phase_shared.specs.LockedPhasers.{locked_terms}
 use Rattle.turn_lock.specs.Seats.{turn_view, turn_value, turn_number, turn_told}
-use Rattle.phase_core.specs.phase_base.Members.{entry_of}
+use Rattle.phase_shared.specs.Phasers.{entry_of}
 use Rattle.phase_core.specs.phase_history.declared.event.Event.TheVariants.{Dropped}
 use Rattle.phase_shared.specs.Views.{resting, known_of, speaks_of}
 use Rattle.phase_shared.specs.Rule.{StandsWithin}

@@ -1,12 +1,8 @@
 use Rattle.std.proofs.Common.{◌≡◌, [], ◌∷◌, None, true, false, refl, sym, ap, ◌∙◌, rules}
 use Rattle.turn_lock.specs.Seats.{seat_view, turn_view, turn_value, turn_number, turn_told, IsSameSeat}
-use Rattle.phase_core.specs.phase_base.declared.entry.Entry.{Entry}
-use Rattle.phase_core.specs.phase_history.declared.event.Event.{Event}
+use Rattle.phase_shared.specs.Phasers.{Entry, Event, History, entry_at, register_refusal, StandsFor}
 use Rattle.phase_core.specs.phase_history.declared.event.Event.TheVariants.{Registered}
 use Rattle.phase_core.specs.phase_history.declared.refusal.RegisterRefusal.TheVariants as register
-use Rattle.phase_core.specs.phase_history.Histories.{History, entry_at}
-use Rattle.phase_core.specs.phase_history.Refusals.{register_refusal}
-use Rattle.phase_core.specs.Cores.{StandsFor}
 use Rattle.phase_shared.specs.LockedPhasers.{locked_terms}
 use Rattle.phase_shared.specs.Views.{resting, known_of}
 use Rattle.phase_shared.specs.Rule.{StandsWithin}

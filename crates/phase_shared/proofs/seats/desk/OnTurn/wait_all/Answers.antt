@@ -1,4 +1,3 @@
-use Rattle.std.proofs.Common.{◌∙◌}
 use Rattle.std.proofs.lemmas.Bool.{and_parts}
 use Rattle.turn_lock.specs.Seats.{turn_view, turn_value}
 use Rattle.phase_shared.proofs.ServingSteps.{as_far}

@@ -1,12 +1,8 @@
 use Rattle.std.proofs.Common.{◌≡◌, ◌≤◌, ◌+◌, ℕ, true, ◌++◌, refl, sym, ap, subst, ◌∙◌, arith}
 use Rattle.std.specs.Prelude.{Result, Ok}
 use Rattle.turn_lock.specs.Seats.{turn_view, turn_value}
-use Rattle.phase_core.specs.phase_history.Replies.{after_wait}
-use Rattle.phase_core.specs.phase_history.declared.got.Got.{Got}
-use Rattle.phase_core.specs.phase_history.declared.refusal.WaitRefusal.{WaitRefusal}
-use Rattle.phase_core.specs.Cores.{CoreState, StandsFor}
+use Rattle.phase_shared.specs.Phasers.{after_wait, Got, WaitRefusal, CoreState, StandsFor}
 use Rattle.phase_shared.specs.Servings.{Serving, ServingOpen, IsBetween}
-use Rattle.phase_shared.specs.Views.{known_of}
 use Rattle.phase_shared.proofs.ServingSteps.{HasRead, reads_more, reads_knows, waits_more, same_turn, stays_open, core_stays, none_asked, none_own, below_or, is_other_task}
 use Rattle.phase_shared.proofs.seats.desk.OnTurn.wait_for.Given.{Over}
 use Rattle.phase_shared.proofs.seats.desk.OnTurn.wait_for.Goals.{After-read_lane-on}

@@ -1,4 +1,4 @@
-use Rattle.std.proofs.Common.{◌<◌, ℕ, false, true, refl, ap, sym, subst, ◌∙◌}
+use Rattle.std.proofs.Common.{◌<◌, ℕ, false, refl, ap, sym, subst}
 use Rattle.phase_core.specs.phase_history.Histories.{done_of}
 use Rattle.turn_lock.specs.Seats.{turn_view, turn_value}
 use Rattle.phase_shared.proofs.ServingSteps.{same_turn, stays_open}

@@ -1,4 +1,4 @@
-use Rattle.std.proofs.Common.{ap, sym, subst, ◌∙◌}
+use Rattle.std.proofs.Common.{sym, subst, ◌∙◌}
 use Rattle.turn_lock.specs.Seats.{seat_view, turn_value, turn_view}
 use Rattle.phase_shared.specs.Asks.{Ask}
 use Rattle.phase_shared.specs.LockedPhasers.{locked_terms}
