@@ -1,6 +1,7 @@
 -- What a longer history leaves: a task's phases only grow.
 use Rattle.std.proofs.Common.{◌≡◌, ℕ, ◌+◌, ◌≤◌, true, false, cond, eqb, List, [], ◌∷◌, ◌++◌, length, Some, refl, sym, ap, ◌∙◌, inl, arith, inr}
 use Rattle.std.proofs.lemmas.Option.{same_Some}
+use Rattle.phase_shared.proofs.Small.{longer_some}
 use Rattle.phase_shared.specs.Phasers.{Limits, is_in, Entry, History, start_of, phases_waited, done_of, IsLegal, HasCounted, events_of}
 use Rattle.phase_core.specs.phase_history.declared.event.Event.TheVariants.{Made, Registered, RegisteredNow, Signalled, Waited, Dropped}
 use Rattle.phase_core.specs.phase_history.Histories.{phases_signalled}
@@ -85,10 +86,6 @@ done_grows limits (e ∷ later) h some legal =
     let first = done_grows limits later h some r.0 in
     let then = (steps limits (later ++ h) e r.0 (sound_of limits (later ++ h) r.0) r.1).grows in
     omega arith
-  where
-    longer_some : (later h : History) → (h ≡ [] → ⊥) → later ++ h ≡ [] → ⊥
-    longer_some [] h some none = some none
-    longer_some (e ∷ later) h some none = cc
 
 -- events of the holder's own are a turn in which nothing was read
 pub own_batch : (Claimed : Ask → Type 0) (speaks : List ℕ) (own log : History)

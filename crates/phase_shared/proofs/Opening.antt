@@ -14,12 +14,10 @@ use Rattle.std.specs.Prelude.{Result, Ok, Err, IsErr}
 use Rattle.std.specs.Result.{result_ok}
 use Rattle.phase_shared.specs.declared.tried.Tried.{Tried}
 use Rattle.phase_shared.specs.declared.tried.Tried.TheVariants.{Busy, Refused}
+use Rattle.phase_shared.proofs.Small.{same_some}
 use Rattle.phase_shared.specs.Steps.{IsStep, IsSeatOn}
 use Rattle.phase_shared.specs.Calls.{IsTry, Tries}
 use Rattle.phase_shared.specs.Entries.{entry_stays}
-
-same_some : {A : Type 0} (x y : A) → Some x ≡ Some y → x ≡ y
-same_some x y e = cc
 
 module _ {T A K : Type 0} (allows : K → Allows) (phaser : LockedPhaser A K) (me : ℕ) where
   -- the seat of a registration on this phaser, and the registration as contracts see it

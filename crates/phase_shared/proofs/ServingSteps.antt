@@ -23,7 +23,7 @@ use Rattle.phase_shared.specs.Views.{knowledge, known_of}
 use Rattle.phase_shared.specs.WordTells.{IsOther, LaneReadAt, SendReadAt}
 use Rattle.phase_shared.proofs.Growing.{done_grows, signals_grow}
 use Rattle.phase_shared.proofs.LaneReading.{not_past}
-use Rattle.phase_shared.proofs.Small.{one_of, is_in_self, not_both, not_true_is, apart_phases}
+use Rattle.phase_shared.proofs.Small.{one_of, is_in_self, not_both, not_true_is, apart_phases, longer_some, or_false, none_below}
 use Rattle.phase_shared.proofs.Stages.{at_entry, signal_is, wait_is, stage_goes, stands_other, stands_signalled, stands_waited, further}
 use Rattle.phase_shared.proofs.Steadies.{found, none_of, same_value, stands_still}
 
@@ -199,6 +199,10 @@ module _ {A : Type 0} (op : Operation A) (limits : Limits) (allows : Allows) (as
     may = o.may;
   }
 
+  -- a phase that is complete stays so
+  further_done : (old : History) (e : Event) → IsLegal limits (e ∷ old) → (old ≡ [] → ⊥) → ask.phase < done_of old → ask.phase < done_of (e ∷ old)
+  further_done old e legal some low = let more = done_grows limits (e ∷ []) old some legal in omega arith
+
   -- an event of a task that the seat does not speak for is not its own
   not_by_me : (a : Ask) → is_in a.task (ask.task ∷ []) ≡ false → eqb a.task ask.task ≡ false
   not_by_me a theirs = ne_eqb a.task ask.task (λ same. not_both (is_in a.task (ask.task ∷ []))
@@ -252,9 +256,6 @@ module _ {A : Type 0} (op : Operation A) (limits : Limits) (allows : Allows) (as
         owes = owes_other old e legal' mine s.owes;
       }
     where
-      none_below : (m : ℕ) → m < 0 → ⊥
-      none_below m low = omega arith
-
       stands_at : (a : Ask) (entry : Entry) → a.task ≡ task → a.phase ≡ ask.phase → {old : History} → entry_of (members_of old) task ≡ Some entry
           → mode_signals entry.mode ≡ true → entry.signal_phase ≡ ask.phase → entry.wait_phase ≡ ask.phase → IsAtPhases old a.task a.phase a.phase
       stands_at a entry same_task same_phase {old} member signals signal_at wait_at = record {
@@ -337,19 +338,12 @@ module _ {A : Type 0} (op : Operation A) (limits : Limits) (allows : Allows) (as
           good = record { legal = legal'; keeps = t.good.keeps };
           stands = record { stands = stands''; limits_are = limits_are };
           quiet = λ no'. absurd (not_both true refl no');
-          complete = λ yes'. further_done old e legal' (some_longer t.did.later t.did.now t.did.some) (t.complete refl);
+          complete = λ yes'. further_done old e legal' (longer_some t.did.later t.did.now t.did.some) (t.complete refl);
           served = λ b one below same. served_more t.did.claims old a b at_old c.only one legal' (t.served b one) (cover b below) q.1 same;
         };
         owes = owes_other old e legal' mine s.owes;
       }
     where
-      some_longer : (later now : History) → (now ≡ [] → ⊥) → later ++ now ≡ [] → ⊥
-      some_longer [] now some none = some none
-      some_longer (e ∷ later) now some none = cc
-
-      further_done : (old : History) (e : Event) → IsLegal limits (e ∷ old) → (old ≡ [] → ⊥) → ask.phase < done_of old → ask.phase < done_of (e ∷ old)
-      further_done old e legal some low = let more = done_grows limits (e ∷ []) old some legal in omega arith
-
       served_more : (claims : List Ask) (old : History) (a b : Ask) → IsAtPhases old a.task (a.phase + 1) a.phase
           → ((d : Ask) → IsOneOf claims d → d.task ≡ a.task → d ≡ a) → IsOneOf claims b → IsLegal limits (Waited a.task 1 ∷ old)
           → (b.task < k → b.phase ≡ ask.phase → IsAtPhases old b.task (b.phase + 1) (b.phase + 1))
@@ -513,16 +507,16 @@ module _ {A : Type 0} (op : Operation A) (limits : Limits) (allows : Allows) (as
       let e : Event = Waited ask.task 1 in
       let limits_are : y.limits ≡ limits = same_limits ∙ t.stands.limits_are in
       let legal' : IsLegal limits (e ∷ h) = subst (λ (l : Limits). IsLegal l (e ∷ h)) limits_are stands'.legal in
-      let others : (a : Ask) → IsOneOf t.did.claims a → is_by a.task e ≡ false = λ a one. not_mine a (t.did.theirs a one) in
+      let others : (a : Ask) → IsOneOf t.did.claims a → is_by a.task e ≡ false = λ a one. or_false (eqb ask.task a.task) (t.did.theirs a one) in
       record {
         turned = record {
-          did = record t.did { later = e ∷ t.did.later; batch = (t.did.batch, inl (λ task out. not_in task out)) };
+          did = record t.did { later = e ∷ t.did.later; batch = (t.did.batch, inl (λ task out. or_false (eqb ask.task task) out)) };
           is = t.is;
           good = record { legal = legal'; keeps = t.good.keeps };
           stands = record { stands = stands'; limits_are = limits_are };
           quiet = λ not a one st. t.quiet not a one (at_entry (e ∷ h) h a.task (a.phase + 1) (a.phase + 1) st
               (sym (entry_of-changed_other ask.task a.task (waited 1) (members_of h) (others a one)) ∙ st.member));
-          complete = λ _. further h e legal' (some_later t.did.later t.did.now t.did.some) done;
+          complete = λ _. further_done h e legal' (longer_some t.did.later t.did.now t.did.some) done;
           served = λ a one below same. stands_other limits h e a.task (a.phase + 1) (a.phase + 1) legal' (others a one) (t.served a one below same);
         };
         middle = h;
@@ -531,23 +525,8 @@ module _ {A : Type 0} (op : Operation A) (limits : Limits) (allows : Allows) (as
         accepted = legal'.1.0;
         complete = done;
         has = same_value_of (reply ∙ own_reply serves k v x s done)
-            ∙ sym (same_value limits t.did.claims (ask.task ∷ []) h (some_later t.did.later t.did.now t.did.some) op.value ask.phase (e ∷ []) legal' done).1;
+            ∙ sym (same_value limits t.did.claims (ask.task ∷ []) h (longer_some t.did.later t.did.now t.did.some) op.value ask.phase (e ∷ []) legal' done).1;
       }
     where
-      not_mine : (a : Ask) → is_in a.task (ask.task ∷ []) ≡ false → eqb ask.task a.task ≡ false
-      not_mine a out = ne_eqb ask.task a.task (λ same. not_both (is_in a.task (ask.task ∷ []))
-          (subst (λ (m : ℕ). is_in m (ask.task ∷ []) ≡ true) same (is_in_self ask.task [])) out)
-
-      not_in : (task : ℕ) → is_in task (ask.task ∷ []) ≡ false → eqb ask.task task ≡ false
-      not_in task out = ne_eqb ask.task task (λ same. not_both (is_in task (ask.task ∷ []))
-          (subst (λ (m : ℕ). is_in m (ask.task ∷ []) ≡ true) same (is_in_self ask.task [])) out)
-
-      some_later : (later now : History) → (now ≡ [] → ⊥) → later ++ now ≡ [] → ⊥
-      some_later [] now some none = some none
-      some_later (e ∷ later) now some none = cc
-
-      further : (h : History) (e : Event) → IsLegal limits (e ∷ h) → (h ≡ [] → ⊥) → ask.phase < done_of h → ask.phase < done_of (e ∷ h)
-      further h e legal some low = let more = done_grows limits (e ∷ []) h some legal in omega arith
-
       same_value_of : {p : ℕ} {o q : Outcome} → ◌≡◌ {A = Result Got WaitRefusal} (Ok (got.Value p o)) (Ok (got.Value ask.phase q)) → o ≡ q
       same_value_of e = cc

@@ -1,5 +1,5 @@
 -- Small facts of numbers, lists and what was used.
-use Rattle.std.proofs.Common.{◌≡◌, ℕ, zero, suc, ◌+◌, Bool, true, false, not, eqb, List, [], ◌∷◌, ◌++◌, ◌⊎◌, Some, None, length, refl, sym, ap, inl, inr, ⊎_elim, arith}
+use Rattle.std.proofs.Common.{◌≡◌, ℕ, zero, suc, ◌+◌, ◌<◌, Bool, true, false, not, eqb, List, [], ◌∷◌, ◌++◌, ◌⊎◌, Some, None, length, refl, sym, ap, inl, inr, ⊎_elim, arith}
 use Rattle.std.specs.Prelude.{◌||◌}
 use Rattle.std.proofs.lemmas.Bool.{eq-eqb, eqb-true, and_parts, and_from, not-true, not_from_false}
 use mathlib.Core.Option.{some, some-injective, some-ne-none}
@@ -78,6 +78,14 @@ in_append (x ∷ xs) ys t has = elim (eqb x t) as (λ c. (c || is_in t (xs ++ ys
 -- where a number was used, something has happened
 pub used_some : (h : History) (task : ℕ) → IsUsed h task → h ≡ [] → ⊥
 used_some h task used none = let never : IsUsed [] task = rw none at used in cc
+
+-- a history that begins with some event has one
+pub longer_some : (later h : History) → (h ≡ [] → ⊥) → later ++ h ≡ [] → ⊥
+longer_some [] h begun none = begun none
+longer_some (e ∷ later) h begun none = cc
+
+pub none_below : (n : ℕ) → n < 0 → ⊥
+none_below n low = omega arith
 
 -- a phase is not the next one
 pub apart_phases : (n : ℕ) → n + 1 ≡ n → ⊥

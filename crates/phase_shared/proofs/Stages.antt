@@ -8,7 +8,7 @@ use Rattle.phase_core.proofs.phase_history_lemmas.Steps.{done_low, member_entry_
 use Rattle.phase_core.proofs.phase_history_lemmas.Streams.{legal_rest}
 use Rattle.phase_core.proofs.phase_history_lemmas.Used.{entry_of-others}
 use Rattle.phase_core.proofs.phase_history_lemmas.OthersEvents.{OthersCame-refl, OthersCame-event, OthersCame-trans}
-use Rattle.phase_shared.proofs.Small.{one_of}
+use Rattle.phase_shared.proofs.Small.{one_of, longer_some}
 use Rattle.phase_shared.specs.Asks.{Ask, IsAtPhases, IsMade, IsAnsweredAsk, Stage, IsOwn, SignalsFor, WaitsFor, Batch}
 
 -- ---- where a task stands
@@ -134,16 +134,12 @@ stage_waited limits ask seen h legal accepted signalled at (inr (inr a)) =
 -- ---- the events of a turn
 
 module _ (limits : Limits) (Claimed : Ask → Type 0) (speaks : List ℕ) (log : History) (some : log ≡ [] → ⊥) where
-  longer_some : (later : History) → later ++ log ≡ [] → ⊥
-  longer_some [] none = some none
-  longer_some (e ∷ later) none = cc
-
   pub stage_goes : (ask : Ask) (seen : History) → is_in ask.task speaks ≡ false → ((a : Ask) → Claimed a → a.task ≡ ask.task → a ≡ ask)
       → (later : History) → Batch Claimed speaks later log → IsLegal limits (later ++ log) → Stage limits ask seen log → Stage limits ask seen (later ++ log)
   stage_goes ask seen apart_from one [] batch legal stage = stage
   stage_goes ask seen apart_from one (e ∷ later) batch legal stage =
       let h : History = later ++ log in
-      let r = legal_rest limits e h (longer_some later) legal in
+      let r = legal_rest limits e h (longer_some later log some) legal in
       let here : Stage limits ask seen h = stage_goes ask seen apart_from one later batch.0 r.0 stage in
       ⊎_elim
       (λ (own : IsOwn speaks e). stage_other limits ask seen h e legal (own ask.task apart_from) here)

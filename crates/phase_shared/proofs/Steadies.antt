@@ -10,7 +10,7 @@ use Rattle.phase_core.proofs.phase_history_lemmas.Streams.{legal_rest}
 use Rattle.phase_core.proofs.phase_history_lemmas.Used.{entry_of-others}
 use Rattle.phase_core.proofs.phase_history_lemmas.OthersEvents.{OthersCame-trans}
 use Rattle.phase_shared.specs.Asks.{Ask, IsAtPhases, IsUnmade, IsMade, IsAnsweredAsk, Stage, IsOwn, SignalsFor, WaitsFor, Batch, IsOneOf, asks_for}
-use Rattle.phase_shared.proofs.Small.{one_of, not_true_is, not_both, apart_phases}
+use Rattle.phase_shared.proofs.Small.{one_of, not_true_is, not_both, apart_phases, longer_some}
 use Rattle.phase_shared.proofs.Stages.{at_entry, wait_is}
 
 -- who asked for one of these is named among them
@@ -31,10 +31,6 @@ found (first ∷ others) task has = elim (eqb first.task task) as (λ b. (eqb fi
 ] refl has
 
 module _ (limits : Limits) (claims : List Ask) (speaks : List ℕ) (log : History) (some_log : log ≡ [] → ⊥) where
-  longer_some : (later : History) → later ++ log ≡ [] → ⊥
-  longer_some [] none = some_log none
-  longer_some (e ∷ later) none = cc
-
   -- a task that neither the giver speaks for nor asked has no events in the turn
   pub none_of : (task : ℕ) → is_in task speaks ≡ false → asks_for claims task ≡ false → (later : History) → Batch (IsOneOf claims) speaks later log → events_of task later ≡ []
   none_of task mine asks [] batch = refl
@@ -57,7 +53,7 @@ module _ (limits : Limits) (claims : List Ask) (speaks : List ℕ) (log : Histor
       → (p < done_of (later ++ log)) × (value_of_phase value (later ++ log) p ≡ value_of_phase value log p)
   same_value value p [] legal below = (below, refl)
   same_value value p (e ∷ later) legal below =
-      let r = legal_rest limits e (later ++ log) (longer_some later) legal in
+      let r = legal_rest limits e (later ++ log) (longer_some later log some_log) legal in
       let step = steps limits (later ++ log) e r.0 (sound_of limits (later ++ log) r.0) r.1 in
       let so_far = same_value value p later r.0 below in
       let grows = step.grows in

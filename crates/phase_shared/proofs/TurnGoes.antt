@@ -12,10 +12,10 @@ use Rattle.phase_shared.specs.Rule.{StandsWithin}
 use Rattle.phase_shared.specs.Servings.{Turned, Starting, Serving, IsAnsweredIn, IsWaiterIn, WasOpen}
 use Rattle.phase_shared.specs.Tells.{TookAsked}
 use Rattle.phase_shared.specs.Views.{knowledge, known_of}
-use Rattle.phase_shared.proofs.Small.{same_some, apart_phases}
+use Rattle.phase_shared.proofs.Small.{same_some, apart_phases, none_below}
 use Rattle.phase_shared.proofs.Stages.{wait_is}
 use Rattle.phase_shared.proofs.Giving.{member_after}
-use Rattle.phase_shared.proofs.TurnParts.{none_below, false_true}
+use Rattle.phase_shared.proofs.TurnParts.{false_true}
 
 -- ---- a task's mode stays
 

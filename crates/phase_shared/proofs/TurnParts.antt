@@ -14,7 +14,7 @@ use Rattle.phase_shared.specs.Servings.{ask_of, Turned, Starting, Serving, IsPha
 use Rattle.phase_shared.specs.Views.{knowledge, known_of}
 use Rattle.phase_shared.specs.WordTells.{IsOwnLane, IsHolder, Completes}
 use Rattle.phase_shared.proofs.Answering.{refused_is}
-use Rattle.phase_shared.proofs.Small.{same_some, or_false}
+use Rattle.phase_shared.proofs.Small.{same_some, or_false, none_below}
 use Rattle.phase_shared.proofs.Stages.{at_entry, signal_is, done_within, stage_signalled}
 
 -- another task stood before the signal where it stands after it
@@ -23,9 +23,6 @@ stood : (h : History) (task s w : ℕ) (ask : Ask) → is_in task (ask.task ∷ 
 stood h task s w ask other st =
     at_entry (Signalled ask.task (ask.sends ∷ []) None ∷ h) h task s w st
     (sym (entry_of-changed_other ask.task task (signalled 1) (members_of h) (or_false (eqb ask.task task) other)) ∙ st.member)
-
-pub none_below : (n : ℕ) → n < 0 → ⊥
-none_below n low = omega arith
 
 pub false_true : false ≡ true → ⊥
 false_true e = cc
