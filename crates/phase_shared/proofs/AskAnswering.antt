@@ -1,6 +1,6 @@
 -- Who asked looks at what the lock tells: it was answered, and has then seen the history up to its own wait; what it learns
 -- is what the contract of `next` says, a signal after others' events and a wait after others' events.
-use Rattle.std.proofs.Common.{◌≡◌, ◌≢◌, ℕ, ℤ, ◌+◌, ◌<◌, ◌/◌, ◌%◌, Bool, true, false, cond, eqb, ltb, List, [], ◌∷◌, ◌++◌, ◌⊎◌, Option, Some, None, length, set, refl, sym, ap, subst, ◌∙◌, inl, inr, ⊎_elim, arith}
+use Rattle.std.proofs.Common.{◌≡◌, ◌≢◌, ℕ, ℤ, ◌+◌, ◌<◌, ◌/◌, ◌%◌, Bool, true, false, cond, eqb, ltb, List, [], ◌∷◌, ◌++◌, ◌⊎◌, Option, Some, None, length, set, refl, sym, ap, subst, ◌∙◌, inl, inr, arith}
 use Rattle.std.specs.Prelude.{Ok}
 use Rattle.std.proofs.lemmas.Bool.{lt-ltb, eq-eqb, eqb-true, ltb-true}
 use mathlib.Core.Option.{some}
@@ -96,24 +96,20 @@ module _ {T : Type 0} (value : List ℤ → Outcome) (limits : Limits) (allows :
             (subst (λ (x : Ask). IsUnmade x c.knows.seen k.log ⊎ IsMade limits x c.knows.seen k.log) is c.waits_on)
 
     lane_then : (i : ℕ) → IsLane k.log views i (posted words i) → IsLane k.log (set views number w) i (posted words i)
-    lane_then i l = ⊎_elim
-        (λ (z : posted words i ≡ 0). inl z)
-        (λ (r : AskedAt views i ⊎ (IsPast k.log i (posted words i) ⊎ HeldAt views i)). inr (⊎_elim
-        (λ (q : AskedAt views i). asked_lane q)
-        (λ (r' : IsPast k.log i (posted words i) ⊎ HeldAt views i). inr (⊎_elim
-        (λ (p : IsPast k.log i (posted words i)). inl p)
-        (λ (h : HeldAt views i). inr record {
-          seat = h.seat;
-          knows = h.knows;
-          claims = h.claims;
-          said = h.said;
-          n = h.n;
-          at = stays is_turning views number h.seat (Asking f a) w (Turning h.knows h.claims h.said (Some h.n)) at refl refl h.at;
-          speaks = h.speaks;
-        })
-        r'))
-        r))
-        l
+    lane_then i l = elim l [
+      | inl z ↦ inl z
+      | inr (inl q) ↦ inr (asked_lane q)
+      | inr (inr (inl p)) ↦ inr (inr (inl p))
+      | inr (inr (inr h)) ↦ inr (inr (inr record {
+        seat = h.seat;
+        knows = h.knows;
+        claims = h.claims;
+        said = h.said;
+        n = h.n;
+        at = stays is_turning views number h.seat (Asking f a) w (Turning h.knows h.claims h.said (Some h.n)) at refl refl h.at;
+        speaks = h.speaks;
+      }))
+    ]
       where
         asked_lane : AskedAt views i → AskedAt (set views number w) i ⊎ (IsPast k.log i (posted words i) ⊎ HeldAt (set views number w) i)
         asked_lane q = elim (eqb q.seat number) as (λ b. (eqb q.seat number ≡ b)

@@ -1,5 +1,5 @@
 -- What a seat writes in its own lane: its send, and then the phase that it asks for; and a holder what it leaves there.
-use Rattle.std.proofs.Common.{◌≡◌, ◌≢◌, ℕ, ℤ, ◌+◌, ◌<◌, true, false, eqb, List, [], ◌∷◌, ◌++◌, ◌⊎◌, Option, Some, None, length, set, refl, sym, ap, subst, ◌∙◌, inl, inr, ⊎_elim}
+use Rattle.std.proofs.Common.{◌≡◌, ◌≢◌, ℕ, ℤ, ◌+◌, ◌<◌, true, false, eqb, List, [], ◌∷◌, ◌++◌, ◌⊎◌, Option, Some, None, length, set, refl, sym, ap, subst, ◌∙◌, inl, inr}
 use Rattle.std.proofs.lemmas.Bool.{eqb-true}
 use mathlib.Core.Option.{some}
 use lib.ListN.{get_elem?}
@@ -119,23 +119,18 @@ module _ {T : Type 0} (value : List ℤ → Outcome) (limits : Limits) (allows :
       → IsLane k.log (set views number (Turning f claims said lane')) i (posted (set words (phase_place t) n) i)
   other_lane number f claims said lane lane' t n speaks told words views k at i ne few =
       subst (λ (m : ℕ). IsLane k.log (set views number (Turning f claims said lane')) i m) (sym ((phase_else words t n).same_posted i ne))
-      (⊎_elim
-      (λ (z : posted words i ≡ 0). inl z)
-      (λ (r : AskedAt views i ⊎ (IsPast k.log i (posted words i) ⊎ HeldAt views i)). inr (⊎_elim
-      (λ (q : AskedAt views i). inl record {
-        seat = q.seat;
-        knows = q.knows;
-        ask = q.ask;
-        at = stays is_asking views number q.seat (Turning f claims said lane) (Turning f claims said lane') (Asking q.knows q.ask) at refl refl q.at;
-        is = q.is;
-      })
-      (λ (r' : IsPast k.log i (posted words i) ⊎ HeldAt views i). inr (⊎_elim
-      (λ (p : IsPast k.log i (posted words i)). inl p)
-      (λ (h : HeldAt views i).
-      absurd (ne (same_task f.speaks i t (held_speaks value limits allows StandsFor told words views k number f claims said lane at i h) speaks)))
-      r'))
-      r))
-      (k.lanes i few))
+      (elim (k.lanes i few) [
+        | inl z ↦ inl z
+        | inr (inl q) ↦ inr (inl record {
+          seat = q.seat;
+          knows = q.knows;
+          ask = q.ask;
+          at = stays is_asking views number q.seat (Turning f claims said lane) (Turning f claims said lane') (Asking q.knows q.ask) at refl refl q.at;
+          is = q.is;
+        })
+        | inr (inr (inl p)) ↦ inr (inr (inl p))
+        | inr (inr (inr h)) ↦ inr (inr (absurd (ne (same_task f.speaks i t (held_speaks value limits allows StandsFor told words views k number f claims said lane at i h) speaks))))
+      ])
 
   -- a holder leaves a phase in its own lane
   pub posts_in : (number : ℕ) (f : Knowledge) (claims : List Ask) (said : Outcome) (lane : Option ℕ) (t n : ℕ) → f.speaks ≡ t ∷ [] → t < lanes_most

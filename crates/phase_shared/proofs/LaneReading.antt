@@ -97,17 +97,17 @@ module _ {T : Type 0} (value : List ℤ → Outcome) (limits : Limits) (allows :
       one = inl refl;
       theirs = subst (λ (t : ℕ). is_in t f.speaks ≡ false) (sym is) out;
       only = λ b one same. let c = each b one in one_ask j c.seat g c.knows a b there c.at same;
-      stands = ⊎_elim
-          (λ (u : IsUnmade a g.seen k.log). inl (
-            subst (λ (h : History). IsAtPhases h a.task a.phase a.phase) (sym log_is) u.stands,
-            record {
-              seen = g.seen;
-              others = subst (λ (h : History). OthersCame (a.task ∷ []) g.seen h) (sym log_is) u.others;
-              may = (asks_at j g a there).may;
-            },
-          ))
-          (λ (m : IsMade limits a g.seen k.log). inr (subst (λ (h : History). IsAtPhases h a.task (a.phase + 1) a.phase) (sym log_is) m.stands))
-          waits_on;
+      stands = elim waits_on [
+        | inl u ↦ inl (
+          subst (λ (h : History). IsAtPhases h a.task a.phase a.phase) (sym log_is) u.stands,
+          record {
+            seen = g.seen;
+            others = subst (λ (h : History). OthersCame (a.task ∷ []) g.seen h) (sym log_is) u.others;
+            may = (asks_at j g a there).may;
+          },
+        )
+        | inr m ↦ inr (subst (λ (h : History). IsAtPhases h a.task (a.phase + 1) a.phase) (sym log_is) m.stands)
+      ];
     }
 
     reads_ask : (w : View) × Kept value limits allows StandsFor None told words (set views number w) × LaneRead limits allows i f claims said lane (posted words i) w
@@ -125,17 +125,12 @@ module _ {T : Type 0} (value : List ℤ → Outcome) (limits : Limits) (allows :
 
   pub lane_read : i < lanes_most → is_in i f.speaks ≡ false
       → (w : View) × Kept value limits allows StandsFor None told words (set views number w) × LaneRead limits allows i f claims said lane (posted words i) w
-  lane_read few out = ⊎_elim
-      (λ (z : posted words i ≡ 0). reads_none (inl z))
-      (λ (r : AskedAt views i ⊎ (IsPast k.log i (posted words i) ⊎ HeldAt views i)). ⊎_elim
-      (λ (q : AskedAt views i). asked q (asks_at q.seat q.knows q.ask q.at).stage)
-      (λ (r' : IsPast k.log i (posted words i) ⊎ HeldAt views i). ⊎_elim
-      (λ (p : IsPast k.log i (posted words i)). reads_none (inr (past_here p)))
-      (λ (h : HeldAt views i).
-      absurd (not_both (is_in i f.speaks) (this_is_in i f.speaks (held_speaks value limits allows StandsFor told words views k number f claims said lane at i h)) out))
-      r')
-      r)
-      (k.lanes i few)
+  lane_read few out = elim (k.lanes i few) [
+    | inl z ↦ reads_none (inl z)
+    | inr (inl q) ↦ asked q (asks_at q.seat q.knows q.ask q.at).stage
+    | inr (inr (inl p)) ↦ reads_none (inr (past_here p))
+    | inr (inr (inr h)) ↦ absurd (not_both (is_in i f.speaks) (this_is_in i f.speaks (held_speaks value limits allows StandsFor told words views k number f claims said lane at i h)) out)
+  ]
     where
       past_here : IsPast k.log i (posted words i) → IsPast f.seen i (posted words i)
       past_here p = subst (λ (h : History). IsPast h i (posted words i)) (sym log_is) p

@@ -1,5 +1,5 @@
 -- What is said of the seats that asked or that have the turn stays while these seats stay.
-use Rattle.std.proofs.Common.{◌≡◌, ◌≢◌, ℕ, Bool, true, false, eqb, List, Option, Some, set, sym, ap, ◌∙◌, inl, inr, ⊎_elim}
+use Rattle.std.proofs.Common.{◌≡◌, ◌≢◌, ℕ, Bool, true, false, eqb, List, Option, Some, set, sym, ap, ◌∙◌, inl, inr}
 use Rattle.std.proofs.lemmas.Bool.{eq-eqb}
 use mathlib.Core.Option.{some, some-injective}
 use lib.ListN.{get_elem?}
@@ -34,10 +34,10 @@ ne_of a b f same = not_both (eqb a b) (eq-eqb a b same) f
 -- a view of a kind that the new view is not was there before
 pub was : (kind : View → Bool) (views : List View) (number j : ℕ) (w u : View) → kind w ≡ false → kind u ≡ true
     → get_elem? (set views number w) j ≡ some u → (j ≢ number) × (get_elem? views j ≡ some u)
-was kind views number j w u not is e = ⊎_elim
-    (λ (p : (j ≡ number) × (w ≡ u)). absurd (not_both (kind u) is (ap kind (sym p.1) ∙ not)))
-    (λ (p : (j ≢ number) × (get_elem? views j ≡ some u)). p)
-    (at_set views number j w u e)
+was kind views number j w u not is e = elim (at_set views number j w u e) [
+  | inl p ↦ absurd (not_both (kind u) is (ap kind (sym p.1) ∙ not))
+  | inr p ↦ p
+]
 
 -- a view of a kind that the old view was not is there still
 pub stays : (kind : View → Bool) (views : List View) (number j : ℕ) (v w u : View) → get_elem? views number ≡ some v → kind v ≡ false → kind u ≡ true

@@ -1,5 +1,5 @@
 -- A registration under the turn.
-use Rattle.std.proofs.Common.{◌≡◌, ◌≢◌, ℕ, ◌+◌, ◌*◌, ◌<◌, true, false, cond, eqb, List, [], ◌∷◌, ◌⊎◌, inl, inr, ⊎_elim, Option, Some, None, refl, sym, ap, subst, ◌∙◌, arith}
+use Rattle.std.proofs.Common.{◌≡◌, ◌≢◌, ℕ, ◌+◌, ◌*◌, ◌<◌, true, false, cond, eqb, List, [], ◌∷◌, ◌⊎◌, inl, inr, Option, Some, None, refl, sym, ap, subst, ◌∙◌, arith}
 use Rattle.std.specs.Prelude.{◌||◌, is_some, Result, Err}
 use Rattle.std.proofs.lemmas.Bool.Decides.{nat_tests}
 use Rattle.std.proofs.lemmas.Bool.{eqb-true, ne_eqb}
@@ -92,12 +92,12 @@ module _ {A K : Type 0} (op : Operation A) (allows : K → Allows) (terms : Term
             (me ∷ child ∷ []) told (done * 2) (even done)
             (λ task none. ap (λ b. cond b (event ∷ []) []) (by task ∙ or_false (eqb me task) none))
             good stands (rw out refl)
-            (λ task has. ⊎_elim
-            (λ (m : me ≡ task). subst (λ (n : ℕ). IsUsed (event ∷ now) n × ((is_in n (me ∷ []) ≡ true) ⊎ (IsUsed now n → ⊥))) m
-            (IsUsed-longer terms.limits now (event ∷ now) me good.legal (record { later = event ∷ []; is = refl }) used, inl (is_in_self me [])))
-            (λ (m : child ≡ task). subst (λ (n : ℕ). IsUsed (event ∷ now) n × ((is_in n (me ∷ []) ≡ true) ⊎ (IsUsed now n → ⊥))) m
-            (joined, inr new.unused))
-            (in_two me child task has)) words views k at,
+            (λ task has. elim (in_two me child task has) [
+              | inl m ↦ subst (λ (n : ℕ). IsUsed (event ∷ now) n × ((is_in n (me ∷ []) ≡ true) ⊎ (IsUsed now n → ⊥))) m
+                  (IsUsed-longer terms.limits now (event ∷ now) me good.legal (record { later = event ∷ []; is = refl }) used, inl (is_in_self me []))
+              | inr m ↦ subst (λ (n : ℕ). IsUsed (event ∷ now) n × ((is_in n (me ∷ []) ≡ true) ⊎ (IsUsed now n → ⊥))) m
+                  (joined, inr new.unused)
+            ]) words views k at,
         goes_on,
       ))
 

@@ -37,10 +37,7 @@ pub in_either : (new claims : List Ask) (a : Ask) → IsOneOf (new ++ claims) a 
 in_either [] claims a one = inr one
 in_either (b ∷ new) claims a (inl same) = inl (inl same)
 in_either (b ∷ new) claims a (inr rest) =
-    ⊎_elim
-    (λ (here : IsOneOf new a). inl (inr here))
-    (λ (there : IsOneOf claims a). inr there)
-    (in_either new claims a rest)
+    elim (in_either new claims a rest) [ inl here ↦ inl (inr here) | inr there ↦ inr there ]
 
 -- who has read more asks may do what it could
 pub batch_more : (C D : Ask → Type 0) → ((a : Ask) → C a → D a) → (speaks : List ℕ) (later log : History)
@@ -50,10 +47,10 @@ batch_more C D more speaks (e ∷ later) log batch = (
   batch_more C D more speaks later log batch.0,
   ⊎_elim
       (λ (own : IsOwn speaks e). inl own)
-      (λ (c : SignalsFor C (later ++ log) e ⊎ WaitsFor C (later ++ log) e). inr (⊎_elim
-      (λ (s : SignalsFor C (later ++ log) e). inl record { ask = s.ask; claimed = more s.ask s.claimed; is = s.is; at = s.at })
-      (λ (w : WaitsFor C (later ++ log) e). inr record { ask = w.ask; claimed = more w.ask w.claimed; is = w.is; signalled = w.signalled; at = w.at })
-      c))
+      (λ (c : SignalsFor C (later ++ log) e ⊎ WaitsFor C (later ++ log) e). inr (elim c [
+        | inl s ↦ inl record { ask = s.ask; claimed = more s.ask s.claimed; is = s.is; at = s.at }
+        | inr w ↦ inr record { ask = w.ask; claimed = more w.ask w.claimed; is = w.is; signalled = w.signalled; at = w.at }
+      ]))
       batch.1,
 )
 
@@ -124,10 +121,7 @@ module _ {A : Type 0} (op : Operation A) (limits : Limits) (allows : Allows) (as
         let waits : (s : ℕ) → IsAtPhases now a.task s a.phase → ⊥ = λ s here.
         apart_phases a.phase (sym (wait_is (later ++ now) a.task (a.phase + 1) (a.phase + 1) st)
         ∙ wait_is (later ++ now) a.task s a.phase (stands_still limits claims (ask.task ∷ []) now some a.task s a.phase later legal none here)) in
-        ⊎_elim
-        (λ (u : IsAtPhases now a.task a.phase a.phase × MayBeMade limits allows now a). waits a.phase u.0)
-        (λ (m : IsAtPhases now a.task (a.phase + 1) a.phase). waits (a.phase + 1) m)
-        c.stands
+        elim c.stands [ inl u ↦ waits a.phase u.0 | inr m ↦ waits (a.phase + 1) m ]
   ] refl
 
   pub reads_more : (serves : Bool) (k task r : ℕ) (v w : View) (x : CoreState A) → Serving op limits allows ask seen serves k v x
@@ -141,25 +135,20 @@ module _ {A : Type 0} (op : Operation A) (limits : Limits) (allows : Allows) (as
             did = record t.did {
               claims = l.new ++ t.did.claims;
               batch = batch_more (IsOneOf t.did.claims) (IsOneOf (l.new ++ t.did.claims)) (in_more l.new t.did.claims) (ask.task ∷ []) t.did.later t.did.now t.did.batch;
-              theirs = λ a one. ⊎_elim
-                  (λ (here : IsOneOf l.new a). (l.fresh a here).1.theirs)
-                  (λ (there : IsOneOf t.did.claims a). t.did.theirs a there)
-                  (in_either l.new t.did.claims a one);
+              theirs = λ a one. elim (in_either l.new t.did.claims a one) [ inl here ↦ (l.fresh a here).1.theirs | inr there ↦ t.did.theirs a there ];
             };
             is = l.is;
             good = t.good;
             stands = t.stands;
-            quiet = λ not a one st. ⊎_elim
-                (λ (here : IsOneOf l.new a).
-                quiet_claim t.did.now t.did.later t.did.claims l.new t.did.some t.did.batch t.good.legal a (l.fresh a here).1 (t.quiet not) st)
-                (λ (there : IsOneOf t.did.claims a). t.quiet not a there st)
-                (in_either l.new t.did.claims a one);
+            quiet = λ not a one st. elim (in_either l.new t.did.claims a one) [
+              | inl here ↦ quiet_claim t.did.now t.did.later t.did.claims l.new t.did.some t.did.batch t.good.legal a (l.fresh a here).1 (t.quiet not) st
+              | inr there ↦ t.quiet not a there st
+            ];
             complete = t.complete;
-            served = λ a one below same. ⊎_elim
-                (λ (here : IsOneOf l.new a).
-                absurd (let is : a.task ≡ task = (l.fresh a here).0 in omega arith))
-                (λ (there : IsOneOf t.did.claims a). t.served a there below same)
-                (in_either l.new t.did.claims a one);
+            served = λ a one below same. elim (in_either l.new t.did.claims a one) [
+              | inl here ↦ absurd (let is : a.task ≡ task = (l.fresh a here).0 in omega arith)
+              | inr there ↦ t.served a there below same
+            ];
           };
           owes = s.owes;
         };
@@ -175,15 +164,12 @@ module _ {A : Type 0} (op : Operation A) (limits : Limits) (allows : Allows) (as
   asked_there serves k task r w x h entry is member waits =
       let t = h.serving.turned in
       let there : entry_of (members_of (t.did.later ++ t.did.now)) task ≡ Some entry = ap (λ ms. entry_of ms task) (sym t.stands.stands.members_are) ∙ member in
-      ⊎_elim
-      (λ (none : (r ≡ 0) ⊎ IsPast t.did.now task r). absurd (⊎_elim
-      (λ (zero' : r ≡ 0). apart_zero zero')
-      (λ (past : IsPast t.did.now task r). apart_past (not_past limits t.did.later t.did.now task r entry past t.good.legal there))
-      none))
-      (λ (a : (a : Ask) × (a.task ≡ task) × IsClaim limits allows (knowledge t.did.now (ask.task ∷ [])) t.did.claims a).
-      let read : r ≡ a.0.phase + 1 = h.read a.0 a.2.one a.1 in
-      (a.0, a.1, (omega arith), a.2))
-      h.found
+      elim h.found [
+        | inl (inl zero') ↦ absurd (apart_zero zero')
+        | inl (inr past) ↦ absurd (apart_past (not_past limits t.did.later t.did.now task r entry past t.good.legal there))
+        | inr a ↦ let read : r ≡ a.0.phase + 1 = h.read a.0 a.2.one a.1 in
+            (a.0, a.1, (omega arith), a.2)
+      ]
     where
       apart_zero : r ≡ 0 → ⊥
       apart_zero none = omega arith
@@ -224,11 +210,10 @@ module _ {A : Type 0} (op : Operation A) (limits : Limits) (allows : Allows) (as
       let c = q.3 in
       let at_old : IsAtPhases old a.task a.phase a.phase = stands_at a before.entry q.1 q.2 there before.signals before.signal_at before.wait_at in
       let legal_now : IsLegal limits t.did.now = IsLegal-beginning limits t.did.now old t.did.some t.good.legal (record { later = t.did.later; is = refl }) in
-      let claim : IsAtPhases t.did.now a.task a.phase a.phase × MayBeMade limits allows t.did.now a = ⊎_elim
-      (λ (u : IsAtPhases t.did.now a.task a.phase a.phase × MayBeMade limits allows t.did.now a). u)
-      (λ (m : IsAtPhases t.did.now a.task (a.phase + 1) a.phase).
-      absurd (let low = signals_grow limits t.did.later t.did.now a.task (a.phase + 1) a.phase a.phase a.phase legal_now t.good.legal m at_old in omega arith))
-      c.stands in
+      let claim : IsAtPhases t.did.now a.task a.phase a.phase × MayBeMade limits allows t.did.now a = elim c.stands [
+        | inl u ↦ u
+        | inr m ↦ absurd (let low = signals_grow limits t.did.later t.did.now a.task (a.phase + 1) a.phase a.phase a.phase legal_now t.good.legal m at_old in omega arith)
+      ] in
       let sends_are : sends_of n ≡ a.sends = (sent (knowledge t.did.now (ask.task ∷ [])) t.did.claims t.did.said t.did.lane t.is).1 a c.one q.1 claim.0 in
       let e : Event = Signalled a.task (a.sends ∷ []) None in
       let event_is : Signalled task (sends_of n ∷ []) None ≡ e = λ i. Signalled (sym q.1 i) (sends_are i ∷ []) None in
@@ -355,10 +340,10 @@ module _ {A : Type 0} (op : Operation A) (limits : Limits) (allows : Allows) (as
                 let is_a : b ≡ a = only b one (sym (eqb-true a.task b.task t)) in
                 subst (λ (z : Ask). IsAtPhases (Waited a.task 1 ∷ old) z.task (z.phase + 1) (z.phase + 1)) (sym is_a)
                 (stands_waited old a.task (a.phase + 1) a.phase at_old)
-            | false ↦ λ n. ⊎_elim
-                (λ (below : b.task < k). stands_other limits old (Waited a.task 1) b.task (b.phase + 1) (b.phase + 1) legal n (served below same))
-                (λ (here : b.task ≡ task). absurd (not_both (eqb a.task b.task) (eq-eqb a.task b.task (a_is ∙ sym here)) n))
-                where'
+            | false ↦ λ n. elim where' [
+              | inl below ↦ stands_other limits old (Waited a.task 1) b.task (b.phase + 1) (b.phase + 1) legal n (served below same)
+              | inr here ↦ absurd (not_both (eqb a.task b.task) (eq-eqb a.task b.task (a_is ∙ sym here)) n)
+            ]
           ] refl
 
   -- ---- at a turn
@@ -451,19 +436,19 @@ module _ {A : Type 0} (op : Operation A) (limits : Limits) (allows : Allows) (as
   -- no ask is its own task's
   pub none_own : (k : ℕ) (v : View) (x : CoreState A) → k ≡ ask.task → Serving op limits allows ask seen true k v x
       → Serving op limits allows ask seen true (k + 1) v x
-  none_own k v x own s = serves_to true k (k + 1) v x s (λ a one below same. ⊎_elim
-      (λ (low : a.task < k). s.turned.served a one low same)
-      (λ (here : a.task ≡ k). absurd (not_both (is_in a.task (ask.task ∷ []))
-      (subst (λ (m : ℕ). is_in m (ask.task ∷ []) ≡ true) (sym (here ∙ own)) (is_in_self ask.task [])) (s.turned.did.theirs a one)))
-      (below_or a.task k below))
+  none_own k v x own s = serves_to true k (k + 1) v x s (λ a one below same. elim (below_or a.task k below) [
+    | inl low ↦ s.turned.served a one low same
+    | inr here ↦ absurd (not_both (is_in a.task (ask.task ∷ []))
+        (subst (λ (m : ℕ). is_in m (ask.task ∷ []) ≡ true) (sym (here ∙ own)) (is_in_self ask.task [])) (s.turned.did.theirs a one))
+  ])
 
   -- where the lane has no ask for the phase
   pub none_asked : (k r : ℕ) (v : View) (x : CoreState A) (h : HasRead true k k r v x) → (r ≡ ask.phase + 1 → ⊥)
       → Serving op limits allows ask seen true (k + 1) v x
-  none_asked k r v x h other = serves_to true k (k + 1) v x h.serving (λ a one below same. ⊎_elim
-      (λ (low : a.task < k). h.serving.turned.served a one low same)
-      (λ (here : a.task ≡ k). absurd (other (h.read a one here ∙ ap (λ (n : ℕ). n + 1) same)))
-      (below_or a.task k below))
+  none_asked k r v x h other = serves_to true k (k + 1) v x h.serving (λ a one below same. elim (below_or a.task k below) [
+    | inl low ↦ h.serving.turned.served a one low same
+    | inr here ↦ absurd (other (h.read a one here ∙ ap (λ (n : ℕ). n + 1) same))
+  ])
 
   -- ---- its own wait
 

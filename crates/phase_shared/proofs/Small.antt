@@ -1,5 +1,5 @@
 -- Small facts of numbers, lists and what was used.
-use Rattle.std.proofs.Common.{◌≡◌, ℕ, zero, suc, ◌+◌, ◌<◌, Bool, true, false, not, eqb, List, [], ◌∷◌, ◌++◌, ◌⊎◌, Some, None, length, refl, sym, ap, inl, inr, ⊎_elim, arith}
+use Rattle.std.proofs.Common.{◌≡◌, ℕ, zero, suc, ◌+◌, ◌<◌, Bool, true, false, not, eqb, List, [], ◌∷◌, ◌++◌, ◌⊎◌, Some, None, length, refl, sym, ap, inl, inr, arith}
 use Rattle.std.specs.Prelude.{◌||◌}
 use Rattle.std.proofs.lemmas.Bool.{eq-eqb, eqb-true, and_parts, and_from, not-true, not_from_false}
 use mathlib.Core.Option.{some, some-injective, some-ne-none}
@@ -30,7 +30,7 @@ pub snoc_at : {A : Type 0} (l : List A) (a b : A) (j : ℕ) → get_elem? (l ++ 
 snoc_at [] a b zero e = inr (refl, some-injective a b e)
 snoc_at [] a b (suc j) e = absurd (some-ne-none b (sym e))
 snoc_at (x ∷ l) a b zero e = inl e
-snoc_at (x ∷ l) a b (suc j) e = ⊎_elim (λ (p : get_elem? l j ≡ some b). inl p) (λ (p : (j ≡ length l) × (a ≡ b)). inr (ap suc p.0, p.1)) (snoc_at l a b j e)
+snoc_at (x ∷ l) a b (suc j) e = elim (snoc_at l a b j e) [ inl p ↦ inl p | inr p ↦ inr (ap suc p.0, p.1) ]
 
 pub one_of : (a t : ℕ) → is_in t (a ∷ []) ≡ true → a ≡ t
 one_of a t has = elim (eqb a t) as (λ b. (eqb a t ≡ b) → (b || false) ≡ true → a ≡ t) [

@@ -1,5 +1,5 @@
 -- An ask goes on by the events of a turn: unmade, made, answered, and no further.
-use Rattle.std.proofs.Common.{◌≡◌, ℕ, ℤ, ◌+◌, ◌<◌, ◌≤◌, true, false, cond, eqb, List, [], ◌∷◌, ◌++◌, ◌⊎◌, None, Some, refl, sym, ap, subst, ◌∙◌, inl, inr, ⊎_elim, arith}
+use Rattle.std.proofs.Common.{◌≡◌, ℕ, ℤ, ◌+◌, ◌<◌, ◌≤◌, true, false, cond, eqb, List, [], ◌∷◌, ◌++◌, ◌⊎◌, None, Some, refl, sym, ap, subst, ◌∙◌, inl, inr, arith}
 use Rattle.std.proofs.lemmas.Bool.{eqb-true}
 use Rattle.phase_shared.specs.Phasers.{Limits, is_in, mode_signals, Entry, entry_of, signalled, waited, Event, History, positions_of, members_of, signal_phase, wait_phase, done_of, IsLegal, IsAccepted, is_by, OthersCame}
 use Rattle.phase_core.specs.phase_history.declared.event.Event.TheVariants.{Signalled, Waited}
@@ -141,13 +141,11 @@ module _ (limits : Limits) (Claimed : Ask → Type 0) (speaks : List ℕ) (log :
       let h : History = later ++ log in
       let r = legal_rest limits e h (longer_some later log some) legal in
       let here : Stage limits ask seen h = stage_goes ask seen apart_from one later batch.0 r.0 stage in
-      ⊎_elim
-      (λ (own : IsOwn speaks e). stage_other limits ask seen h e legal (own ask.task apart_from) here)
-      (λ (c : SignalsFor Claimed h e ⊎ WaitsFor Claimed h e). ⊎_elim
-      (λ (s : SignalsFor Claimed h e). by_signal e h s legal r.1 here)
-      (λ (w : WaitsFor Claimed h e). by_wait e h w legal r.1 here)
-      c)
-      batch.1
+      elim batch.1 [
+        | inl own ↦ stage_other limits ask seen h e legal (own ask.task apart_from) here
+        | inr (inl s) ↦ by_signal e h s legal r.1 here
+        | inr (inr w) ↦ by_wait e h w legal r.1 here
+      ]
     where
       by_signal : (e : Event) (h : History) (s : SignalsFor Claimed h e) → IsLegal limits (e ∷ h) → IsAccepted limits h e → Stage limits ask seen h → Stage limits ask seen (e ∷ h)
       by_signal e h s legal accepted here = elim (eqb s.ask.task ask.task) as (λ b. (eqb s.ask.task ask.task ≡ b) → Stage limits ask seen (e ∷ h)) [

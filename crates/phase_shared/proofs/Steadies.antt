@@ -1,5 +1,5 @@
 -- What stays of an ask, and of where a task stands, while a turn has no events of it.
-use Rattle.std.proofs.Common.{◌≡◌, ℕ, ℤ, ◌+◌, ◌<◌, true, false, cond, eqb, List, [], ◌∷◌, ◌++◌, ◌⊎◌, refl, sym, ap, subst, ◌∙◌, inl, inr, ⊎_elim, arith}
+use Rattle.std.proofs.Common.{◌≡◌, ℕ, ℤ, ◌+◌, ◌<◌, true, false, cond, eqb, List, [], ◌∷◌, ◌++◌, ◌⊎◌, refl, sym, ap, subst, ◌∙◌, inl, inr, arith}
 use Rattle.std.specs.Prelude.{◌||◌}
 use Rattle.std.proofs.lemmas.Bool.{eq-eqb, eqb-true}
 use Rattle.phase_shared.specs.Phasers.{Limits, is_in, Outcome, Event, History, done_of, value_of_phase, IsLegal, is_by, events_of, OthersCame}
@@ -36,13 +36,11 @@ module _ (limits : Limits) (claims : List Ask) (speaks : List ℕ) (log : Histor
   none_of task mine asks [] batch = refl
   none_of task mine asks (e ∷ later) batch =
       let rest : events_of task later ≡ [] = none_of task mine asks later batch.0 in
-      let other : is_by task e ≡ false = ⊎_elim
-      (λ (own : IsOwn speaks e). own task mine)
-      (λ (c : SignalsFor (IsOneOf claims) (later ++ log) e ⊎ WaitsFor (IsOneOf claims) (later ++ log) e). ⊎_elim
-      (λ (s : SignalsFor (IsOneOf claims) (later ++ log) e). ap (λ (x : Event). is_by task x) s.is ∙ not_it s.ask s.claimed)
-      (λ (w : WaitsFor (IsOneOf claims) (later ++ log) e). ap (λ (x : Event). is_by task x) w.is ∙ not_it w.ask w.claimed)
-      c)
-      batch.1 in
+      let other : is_by task e ≡ false = elim batch.1 [
+        | inl own ↦ own task mine
+        | inr (inl s) ↦ ap (λ (x : Event). is_by task x) s.is ∙ not_it s.ask s.claimed
+        | inr (inr w) ↦ ap (λ (x : Event). is_by task x) w.is ∙ not_it w.ask w.claimed
+      ] in
       ap (λ b. cond b (e ∷ events_of task later) (events_of task later)) other ∙ rest
     where
       not_it : (a : Ask) → IsOneOf claims a → eqb a.task task ≡ false
@@ -70,24 +68,22 @@ module _ (limits : Limits) (claims : List Ask) (speaks : List ℕ) (log : Histor
   stage_still a seen later mine asks batch legal stage =
       let none : events_of a.task later ≡ [] = none_of a.task mine asks later batch in
       let came : OthersCame (a.task ∷ []) log (later ++ log) = record { later = later; is = refl; others = λ t has. subst (λ (n : ℕ). events_of n later ≡ []) (one_of a.task t has) none } in
-      ⊎_elim
-      (λ (u : IsUnmade a seen log). inl (record { others = OthersCame-trans (a.task ∷ []) seen log (later ++ log) u.others came; stands = stands_still a.task a.phase a.phase later legal none u.stands }, u))
-      (λ (r : IsMade limits a seen log ⊎ IsAnsweredAsk limits a seen log). inr (⊎_elim
-      (λ (m : IsMade limits a seen log). inl m)
-      (λ (n : IsAnsweredAsk limits a seen log). inr (
-        record {
-          middle = n.middle;
-          made = n.made;
-          accepted = n.accepted;
-          complete = n.complete;
-          below = (same_value (λ sends. Empty) a.phase later legal n.below).0;
-          since = OthersCame-trans (a.task ∷ []) (Waited a.task 1 ∷ n.middle) log (later ++ log) n.since came;
-          stands = stands_still a.task (a.phase + 1) (a.phase + 1) later legal none n.stands;
-        },
-        n,
-      ))
-      r))
-      stage
+      elim stage [
+        | inl u ↦ inl (record { others = OthersCame-trans (a.task ∷ []) seen log (later ++ log) u.others came; stands = stands_still a.task a.phase a.phase later legal none u.stands }, u)
+        | inr (inl m) ↦ inr (inl m)
+        | inr (inr n) ↦ inr (inr (
+          record {
+            middle = n.middle;
+            made = n.made;
+            accepted = n.accepted;
+            complete = n.complete;
+            below = (same_value (λ sends. Empty) a.phase later legal n.below).0;
+            since = OthersCame-trans (a.task ∷ []) (Waited a.task 1 ∷ n.middle) log (later ++ log) n.since came;
+            stands = stands_still a.task (a.phase + 1) (a.phase + 1) later legal none n.stands;
+          },
+          n,
+        ))
+      ]
 
 -- two stages are told apart by where the task stands
 pub not_made_and_answered : (limits : Limits) (a : Ask) (seen h : History) → IsMade limits a seen h → IsAnsweredAsk limits a seen h → ⊥

@@ -1,5 +1,5 @@
 -- A seat that asked goes on under its turn, from where its ask stands.
-use Rattle.std.proofs.Common.{◌≡◌, ℕ, ◌+◌, ◌<◌, ◌≤◌, true, false, [], ◌∷◌, ◌⊎◌, Option, Some, None, refl, sym, ap, subst, ◌∙◌, inr, ⊎_elim, arith, inl}
+use Rattle.std.proofs.Common.{◌≡◌, ℕ, ◌+◌, ◌<◌, ◌≤◌, true, false, [], ◌∷◌, ◌⊎◌, Option, Some, None, refl, sym, ap, subst, ◌∙◌, inr, arith, inl}
 use Rattle.std.specs.Prelude.{is_some}
 use Rattle.phase_shared.specs.Phasers.{Limits, mode_waits, entry_of, signalled, waited, Entry, Operation, History, members_of, done_of, IsAlive, IsLegal, CoreState, StandsFor}
 use Rattle.phase_core.specs.phase_history.declared.event.Event.TheVariants.{Signalled, Waited}
@@ -128,13 +128,11 @@ module _ {A : Type 0} (op : Operation A) (limits : Limits) (allows : Allows) (as
 
     -- the task is registered
     pub stage_found : (o : Option Entry) → o ≡ entry_of x.members ask.task → o ≡ None → ⊥
-    stage_found o viewed none = ⊎_elim
-        (λ (u : IsUnmade ask seen k.now). no u.stands.entry u.stands.member)
-        (λ (r : IsMade limits ask seen k.now ⊎ IsAnsweredAsk limits ask seen k.now). ⊎_elim
-        (λ (m : IsMade limits ask seen k.now). no m.stands.entry m.stands.member)
-        (λ (n : IsAnsweredAsk limits ask seen k.now). no n.stands.entry n.stands.member)
-        r)
-        k.stage
+    stage_found o viewed none = elim k.stage [
+      | inl u ↦ no u.stands.entry u.stands.member
+      | inr (inl m) ↦ no m.stands.entry m.stands.member
+      | inr (inr n) ↦ no n.stands.entry n.stands.member
+    ]
       where
         no : (e : Entry) → entry_of (members_of k.now) ask.task ≡ Some e → ⊥
         no e member =
