@@ -1,5 +1,5 @@
 -- What a seat writes in its own lane: its send, and then the phase that it asks for; and a holder what it leaves there.
-use Rattle.std.proofs.Common.{◌≡◌, ◌≢◌, ℕ, ℤ, ◌+◌, ◌<◌, true, false, eqb, List, [], ◌∷◌, ◌++◌, ◌⊎◌, Option, Some, None, length, set, refl, sym, ap, subst, ◌∙◌, inl, inr}
+use Rattle.std.proofs.Common.{◌≡◌, ◌≢◌, ℕ, ℤ, ◌+◌, ◌<◌, true, false, eqb, List, [], ◌∷◌, ◌++◌, Option, Some, None, length, set, refl, sym, ap, subst, ◌∙◌, inl, inr}
 use Rattle.std.proofs.lemmas.Bool.{eqb-true}
 use mathlib.Core.Option.{some}
 use lib.ListN.{get_elem?}
@@ -12,7 +12,7 @@ use Rattle.phase_shared.specs.Goods.{Allows}
 use Rattle.phase_shared.specs.Views.{known_of, is_turning}
 use Rattle.phase_shared.specs.Asks.{Ask, IsAtPhases, IsMade, IsAnsweredAsk}
 use Rattle.phase_shared.specs.Lanes.{lanes_most, phase_place, send_place, posted, send_word, sends_of}
-use Rattle.phase_shared.specs.Desks.{View, Resting, Turning, Posting, Asking, MayMakeAsk, AskStands, Posts, AskedAt, IsPast, HeldAt, IsLane, Kept}
+use Rattle.phase_shared.specs.Desks.{View, Resting, Turning, Posting, Asking, MayMakeAsk, AskStands, Posts, IsLane, Kept}
 use Rattle.phase_shared.proofs.Small.{apart_phases}
 use Rattle.phase_shared.proofs.Stages.{at_entry, signal_is}
 use Rattle.phase_shared.proofs.Places.{is_asking, ask_in, stays, asked_stays, lane_stays, ne_of}

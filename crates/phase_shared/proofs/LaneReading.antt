@@ -10,7 +10,7 @@ use Rattle.phase_shared.specs.declared.seats.view.Knowledge.{Knowledge}
 use Rattle.phase_shared.specs.Goods.{Allows}
 use Rattle.phase_shared.specs.Asks.{Ask, IsAtPhases, Stage, IsUnmade, IsMade, IsAnsweredAsk, IsOneOf}
 use Rattle.phase_shared.specs.Lanes.{lanes_most, posted, send_word, sends_of}
-use Rattle.phase_shared.specs.Desks.{View, Turning, Asking, AskStands, StandsAsked, AskedAt, IsPast, HeldAt, Kept}
+use Rattle.phase_shared.specs.Desks.{View, Turning, Asking, AskStands, StandsAsked, AskedAt, IsPast, Kept}
 use Rattle.phase_shared.specs.Tells.{IsClaim, LaneRead}
 use Rattle.phase_shared.proofs.Small.{not_both}
 use Rattle.phase_shared.proofs.Growing.{past_goes}

@@ -9,7 +9,7 @@ use Rattle.phase_core.proofs.phase_history_lemmas.Steps.{steps, sound_of}
 use Rattle.phase_core.proofs.phase_history_lemmas.Streams.{legal_rest}
 use Rattle.phase_core.proofs.phase_history_lemmas.Used.{entry_of-others}
 use Rattle.phase_core.proofs.phase_history_lemmas.OthersEvents.{OthersCame-trans}
-use Rattle.phase_shared.specs.Asks.{Ask, IsAtPhases, IsUnmade, IsMade, IsAnsweredAsk, Stage, IsOwn, SignalsFor, WaitsFor, Batch, IsOneOf, asks_for}
+use Rattle.phase_shared.specs.Asks.{Ask, IsAtPhases, IsUnmade, IsMade, IsAnsweredAsk, Stage, Batch, IsOneOf, asks_for}
 use Rattle.phase_shared.proofs.Small.{one_of, not_true_is, not_both, apart_phases, longer_some}
 use Rattle.phase_shared.proofs.Stages.{at_entry, wait_is}
 

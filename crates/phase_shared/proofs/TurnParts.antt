@@ -1,5 +1,5 @@
 -- The parts of a turn of a seat that asks: how it begins, its own signal, and what it ends with.
-use Rattle.std.proofs.Common.{◌≡◌, ℕ, ◌+◌, ◌<◌, ◌≤◌, Bool, true, false, eqb, [], ◌∷◌, ◌++◌, None, Some, refl, sym, ap, subst, ◌∙◌, inl, arith}
+use Rattle.std.proofs.Common.{◌≡◌, ℕ, ◌+◌, ◌≤◌, Bool, true, false, eqb, [], ◌∷◌, ◌++◌, None, Some, refl, sym, ap, subst, ◌∙◌, inl, arith}
 use Rattle.std.specs.Prelude.{Err}
 use Rattle.phase_shared.specs.Phasers.{is_in, mode_waits, signalled, Entry, Limits, Operation, History, members_of, done_of, signal_phase, signal_refusal, signal_reply, SignalRefusal, IsLegal, CoreState, StandsFor}
 use Rattle.phase_core.specs.phase_history.declared.event.Event.TheVariants.{Signalled}

@@ -3,7 +3,9 @@ use Rattle.std.specs.Prelude.{Result, Ok}
 use Rattle.turn_lock.specs.Seats.{turn_view, turn_value}
 use Rattle.phase_shared.specs.Phasers.{after_wait, Got, WaitRefusal, CoreState, StandsFor}
 use Rattle.phase_shared.specs.Servings.{Serving, ServingOpen, IsBetween}
-use Rattle.phase_shared.proofs.ServingSteps.{HasRead, reads_more, reads_knows, waits_more, same_turn, stays_open, core_stays, none_asked, none_own, below_or, is_other_task}
+use Rattle.phase_shared.proofs.ServingReads.{HasRead, reads_more}
+use Rattle.phase_shared.proofs.ServingSteps.{waits_more}
+use Rattle.phase_shared.proofs.ServingTurns.{reads_knows, same_turn, stays_open, core_stays, none_asked, none_own, below_or, is_other_task}
 use Rattle.phase_shared.proofs.seats.desk.OnTurn.wait_for.Given.{Over}
 use Rattle.phase_shared.proofs.seats.desk.OnTurn.wait_for.Goals.{After-read_lane-on}
 use Rattle.phase_shared.specs.Goods.{allows_or}

@@ -4,7 +4,9 @@ use Rattle.phase_core.specs.Cores.{CoreState, StandsFor}
 use Rattle.phase_shared.specs.Lanes.{sends_of}
 use Rattle.phase_shared.specs.Servings.{Serving, ServingOpen, HasToSignal}
 use Rattle.phase_shared.specs.Views.{known_of}
-use Rattle.phase_shared.proofs.ServingSteps.{HasRead, reads_more, reads_knows, signals_more, same_turn, stays_open, is_other_task, send_knows}
+use Rattle.phase_shared.proofs.ServingReads.{HasRead, reads_more}
+use Rattle.phase_shared.proofs.ServingSteps.{signals_more}
+use Rattle.phase_shared.proofs.ServingTurns.{reads_knows, same_turn, stays_open, is_other_task, send_knows}
 use Rattle.phase_shared.proofs.seats.desk.OpenTurn.signal_for.Given.{Over}
 use Rattle.phase_shared.proofs.seats.desk.OpenTurn.signal_for.Goals.{After-read_lane-on, After-read_send-on}
 use Rattle.phase_shared.specs.Goods.{allows_or}
