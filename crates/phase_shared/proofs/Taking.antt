@@ -9,7 +9,7 @@ use Rattle.phase_shared.specs.Phasers.{Limits, is_distinct, is_in, Outcome, Hist
 use Rattle.phase_shared.specs.declared.seats.view.Knowledge.{Knowledge}
 use Rattle.phase_shared.specs.Views.{knowledge, speaks_of, claims_of}
 use Rattle.phase_shared.specs.Goods.{Allows}
-use Rattle.phase_shared.specs.Asks.{Ask, IsAtPhases, Stage, IsUnmade, IsMade, IsAnsweredAsk, IsOneOf}
+use Rattle.phase_shared.specs.Asks.{Ask, IsAtPhases, Stage, IsMade, IsOneOf}
 use Rattle.phase_shared.specs.Lanes.{board, posted}
 use Rattle.phase_shared.specs.Desks.{View, Resting, Turning, Joining, Posting, Asking, Reading, Spent, IsSound, AskStands, LaneIs, StandsAsked, AskedAt, HeldAt, IsLane, Kept, is_made, made_asks}
 use Rattle.phase_shared.specs.Tells.{Took, TookAsked}

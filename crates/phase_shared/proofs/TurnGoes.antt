@@ -1,5 +1,5 @@
 -- A seat that asked goes on under its turn, from where its ask stands.
-use Rattle.std.proofs.Common.{◌≡◌, ℕ, ◌+◌, ◌<◌, ◌≤◌, true, false, [], ◌∷◌, ◌⊎◌, Option, Some, None, refl, sym, ap, subst, ◌∙◌, inr, arith, inl}
+use Rattle.std.proofs.Common.{◌≡◌, ℕ, ◌+◌, ◌<◌, ◌≤◌, true, false, [], ◌∷◌, Option, Some, None, refl, sym, ap, subst, ◌∙◌, inr, arith, inl}
 use Rattle.std.specs.Prelude.{is_some}
 use Rattle.phase_shared.specs.Phasers.{Limits, mode_waits, entry_of, signalled, waited, Entry, Operation, History, members_of, done_of, IsAlive, IsLegal, CoreState, StandsFor}
 use Rattle.phase_core.specs.phase_history.declared.event.Event.TheVariants.{Signalled, Waited}
