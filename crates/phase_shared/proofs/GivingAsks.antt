@@ -242,9 +242,6 @@ module _ {T : Type 0} (value : List ℤ → Outcome) (limits : Limits) (allows :
       lanes = λ i low. lane_given i (k.lanes i low);
     }
 
-both_even_and_odd : (n : ℕ) → n % 2 ≡ 0 → n % 2 ≡ 1 → ⊥
-both_even_and_odd n even odd = omega arith
-
 single_is : (a b : ℕ) → a ∷ [] ≡ b ∷ [] → a ≡ b
 single_is a b e = cc
 
@@ -252,22 +249,25 @@ pub no_lane : (n : ℕ) → None ≡ Some n → ⊥
 no_lane n e = cc
 
 module _ {T : Type 0} (value : List ℤ → Outcome) (limits : Limits) (allows : Allows) (StandsFor : T → History → Type 0) where
-  -- a give with the giver's own events: no ask's phase is told
-  pub gives_own : (number : ℕ) (f : Knowledge) (claims : List Ask) (said : Outcome) (y : T) (own : History) (speaks : List ℕ) (told next : ℕ) → next % 2 ≡ 0
+  -- a give with the giver's own events, that answers no ask
+  pub gives_own : (number : ℕ) (f : Knowledge) (claims : List Ask) (said : Outcome) (y : T) (own : History) (speaks : List ℕ) (told next : ℕ) → (next % 2 ≡ 1 → next ≡ told)
       → ((task : ℕ) → is_in task f.speaks ≡ false → events_of task own ≡ [])
       → IsGood limits allows (own ++ f.seen) → StandsFor y (own ++ f.seen) → is_distinct speaks ≡ true
       → ((task : ℕ) → is_in task speaks ≡ true → IsUsed (own ++ f.seen) task × ((is_in task f.speaks ≡ true) ⊎ (IsUsed f.seen task → ⊥)))
       → (words : List ℕ) (views : List View) → Kept value limits allows StandsFor None told words views
       → get_elem? views number ≡ some (Turning f claims said None)
       → Kept value limits allows StandsFor (Some y) next words (set views number (Resting (knowledge (own ++ f.seen) speaks)))
-  gives_own number f claims said y own speaks told next even mine' good stands distinct each words views k at =
+  gives_own number f claims said y own speaks told next same mine' good stands distinct each words views k at =
       let s = k.sound number (Turning f claims said None) at in
+      let more : done_of k.log ≤ done_of (own ++ k.log) = subst (λ (h : History). done_of h ≤ done_of (own ++ h)) s.0
+      (done_grows limits own f.seen (λ none. some_log value limits allows StandsFor number f claims said None told words views k at (sym s.0 ∙ none)) good.legal) in
       gave value limits allows StandsFor number f claims said None told words views k at y [] (λ a one. absurd one) own next
       (own_batch (IsOneOf []) f.speaks own k.log mine')
       (subst (λ (h : History). IsGood limits allows (own ++ h)) s.0 good)
       (subst (λ (h : History). StandsFor y (own ++ h)) s.0 stands)
-      (λ odd. absurd (both_even_and_odd next even odd))
-      (λ odd a one st. absurd (both_even_and_odd next even odd))
+      (λ odd. let is = same odd in let low = k.within (subst (λ (n : ℕ). n % 2 ≡ 1) is odd) in omega arith)
+      (λ odd a one st. subst (λ (n : ℕ). n / 2 ≤ a.phase) (sym (same odd))
+      (told_waits value limits allows StandsFor number f claims said None told words views k at a one (subst (λ (n : ℕ). n % 2 ≡ 1) (same odd) odd)))
       (λ a one st. absurd one)
       (Resting (knowledge (own ++ f.seen) speaks)) refl
       (λ task has. let e = each task has in

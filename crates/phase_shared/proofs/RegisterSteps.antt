@@ -18,7 +18,7 @@ use Rattle.phase_shared.specs.Views.{knowledge, resting, turning, known_of, spea
 use Rattle.phase_shared.specs.Rule.{Allows, IsGoodAt, HasOneHistory, StandsWithin, IsSeatOfTask, AfterTake}
 use Rattle.phase_shared.specs.Calls.{Tries, number_after, next_child, RefusesRegister}
 use Rattle.phase_shared.specs.Entries.{entry_stays}
-use Rattle.phase_shared.specs.Steps.{IsStep, GivesEven}
+use Rattle.phase_shared.specs.Steps.{IsStep, GivesNoAnswer}
 use Rattle.phase_shared.specs.declared.seats.locked.LockedPhaser.{LockedPhaser}
 use Rattle.phase_shared.specs.LockedPhasers.{locked_place, locked_terms, RestsOn}
 use Rattle.turn_lock.specs.declared.seat.Seat.{Seat}
@@ -30,7 +30,7 @@ use Rattle.phase_core.proofs.phase_history_lemmas.Received.{start_of-above, fres
 use Rattle.phase_shared.proofs.Small.{or_false, is_in_self, eqb_refl}
 use Rattle.phase_shared.proofs.GivingAsks as asks
 use Rattle.phase_shared.proofs.Joining.{forks}
-use Rattle.phase_shared.proofs.Giving.{even, AfterCall, after_call, gives_same, stays, station, told_entry}
+use Rattle.phase_shared.proofs.Giving.{AfterCall, after_call, gives_same, stays, station, told_entry}
 
 in_two : (a b t : ℕ) → is_in t (a ∷ b ∷ []) ≡ true → (a ≡ t) ⊎ (b ≡ t)
 in_two a b t has = elim (eqb a t) as (λ c. (eqb a t ≡ c) → (c || (eqb b t || false)) ≡ true → (a ≡ t) ⊎ (b ≡ t)) [
@@ -82,14 +82,14 @@ module _ {A K : Type 0} (op : Operation A) (allows : K → Allows) (terms : Term
       → IsUsed (event ∷ now) child → w ≡ turning now (me ∷ []) claims said None → IsUsed now me → NewChild now me child
       → IsGoodAt allows terms (event ∷ now) → StandsWithin op terms.limits y (event ∷ now)
       → (goes : View → View → Type 0) → goes (turning now (me ∷ []) claims said None) (resting (event ∷ now) (me ∷ child ∷ []))
-      → GivesEven (HasOneHistory op allows) terms number w y told (λ v z u. goes v u)
-  gives_child number told y w now claims said event child by joined is used new good stands goes goes_on done =
+      → GivesNoAnswer (HasOneHistory op allows) terms number w y told (λ v z u. goes v u)
+  gives_child number told y w now claims said event child by joined is used new good stands goes goes_on next same =
       let out : eqb child me ≡ false = ne_eqb child me new.apart in
-      subst (λ (z : View). GivesOf (HasOneHistory op allows) terms number z y told (done * 2) (λ v q u. goes v u)) (sym is)
+      subst (λ (z : View). GivesOf (HasOneHistory op allows) terms number z y told next (λ v q u. goes v u)) (sym is)
       (λ words views long k at. (
         resting (event ∷ now) (me ∷ child ∷ []),
         asks.gives_own op.value terms.limits (allows terms.rule) (StandsWithin op terms.limits) number (knowledge now (me ∷ [])) claims said y (event ∷ [])
-            (me ∷ child ∷ []) told (done * 2) (even done)
+            (me ∷ child ∷ []) told next same
             (λ task none. ap (λ b. cond b (event ∷ []) []) (by task ∙ or_false (eqb me task) none))
             good stands (rw out refl)
             (λ task has. elim (in_two me child task has) [
@@ -175,7 +175,7 @@ module _ {A K : Type 0} (op : Operation A) (allows : K → Allows) (terms : Term
 
     -- the give
     pub gives_new_member : (number told : ℕ) (w : View) (claims : List Ask) (said : Outcome) → w ≡ turning now (me ∷ []) claims said None → IsUsed now me
-        → GivesEven (HasOneHistory op allows) terms number w x told (λ v z u. u ≡ resting (event ∷ (known_of v).seen) (me ∷ child ∷ []))
+        → GivesNoAnswer (HasOneHistory op allows) terms number w x told (λ v z u. u ≡ resting (event ∷ (known_of v).seen) (me ∷ child ∷ []))
     gives_new_member number told w claims said is used =
         gives_child op allows terms me number told x w now claims said event child b.own b.joined is used b.new b.good b.stands
         (λ v u. u ≡ resting (event ∷ (known_of v).seen) (me ∷ child ∷ [])) refl

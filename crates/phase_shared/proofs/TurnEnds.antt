@@ -34,18 +34,6 @@ same_phase n m e = let is : n + 1 ≡ m + 1 = same_some (n + 1) (m + 1) e in ome
 rests : (f g : Knowledge) (a : Ask) → Resting f ≡ Asking g a → ⊥
 rests f g a e = cc
 
--- a give of the same turn, in other words
-pub gives_told : {A : Type 0} (op : Operation A) (limits : Limits) (allows : Allows) (goes : View → View → Type 0) (n m : ℕ) (v u : View) (y z : CoreState A) (told other next : ℕ)
-    → m ≡ n → u ≡ v → z ≡ y → other ≡ told → next ≡ told
-    → GivesOf (IsOneHistory op limits allows) tt n v y told told (λ p q r. goes p r) → GivesOf (IsOneHistory op limits allows) tt m u z other next (λ p q r. goes p r)
-gives_told {A} op limits allows goes n m v u y z told other next e1 e2 e3 e4 e5 gives =
-    let rule : ℕ → View → CoreState A → ℕ → ℕ → Type 0 = λ j x c t s. GivesOf (IsOneHistory op limits allows) tt j x c t s (λ p q r. goes p r) in
-    subst (λ (j : ℕ). rule j u z other next) (sym e1)
-    (subst (λ (x : View). rule n x z other next) (sym e2)
-    (subst (λ (c : CoreState A). rule n v c other next) (sym e3)
-    (subst (λ (t : ℕ). rule n v y t next) (sym e4)
-    (subst (λ (s : ℕ). rule n v y told s) (sym e5) gives))))
-
 module _ {A : Type 0} (op : Operation A) (limits : Limits) (allows : Allows) (ask : Ask) where
   abbrev StandsFor : CoreState A → History → Type 0
   StandsFor = StandsWithin op limits

@@ -1,5 +1,5 @@
 -- What holds of every step of a seat that speaks for one task.
-use Rattle.std.specs.Prelude.{◌≡◌, ◌≢◌, ℕ, ◌*◌, List, [], ◌∷◌, ◌++◌, true, Option, Result, Ok, Err}
+use Rattle.std.specs.Prelude.{◌≡◌, ◌≢◌, ℕ, ◌%◌, List, [], ◌∷◌, ◌++◌, true, Option, Result, Ok, Err}
 use Rattle.std.specs.Result.{result_ok}
 use Rattle.turn_lock.specs.declared.seat.Seat.{Seat}
 use Rattle.turn_lock.specs.WordSteps.{GivesOf}
@@ -17,11 +17,11 @@ use Rattle.phase_shared.specs.Rule.{Allows, IsGoodAt, IsSeatOfTask}
 use Rattle.phase_shared.specs.Calls.{HasRegistered, RefusesRegister}
 use Rattle.phase_shared.specs.Joins.{HasRegisteredNow}
 
--- a give that tells any even number
-abbrev pub GivesEven : {N T V : Type 0} → (N → Option T → ℕ → List ℕ → List V → Type 0) → N → ℕ
-    → V → T → ℕ → (V → T → V → Type 0) → Type 0
-GivesEven holds name number v y told then =
-    (done : ℕ) → GivesOf holds name number v y told (done * 2) then
+-- a give that answers no ask: it tells any even number, or what was told
+abbrev pub GivesNoAnswer : {N T V : Type 0} → (N → Option T → ℕ → List ℕ → List V → Type 0) → N
+    → ℕ → V → T → ℕ → (V → T → V → Type 0) → Type 0
+GivesNoAnswer holds name number v y told then =
+    (next : ℕ) → (next % 2 ≡ 1 → next ≡ told) → GivesOf holds name number v y told next then
 
 module _ {T A K : Type 0} (allows : K → Allows) (phaser : LockedPhaser A K) where
   -- a seat of the phaser, at rest, that speaks for one registered task

@@ -11,7 +11,7 @@ ghost use Rattle.phase_shared.specs.Views.{resting, known_of, speaks_of, joining
 ghost use Rattle.phase_shared.specs.Rule.{HasOneHistory, AfterTake, IsGoodAt, LearnedAt};
 ghost use Rattle.phase_core.specs.Cores.{StandsFor};
 ghost use Rattle.phase_core.specs.Passes.{after_both};
-ghost use Rattle.phase_shared.specs.Steps.{IsStep, RegistersSeat, GivesEven, IsSeatOn, HaveMet};
+ghost use Rattle.phase_shared.specs.Steps.{IsStep, RegistersSeat, GivesNoAnswer, IsSeatOn, HaveMet};
 ghost use Rattle.phase_shared.specs.Calls.{Tries, Waits, LeavesSeat, SignalsAndMayWait, number_after, tried};
 ghost use Rattle.phase_shared.specs.Entries.{entry_stays, entry_after_wait, entry_after_both};
 ghost use Rattle.phase_shared.specs.LockedPhasers.{locked_place, locked_terms, locked_limits, RestsOn, IsTurnOn};
@@ -56,14 +56,18 @@ pub(crate) fn put_back<A: Accumulate, K: SignalRule, E: Plan, X: Copy>(
     told: X,
 ) -> PhaserSeat<A, K>
     requires turn { IsTurnAt (locked_place phaser.now) turn }
-    requires rule { GivesEven (HasOneHistory A.operation K.allows) (locked_terms phaser.now)
+    requires rule { GivesNoAnswer (HasOneHistory A.operation K.allows) (locked_terms phaser.now)
         (turn_number turn) (turn_view turn) (turn_value turn) (turn_told turn)
         (λ v y w. E.goes v w) }
     ensures { RestsOn (locked_place phaser.now) result (E.goes (turn_view turn)) }
 {
     let _ = told;
     let news = phaser.news(reached);
-    let seat = phaser.lock.give::<OnGive<E>>(turn, news.done * 2);
+    let (turn, last) = phaser.lock.told_in(turn);
+    // What was told may answer asks: it stands until more phases are complete.
+    let done = news.done * 2;
+    let next = if last < done { done } else { last };
+    let seat = phaser.lock.give::<OnGive<E>>(turn, next);
     phaser.hints.tell::<K>(news);
     seat
 }
