@@ -150,6 +150,15 @@ impl<A: Accumulate, K: SignalRule> Reg<A, K> {
         (self.entry.signal_phase, self.entry.wait_phase)
     }
 
+    /// Returns how many of the phases that `next` went to were told by another's turn, which had made
+    /// its wait for it, and how many of these before it tried to take a turn: that one had made its
+    /// signal too. It takes no turn.
+    ///
+    /// These are counts for tests and measurements, and no contract speaks of them.
+    pub fn answers(&self) -> (u64, u64) {
+        self.spins.counts()
+    }
+
     /// Returns how many phases from its signal phase on are not ahead, as far as the turns that
     /// have ended tell: there may be room for more by now. It takes no turn. Each turn tells it
     /// from the first call on.
