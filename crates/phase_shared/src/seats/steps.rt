@@ -62,8 +62,8 @@ pub(crate) fn put_back<A: Accumulate, K: SignalRule, E: Plan, X: Copy>(
     ensures { RestsOn (locked_place phaser.now) result (E.goes (turn_view turn)) }
 {
     let _ = told;
-    let news = phaser.news(reached);
     let (turn, last) = phaser.lock.told_in(turn);
+    let news = phaser.hints.news(reached, last / 2);
     // What was told may answer asks: it stands until more phases are complete.
     let done = news.done * 2;
     let next = if last < done { done } else { last };
