@@ -150,9 +150,9 @@ impl<A: Accumulate, K: SignalRule> Reg<A, K> {
         (self.entry.signal_phase, self.entry.wait_phase)
     }
 
-    /// Returns how many of the phases that `next` went to were told by another's turn, which had made
-    /// its wait for it, and how many of these before it tried to take a turn: that one had made its
-    /// signal too. It takes no turn.
+    /// Returns how many of the phases that `next` went to were told by another's turn, which had
+    /// made its wait for it, and how many of these before it tried to take a turn: that one had
+    /// made its signal too. It takes no turn.
     ///
     /// These are counts for tests and measurements, and no contract speaks of them.
     pub fn answers(&self) -> (u64, u64) {

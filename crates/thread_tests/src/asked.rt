@@ -143,8 +143,8 @@ fn lead_one<R: Threads + Wait + Sync>(
     answers
 }
 
-// A waiter gets each phase before who asked for it wakes: what answers it is told still. The bound is
-// above all phases, so that a waiter that finds the turn taken is in nobody's way.
+// A waiter gets each phase before who asked for it wakes: what answers it is told still. The bound
+// is above all phases, so that a waiter that finds the turn taken is in nobody's way.
 #[test]
 fn an_answer_stays_beside_a_waiter(rt: HostRuntime) -> Result<(), Fail> {
     let limits = Spec::new(64, 1000)?;
