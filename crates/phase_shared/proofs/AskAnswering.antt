@@ -1,25 +1,18 @@
 -- Who asked looks at what the lock tells: it was answered, and has then seen the history up to its own wait; what it learns
 -- is what the contract of `next` says, a signal after others' events and a wait after others' events.
-use Rattle.std.proofs.Common.{◌≡◌, ◌≢◌, ℕ, ℤ, ◌+◌, ◌<◌, ◌/◌, ◌%◌, Bool, true, false, cond, eqb, ltb, List, [], ◌∷◌, ◌++◌, ◌⊎◌, Option, Some, None, length, set, refl, sym, ap, subst, ◌∙◌, inl, inr, ⊎_elim, arith}
+use Rattle.std.proofs.Common.{◌≡◌, ◌≢◌, ℕ, ℤ, ◌+◌, ◌<◌, ◌/◌, ◌%◌, Bool, true, false, cond, eqb, ltb, List, [], ◌∷◌, ◌++◌, ◌⊎◌, Option, Some, None, length, set, refl, sym, ap, subst, ◌∙◌, inl, inr, arith}
 use Rattle.std.specs.Prelude.{Ok}
 use Rattle.std.proofs.lemmas.Bool.{lt-ltb, eq-eqb, eqb-true, ltb-true}
 use mathlib.Core.Option.{some}
 use lib.ListN.{get_elem?}
 use Rattle.atomic_table.proofs.Lists.{set_again, set_else}
-use Rattle.phase_core.specs.phase_base.Limits.{Limits}
-use Rattle.phase_core.specs.phase_base.Members.{entry_of, wait_phases, least}
-use Rattle.phase_core.specs.phase_accum.Operations.{Operation}
-use Rattle.phase_core.specs.phase_accum.Parcels.{Parcel, StandsForSends}
-use Rattle.phase_core.specs.phase_accum.declared.outcome.Outcome.{Outcome}
+use Rattle.phase_shared.specs.Phasers.{Limits, entry_of, least, Operation, Parcel, StandsForSends, Outcome, SignalRefusal, History, members_of, signal_phase, wait_phase, done_of, value_of_phase, IsLegal, signal_refusal, refusal_at, refused_or, got_at}
+use Rattle.phase_core.specs.phase_base.Members.{wait_phases}
 use Rattle.phase_core.specs.phase_history.declared.event.Event.TheVariants.{Made, Registered, RegisteredNow, Signalled, Waited, Dropped}
 use Rattle.phase_core.specs.phase_history.declared.got.Got.TheVariants as got
-use Rattle.phase_core.specs.phase_history.declared.refusal.SignalRefusal.{SignalRefusal}
 use Rattle.phase_core.specs.phase_history.declared.refusal.SignalRefusal.TheVariants as signal
-use Rattle.phase_core.specs.phase_history.Histories.{History, members_of, signal_phase, wait_phase, done_of}
-use Rattle.phase_core.specs.phase_history.Phases.{value_of_phase, sends_of_phase, named_in_phase}
-use Rattle.phase_core.specs.phase_history.Legal.{IsLegal}
-use Rattle.phase_core.specs.phase_history.Refusals.{signal_refusal, refusal_at, signal_rows_before, phase_rows}
-use Rattle.phase_core.specs.phase_history.Replies.{refused_or, got_at}
+use Rattle.phase_core.specs.phase_history.Phases.{sends_of_phase, named_in_phase}
+use Rattle.phase_core.specs.phase_history.Refusals.{signal_rows_before, phase_rows}
 use Rattle.phase_core.proofs.phase_history_lemmas.Steps.{steps, sound_of}
 use Rattle.phase_core.proofs.phase_history_lemmas.Used.{IsLegal-beginning}
 use Rattle.phase_shared.specs.declared.seats.view.Knowledge.{Knowledge}
@@ -60,12 +53,10 @@ later_value value limits a more middle log is legal first low =
 
 -- an ask that was answered does not stand as one that waits
 not_waiting : (limits : Limits) (a : Ask) (seen seen' log : History) → IsAnsweredAsk limits a seen log → IsUnmade a seen' log ⊎ IsMade limits a seen' log → ⊥
-not_waiting limits a seen seen' log n q = ⊎_elim
-    (λ (u : IsUnmade a seen' log).
-    apart_phases a.phase (sym (signal_is log a.task (a.phase + 1) (a.phase + 1) n.stands) ∙ signal_is log a.task a.phase a.phase u.stands))
-    (λ (m : IsMade limits a seen' log).
-    apart_phases a.phase (sym (wait_is log a.task (a.phase + 1) (a.phase + 1) n.stands) ∙ wait_is log a.task (a.phase + 1) a.phase m.stands))
-    q
+not_waiting limits a seen seen' log n (inl u) =
+    apart_phases a.phase (sym (signal_is log a.task (a.phase + 1) (a.phase + 1) n.stands) ∙ signal_is log a.task a.phase a.phase u.stands)
+not_waiting limits a seen seen' log n (inr m) =
+    apart_phases a.phase (sym (wait_is log a.task (a.phase + 1) (a.phase + 1) n.stands) ∙ wait_is log a.task (a.phase + 1) a.phase m.stands)
 
 module _ {T : Type 0} (value : List ℤ → Outcome) (limits : Limits) (allows : Allows) (StandsFor : T → History → Type 0)
     (number : ℕ) (f : Knowledge) (a : Ask) (home : Option T) (told : ℕ) (words : List ℕ) (views : List View)
@@ -105,24 +96,20 @@ module _ {T : Type 0} (value : List ℤ → Outcome) (limits : Limits) (allows :
             (subst (λ (x : Ask). IsUnmade x c.knows.seen k.log ⊎ IsMade limits x c.knows.seen k.log) is c.waits_on)
 
     lane_then : (i : ℕ) → IsLane k.log views i (posted words i) → IsLane k.log (set views number w) i (posted words i)
-    lane_then i l = ⊎_elim
-        (λ (z : posted words i ≡ 0). inl z)
-        (λ (r : AskedAt views i ⊎ (IsPast k.log i (posted words i) ⊎ HeldAt views i)). inr (⊎_elim
-        (λ (q : AskedAt views i). asked_lane q)
-        (λ (r' : IsPast k.log i (posted words i) ⊎ HeldAt views i). inr (⊎_elim
-        (λ (p : IsPast k.log i (posted words i)). inl p)
-        (λ (h : HeldAt views i). inr record {
-          seat = h.seat;
-          knows = h.knows;
-          claims = h.claims;
-          said = h.said;
-          n = h.n;
-          at = stays is_turning views number h.seat (Asking f a) w (Turning h.knows h.claims h.said (Some h.n)) at refl refl h.at;
-          speaks = h.speaks;
-        })
-        r'))
-        r))
-        l
+    lane_then i l = elim l [
+      | inl z ↦ inl z
+      | inr (inl q) ↦ inr (asked_lane q)
+      | inr (inr (inl p)) ↦ inr (inr (inl p))
+      | inr (inr (inr h)) ↦ inr (inr (inr record {
+        seat = h.seat;
+        knows = h.knows;
+        claims = h.claims;
+        said = h.said;
+        n = h.n;
+        at = stays is_turning views number h.seat (Asking f a) w (Turning h.knows h.claims h.said (Some h.n)) at refl refl h.at;
+        speaks = h.speaks;
+      }))
+    ]
       where
         asked_lane : AskedAt views i → AskedAt (set views number w) i ⊎ (IsPast k.log i (posted words i) ⊎ HeldAt (set views number w) i)
         asked_lane q = elim (eqb q.seat number) as (λ b. (eqb q.seat number ≡ b)

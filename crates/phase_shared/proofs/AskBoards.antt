@@ -1,15 +1,9 @@
 -- The board: who has the turn writes it where its turn completes a phase, and who was answered reads it.
-use Rattle.std.proofs.Common.{◌≡◌, ◌≢◌, ℕ, ℤ, ◌+◌, ◌<◌, true, false, List, [], ◌++◌, ◌⊎◌, Option, Some, None, length, set, slice_index, refl, sym, ap, subst, ◌∙◌, ⊎_elim, arith}
+use Rattle.std.proofs.Common.{◌≡◌, ◌≢◌, ℕ, ℤ, ◌+◌, ◌<◌, true, false, List, [], ◌++◌, ◌⊎◌, Option, Some, None, length, set, slice_index, refl, sym, ap, subst, ◌∙◌, arith, inl, inr}
 use mathlib.Core.Option.{some}
 use lib.ListN.{get_elem?}
 use Rattle.atomic_table.proofs.Lists.{set_again}
-use Rattle.phase_core.specs.phase_base.Limits.{Limits}
-use Rattle.phase_core.specs.phase_base.Lists.{is_in, is_distinct}
-use Rattle.phase_core.specs.phase_accum.declared.outcome.Outcome.{Outcome}
-use Rattle.phase_core.specs.phase_history.Histories.{History, done_of}
-use Rattle.phase_core.specs.phase_history.Phases.{value_of_phase}
-use Rattle.phase_core.specs.phase_history.Legal.{IsLegal}
-use Rattle.phase_core.specs.phase_history.Others.{events_of}
+use Rattle.phase_shared.specs.Phasers.{Limits, is_in, is_distinct, Outcome, History, done_of, value_of_phase, IsLegal, events_of}
 use Rattle.phase_shared.specs.declared.seats.view.Knowledge.{Knowledge}
 use Rattle.phase_shared.specs.Goods.{Allows}
 use Rattle.phase_shared.specs.Views.{speaks_of, is_turning}
@@ -123,14 +117,12 @@ module _ {T : Type 0} (value : List ℤ → Outcome) (limits : Limits) (allows :
       ] refl
     where
       waits_on_not : (h : Knowledge) (b : Ask) → b ≡ a → IsUnmade b h.seen k.log ⊎ IsMade limits b h.seen k.log → ⊥
-      waits_on_not h b is q = ⊎_elim
-          (λ (u : IsUnmade b h.seen k.log).
+      waits_on_not h b is (inl u) =
           let u' : IsUnmade a h.seen k.log = subst (λ (x : Ask). IsUnmade x h.seen k.log) is u in
-          apart_phases a.phase (sym (signal_is k.log a.task (a.phase + 1) (a.phase + 1) n.stands) ∙ signal_is k.log a.task a.phase a.phase u'.stands))
-          (λ (m : IsMade limits b h.seen k.log).
+          apart_phases a.phase (sym (signal_is k.log a.task (a.phase + 1) (a.phase + 1) n.stands) ∙ signal_is k.log a.task a.phase a.phase u'.stands)
+      waits_on_not h b is (inr m) =
           let m' : IsMade limits a h.seen k.log = subst (λ (x : Ask). IsMade limits x h.seen k.log) is m in
-          apart_phases a.phase (sym (wait_is k.log a.task (a.phase + 1) (a.phase + 1) n.stands) ∙ wait_is k.log a.task (a.phase + 1) a.phase m'.stands))
-          q
+          apart_phases a.phase (sym (wait_is k.log a.task (a.phase + 1) (a.phase + 1) n.stands) ∙ wait_is k.log a.task (a.phase + 1) a.phase m'.stands)
 
   none_reading : (j : ℕ) (g : Knowledge) (a : Ask) → j ≢ number → get_elem? views j ≡ some (Reading g a) → ⊥
   none_reading j g a ne e =

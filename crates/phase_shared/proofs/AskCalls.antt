@@ -2,13 +2,8 @@
 use Rattle.std.proofs.Common.{◌≡◌, ℕ, List, [], ◌∷◌, None, set, slice_index, refl, sym, ap, subst, ◌∙◌}
 use mathlib.Core.Option.{some}
 use Rattle.turn_lock.specs.WordSteps.{TakesOf, LooksOf, ReadsOf, ReadsIn}
-use Rattle.phase_core.specs.phase_base.Limits.{Limits}
-use Rattle.phase_core.specs.phase_accum.Operations.{Operation}
-use Rattle.phase_core.specs.phase_accum.declared.outcome.Outcome.{Outcome}
+use Rattle.phase_shared.specs.Phasers.{Limits, Operation, Outcome, History, value_of_phase, CoreState}
 use Rattle.phase_core.specs.phase_history.declared.event.Event.TheVariants.{Waited}
-use Rattle.phase_core.specs.phase_history.Histories.{History}
-use Rattle.phase_core.specs.phase_history.Phases.{value_of_phase}
-use Rattle.phase_core.specs.Cores.{CoreState}
 use Rattle.phase_shared.specs.declared.seats.view.Knowledge.{Knowledge}
 use Rattle.phase_shared.specs.Asks.{Ask}
 use Rattle.phase_shared.specs.Desks.{View, Resting, Turning, Reading}

@@ -1,20 +1,16 @@
 -- A step of one seat, at which one word may change: what it has to show that the rule stays.
-use Rattle.std.proofs.Common.{◌≡◌, ◌≢◌, ℕ, ℤ, ◌<◌, true, false, List, [], ◌∷◌, ◌⊎◌, Option, Some, None, set, refl, sym, ap, subst, ◌∙◌, inl, inr, ⊎_elim}
+use Rattle.std.proofs.Common.{◌≡◌, ◌≢◌, ℕ, ℤ, ◌<◌, true, false, List, [], ◌∷◌, Option, Some, None, set, refl, sym, ap, subst, ◌∙◌, inl, inr}
 use mathlib.Core.Option.{some}
 use lib.ListN.{get_elem?}
 use Rattle.atomic_table.proofs.Lists.{at_set, set_here}
 use Rattle.turn_lock.proofs.Keeping.{within}
-use Rattle.phase_core.specs.phase_base.Limits.{Limits}
-use Rattle.phase_core.specs.phase_base.Lists.{is_in}
-use Rattle.phase_core.specs.phase_accum.declared.outcome.Outcome.{Outcome}
-use Rattle.phase_core.specs.phase_history.Histories.{History}
-use Rattle.phase_core.specs.phase_history.Others.{IsUsed}
+use Rattle.phase_shared.specs.Phasers.{Limits, is_in, Outcome, History, IsUsed}
 use Rattle.phase_shared.specs.declared.seats.view.Knowledge.{Knowledge}
 use Rattle.phase_shared.specs.Goods.{Allows}
 use Rattle.phase_shared.specs.Views.{speaks_of, known_of, claims_of, lane_of, is_turning}
 use Rattle.phase_shared.specs.Asks.{Ask, IsMade, IsOneOf}
 use Rattle.phase_shared.specs.Lanes.{lanes_most, board, posted, sends_of}
-use Rattle.phase_shared.specs.Desks.{View, Resting, Turning, Joining, Posting, Asking, Reading, Spent, IsSound, AskStands, HasToRead, Posts, HasLane, LaneIs, StandsAsked, AskedAt, IsPast, HeldAt, IsLane, Kept}
+use Rattle.phase_shared.specs.Desks.{View, Resting, Turning, Joining, Posting, Asking, Reading, Spent, IsSound, AskStands, HasToRead, Posts, HasLane, LaneIs, StandsAsked, HeldAt, IsLane, Kept}
 use Rattle.phase_shared.proofs.Small.{not_true_is, not_both, none_some, is_in_self}
 use Rattle.phase_shared.proofs.Places.{is_asking, same_view, was, stays, asked_stays}
 use Rattle.phase_shared.proofs.LaneWords.{SameElse}
@@ -89,19 +85,18 @@ module _ {T : Type 0} (value : List ℤ → Outcome) (limits : Limits) (allows :
       (here : IsSound value limits allows home k.holder k.log told after number w)
       (others : (j : ℕ) (u : View) → j ≢ number → get_elem? views j ≡ some u → IsSound value limits allows home k.holder k.log told after j u) where
     sound_set : (j : ℕ) (u : View) → get_elem? (set views number w) j ≡ some u → IsSound value limits allows home k.holder k.log told after j u
-    sound_set j u e = ⊎_elim
-        (λ (p : (j ≡ number) × (w ≡ u)). subst (λ (z : View). IsSound value limits allows home k.holder k.log told after j z) p.1
-        (subst (λ (i : ℕ). IsSound value limits allows home k.holder k.log told after i w) (sym p.0) here))
-        (λ (p : (j ≢ number) × (get_elem? views j ≡ some u)). others j u p.0 p.1)
-        (at_set views number j w u e)
+    sound_set j u e = elim (at_set views number j w u e) [
+      | inl p ↦ subst (λ (z : View). IsSound value limits allows home k.holder k.log told after j z) p.1
+          (subst (λ (i : ℕ). IsSound value limits allows home k.holder k.log told after i w) (sym p.0) here)
+      | inr p ↦ others j u p.0 p.1
+    ]
 
     owns_set : (j : ℕ) (u : View) (task : ℕ) → get_elem? (set views number w) j ≡ some u → is_in task (speaks_of u) ≡ true → (k.owner task ≡ j) × IsUsed k.log task
-    owns_set j u task e has = ⊎_elim
-        (λ (p : (j ≡ number) × (w ≡ u)).
-        let mine : is_in task (speaks_of w) ≡ true = subst (λ (z : View). is_in task (speaks_of z) ≡ true) (sym p.1) has in
-        let o = k.owns number v task at (subst (λ (l : List ℕ). is_in task l ≡ true) speaks mine) in (o.0 ∙ sym p.0, o.1))
-        (λ (p : (j ≢ number) × (get_elem? views j ≡ some u)). k.owns j u task p.1 has)
-        (at_set views number j w u e)
+    owns_set j u task e has = elim (at_set views number j w u e) [
+      | inl p ↦ let mine : is_in task (speaks_of w) ≡ true = subst (λ (z : View). is_in task (speaks_of z) ≡ true) (sym p.1) has in
+          let o = k.owns number v task at (subst (λ (l : List ℕ). is_in task l ≡ true) speaks mine) in (o.0 ∙ sym p.0, o.1)
+      | inr p ↦ k.owns j u task p.1 has
+    ]
 
     -- a seat that has no turn
     pub moves : is_turning v ≡ false → is_turning w ≡ false
@@ -120,11 +115,10 @@ module _ {T : Type 0} (value : List ℤ → Outcome) (limits : Limits) (allows :
       owner = k.owner;
       owns = owns_set;
       claimed = λ j g cs said l e a one. asked a (k.claimed j g cs said l (was is_turning views number j w (Turning g cs said l) not_w refl e).1 a one);
-      all = λ j g cs said l e i h a e' m. ⊎_elim
-          (λ (p : (i ≡ number) × (w ≡ Asking h a)). absurd (not_made h a p.1 m))
-          (λ (p : (i ≢ number) × (get_elem? views i ≡ some (Asking h a))).
-          k.all j g cs said l (was is_turning views number j w (Turning g cs said l) not_w refl e).1 i h a p.1 m)
-          (at_set views number i w (Asking h a) e');
+      all = λ j g cs said l e i h a e' m. elim (at_set views number i w (Asking h a) e') [
+        | inl p ↦ absurd (not_made h a p.1 m)
+        | inr p ↦ k.all j g cs said l (was is_turning views number j w (Turning g cs said l) not_w refl e).1 i h a p.1 m
+      ];
       lanes = lanes;
     }
 
@@ -164,14 +158,12 @@ module _ {T : Type 0} (value : List ℤ → Outcome) (limits : Limits) (allows :
 
     -- a lane that the holder did not write
     pub lane_still : lane' ≡ lane → (i n : ℕ) → IsLane k.log views i n → IsLane k.log (set views number (Turning f claims' said' lane')) i n
-    lane_still same i n l = ⊎_elim
-        (λ (z : n ≡ 0). inl z)
-        (λ (r : AskedAt views i ⊎ (IsPast k.log i n ⊎ HeldAt views i)). inr (⊎_elim
-        (λ (q : AskedAt views i). inl record { seat = q.seat; knows = q.knows; ask = q.ask; at = asking_stays q.seat q.knows q.ask q.at; is = q.is })
-        (λ (r' : IsPast k.log i n ⊎ HeldAt views i). inr (⊎_elim
-        (λ (p : IsPast k.log i n). inl p)
-        (λ (h : HeldAt views i).
-        let lane_has : lane' ≡ Some h.n = same ∙ sym (ap (λ (u : View). lane_of u) (held_is i h)) in
+    lane_still same i n (inl z) = inl z
+    lane_still same i n (inr (inl q)) =
+        inr (inl record { seat = q.seat; knows = q.knows; ask = q.ask; at = asking_stays q.seat q.knows q.ask q.at; is = q.is })
+    lane_still same i n (inr (inr (inl p))) = inr (inr (inl p))
+    lane_still same i n (inr (inr (inr h))) =
+        inr (inr (let lane_has : lane' ≡ Some h.n = same ∙ sym (ap (λ (u : View). lane_of u) (held_is i h)) in
         inr record {
           seat = number;
           knows = f;
@@ -180,10 +172,7 @@ module _ {T : Type 0} (value : List ℤ → Outcome) (limits : Limits) (allows :
           n = h.n;
           at = there ∙ ap (λ (o : Option ℕ). some (Turning f claims' said' o)) lane_has;
           speaks = held_speaks i h;
-        })
-        r'))
-        r))
-        l
+        }))
 
     pub holds : ((i : ℕ) → i < lanes_most → IsLane k.log (set views number (Turning f claims' said' lane')) i (posted after i))
         → Kept value limits allows StandsFor None told after (set views number (Turning f claims' said' lane'))
@@ -201,18 +190,16 @@ module _ {T : Type 0} (value : List ℤ → Outcome) (limits : Limits) (allows :
           owner = k.owner;
           owns = λ j u task e has. owns_set value limits allows StandsFor None told words views k number (Turning f claims said lane) at after
               (Turning f claims' said' lane') refl (m.0, m.1, m.2, m.3, m.4, said_is, lane_is) others j u task e has;
-          claimed = λ j g cs sd l e a one. ⊎_elim
-              (λ (p : (j ≡ number) × (Turning f claims' said' lane' ≡ Turning g cs sd l)).
-              asked_stays limits k.log views (set views number (Turning f claims' said' lane')) a asking_stays
-              (each a (subst (λ (z : List Ask). IsOneOf z a) (sym (ap claims_of p.1)) one)))
-              (λ (p : (j ≢ number) × (get_elem? views j ≡ some (Turning g cs sd l))). absurd (no_other j g cs sd l p.0 p.1))
-              (at_set views number j (Turning f claims' said' lane') (Turning g cs sd l) e);
-          all = λ j g cs sd l e i h a e' q. ⊎_elim
-              (λ (p : (j ≡ number) × (Turning f claims' said' lane' ≡ Turning g cs sd l)).
-              subst (λ (z : List Ask). IsOneOf z a) (ap claims_of p.1)
-              (more a (k.all number f claims said lane at i h a
-              (was is_asking views number i (Turning f claims' said' lane') (Asking h a) refl refl e').1 q)))
-              (λ (p : (j ≢ number) × (get_elem? views j ≡ some (Turning g cs sd l))). absurd (no_other j g cs sd l p.0 p.1))
-              (at_set views number j (Turning f claims' said' lane') (Turning g cs sd l) e);
+          claimed = λ j g cs sd l e a one. elim (at_set views number j (Turning f claims' said' lane') (Turning g cs sd l) e) [
+            | inl p ↦ asked_stays limits k.log views (set views number (Turning f claims' said' lane')) a asking_stays
+                (each a (subst (λ (z : List Ask). IsOneOf z a) (sym (ap claims_of p.1)) one))
+            | inr p ↦ absurd (no_other j g cs sd l p.0 p.1)
+          ];
+          all = λ j g cs sd l e i h a e' q. elim (at_set views number j (Turning f claims' said' lane') (Turning g cs sd l) e) [
+            | inl p ↦ subst (λ (z : List Ask). IsOneOf z a) (ap claims_of p.1)
+                (more a (k.all number f claims said lane at i h a
+                (was is_asking views number i (Turning f claims' said' lane') (Asking h a) refl refl e').1 q))
+            | inr p ↦ absurd (no_other j g cs sd l p.0 p.1)
+          ];
           lanes = lanes;
         }

@@ -2,22 +2,10 @@
 -- calls say it.
 use Rattle.std.proofs.Common.{◌≡◌, ℕ, ◌+◌, ◌<◌, Bool, true, false, [], ◌∷◌, Some, None, refl, sym, ap, subst, ◌∙◌, inl, arith}
 use Rattle.std.specs.Prelude.{Ok, Err, is_some}
-use Rattle.phase_core.specs.phase_base.declared.entry.Entry.{Entry}
-use Rattle.phase_core.specs.phase_base.Modes.{mode_signals, mode_waits}
-use Rattle.phase_core.specs.phase_base.Members.{entry_of, signalled, waited}
-use Rattle.phase_core.specs.phase_accum.Operations.{Operation}
-use Rattle.phase_core.specs.phase_accum.declared.outcome.Outcome.{Outcome}
-use Rattle.phase_core.specs.phase_history.declared.event.Event.{Event}
+use Rattle.phase_shared.specs.Phasers.{Entry, mode_signals, mode_waits, entry_of, signalled, waited, Operation, Outcome, Event, Got, SignalRefusal, History, IsAlive, members_of, signal_phase, IsLegal, OthersCame, refused_or, CoreState}
 use Rattle.phase_core.specs.phase_history.declared.event.Event.TheVariants.{Signalled, Waited}
-use Rattle.phase_core.specs.phase_history.declared.got.Got.{Got}
 use Rattle.phase_core.specs.phase_history.declared.got.Got.TheVariants as got
-use Rattle.phase_core.specs.phase_history.declared.refusal.SignalRefusal.{SignalRefusal}
 use Rattle.phase_core.specs.phase_history.declared.refusal.SignalRefusal.TheVariants as signal
-use Rattle.phase_core.specs.phase_history.Histories.{History, IsAlive, members_of, signal_phase}
-use Rattle.phase_core.specs.phase_history.Legal.{IsLegal}
-use Rattle.phase_core.specs.phase_history.Others.{OthersCame}
-use Rattle.phase_core.specs.phase_history.Replies.{refused_or}
-use Rattle.phase_core.specs.Cores.{CoreState}
 use Rattle.phase_core.proofs.phase_history_lemmas.Answered.{signal_refusal-never}
 use Rattle.phase_core.proofs.phase_history_lemmas.MemberLemmas.{entry_of-changed_same}
 use Rattle.phase_core.proofs.phase_history_lemmas.Used.{IsLegal-beginning}
@@ -40,7 +28,7 @@ use Rattle.phase_shared.proofs.AskAnswering.{asked_signals, asked_waits, same_re
 use Rattle.phase_shared.proofs.Giving.{member_after}
 use Rattle.phase_shared.proofs.NextSteps.{made}
 use Rattle.phase_shared.proofs.Small.{apart_phases, same_some}
-use Rattle.phase_shared.proofs.Stages.{wait_is}
+use Rattle.phase_shared.proofs.Stages.{at_entry, wait_is}
 
 no_event_is_none : (e : Event) (h : History) → e ∷ h ≡ [] → ⊥
 no_event_is_none e h none = cc
@@ -61,36 +49,29 @@ module _ {A K : Type 0} (op : Operation A) (allows : K → Allows) (terms : Term
           member_after terms.limits r.task st.entry (known_of v).seen e.now e.others e.good.legal st.member in
           record {
             turned = record {
-              now = e.now;
-              claims = e.claims;
-              said = e.said;
-              lane = None;
-              later = [];
+              did = record {
+                now = e.now;
+                claims = e.claims;
+                said = e.said;
+                lane = None;
+                later = [];
+                some = λ none.
+                    let gone : None ≡ Some entry = ap (λ (h : History). entry_of (members_of h) r.task) (sym none) ∙ e.member in
+                    cc;
+                batch = tt;
+                theirs = λ a one. (e.read a one).1;
+                own = inl refl;
+              };
               is = e.is;
-              some = λ none.
-                  let gone : None ≡ Some entry = ap (λ (h : History). entry_of (members_of h) r.task) (sym none) ∙ e.member in
-                  cc;
-              batch = tt;
               good = e.good;
               stands = e.stands;
-              theirs = λ a one. (e.read a one).1;
-              own = inl refl;
               quiet = λ none a one st'. apart_phases a.phase (sym (wait_is e.now a.task (a.phase + 1) (a.phase + 1) st')
                   ∙ wait_is e.now a.task (a.phase + 1) a.phase (e.read a one).0);
               complete = λ serves. absurd (cc);
               served = λ a one low at. absurd (omega arith);
             };
             first = refl;
-            unmade = record {
-              others = e.others;
-              stands = record {
-                entry = st.entry;
-                member = there;
-                signals = st.signals;
-                signal_at = st.signal_at;
-                wait_at = st.wait_at;
-              };
-            };
+            unmade = record { others = e.others; stands = at_entry (known_of v).seen e.now r.task r.phase r.phase st there };
             waits = λ other member.
                 ap (λ (f : Entry). mode_waits f.mode) (same_some other st.entry (sym member ∙ there)) ∙ waiter st.entry st.member;
             may = may.may;

@@ -1,24 +1,20 @@
 -- What a seat writes in its own lane: its send, and then the phase that it asks for; and a holder what it leaves there.
-use Rattle.std.proofs.Common.{◌≡◌, ◌≢◌, ℕ, ℤ, ◌+◌, ◌<◌, true, false, eqb, List, [], ◌∷◌, ◌++◌, ◌⊎◌, Option, Some, None, length, set, refl, sym, ap, subst, ◌∙◌, inl, inr, ⊎_elim}
+use Rattle.std.proofs.Common.{◌≡◌, ◌≢◌, ℕ, ℤ, ◌+◌, ◌<◌, true, false, eqb, List, [], ◌∷◌, ◌++◌, Option, Some, None, length, set, refl, sym, ap, subst, ◌∙◌, inl, inr}
 use Rattle.std.proofs.lemmas.Bool.{eqb-true}
 use mathlib.Core.Option.{some}
 use lib.ListN.{get_elem?}
 use Rattle.atomic_table.proofs.Lists.{set_here}
 use Rattle.turn_lock.proofs.Keeping.{within}
-use Rattle.phase_core.specs.phase_base.Limits.{Limits}
-use Rattle.phase_core.specs.phase_accum.declared.outcome.Outcome.{Outcome}
-use Rattle.phase_core.specs.phase_history.Histories.{History}
-use Rattle.phase_core.specs.phase_history.Legal.{IsLegal}
-use Rattle.phase_core.specs.phase_history.Others.{events_of, OthersCame}
+use Rattle.phase_shared.specs.Phasers.{Limits, Outcome, History, IsLegal, events_of, OthersCame}
 use Rattle.phase_core.proofs.phase_history_lemmas.Used.{entry_of-others}
 use Rattle.phase_shared.specs.declared.seats.view.Knowledge.{Knowledge}
 use Rattle.phase_shared.specs.Goods.{Allows}
 use Rattle.phase_shared.specs.Views.{known_of, is_turning}
 use Rattle.phase_shared.specs.Asks.{Ask, IsAtPhases, IsMade, IsAnsweredAsk}
 use Rattle.phase_shared.specs.Lanes.{lanes_most, phase_place, send_place, posted, send_word, sends_of}
-use Rattle.phase_shared.specs.Desks.{View, Resting, Turning, Posting, Asking, MayMakeAsk, AskStands, Posts, AskedAt, IsPast, HeldAt, IsLane, Kept}
+use Rattle.phase_shared.specs.Desks.{View, Resting, Turning, Posting, Asking, MayMakeAsk, AskStands, Posts, IsLane, Kept}
 use Rattle.phase_shared.proofs.Small.{apart_phases}
-use Rattle.phase_shared.proofs.Stages.{signal_is}
+use Rattle.phase_shared.proofs.Stages.{at_entry, signal_is}
 use Rattle.phase_shared.proofs.Places.{is_asking, ask_in, stays, asked_stays, lane_stays, ne_of}
 use Rattle.phase_shared.proofs.LaneWords.{send_else, send_posted, send_here, phase_else, phase_sent, phase_here}
 use Rattle.phase_shared.proofs.AskMoves.{this_is_in, same_task, else_sound, moves, held_speaks, holds}
@@ -28,13 +24,8 @@ stands_others : (limits : Limits) (seen log : History) (task s w : ℕ) → IsLe
 stands_others limits seen log task s w legal came st =
     let legal' : IsLegal limits (came.later ++ seen) = subst (λ (h : History). IsLegal limits h) came.is legal in
     let none : events_of task came.later ≡ [] = came.others task (this_is_in task (task ∷ []) refl) in
-    subst (λ (h : History). IsAtPhases h task s w) (sym came.is) (record {
-      entry = st.entry;
-      member = entry_of-others limits came.later seen task st.entry legal' none st.member;
-      signals = st.signals;
-      signal_at = st.signal_at;
-      wait_at = st.wait_at;
-    })
+    subst (λ (h : History). IsAtPhases h task s w) (sym came.is) (at_entry seen (came.later ++ seen) task s w st
+    (entry_of-others limits came.later seen task st.entry legal' none st.member))
 
 module _ {T : Type 0} (value : List ℤ → Outcome) (limits : Limits) (allows : Allows) (StandsFor : T → History → Type 0) where
   -- a send is posted
@@ -128,23 +119,18 @@ module _ {T : Type 0} (value : List ℤ → Outcome) (limits : Limits) (allows :
       → IsLane k.log (set views number (Turning f claims said lane')) i (posted (set words (phase_place t) n) i)
   other_lane number f claims said lane lane' t n speaks told words views k at i ne few =
       subst (λ (m : ℕ). IsLane k.log (set views number (Turning f claims said lane')) i m) (sym ((phase_else words t n).same_posted i ne))
-      (⊎_elim
-      (λ (z : posted words i ≡ 0). inl z)
-      (λ (r : AskedAt views i ⊎ (IsPast k.log i (posted words i) ⊎ HeldAt views i)). inr (⊎_elim
-      (λ (q : AskedAt views i). inl record {
-        seat = q.seat;
-        knows = q.knows;
-        ask = q.ask;
-        at = stays is_asking views number q.seat (Turning f claims said lane) (Turning f claims said lane') (Asking q.knows q.ask) at refl refl q.at;
-        is = q.is;
-      })
-      (λ (r' : IsPast k.log i (posted words i) ⊎ HeldAt views i). inr (⊎_elim
-      (λ (p : IsPast k.log i (posted words i)). inl p)
-      (λ (h : HeldAt views i).
-      absurd (ne (same_task f.speaks i t (held_speaks value limits allows StandsFor told words views k number f claims said lane at i h) speaks)))
-      r'))
-      r))
-      (k.lanes i few))
+      (elim (k.lanes i few) [
+        | inl z ↦ inl z
+        | inr (inl q) ↦ inr (inl record {
+          seat = q.seat;
+          knows = q.knows;
+          ask = q.ask;
+          at = stays is_asking views number q.seat (Turning f claims said lane) (Turning f claims said lane') (Asking q.knows q.ask) at refl refl q.at;
+          is = q.is;
+        })
+        | inr (inr (inl p)) ↦ inr (inr (inl p))
+        | inr (inr (inr h)) ↦ inr (inr (absurd (ne (same_task f.speaks i t (held_speaks value limits allows StandsFor told words views k number f claims said lane at i h) speaks))))
+      ])
 
   -- a holder leaves a phase in its own lane
   pub posts_in : (number : ℕ) (f : Knowledge) (claims : List Ask) (said : Outcome) (lane : Option ℕ) (t n : ℕ) → f.speaks ≡ t ∷ [] → t < lanes_most

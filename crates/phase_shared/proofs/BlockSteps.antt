@@ -2,16 +2,9 @@
 use Rattle.std.proofs.Common.{◌≡◌, ℕ, ℤ, List, length, Option, Some, refl, ap, ◌∙◌}
 use Rattle.std.specs.Prelude.{Ok, Err, Result}
 use Rattle.std.specs.Result.{result_ok}
-use Rattle.phase_core.specs.phase_base.Members.{entry_of, signalled, waited}
-use Rattle.phase_core.specs.phase_base.declared.entry.Entry.{Entry}
-use Rattle.phase_core.specs.phase_accum.declared.single.Single.{Single}
+use Rattle.phase_shared.specs.Phasers.{entry_of, signalled, waited, Entry, Single, GotBlock, SignalRefusal, WaitRefusal, History, members_of, after_signal, after_wait_block}
 use Rattle.phase_core.specs.phase_history.declared.event.Event.TheVariants.{Signalled, Waited}
-use Rattle.phase_core.specs.phase_history.declared.got.GotBlock.{GotBlock}
 use Rattle.phase_core.specs.phase_history.declared.got.GotBlock.TheVariants as block
-use Rattle.phase_core.specs.phase_history.declared.refusal.SignalRefusal.{SignalRefusal}
-use Rattle.phase_core.specs.phase_history.declared.refusal.WaitRefusal.{WaitRefusal}
-use Rattle.phase_core.specs.phase_history.Histories.{History, members_of}
-use Rattle.phase_core.specs.phase_history.Replies.{after_signal, after_wait_block}
 use Rattle.phase_core.proofs.phase_history_lemmas.MemberLemmas.{entry_of-changed_same}
 use Rattle.phase_shared.specs.Rule.{Allows, Keeps}
 use Rattle.phase_shared.specs.Blocks.{entry_after_block, entry_after_values}

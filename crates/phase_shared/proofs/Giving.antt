@@ -2,29 +2,31 @@
 use Rattle.std.proofs.Common.{◌≡◌, ℕ, ◌+◌, ◌*◌, false, cond, eqb, List, [], ◌∷◌, ◌++◌, Option, Some, None, refl, sym, ap, subst, ◌∙◌, inl, arith}
 use Rattle.std.specs.Prelude.{◌%◌, is_some}
 use Rattle.turn_lock.specs.WordSteps.{GivesOf}
-use Rattle.phase_core.specs.phase_base.Limits.{Limits}
-use Rattle.phase_core.specs.phase_base.declared.entry.Entry.{Entry}
-use Rattle.phase_core.specs.phase_accum.Operations.{Operation}
-use Rattle.phase_core.specs.phase_history.declared.event.Event.{Event}
-use Rattle.phase_core.specs.phase_base.Members.{entry_of}
-use Rattle.phase_core.specs.phase_history.Histories.{History, members_of}
-use Rattle.phase_core.specs.phase_history.Legal.{IsLegal}
-use Rattle.phase_core.specs.Cores.{CoreState, StandsFor}
+use Rattle.phase_shared.specs.Phasers.{Limits, Entry, Operation, Event, entry_of, History, members_of, IsLegal, CoreState, StandsFor, IsUsed, is_by, events_of, OthersCame, is_in, Outcome}
 use Rattle.phase_shared.specs.declared.seats.view.View.{View}
 use Rattle.phase_shared.specs.declared.rule.Terms.{Terms}
-use Rattle.phase_core.specs.phase_history.Others.{IsUsed, is_by, events_of, OthersCame}
 use Rattle.phase_shared.specs.Views.{knowledge, resting, turning, known_of, speaks_of}
-use Rattle.phase_shared.specs.Rule.{Allows, IsGoodAt, HasOneHistory, StandsWithin, TookAt, IsSeatOfTask, AfterTake, Keeps}
-use Rattle.phase_core.specs.phase_base.Lists.{is_in}
-use Rattle.phase_core.specs.phase_accum.declared.outcome.Outcome.{Outcome}
+use Rattle.phase_shared.specs.Rule.{Allows, IsGoodAt, IsOneHistory, HasOneHistory, StandsWithin, TookAt, IsSeatOfTask, AfterTake, Keeps}
 use Rattle.phase_shared.specs.declared.seats.view.Ask.{Ask}
-use Rattle.phase_shared.specs.Steps.{GivesEven}
+use Rattle.phase_shared.specs.Steps.{GivesNoAnswer}
 use Rattle.phase_core.proofs.phase_history_lemmas.OthersEvents.{OthersCame-refl}
 use Rattle.phase_core.proofs.phase_history_lemmas.Used.{IsUsed-member, IsUsed-longer, entry_of-others}
 use Rattle.phase_shared.proofs.Small.{same_some, one_of, or_false, is_in_self, apart_phases}
 use Rattle.phase_shared.proofs.Stages.{wait_is}
 use Rattle.phase_shared.proofs.GivingAsks.{no_lane}
 use Rattle.phase_shared.proofs.GivingAsks as asks
+
+-- a give of the same turn, in other words
+pub gives_told : {A : Type 0} (op : Operation A) (limits : Limits) (allows : Allows) (goes : View → View → Type 0) (n m : ℕ) (v u : View) (y z : CoreState A) (told other next last : ℕ)
+    → m ≡ n → u ≡ v → z ≡ y → other ≡ told → last ≡ next
+    → GivesOf (IsOneHistory op limits allows) tt n v y told next (λ p q r. goes p r) → GivesOf (IsOneHistory op limits allows) tt m u z other last (λ p q r. goes p r)
+gives_told {A} op limits allows goes n m v u y z told other next last e1 e2 e3 e4 e5 gives =
+    let rule : ℕ → View → CoreState A → ℕ → ℕ → Type 0 = λ j x c t s. GivesOf (IsOneHistory op limits allows) tt j x c t s (λ p q r. goes p r) in
+    subst (λ (j : ℕ). rule j u z other last) (sym e1)
+    (subst (λ (x : View). rule n x z other last) (sym e2)
+    (subst (λ (c : CoreState A). rule n v c other last) (sym e3)
+    (subst (λ (t : ℕ). rule n v y t last) (sym e4)
+    (subst (λ (s : ℕ). rule n v y told s) (sym e5) gives))))
 
 -- a longer history has come about by events of this task alone
 pub record OwnCame (me : ℕ) (old new : History) : Type 0 where
@@ -48,9 +50,6 @@ pub member_after : (limits : Limits) (me : ℕ) (entry : Entry) (old now : Histo
 member_after limits me entry old now came legal member =
     ap (λ h. entry_of (members_of h) me) came.is
     ∙ entry_of-others limits came.later old me entry (subst (λ (h : History). IsLegal limits h) came.is legal) (came.others me (is_in_self me [])) member
-
-pub even : (n : ℕ) → n * 2 % 2 ≡ 0
-even n = omega arith
 
 module _ {A K : Type 0} (op : Operation A) (allows : K → Allows) (terms : Terms K) (me : ℕ) where
   pub entered : (entry : Entry) (v : View) (x : CoreState A) (w : View) → IsSeatOfTask allows terms me entry v → TookAt op allows terms v x w → AfterTake op allows terms me entry v x w
@@ -79,17 +78,17 @@ module _ {A K : Type 0} (op : Operation A) (allows : K → Allows) (terms : Term
       → w ≡ turning now (me ∷ []) claims said None → IsUsed now me
       → OwnCame me now new → IsGoodAt allows terms new → StandsWithin op terms.limits y new
       → goes (turning now (me ∷ []) claims said None) (resting new (me ∷ []))
-      → GivesEven (HasOneHistory op allows) terms number w y told (λ v z u. goes v u)
-  gives_own goes number told y w now new claims said is used own good stands goes_on done =
+      → GivesNoAnswer (HasOneHistory op allows) terms number w y told (λ v z u. goes v u)
+  gives_own goes number told y w now new claims said is used own good stands goes_on next same =
       let all : History = own.later ++ now in
       let good' : IsGoodAt allows terms all = subst (λ (h : History). IsGoodAt allows terms h) own.is good in
       let stands' : StandsWithin op terms.limits y all = subst (λ (h : History). StandsWithin op terms.limits y h) own.is stands in
       let used' : IsUsed all me = IsUsed-longer terms.limits now all me good'.legal (record { later = own.later; is = refl }) used in
-      subst (λ (z : View). GivesOf (HasOneHistory op allows) terms number z y told (done * 2) (λ v q u. goes v u)) (sym is)
+      subst (λ (z : View). GivesOf (HasOneHistory op allows) terms number z y told next (λ v q u. goes v u)) (sym is)
       (λ words views long k at. (
         resting all (me ∷ []),
         asks.gives_own op.value terms.limits (allows terms.rule) (StandsWithin op terms.limits) number (knowledge now (me ∷ [])) claims said y own.later (me ∷ [])
-            told (done * 2) (even done)
+            told next same
             (λ task none. own.own task (or_false (eqb me task) none)) good' stands' refl
             (λ task has. (subst (λ (n : ℕ). IsUsed all n) (one_of me task has) used', inl has)) words views k at,
         subst (λ (h : History). goes (turning now (me ∷ []) claims said None) (resting h (me ∷ []))) own.is goes_on,

@@ -1,16 +1,11 @@
 -- A give keeps the rule: with the giver's own events, and with those of a turn for others that asked.
-use Rattle.std.proofs.Common.{◌≡◌, ◌≢◌, ℕ, ℤ, ◌+◌, ◌<◌, ◌≤◌, true, false, cond, List, [], ◌∷◌, ◌++◌, ◌⊎◌, Option, Some, None, set, refl, sym, ap, subst, ◌∙◌, inl, inr, ⊎_elim, arith}
+use Rattle.std.proofs.Common.{◌≡◌, ◌≢◌, ℕ, ℤ, ◌+◌, ◌<◌, ◌≤◌, true, false, cond, List, [], ◌∷◌, ◌++◌, ◌⊎◌, Option, Some, None, set, refl, sym, ap, subst, ◌∙◌, inl, inr, arith}
 use Rattle.std.specs.Prelude.{◌/◌, ◌%◌}
 use mathlib.Core.Option.{some}
 use lib.ListN.{get_elem?}
 use Rattle.atomic_table.proofs.Lists.{at_set, set_here}
 use Rattle.turn_lock.proofs.Keeping.{within}
-use Rattle.phase_core.specs.phase_base.Limits.{Limits}
-use Rattle.phase_core.specs.phase_base.Lists.{is_distinct, is_in}
-use Rattle.phase_core.specs.phase_accum.declared.outcome.Outcome.{Outcome}
-use Rattle.phase_core.specs.phase_history.Histories.{History, done_of}
-use Rattle.phase_core.specs.phase_history.Phases.{value_of_phase}
-use Rattle.phase_core.specs.phase_history.Others.{IsUsed, events_of, OthersCame}
+use Rattle.phase_shared.specs.Phasers.{Limits, is_distinct, is_in, Outcome, History, done_of, value_of_phase, IsUsed, events_of, OthersCame}
 use Rattle.phase_core.proofs.phase_history_lemmas.Used.{IsUsed-longer}
 use Rattle.phase_core.proofs.phase_history_lemmas.OthersEvents.{OthersCame-refl, OthersCame-trans}
 use Rattle.phase_shared.specs.declared.seats.view.Knowledge.{Knowledge}
@@ -18,7 +13,7 @@ use Rattle.phase_shared.specs.Views.{knowledge, speaks_of, is_turning, known_of,
 use Rattle.phase_shared.specs.Goods.{Allows, IsGood}
 use Rattle.phase_shared.specs.Asks.{Ask, IsAtPhases, IsUnmade, IsMade, IsAnsweredAsk, Stage, Batch, IsOneOf, asks_for}
 use Rattle.phase_shared.specs.Lanes.{lanes_most, board, posted}
-use Rattle.phase_shared.specs.Desks.{View, Resting, Turning, Joining, Posting, Asking, Reading, Spent, IsSound, AskStands, HasToRead, HasLane, LaneIs, AskedAt, IsPast, HeldAt, IsLane, Kept}
+use Rattle.phase_shared.specs.Desks.{View, Resting, Turning, Joining, Posting, Asking, Reading, Spent, IsSound, AskStands, HasToRead, HasLane, LaneIs, IsPast, HeldAt, IsLane, Kept}
 use Rattle.phase_shared.specs.Tells.{StillAsks, LaneIsPast, EndsTurn, Leaves}
 use Rattle.phase_shared.proofs.Small.{same_some, none_some, not_true_is, not_both, apart_phases, is_in_self, in_left, in_right, used_some}
 use Rattle.phase_shared.proofs.Stages.{stage_goes, signal_is, wait_is, done_within}
@@ -67,11 +62,10 @@ module _ {T : Type 0} (value : List ℤ → Outcome) (limits : Limits) (allows :
   told_waits a one odd =
       let c = k.claimed number f claims said lane at a one in
       let s : AskStands value limits allows k.log told words c.knows a = k.sound c.seat (Asking c.knows a) c.at in
-      ⊎_elim
-      (λ (u : IsUnmade a c.knows.seen k.log).
-      let low = k.within odd in let high = done_within k.log a.task a.phase a.phase u.stands in omega arith)
-      (λ (m : IsMade limits a c.knows.seen k.log). s.waits odd m)
-      c.waits_on
+      elim c.waits_on [
+        | inl u ↦ let low = k.within odd in let high = done_within k.log a.task a.phase a.phase u.stands in omega arith
+        | inr m ↦ s.waits odd m
+      ]
 
   -- who asked has a lane
   low_of : (a : Ask) → IsOneOf claims a → a.task < lanes_most
@@ -121,14 +115,11 @@ module _ {T : Type 0} (value : List ℤ → Outcome) (limits : Limits) (allows :
     made_is_read : (j : ℕ) (g : Knowledge) (a : Ask) → j ≢ number → get_elem? views j ≡ some (Asking g a) → IsMade limits a g.seen (later ++ k.log) → IsOneOf claims a
     made_is_read j g a ne e m = elim (asks_for used a.task) as (λ b. (asks_for used a.task ≡ b) → IsOneOf claims a) [
       | true ↦ λ t. let r = found used a.task t in subst (λ (x : Ask). IsOneOf claims x) (one_used j g a e r.0 r.1 r.2) (inside r.0 r.1)
-      | false ↦ λ t. ⊎_elim
-          (λ (u : IsUnmade a g.seen (later ++ k.log) × IsUnmade a g.seen k.log).
-          absurd (apart_phases a.phase (sym (signal_is (later ++ k.log) a.task (a.phase + 1) a.phase m.stands) ∙ signal_is (later ++ k.log) a.task a.phase a.phase u.0.stands)))
-          (λ (r : IsMade limits a g.seen k.log ⊎ (IsAnsweredAsk limits a g.seen (later ++ k.log) × IsAnsweredAsk limits a g.seen k.log)). ⊎_elim
-          (λ (here : IsMade limits a g.seen k.log). k.all number f claims said lane at j g a e here)
-          (λ (n : IsAnsweredAsk limits a g.seen (later ++ k.log) × IsAnsweredAsk limits a g.seen k.log). absurd (not_made_and_answered limits a g.seen (later ++ k.log) m n.0))
-          r)
-          (still j g a ne e t)
+      | false ↦ λ t. elim (still j g a ne e t) [
+        | inl u ↦ absurd (apart_phases a.phase (sym (signal_is (later ++ k.log) a.task (a.phase + 1) a.phase m.stands) ∙ signal_is (later ++ k.log) a.task a.phase a.phase u.0.stands))
+        | inr (inl here) ↦ k.all number f claims said lane at j g a e here
+        | inr (inr n) ↦ absurd (not_made_and_answered limits a g.seen (later ++ k.log) m n.0)
+      ]
     ] refl
 
     -- what was made and not read is not answered by the turn
@@ -147,15 +138,11 @@ module _ {T : Type 0} (value : List ℤ → Outcome) (limits : Limits) (allows :
           let r = found used a.task t in
           let one : IsOneOf used a = subst (λ (x : Ask). IsOneOf used x) (one_used j g a e r.0 r.1 r.2) r.1 in
           has a one n.stands
-      | false ↦ λ t. ⊎_elim
-          (λ (u : IsUnmade a g.seen (later ++ k.log) × IsUnmade a g.seen k.log).
-          absurd (apart_phases a.phase (sym (signal_is (later ++ k.log) a.task (a.phase + 1) (a.phase + 1) n.stands) ∙ signal_is (later ++ k.log) a.task a.phase a.phase u.0.stands)))
-          (λ (r : IsMade limits a g.seen k.log ⊎ (IsAnsweredAsk limits a g.seen (later ++ k.log) × IsAnsweredAsk limits a g.seen k.log)). ⊎_elim
-          (λ (here : IsMade limits a g.seen k.log). absurd (made_unread j g a ne e t here n))
-          (λ (q : IsAnsweredAsk limits a g.seen (later ++ k.log) × IsAnsweredAsk limits a g.seen k.log).
-          (asks_at j g a e).has q.1 ∙ sym (same_value limits used f.speaks k.log some_log value a.phase later good.legal q.1.below).1)
-          r)
-          (still j g a ne e t)
+      | false ↦ λ t. elim (still j g a ne e t) [
+        | inl u ↦ absurd (apart_phases a.phase (sym (signal_is (later ++ k.log) a.task (a.phase + 1) (a.phase + 1) n.stands) ∙ signal_is (later ++ k.log) a.task a.phase a.phase u.0.stands))
+        | inr (inl here) ↦ absurd (made_unread j g a ne e t here n)
+        | inr (inr q) ↦ (asks_at j g a e).has q.1 ∙ sym (same_value limits used f.speaks k.log some_log value a.phase later good.legal q.1.below).1
+      ]
     ] refl
 
     other_sound : (j : ℕ) (v : View) → j ≢ number → get_elem? views j ≡ some v → IsSound value limits allows (Some y) number (later ++ k.log) next words j v
@@ -206,10 +193,10 @@ module _ {T : Type 0} (value : List ℤ → Outcome) (limits : Limits) (allows :
 
     -- nobody else speaks for what the giver speaks for afterwards
     apart_of : (j : ℕ) (v : View) (task : ℕ) → j ≢ number → get_elem? views j ≡ some v → is_in task (speaks_of v) ≡ true → is_in task (speaks_of w) ≡ false
-    apart_of j v task ne e has' = not_true_is (is_in task (speaks_of w)) (λ yes'. ⊎_elim
-        (λ (h : is_in task f.speaks ≡ true). not_both (is_in task f.speaks) h (mine j v task ne e has'))
-        (λ (h : IsUsed k.log task → ⊥). h (k.owns j v task e has').1)
-        (each task yes').1)
+    apart_of j v task ne e has' = not_true_is (is_in task (speaks_of w)) (λ yes'. elim ((each task yes').1) [
+      | inl h ↦ not_both (is_in task f.speaks) h (mine j v task ne e has')
+      | inr h ↦ h (k.owns j v task e has').1
+    ])
 
     -- the lane of the giver is left as it says
     lane_held : (i : ℕ) (h : HeldAt views i) → IsLane (later ++ k.log) (set views number w) i (posted words i)
@@ -219,22 +206,16 @@ module _ {T : Type 0} (value : List ℤ → Outcome) (limits : Limits) (allows :
         lane_new i h.n (sym (ap lane_of same)) (ap (λ v. (known_of v).speaks) (sym same) ∙ h.speaks)
 
     lane_given : (i : ℕ) → IsLane k.log views i (posted words i) → IsLane (later ++ k.log) (set views number w) i (posted words i)
-    lane_given i l = ⊎_elim
-        (λ (z : posted words i ≡ 0). inl z)
-        (λ (r : AskedAt views i ⊎ (IsPast k.log i (posted words i) ⊎ HeldAt views i)). ⊎_elim
-        (λ (q : AskedAt views i). inr (inl record {
-          seat = q.seat;
-          knows = q.knows;
-          ask = q.ask;
-          at = stays is_asking views number q.seat (Turning f claims said lane) w (Asking q.knows q.ask) at refl refl q.at;
-          is = q.is;
-        }))
-        (λ (r' : IsPast k.log i (posted words i) ⊎ HeldAt views i). ⊎_elim
-        (λ (p : IsPast k.log i (posted words i)). inr (inr (inl (past_goes limits later k.log i (posted words i) good.legal p))))
-        (λ (h : HeldAt views i). lane_held i h)
-        r')
-        r)
-        l
+    lane_given i (inl z) = inl z
+    lane_given i (inr (inl q)) = inr (inl record {
+      seat = q.seat;
+      knows = q.knows;
+      ask = q.ask;
+      at = stays is_asking views number q.seat (Turning f claims said lane) w (Asking q.knows q.ask) at refl refl q.at;
+      is = q.is;
+    })
+    lane_given i (inr (inr (inl p))) = inr (inr (inl (past_goes limits later k.log i (posted words i) good.legal p)))
+    lane_given i (inr (inr (inr h))) = lane_held i h
 
     gave : Kept value limits allows StandsFor (Some y) next words (set views number w)
     gave = record {
@@ -244,27 +225,22 @@ module _ {T : Type 0} (value : List ℤ → Outcome) (limits : Limits) (allows :
       within = within';
       holder = number;
       out = λ e. absurd (none_some y e);
-      sound = λ j v e. ⊎_elim
-          (λ (p : (j ≡ number) × (w ≡ v)). subst (λ (u : View). IsSound value limits allows (Some y) number (later ++ k.log) next words j u) p.1
-          (subst (λ (n : ℕ). IsSound value limits allows (Some y) number (later ++ k.log) next words n w) (sym p.0) sound'))
-          (λ (p : (j ≢ number) × (get_elem? views j ≡ some v)). other_sound j v p.0 p.1)
-          (at_set views number j w v e);
+      sound = λ j v e. elim (at_set views number j w v e) [
+        | inl p ↦ subst (λ (u : View). IsSound value limits allows (Some y) number (later ++ k.log) next words j u) p.1
+            (subst (λ (n : ℕ). IsSound value limits allows (Some y) number (later ++ k.log) next words n w) (sym p.0) sound')
+        | inr p ↦ other_sound j v p.0 p.1
+      ];
       owner = λ task. cond (is_in task (speaks_of w)) number (k.owner task);
-      owns = λ j v task e has'. ⊎_elim
-          (λ (p : (j ≡ number) × (w ≡ v)).
-          let here : is_in task (speaks_of w) ≡ true = subst (λ (u : View). is_in task (speaks_of u) ≡ true) (sym p.1) has' in
-          (ap (λ b. cond b number (k.owner task)) here ∙ sym p.0, (each task here).0))
-          (λ (p : (j ≢ number) × (get_elem? views j ≡ some v)).
-          let o = k.owns j v task p.1 has' in
-          (ap (λ b. cond b number (k.owner task)) (apart_of j v task p.0 p.1 has') ∙ o.0, stays_used task o.1))
-          (at_set views number j w v e);
+      owns = λ j v task e has'. elim (at_set views number j w v e) [
+        | inl p ↦ let here : is_in task (speaks_of w) ≡ true = subst (λ (u : View). is_in task (speaks_of u) ≡ true) (sym p.1) has' in
+            (ap (λ b. cond b number (k.owner task)) here ∙ sym p.0, (each task here).0)
+        | inr p ↦ let o = k.owns j v task p.1 has' in
+            (ap (λ b. cond b number (k.owner task)) (apart_of j v task p.0 p.1 has') ∙ o.0, stays_used task o.1)
+      ];
       claimed = λ j g cs sd ln e a one. absurd (no_turn j g cs sd ln e);
       all = λ j g cs sd ln e i h a e' m. absurd (no_turn j g cs sd ln e);
       lanes = λ i low. lane_given i (k.lanes i low);
     }
-
-both_even_and_odd : (n : ℕ) → n % 2 ≡ 0 → n % 2 ≡ 1 → ⊥
-both_even_and_odd n even odd = omega arith
 
 single_is : (a b : ℕ) → a ∷ [] ≡ b ∷ [] → a ≡ b
 single_is a b e = cc
@@ -273,22 +249,25 @@ pub no_lane : (n : ℕ) → None ≡ Some n → ⊥
 no_lane n e = cc
 
 module _ {T : Type 0} (value : List ℤ → Outcome) (limits : Limits) (allows : Allows) (StandsFor : T → History → Type 0) where
-  -- a give with the giver's own events: no ask's phase is told
-  pub gives_own : (number : ℕ) (f : Knowledge) (claims : List Ask) (said : Outcome) (y : T) (own : History) (speaks : List ℕ) (told next : ℕ) → next % 2 ≡ 0
+  -- a give with the giver's own events, that answers no ask
+  pub gives_own : (number : ℕ) (f : Knowledge) (claims : List Ask) (said : Outcome) (y : T) (own : History) (speaks : List ℕ) (told next : ℕ) → (next % 2 ≡ 1 → next ≡ told)
       → ((task : ℕ) → is_in task f.speaks ≡ false → events_of task own ≡ [])
       → IsGood limits allows (own ++ f.seen) → StandsFor y (own ++ f.seen) → is_distinct speaks ≡ true
       → ((task : ℕ) → is_in task speaks ≡ true → IsUsed (own ++ f.seen) task × ((is_in task f.speaks ≡ true) ⊎ (IsUsed f.seen task → ⊥)))
       → (words : List ℕ) (views : List View) → Kept value limits allows StandsFor None told words views
       → get_elem? views number ≡ some (Turning f claims said None)
       → Kept value limits allows StandsFor (Some y) next words (set views number (Resting (knowledge (own ++ f.seen) speaks)))
-  gives_own number f claims said y own speaks told next even mine' good stands distinct each words views k at =
+  gives_own number f claims said y own speaks told next same mine' good stands distinct each words views k at =
       let s = k.sound number (Turning f claims said None) at in
+      let more : done_of k.log ≤ done_of (own ++ k.log) = subst (λ (h : History). done_of h ≤ done_of (own ++ h)) s.0
+      (done_grows limits own f.seen (λ none. some_log value limits allows StandsFor number f claims said None told words views k at (sym s.0 ∙ none)) good.legal) in
       gave value limits allows StandsFor number f claims said None told words views k at y [] (λ a one. absurd one) own next
       (own_batch (IsOneOf []) f.speaks own k.log mine')
       (subst (λ (h : History). IsGood limits allows (own ++ h)) s.0 good)
       (subst (λ (h : History). StandsFor y (own ++ h)) s.0 stands)
-      (λ odd. absurd (both_even_and_odd next even odd))
-      (λ odd a one st. absurd (both_even_and_odd next even odd))
+      (λ odd. let is = same odd in let low = k.within (subst (λ (n : ℕ). n % 2 ≡ 1) is odd) in omega arith)
+      (λ odd a one st. subst (λ (n : ℕ). n / 2 ≤ a.phase) (sym (same odd))
+      (told_waits value limits allows StandsFor number f claims said None told words views k at a one (subst (λ (n : ℕ). n % 2 ≡ 1) (same odd) odd)))
       (λ a one st. absurd one)
       (Resting (knowledge (own ++ f.seen) speaks)) refl
       (λ task has. let e = each task has in
@@ -300,16 +279,10 @@ module _ {T : Type 0} (value : List ℤ → Outcome) (limits : Limits) (allows :
       (k : Kept value limits allows StandsFor None told words views) (at : get_elem? views number ≡ some (Turning f claims said lane))
       (next : ℕ) (new : History) (w : View) (ends : EndsTurn limits allows next new f lane w) where
     ends_rest : is_turning w ≡ false
-    ends_rest = ⊎_elim
-        (λ (r : (h : History) × (w ≡ Resting (knowledge h f.speaks)) × OthersCame f.speaks h new × LaneIsPast new f lane). ap is_turning r.1)
-        (λ (s : StillAsks limits allows next new f lane w). ap is_turning s.is)
-        ends
+    ends_rest = elim ends [ inl r ↦ ap is_turning r.1 | inr s ↦ ap is_turning s.is ]
 
     ends_speak : speaks_of w ≡ f.speaks
-    ends_speak = ⊎_elim
-        (λ (r : (h : History) × (w ≡ Resting (knowledge h f.speaks)) × OthersCame f.speaks h new × LaneIsPast new f lane). ap speaks_of r.1)
-        (λ (s : StillAsks limits allows next new f lane w). ap speaks_of s.is ∙ s.speaks ∙ sym s.mine)
-        ends
+    ends_speak = elim ends [ inl r ↦ ap speaks_of r.1 | inr s ↦ ap speaks_of s.is ∙ s.speaks ∙ sym s.mine ]
 
     lane_has : (n : ℕ) → lane ≡ Some n → HasLane words f n
     lane_has n e = subst (λ (l : Option ℕ). LaneIs words f l) e (k.sound number (Turning f claims said lane) at).6
@@ -322,42 +295,39 @@ module _ {T : Type 0} (value : List ℤ → Outcome) (limits : Limits) (allows :
         (subst (λ (t : ℕ). t < lanes_most) task_is l.low, subst (λ (t : ℕ). posted words t ≡ s.ask.phase + 1) task_is l.has)
 
     ends_sound : (y : T) → IsSound value limits allows (Some y) number new next words number w
-    ends_sound y = ⊎_elim
-        (λ (r : (h : History) × (w ≡ Resting (knowledge h f.speaks)) × OthersCame f.speaks h new × LaneIsPast new f lane).
-        subst (λ (u : View). IsSound value limits allows (Some y) number new next words number u) (sym r.1)
-        (r.2, (k.sound number (Turning f claims said lane) at).1))
-        (λ (s : StillAsks limits allows next new f lane w).
-        let l = still_lane s in
-        let asks : AskStands value limits allows new next words s.knows s.ask = record {
-          speaks = s.speaks;
-          low = l.0;
-          stage = inr (inl s.made);
-          waits = λ odd m. s.waits odd;
-          may = s.may;
-          has = λ n. absurd (not_made_and_answered limits s.ask s.knows.seen new s.made n);
-          posts = l.1;
-          sends = λ st. absurd (apart_phases s.ask.phase (sym (signal_is new s.ask.task (s.ask.phase + 1) s.ask.phase s.made.stands) ∙ signal_is new s.ask.task s.ask.phase s.ask.phase st));
-        } in
-        subst (λ (u : View). IsSound value limits allows (Some y) number new next words number u) (sym s.is) asks)
-        ends
+    ends_sound y = elim ends [
+      | inl r ↦ subst (λ (u : View). IsSound value limits allows (Some y) number new next words number u) (sym r.1)
+          (r.2, (k.sound number (Turning f claims said lane) at).1)
+      | inr s ↦ let l = still_lane s in
+          let asks : AskStands value limits allows new next words s.knows s.ask = record {
+            speaks = s.speaks;
+            low = l.0;
+            stage = inr (inl s.made);
+            waits = λ odd m. s.waits odd;
+            may = s.may;
+            has = λ n. absurd (not_made_and_answered limits s.ask s.knows.seen new s.made n);
+            posts = l.1;
+            sends = λ st. absurd (apart_phases s.ask.phase (sym (signal_is new s.ask.task (s.ask.phase + 1) s.ask.phase s.made.stands) ∙ signal_is new s.ask.task s.ask.phase s.ask.phase st));
+          } in
+          subst (λ (u : View). IsSound value limits allows (Some y) number new next words number u) (sym s.is) asks
+    ]
 
     ends_lane : (i n : ℕ) → lane ≡ Some n → f.speaks ≡ i ∷ [] → IsLane new (set views number w) i (posted words i)
-    ends_lane i n e alone = ⊎_elim
-        (λ (r : (h : History) × (w ≡ Resting (knowledge h f.speaks)) × OthersCame f.speaks h new × LaneIsPast new f lane).
-        let l = lane_has n e in
-        let past : LaneIsPast new f (Some n) = subst (λ (o : Option ℕ). LaneIsPast new f o) e r.3 in
-        let task_is : l.task ≡ i = single_is l.task i (sym l.speaks ∙ alone) in
-        let there : past.0 ≡ i = single_is past.0 i (sym past.1 ∙ alone) in
-        let is : n ≡ posted words i = sym l.has ∙ ap (λ t. posted words t) task_is in
-        inr (inr (inl (subst (λ (m : ℕ). IsPast new i m) is (subst (λ (t : ℕ). IsPast new t n) there past.2)))))
-        (λ (s : StillAsks limits allows next new f lane w). inr (inl record {
-          seat = number;
-          knows = s.knows;
-          ask = s.ask;
-          at = set_here views number w (within views number (Turning f claims said lane) at) ∙ ap some s.is;
-          is = single_is s.ask.task i (sym s.mine ∙ alone);
-        }))
-        ends
+    ends_lane i n e alone = elim ends [
+      | inl r ↦ let l = lane_has n e in
+          let past : LaneIsPast new f (Some n) = subst (λ (o : Option ℕ). LaneIsPast new f o) e r.3 in
+          let task_is : l.task ≡ i = single_is l.task i (sym l.speaks ∙ alone) in
+          let there : past.0 ≡ i = single_is past.0 i (sym past.1 ∙ alone) in
+          let is : n ≡ posted words i = sym l.has ∙ ap (λ t. posted words t) task_is in
+          inr (inr (inl (subst (λ (m : ℕ). IsPast new i m) is (subst (λ (t : ℕ). IsPast new t n) there past.2))))
+      | inr s ↦ inr (inl record {
+        seat = number;
+        knows = s.knows;
+        ask = s.ask;
+        at = set_here views number w (within views number (Turning f claims said lane) at) ∙ ap some s.is;
+        is = single_is s.ask.task i (sym s.mine ∙ alone);
+      })
+    ]
 
   -- a give with the events of a turn, that tells phases
   pub gives_asks : (number : ℕ) (f : Knowledge) (claims : List Ask) (said : Outcome) (lane : Option ℕ) (y : T) (later : History) (told next : ℕ) (w : View)
@@ -408,18 +378,18 @@ module _ {T : Type 0} (value : List ℤ → Outcome) (limits : Limits) (allows :
         waits = λ odd st. told_waits value limits allows StandsFor number f claims said lane told words views k at a one odd;
         has = has a one low;
       })
-      (⊎_elim
-      (λ (r : (h : History) × (w ≡ Resting (knowledge h f.speaks)) × OthersCame f.speaks h (later ++ f.seen) × LaneIsPast (later ++ f.seen) f lane). inl r)
-      (λ (q : StillAsks limits allows 0 (later ++ f.seen) f lane w). inr record {
-        ask = q.ask;
-        knows = q.knows;
-        mine = q.mine;
-        speaks = q.speaks;
-        made = q.made;
-        may = q.may;
-        posts = q.posts;
-        waits = λ odd. let low : told / 2 ≤ done_of f.seen = subst (λ (h : History). told / 2 ≤ done_of h) (sym s.0) (k.within odd) in let high = later_open q in omega arith;
-        is = q.is;
-      })
-      ends)
+      (elim ends [
+        | inl r ↦ inl r
+        | inr q ↦ inr record {
+          ask = q.ask;
+          knows = q.knows;
+          mine = q.mine;
+          speaks = q.speaks;
+          made = q.made;
+          may = q.may;
+          posts = q.posts;
+          waits = λ odd. let low : told / 2 ≤ done_of f.seen = subst (λ (h : History). told / 2 ≤ done_of h) (sym s.0) (k.within odd) in let high = later_open q in omega arith;
+          is = q.is;
+        }
+      ])
       words views k at

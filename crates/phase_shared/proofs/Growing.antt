@@ -1,20 +1,16 @@
 -- What a longer history leaves: a task's phases only grow.
-use Rattle.std.proofs.Common.{◌≡◌, ℕ, ◌+◌, ◌≤◌, true, false, cond, eqb, List, [], ◌∷◌, ◌++◌, ◌⊎◌, length, Some, refl, sym, ap, ◌∙◌, inl, ⊎_elim, arith}
+use Rattle.std.proofs.Common.{◌≡◌, ℕ, ◌+◌, ◌≤◌, true, false, cond, eqb, List, [], ◌∷◌, ◌++◌, length, Some, refl, sym, ap, ◌∙◌, inl, arith, inr}
 use Rattle.std.proofs.lemmas.Option.{same_Some}
-use Rattle.phase_core.specs.phase_base.Limits.{Limits}
-use Rattle.phase_core.specs.phase_base.Lists.{is_in}
-use Rattle.phase_core.specs.phase_base.declared.entry.Entry.{Entry}
+use Rattle.phase_shared.proofs.Small.{longer_some}
+use Rattle.phase_shared.specs.Phasers.{Limits, is_in, Entry, History, start_of, phases_waited, done_of, IsLegal, HasCounted, events_of}
 use Rattle.phase_core.specs.phase_history.declared.event.Event.TheVariants.{Made, Registered, RegisteredNow, Signalled, Waited, Dropped}
-use Rattle.phase_core.specs.phase_history.Histories.{History, start_of, phases_signalled, phases_waited, done_of}
-use Rattle.phase_core.specs.phase_history.Legal.{IsLegal}
-use Rattle.phase_core.specs.phase_history.Laws.{HasCounted}
-use Rattle.phase_core.specs.phase_history.Others.{events_of}
+use Rattle.phase_core.specs.phase_history.Histories.{phases_signalled}
 use Rattle.phase_core.proofs.phase_history_lemmas.LawProofs.{counted_of}
 use Rattle.phase_core.proofs.phase_history_lemmas.Steps.{steps, sound_of}
 use Rattle.phase_core.proofs.phase_history_lemmas.Streams.{legal_rest}
 use Rattle.phase_core.proofs.phase_history_lemmas.Used.{start_of-longer}
 use Rattle.phase_core.proofs.phase_history_lemmas.OthersEvents.{skips}
-use Rattle.phase_shared.specs.Asks.{Ask, IsAtPhases, IsUnmade, IsMade, IsAnsweredAsk, Stage, Batch}
+use Rattle.phase_shared.specs.Asks.{Ask, IsAtPhases, Stage, Batch}
 use Rattle.phase_shared.specs.Desks.{IsPast}
 
 more_signals : (task : ℕ) (later h : History) → phases_signalled h task ≤ phases_signalled (later ++ h) task
@@ -75,15 +71,11 @@ signals_grow limits later h task s w s' w' legal legal' st st' =
 -- an ask that is unmade later was unmade
 pub unmade_before : (limits : Limits) (a : Ask) (seen later h : History) → IsLegal limits h → IsLegal limits (later ++ h)
     → Stage limits a seen h → IsAtPhases (later ++ h) a.task a.phase a.phase → IsAtPhases h a.task a.phase a.phase
-unmade_before limits a seen later h legal legal' stage st = ⊎_elim
-    (λ (u : IsUnmade a seen h). u.stands)
-    (λ (r : IsMade limits a seen h ⊎ IsAnsweredAsk limits a seen h). absurd (⊎_elim
-    (λ (m : IsMade limits a seen h).
-    let low = signals_grow limits later h a.task (a.phase + 1) a.phase a.phase a.phase legal legal' m.stands st in omega arith)
-    (λ (n : IsAnsweredAsk limits a seen h).
-    let low = signals_grow limits later h a.task (a.phase + 1) (a.phase + 1) a.phase a.phase legal legal' n.stands st in omega arith)
-    r))
-    stage
+unmade_before limits a seen later h legal legal' (inl u) st = u.stands
+unmade_before limits a seen later h legal legal' (inr (inl m)) st =
+    absurd (let low = signals_grow limits later h a.task (a.phase + 1) a.phase a.phase a.phase legal legal' m.stands st in omega arith)
+unmade_before limits a seen later h legal legal' (inr (inr n)) st =
+    absurd (let low = signals_grow limits later h a.task (a.phase + 1) (a.phase + 1) a.phase a.phase legal legal' n.stands st in omega arith)
 
 -- no complete phase is undone
 pub done_grows : (limits : Limits) (later h : History) → (h ≡ [] → ⊥) → IsLegal limits (later ++ h) → done_of h ≤ done_of (later ++ h)
@@ -94,10 +86,6 @@ done_grows limits (e ∷ later) h some legal =
     let first = done_grows limits later h some r.0 in
     let then = (steps limits (later ++ h) e r.0 (sound_of limits (later ++ h) r.0) r.1).grows in
     omega arith
-  where
-    longer_some : (later h : History) → (h ≡ [] → ⊥) → later ++ h ≡ [] → ⊥
-    longer_some [] h some none = some none
-    longer_some (e ∷ later) h some none = cc
 
 -- events of the holder's own are a turn in which nothing was read
 pub own_batch : (Claimed : Ask → Type 0) (speaks : List ℕ) (own log : History)

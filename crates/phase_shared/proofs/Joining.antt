@@ -1,18 +1,13 @@
 -- Seats are cut in two and joined, and the rule stays; and it holds of what was just made.
-use Rattle.std.proofs.Common.{◌≡◌, ◌≢◌, ℕ, ℤ, zero, suc, true, false, not, cond, eqb, List, [], ◌∷◌, ◌++◌, Option, Some, None, length, set, replicate, refl, sym, ap, subst, ◌∙◌, inl, ⊎_elim, arith}
+use Rattle.std.proofs.Common.{◌≡◌, ◌≢◌, ℕ, ℤ, zero, suc, true, false, not, cond, eqb, List, [], ◌∷◌, ◌++◌, Option, Some, None, length, set, replicate, refl, sym, ap, subst, ◌∙◌, inl, arith, inr}
 use Rattle.std.specs.Prelude.{◌%◌}
 use Rattle.std.proofs.lemmas.Bool.{ne_eqb, and_parts, not-true}
 use mathlib.Core.Option.{some, some-injective, some-ne-none}
 use Rattle.std.proofs.lemmas.List.{get_or-replicate}
 use lib.ListN.{get_elem?}
 use Rattle.atomic_table.proofs.Lists.{at_set, at_longer, set_else}
-use Rattle.phase_core.specs.phase_base.Limits.{Limits}
-use Rattle.phase_core.specs.phase_base.Lists.{is_distinct, is_in}
-use Rattle.phase_core.specs.phase_accum.declared.outcome.Outcome.{Outcome}
+use Rattle.phase_shared.specs.Phasers.{Limits, is_distinct, is_in, Outcome, History, IsLegal, IsUsed, OnlyUsed}
 use Rattle.phase_core.specs.phase_history.declared.event.Event.TheVariants.{Made}
-use Rattle.phase_core.specs.phase_history.Histories.{History}
-use Rattle.phase_core.specs.phase_history.Legal.{IsLegal}
-use Rattle.phase_core.specs.phase_history.Others.{IsUsed, OnlyUsed}
 use Rattle.phase_core.proofs.phase_history_lemmas.OthersEvents.{OthersCame-refl, OthersCame-fewer}
 use Rattle.phase_core.proofs.phase_history_lemmas.Used.{OnlyUsed-others}
 use Rattle.phase_shared.specs.declared.seats.view.Knowledge.{Knowledge}
@@ -40,16 +35,16 @@ turning_before views number w rests j g claims said lane e = (was is_turning vie
 
 -- a seat more
 asking_longer : (views : List View) (r : View) → is_asking r ≡ false → AskingStay (views ++ r ∷ []) views
-asking_longer views r not_asking j g a e = ⊎_elim
-    (λ (p : get_elem? views j ≡ some (Asking g a)). p)
-    (λ (p : (j ≡ length views) × (r ≡ Asking g a)). absurd (not_both (is_asking r) (ap is_asking p.1) not_asking))
-    (snoc_at views r (Asking g a) j e)
+asking_longer views r not_asking j g a e = elim (snoc_at views r (Asking g a) j e) [
+  | inl p ↦ p
+  | inr p ↦ absurd (not_both (is_asking r) (ap is_asking p.1) not_asking)
+]
 
 turning_longer : (views : List View) (r : View) → is_turning r ≡ false → TurningStay (views ++ r ∷ []) views
-turning_longer views r rests j g claims said lane e = ⊎_elim
-    (λ (p : get_elem? views j ≡ some (Turning g claims said lane)). p)
-    (λ (p : (j ≡ length views) × (r ≡ Turning g claims said lane)). absurd (not_both (is_turning r) (ap is_turning p.1) rests))
-    (snoc_at views r (Turning g claims said lane) j e)
+turning_longer views r rests j g claims said lane e = elim (snoc_at views r (Turning g claims said lane) j e) [
+  | inl p ↦ p
+  | inr p ↦ absurd (not_both (is_turning r) (ap is_turning p.1) rests)
+]
 
 module _ {T : Type 0} (value : List ℤ → Outcome) (limits : Limits) (allows : Allows) (StandsFor : T → History → Type 0) where
   -- the rule of other views, where who asks and who has the turn is the same
@@ -85,17 +80,16 @@ module _ {T : Type 0} (value : List ℤ → Outcome) (limits : Limits) (allows :
         moves home told words views (set views number w) k
             (asking_after views number (Joining f g) w at refl) (turning_after views number (Joining f g) w at refl)
             (asking_before views number w refl) (turning_before views number w refl)
-            (λ j v e. ⊎_elim
-            (λ (p : (j ≡ number) × (w ≡ v)). subst (λ (u : View). IsSound value limits allows home k.holder k.log told words j u) p.1 (OthersCame-refl (f.speaks ++ g.speaks) k.log, s.2))
-            (λ (p : (j ≢ number) × (get_elem? views j ≡ some v)). k.sound j v p.1)
-            (at_set views number j w v e))
+            (λ j v e. elim (at_set views number j w v e) [
+              | inl p ↦ subst (λ (u : View). IsSound value limits allows home k.holder k.log told words j u) p.1 (OthersCame-refl (f.speaks ++ g.speaks) k.log, s.2)
+              | inr p ↦ k.sound j v p.1
+            ])
             k.owner
-            (λ j v task e has. ⊎_elim
-            (λ (p : (j ≡ number) × (w ≡ v)).
-            let mine : is_in task (f.speaks ++ g.speaks) ≡ true = subst (λ (u : View). is_in task (speaks_of u) ≡ true) (sym p.1) has in
-            let o = k.owns number (Joining f g) task at mine in (o.0 ∙ sym p.0, o.1))
-            (λ (p : (j ≢ number) × (get_elem? views j ≡ some v)). k.owns j v task p.1 has)
-            (at_set views number j w v e)),
+            (λ j v task e has. elim (at_set views number j w v e) [
+              | inl p ↦ let mine : is_in task (f.speaks ++ g.speaks) ≡ true = subst (λ (u : View). is_in task (speaks_of u) ≡ true) (sym p.1) has in
+                  let o = k.owns number (Joining f g) task at mine in (o.0 ∙ sym p.0, o.1)
+              | inr p ↦ k.owns j v task p.1 has
+            ]),
         record { now = k.log; first = s.0; second = s.1; distinct = s.2; good = k.good; is = refl },
       )
 
@@ -127,27 +121,25 @@ module _ {T : Type 0} (value : List ℤ → Outcome) (limits : Limits) (allows :
       (λ j g cs said lane e. at_longer left (r ∷ []) j (Turning g cs said lane) (turning_after views number v l at refl j g cs said lane e))
       (λ j g q e. asking_before views number l refl j g q (asking_longer left r refl j g q e))
       (λ j g cs said lane e. turning_before views number l refl j g cs said lane (turning_longer left r refl j g cs said lane e))
-      (λ j u e. ⊎_elim
-      (λ (q : get_elem? left j ≡ some u). ⊎_elim
-      (λ (m : (j ≡ number) × (l ≡ u)). subst (λ (z : View). IsSound value limits allows home k.holder k.log told words j z) m.1 (OthersCame-fewer (a ∷ b ∷ []) (a ∷ []) seen k.log first s.0, refl))
-      (λ (m : (j ≢ number) × (get_elem? views j ≡ some u)). k.sound j u m.1)
-      (at_set views number j l u q))
-      (λ (q : (j ≡ place) × (r ≡ u)). subst (λ (z : View). IsSound value limits allows home k.holder k.log told words j z) q.1 (OthersCame-fewer (a ∷ b ∷ []) (b ∷ []) seen k.log second s.0, refl))
-      (snoc_at left r u j e))
+      (λ j u e. elim (snoc_at left r u j e) [
+        | inl q ↦ elim (at_set views number j l u q) [
+          | inl m ↦ subst (λ (z : View). IsSound value limits allows home k.holder k.log told words j z) m.1 (OthersCame-fewer (a ∷ b ∷ []) (a ∷ []) seen k.log first s.0, refl)
+          | inr m ↦ k.sound j u m.1
+        ]
+        | inr q ↦ subst (λ (z : View). IsSound value limits allows home k.holder k.log told words j z) q.1 (OthersCame-fewer (a ∷ b ∷ []) (b ∷ []) seen k.log second s.0, refl)
+      ])
       owner
-      (λ j u t e has. ⊎_elim
-      (λ (q : get_elem? left j ≡ some u). ⊎_elim
-      (λ (m : (j ≡ number) × (l ≡ u)).
-      let mine : a ≡ t = one_of a t (subst (λ (z : View). is_in t (speaks_of z) ≡ true) (sym m.1) has) in
-      let o = k.owns number v a at (is_in_self a (b ∷ [])) in
-      subst (λ (n : ℕ). (owner n ≡ j) × IsUsed k.log n) mine (ap (λ c. cond c place (k.owner a)) apart ∙ o.0 ∙ sym m.0, o.1))
-      (λ (m : (j ≢ number) × (get_elem? views j ≡ some u)). old j u t m.0 m.1 has)
-      (at_set views number j l u q))
-      (λ (q : (j ≡ place) × (r ≡ u)).
-      let mine : b ≡ t = one_of b t (subst (λ (z : View). is_in t (speaks_of z) ≡ true) (sym q.1) has) in
-      let o = k.owns number v b at (in_second a b) in
-      subst (λ (n : ℕ). (owner n ≡ j) × IsUsed k.log n) mine (ap (λ c. cond c place (k.owner b)) (eqb_refl b) ∙ sym q.0, o.1))
-      (snoc_at left r u j e))
+      (λ j u t e has. elim (snoc_at left r u j e) [
+        | inl q ↦ elim (at_set views number j l u q) [
+          | inl m ↦ let mine : a ≡ t = one_of a t (subst (λ (z : View). is_in t (speaks_of z) ≡ true) (sym m.1) has) in
+              let o = k.owns number v a at (is_in_self a (b ∷ [])) in
+              subst (λ (n : ℕ). (owner n ≡ j) × IsUsed k.log n) mine (ap (λ c. cond c place (k.owner a)) apart ∙ o.0 ∙ sym m.0, o.1)
+          | inr m ↦ old j u t m.0 m.1 has
+        ]
+        | inr q ↦ let mine : b ≡ t = one_of b t (subst (λ (z : View). is_in t (speaks_of z) ≡ true) (sym q.1) has) in
+            let o = k.owns number v b at (in_second a b) in
+            subst (λ (n : ℕ). (owner n ≡ j) × IsUsed k.log n) mine (ap (λ c. cond c place (k.owner b)) (eqb_refl b) ∙ sym q.0, o.1)
+      ])
 
   -- two views at rest are joined
   pub merges : (number other : ℕ) (f g : Knowledge) (home : Option T) (told : ℕ) (words : List ℕ) (views : List View)
@@ -168,33 +160,29 @@ module _ {T : Type 0} (value : List ℤ → Outcome) (limits : Limits) (allows :
       (λ j h cs said lane e. turning_after one other (Resting g) Spent there refl j h cs said lane (turning_after views number (Resting f) w at refl j h cs said lane e))
       (λ j h q e. asking_before views number w refl j h q (asking_before one other Spent refl j h q e))
       (λ j h cs said lane e. turning_before views number w refl j h cs said lane (turning_before one other Spent refl j h cs said lane e))
-      (λ j u e. ⊎_elim
-      (λ (m : (j ≡ other) × (Spent ≡ u)). subst (λ (z : View). IsSound value limits allows home k.holder k.log told words j z) m.1 tt)
-      (λ (m : (j ≢ other) × (get_elem? one j ≡ some u)). ⊎_elim
-      (λ (q : (j ≡ number) × (w ≡ u)). subst (λ (z : View). IsSound value limits allows home k.holder k.log told words j z) q.1 (s.0, s'.0, distinct_append f.speaks g.speaks s.1 s'.1 apart))
-      (λ (q : (j ≢ number) × (get_elem? views j ≡ some u)). k.sound j u q.1)
-      (at_set views number j w u m.1))
-      (at_set one other j Spent u e))
+      (λ j u e. elim (at_set one other j Spent u e) [
+        | inl m ↦ subst (λ (z : View). IsSound value limits allows home k.holder k.log told words j z) m.1 tt
+        | inr m ↦ elim (at_set views number j w u m.1) [
+          | inl q ↦ subst (λ (z : View). IsSound value limits allows home k.holder k.log told words j z) q.1 (s.0, s'.0, distinct_append f.speaks g.speaks s.1 s'.1 apart)
+          | inr q ↦ k.sound j u q.1
+        ]
+      ])
       owner
-      (λ j u t e has. ⊎_elim
-      (λ (m : (j ≡ other) × (Spent ≡ u)). absurd (let z : false ≡ true = subst (λ (z : View). is_in t (speaks_of z) ≡ true) (sym m.1) has in cc))
-      (λ (m : (j ≢ other) × (get_elem? one j ≡ some u)). ⊎_elim
-      (λ (q : (j ≡ number) × (w ≡ u)).
-      let here : is_in t (f.speaks ++ g.speaks) ≡ true = subst (λ (z : View). is_in t (speaks_of z) ≡ true) (sym q.1) has in
-      ⊎_elim
-      (λ (h : is_in t f.speaks ≡ true).
-      let o = k.owns number (Resting f) t at h in
-      (ap (λ c. cond c number (k.owner t)) (apart t h) ∙ o.0 ∙ sym q.0, o.1))
-      (λ (h : is_in t g.speaks ≡ true).
-      let o = k.owns other (Resting g) t at' h in
-      (ap (λ c. cond c number (k.owner t)) h ∙ sym q.0, o.1))
-      (in_append f.speaks g.speaks t here))
-      (λ (q : (j ≢ number) × (get_elem? views j ≡ some u)).
-      let o = k.owns j u t q.1 has in
-      let not_theirs : is_in t g.speaks ≡ false = not_true_is (is_in t g.speaks) (λ has'. m.0 (sym o.0 ∙ (k.owns other (Resting g) t at' has').0)) in
-      (ap (λ c. cond c number (k.owner t)) not_theirs ∙ o.0, o.1))
-      (at_set views number j w u m.1))
-      (at_set one other j Spent u e))
+      (λ j u t e has. elim (at_set one other j Spent u e) [
+        | inl m ↦ absurd (let z : false ≡ true = subst (λ (z : View). is_in t (speaks_of z) ≡ true) (sym m.1) has in cc)
+        | inr m ↦ elim (at_set views number j w u m.1) [
+          | inl q ↦ let here : is_in t (f.speaks ++ g.speaks) ≡ true = subst (λ (z : View). is_in t (speaks_of z) ≡ true) (sym q.1) has in
+              elim (in_append f.speaks g.speaks t here) [
+                | inl h ↦ let o = k.owns number (Resting f) t at h in
+                    (ap (λ c. cond c number (k.owner t)) (apart t h) ∙ o.0 ∙ sym q.0, o.1)
+                | inr h ↦ let o = k.owns other (Resting g) t at' h in
+                    (ap (λ c. cond c number (k.owner t)) h ∙ sym q.0, o.1)
+              ]
+          | inr q ↦ let o = k.owns j u t q.1 has in
+              let not_theirs : is_in t g.speaks ≡ false = not_true_is (is_in t g.speaks) (λ has'. m.0 (sym o.0 ∙ (k.owns other (Resting g) t at' has').0)) in
+              (ap (λ c. cond c number (k.owner t)) not_theirs ∙ o.0, o.1)
+        ]
+      ])
 
   -- a seat that speaks for all numbers that it has seen used is never refused
   pub never_busy : (number : ℕ) (f : Knowledge) → (task : ℕ) × (is_in task f.speaks ≡ true) × IsUsed f.seen task → OnlyUsed f.speaks f.seen

@@ -4,21 +4,13 @@ use Rattle.std.proofs.lemmas.Option.{same_Some}
 use mathlib.Core.Option.{some}
 use lib.ListN.{get_elem?}
 use Rattle.atomic_table.proofs.Lists.{set_again}
-use Rattle.phase_core.specs.phase_base.Limits.{Limits}
-use Rattle.phase_core.specs.phase_base.Lists.{is_in}
-use Rattle.phase_core.specs.phase_base.declared.entry.Entry.{Entry}
-use Rattle.phase_core.specs.phase_base.Members.{entry_of}
-use Rattle.phase_core.specs.phase_accum.declared.outcome.Outcome.{Outcome}
-use Rattle.phase_core.specs.phase_history.Histories.{History, members_of, phases_waited}
-use Rattle.phase_core.specs.phase_history.Legal.{IsLegal}
-use Rattle.phase_core.specs.phase_history.Laws.{HasCounted}
-use Rattle.phase_core.specs.phase_history.Others.{OthersCame}
+use Rattle.phase_shared.specs.Phasers.{Limits, is_in, Entry, entry_of, Outcome, History, members_of, phases_waited, IsLegal, HasCounted, OthersCame}
 use Rattle.phase_core.proofs.phase_history_lemmas.LawProofs.{counted_of}
 use Rattle.phase_shared.specs.declared.seats.view.Knowledge.{Knowledge}
 use Rattle.phase_shared.specs.Goods.{Allows}
 use Rattle.phase_shared.specs.Asks.{Ask, IsAtPhases, Stage, IsUnmade, IsMade, IsAnsweredAsk, IsOneOf}
 use Rattle.phase_shared.specs.Lanes.{lanes_most, posted, send_word, sends_of}
-use Rattle.phase_shared.specs.Desks.{View, Turning, Asking, AskStands, StandsAsked, AskedAt, IsPast, HeldAt, Kept}
+use Rattle.phase_shared.specs.Desks.{View, Turning, Asking, AskStands, StandsAsked, AskedAt, IsPast, Kept}
 use Rattle.phase_shared.specs.Tells.{IsClaim, LaneRead}
 use Rattle.phase_shared.proofs.Small.{not_both}
 use Rattle.phase_shared.proofs.Growing.{past_goes}
@@ -89,10 +81,8 @@ module _ {T : Type 0} (value : List ℤ → Outcome) (limits : Limits) (allows :
   module _ (j : ℕ) (g : Knowledge) (a : Ask) (there : get_elem? views j ≡ some (Asking g a)) (is : a.task ≡ i) (out : is_in i f.speaks ≡ false)
       (waits_on : IsUnmade a g.seen k.log ⊎ IsMade limits a g.seen k.log) where
     each : (b : Ask) → IsOneOf (a ∷ claims) b → StandsAsked limits k.log views b
-    each b one = ⊎_elim
-        (λ (same : a ≡ b). subst (λ (x : Ask). StandsAsked limits k.log views x) same (record { seat = j; knows = g; at = there; waits_on = waits_on }))
-        (λ (rest : IsOneOf claims b). k.claimed number f claims said lane at b rest)
-        one
+    each b (inl same) = subst (λ (x : Ask). StandsAsked limits k.log views x) same (record { seat = j; knows = g; at = there; waits_on = waits_on })
+    each b (inr rest) = k.claimed number f claims said lane at b rest
 
     kept : Kept value limits allows StandsFor None told words (set views number (Turning f (a ∷ claims) said lane))
     kept =
@@ -107,17 +97,17 @@ module _ {T : Type 0} (value : List ℤ → Outcome) (limits : Limits) (allows :
       one = inl refl;
       theirs = subst (λ (t : ℕ). is_in t f.speaks ≡ false) (sym is) out;
       only = λ b one same. let c = each b one in one_ask j c.seat g c.knows a b there c.at same;
-      stands = ⊎_elim
-          (λ (u : IsUnmade a g.seen k.log). inl (
-            subst (λ (h : History). IsAtPhases h a.task a.phase a.phase) (sym log_is) u.stands,
-            record {
-              seen = g.seen;
-              others = subst (λ (h : History). OthersCame (a.task ∷ []) g.seen h) (sym log_is) u.others;
-              may = (asks_at j g a there).may;
-            },
-          ))
-          (λ (m : IsMade limits a g.seen k.log). inr (subst (λ (h : History). IsAtPhases h a.task (a.phase + 1) a.phase) (sym log_is) m.stands))
-          waits_on;
+      stands = elim waits_on [
+        | inl u ↦ inl (
+          subst (λ (h : History). IsAtPhases h a.task a.phase a.phase) (sym log_is) u.stands,
+          record {
+            seen = g.seen;
+            others = subst (λ (h : History). OthersCame (a.task ∷ []) g.seen h) (sym log_is) u.others;
+            may = (asks_at j g a there).may;
+          },
+        )
+        | inr m ↦ inr (subst (λ (h : History). IsAtPhases h a.task (a.phase + 1) a.phase) (sym log_is) m.stands)
+      ];
     }
 
     reads_ask : (w : View) × Kept value limits allows StandsFor None told words (set views number w) × LaneRead limits allows i f claims said lane (posted words i) w
@@ -135,34 +125,25 @@ module _ {T : Type 0} (value : List ℤ → Outcome) (limits : Limits) (allows :
 
   pub lane_read : i < lanes_most → is_in i f.speaks ≡ false
       → (w : View) × Kept value limits allows StandsFor None told words (set views number w) × LaneRead limits allows i f claims said lane (posted words i) w
-  lane_read few out = ⊎_elim
-      (λ (z : posted words i ≡ 0). reads_none (inl z))
-      (λ (r : AskedAt views i ⊎ (IsPast k.log i (posted words i) ⊎ HeldAt views i)). ⊎_elim
-      (λ (q : AskedAt views i). asked q (asks_at q.seat q.knows q.ask q.at).stage)
-      (λ (r' : IsPast k.log i (posted words i) ⊎ HeldAt views i). ⊎_elim
-      (λ (p : IsPast k.log i (posted words i)). reads_none (inr (past_here p)))
-      (λ (h : HeldAt views i).
-      absurd (not_both (is_in i f.speaks) (this_is_in i f.speaks (held_speaks value limits allows StandsFor told words views k number f claims said lane at i h)) out))
-      r')
-      r)
-      (k.lanes i few)
+  lane_read few out = elim (k.lanes i few) [
+    | inl z ↦ reads_none (inl z)
+    | inr (inl q) ↦ asked q (asks_at q.seat q.knows q.ask q.at).stage
+    | inr (inr (inl p)) ↦ reads_none (inr (past_here p))
+    | inr (inr (inr h)) ↦ absurd (not_both (is_in i f.speaks) (this_is_in i f.speaks (held_speaks value limits allows StandsFor told words views k number f claims said lane at i h)) out)
+  ]
     where
       past_here : IsPast k.log i (posted words i) → IsPast f.seen i (posted words i)
       past_here p = subst (λ (h : History). IsPast h i (posted words i)) (sym log_is) p
 
       asked : (q : AskedAt views i) → Stage limits q.ask q.knows.seen k.log
           → (w : View) × Kept value limits allows StandsFor None told words (set views number w) × LaneRead limits allows i f claims said lane (posted words i) w
-      asked q stage = ⊎_elim
-          (λ (u : IsUnmade q.ask q.knows.seen k.log). reads_ask q.seat q.knows q.ask q.at q.is out (inl u))
-          (λ (r : IsMade limits q.ask q.knows.seen k.log ⊎ IsAnsweredAsk limits q.ask q.knows.seen k.log). ⊎_elim
-          (λ (m : IsMade limits q.ask q.knows.seen k.log). reads_ask q.seat q.knows q.ask q.at q.is out (inr m))
-          (λ (n : IsAnsweredAsk limits q.ask q.knows.seen k.log).
+      asked q (inl u) = reads_ask q.seat q.knows q.ask q.at q.is out (inl u)
+      asked q (inr (inl m)) = reads_ask q.seat q.knows q.ask q.at q.is out (inr m)
+      asked q (inr (inr n)) =
           let p : IsPast k.log q.ask.task (q.ask.phase + 1) = answered_past limits q.ask q.knows.seen k.log k.good.legal n in
           let p' : IsPast k.log i (q.ask.phase + 1) = subst (λ (t : ℕ). IsPast k.log t (q.ask.phase + 1)) q.is p in
           let p'' : IsPast k.log i (posted words i) = subst (λ (m : ℕ). IsPast k.log i m) (sym (posted_is q.seat q.knows q.ask q.at q.is)) p' in
-          reads_none (inr (subst (λ (h : History). IsPast h i (posted words i)) (sym log_is) p'')))
-          r)
-          stage
+          reads_none (inr (subst (λ (h : History). IsPast h i (posted words i)) (sym log_is) p''))
 
   -- the second word has what is sent, where the signal is still to be made
   pub send_read : (set views number (Turning f claims said lane) ≡ views)

@@ -1,16 +1,7 @@
 -- A call on a block after others' events is a call from the start.
 use Rattle.std.proofs.Common.{◌≡◌, ℕ, ℤ, List, [], ◌∷◌, Option, subst, sym}
 use Rattle.std.specs.Prelude.{Result}
-use Rattle.phase_core.specs.phase_base.Limits.{Limits}
-use Rattle.phase_core.specs.phase_accum.Operations.{Operation}
-use Rattle.phase_core.specs.phase_accum.Parcels.{Parcel}
-use Rattle.phase_core.specs.phase_accum.declared.outcome.Outcome.{Outcome}
-use Rattle.phase_core.specs.phase_accum.declared.single.Single.{Single}
-use Rattle.phase_core.specs.phase_history.declared.got.GotBlock.{GotBlock}
-use Rattle.phase_core.specs.phase_history.declared.refusal.SignalRefusal.{SignalRefusal}
-use Rattle.phase_core.specs.phase_history.declared.refusal.WaitRefusal.{WaitRefusal}
-use Rattle.phase_core.specs.phase_history.Histories.{History}
-use Rattle.phase_core.specs.phase_history.Others.{OthersCame}
+use Rattle.phase_shared.specs.Phasers.{Limits, Operation, Parcel, Outcome, Single, GotBlock, SignalRefusal, WaitRefusal, History, OthersCame}
 use Rattle.phase_core.proofs.phase_history_lemmas.OthersEvents.{OthersCame-trans}
 use Rattle.phase_shared.specs.declared.rule.Terms.{Terms}
 use Rattle.phase_shared.specs.Rule.{Allows}

@@ -2,15 +2,8 @@
 use Rattle.std.proofs.Common.{◌≡◌, ℕ, Bool, true, false, [], ◌∷◌, Option, Some, None, sym, ap, subst, ◌∙◌}
 use Rattle.std.specs.Prelude.{Ok, Err, Result}
 use Rattle.std.specs.Result.{result_ok}
-use Rattle.phase_core.specs.phase_base.Modes.{mode_signals, mode_waits}
-use Rattle.phase_core.specs.phase_base.declared.entry.Entry.{Entry}
-use Rattle.phase_core.specs.phase_accum.Operations.{Operation}
-use Rattle.phase_core.specs.phase_accum.declared.single.Single.{Single}
-use Rattle.phase_core.specs.phase_history.declared.got.Got.{Got}
-use Rattle.phase_core.specs.phase_history.declared.refusal.SignalRefusal.{SignalRefusal}
+use Rattle.phase_shared.specs.Phasers.{mode_signals, mode_waits, Entry, Operation, Single, Got, SignalRefusal, History, OthersCame}
 use Rattle.phase_core.specs.phase_history.declared.refusal.SignalRefusal.TheVariants.{NoTask}
-use Rattle.phase_core.specs.phase_history.Histories.{History}
-use Rattle.phase_core.specs.phase_history.Others.{OthersCame}
 use Rattle.phase_core.proofs.phase_history_lemmas.OthersEvents.{OthersCame-trans}
 use Rattle.phase_shared.specs.declared.next.Next.{Next}
 use Rattle.phase_shared.specs.declared.rule.Terms.{Terms}

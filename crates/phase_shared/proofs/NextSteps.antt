@@ -2,25 +2,16 @@
 use Rattle.std.proofs.Common.{◌≡◌, ◌≢◌, ℕ, ◌+◌, ◌≤◌, ℤ, Bool, true, false, not, ◌&&◌, cond, eqb, leb, ltb, List, [], ◌∷◌, Option, Some, None, refl, sym, ap, subst, ◌∙◌, arith}
 use Rattle.std.proofs.lemmas.Bool.{ne_eqb}
 use Rattle.std.proofs.lemmas.Bool.Decides.{nat_tests}
-use Rattle.phase_core.specs.phase_base.Limits.{Limits}
-use Rattle.phase_core.specs.phase_base.Modes.{mode_signals, mode_waits}
-use Rattle.phase_core.specs.phase_base.declared.mode.Mode.{Mode}
+use Rattle.phase_shared.specs.Phasers.{Limits, mode_signals, mode_waits, Mode, Entry, Outcome, Got, entry_of, signalled, signal_phases, Single, WaitRefusal, History, members_of, positions_of, IsLegal, refusal_at, wait_rows, wait_refusal, OthersCame}
 use Rattle.phase_core.specs.phase_base.declared.mode.Mode.TheVariants.{Sig, Wait, SigWait, Single as Singles}
-use Rattle.phase_core.specs.phase_base.declared.entry.Entry.{Entry}
 use Rattle.std.specs.Prelude.{is_some, Ok}
-use Rattle.phase_core.specs.phase_accum.declared.outcome.Outcome.{Outcome}
-use Rattle.phase_core.specs.phase_history.declared.got.Got.{Got}
-use Rattle.phase_core.specs.phase_base.Members.{entry_of, signalled, signal_phases, least as least_of}
-use Rattle.phase_core.specs.phase_accum.declared.single.Single.{Single}
+use Rattle.phase_core.specs.phase_base.Members.{least as least_of}
 use Rattle.phase_core.specs.phase_history.declared.event.Event.TheVariants.{Signalled}
-use Rattle.phase_core.specs.phase_history.declared.refusal.WaitRefusal.{WaitRefusal}
 use Rattle.phase_core.specs.phase_history.declared.refusal.WaitRefusal.TheVariants as wait
-use Rattle.phase_core.specs.phase_history.Histories.{History, members_of, positions_of, done_at}
-use Rattle.phase_core.specs.phase_history.Legal.{IsLegal}
+use Rattle.phase_core.specs.phase_history.Histories.{done_at}
 use Rattle.phase_core.proofs.Replies.{limits_of}
-use Rattle.phase_core.specs.phase_history.Refusals.{refusal_at, wait_rows, wait_refusal, is_bad_block}
+use Rattle.phase_core.specs.phase_history.Refusals.{is_bad_block}
 use Rattle.phase_core.specs.phase_base.Lists.{first_row}
-use Rattle.phase_core.specs.phase_history.Others.{OthersCame}
 use Rattle.phase_core.proofs.phase_history_lemmas.LawProofs.{turns_law}
 use Rattle.phase_core.proofs.phase_history_lemmas.MemberLemmas.{entry_of-changed_same}
 use Rattle.phase_shared.specs.Calls.{Waits}

@@ -1,14 +1,7 @@
 -- Signals with one value a phase.
 use Rattle.std.proofs.Common.{◌≡◌, ℕ, ℤ, List, [], ◌∷◌, Option, refl, ap, ◌∙◌}
 use Rattle.std.specs.Prelude.{Result}
-use Rattle.phase_core.specs.phase_base.Limits.{Limits}
-use Rattle.phase_core.specs.phase_accum.Operations.{Operation, AccumulateLaws}
-use Rattle.phase_core.specs.phase_accum.Parcels.{Parcel}
-use Rattle.phase_core.specs.phase_accum.declared.single.Single.{Single}
-use Rattle.phase_core.specs.Blocks.{StandForLists, one_each}
-use Rattle.phase_core.specs.phase_history.declared.refusal.SignalRefusal.{SignalRefusal}
-use Rattle.phase_core.specs.phase_history.Histories.{History}
-use Rattle.phase_core.specs.phase_history.Replies.{after_signal}
+use Rattle.phase_shared.specs.Phasers.{Limits, Operation, AccumulateLaws, Parcel, Single, StandForLists, one_each, SignalRefusal, History, after_signal}
 use Rattle.phase_shared.specs.Blocks.{SignalsBlock, SignalsValues}
 use Rattle.phase_shared.proofs.OneValue.{one_list}
 

@@ -1,15 +1,8 @@
 -- A signal with one value.
 use Rattle.std.proofs.Common.{◌≡◌, ℕ, ℤ, List, [], ◌∷◌, Option, refl, sym, ap, subst, ◌∙◌}
 use Rattle.std.specs.Prelude.{Result, length}
-use Rattle.phase_core.specs.phase_base.Limits.{Limits}
-use Rattle.phase_core.specs.phase_accum.Operations.{Operation, AccumulateLaws}
-use Rattle.phase_core.specs.phase_accum.Parcels.{Parcel, StandsForSends}
+use Rattle.phase_shared.specs.Phasers.{Limits, Operation, AccumulateLaws, Parcel, StandsForSends, Single, SignalRefusal, History, OthersCame, after_signal}
 use Rattle.phase_core.proofs.phase_accum_lemmas.Parts.{one_send-same}
-use Rattle.phase_core.specs.phase_accum.declared.single.Single.{Single}
-use Rattle.phase_core.specs.phase_history.declared.refusal.SignalRefusal.{SignalRefusal}
-use Rattle.phase_core.specs.phase_history.Histories.{History}
-use Rattle.phase_core.specs.phase_history.Others.{OthersCame}
-use Rattle.phase_core.specs.phase_history.Replies.{after_signal}
 use Rattle.phase_shared.specs.declared.tried.Tried.{Tried}
 use Rattle.phase_shared.specs.declared.rule.Terms.{Terms}
 use Rattle.phase_shared.specs.Rule.{Allows}

@@ -1,47 +1,48 @@
 -- A registration is taken apart and put together.
-use Rattle.turn_lock.specs.Seats.{IsSameSeat, seat_place, seat_view}
-use Rattle.phase_core.specs.phase_accum.Parcels.{Parcel}
+use Rattle.turn_lock.specs.Seats.{IsSameSeat, seat_view}
+use Rattle.phase_shared.specs.Phasers.{Parcel, Entry, History, OnlyUsed}
 use Rattle.phase_shared.specs.Views.{known_of}
 use Rattle.phase_shared.specs.Regs.{RegState, reg_state, IsReg, index_in, view_in}
 use Rattle.std.proofs.Common.{◌≡◌, ℕ, [], ◌∷◌, Option, Some, refl, sym, ap, subst, ◌∙◌}
 use Rattle.turn_lock.specs.declared.seat.Seat.{Seat}
-use Rattle.atomic_table.specs.Seated.{TableId}
-use Rattle.phase_core.specs.phase_base.declared.entry.Entry.{Entry}
+use Rattle.phase_shared.specs.declared.seats.locked.LockedPhaser.{LockedPhaser}
+use Rattle.phase_shared.specs.LockedPhasers.{locked_place, locked_terms}
 use Rattle.phase_shared.specs.declared.seats.view.View.{View}
 use Rattle.phase_shared.specs.declared.rule.Terms.{Terms}
 use Rattle.phase_shared.specs.Rule.{Allows, IsSeatOfTask}
 use Rattle.std.specs.Prelude.{Result, Ok, Err, IsErr}
 use Rattle.std.specs.Result.{result_ok}
-use Rattle.phase_core.specs.phase_history.Histories.{History}
-use Rattle.phase_core.specs.phase_history.Others.{OnlyUsed}
 use Rattle.phase_shared.specs.declared.tried.Tried.{Tried}
 use Rattle.phase_shared.specs.declared.tried.Tried.TheVariants.{Busy, Refused}
-use Rattle.phase_shared.specs.Steps.{IsStep}
+use Rattle.phase_shared.proofs.Small.{same_some}
+use Rattle.phase_shared.specs.Steps.{IsStep, IsSeatOn}
 use Rattle.phase_shared.specs.Calls.{IsTry, Tries}
 use Rattle.phase_shared.specs.Entries.{entry_stays}
 
-same_some : {A : Type 0} (x y : A) → Some x ≡ Some y → x ≡ y
-same_some x y e = cc
+module _ {T A K : Type 0} (allows : K → Allows) (phaser : LockedPhaser A K) (me : ℕ) where
+  -- the seat of a registration on this phaser, and the registration as contracts see it
+  pub record Opened (entry : Entry) (held : Parcel A) (s : Seat T (Terms K) View) (reg : RegState A K) : Type 0 where
+    pub seat : IsSeatOn allows phaser me entry s
+    pub is : reg_state (Some s) me entry held ≡ reg
+    pub at : reg.at ≡ locked_place phaser
 
-module _ {T K : Type 0} (allows : K → Allows) (table : TableId) (terms : Terms K) (me : ℕ) where
-  -- the seat of a registration with this phaser
-  pub record Opened (entry : Entry) (s : Seat T (Terms K) View) : Type 0 where
-    pub at : seat_place s ≡ (table, Some terms)
-    pub station : IsSeatOfTask allows terms me entry (seat_view s)
+  pub opened : (entry : Entry) (held : Parcel A) (o : Option (Seat T (Terms K) View)) (s : Seat T (Terms K) View) (reg : RegState A K) → o ≡ Some s
+      → IsReg allows o me entry → reg_state o me entry held ≡ reg → reg.at ≡ locked_place phaser → Opened entry held s reg
+  opened entry held o s reg is r seen at =
+      let here : index_in o ≡ locked_place phaser = ap (λ r. r.at) seen ∙ at in
+      let same : r.terms ≡ locked_terms phaser = same_some r.terms (locked_terms phaser) (sym r.named ∙ ap (λ p. p.1) here) in
+      let station : IsSeatOfTask allows (locked_terms phaser) me entry (view_in o) = subst (λ (t : Terms K). IsSeatOfTask allows t me entry (view_in o)) same r.station in
+      record {
+        seat = record { here = sym (ap index_in is) ∙ here; knows = subst (λ (v : View). IsSeatOfTask allows (locked_terms phaser) me entry v) (ap view_in is) station };
+        is = ap (λ p. reg_state p me entry held) (sym is) ∙ seen;
+        at = at;
+      }
 
-  pub opened : (entry : Entry) (o : Option (Seat T (Terms K) View)) (s : Seat T (Terms K) View) → o ≡ Some s → IsReg allows o me entry
-      → index_in o ≡ (table, Some terms) → Opened entry s
-  opened entry o s is r at =
-      let same : r.terms ≡ terms = same_some r.terms terms (sym r.named ∙ ap (λ p. p.1) at) in
-      let station : IsSeatOfTask allows terms me entry (view_in o) = subst (λ (t : Terms K). IsSeatOfTask allows t me entry (view_in o)) same r.station in
-      record { at = sym (ap index_in is) ∙ at; station = subst (λ (v : View). IsSeatOfTask allows terms me entry v) (ap view_in is) station }
-
-  pub closed : (entry : Entry) (s : Seat T (Terms K) View) → seat_place s ≡ (table, Some terms) → IsSeatOfTask allows terms me entry (seat_view s)
-      → IsReg allows (Some s) me entry
-  closed entry s at station = record { terms = terms; named = ap (λ p. p.1) at; there = refl; station = station }
+  pub closed : (entry : Entry) (s : Seat T (Terms K) View) → IsSeatOn allows phaser me entry s → IsReg allows (Some s) me entry
+  closed entry s seat = record { terms = locked_terms phaser; named = ap (λ p. p.1) seat.here; there = refl; station = seat.knows }
 
   -- a registration whose seat came back, with the entry and the sends that it had
-  pub same_reg : {A : Type 0} (entry entry' : Entry) (held held' : Parcel A) (s s' : Seat T (Terms K) View) → IsSameSeat s s' → entry' ≡ entry → held' ≡ held
+  pub same_reg : (entry entry' : Entry) (held held' : Parcel A) (s s' : Seat T (Terms K) View) → IsSameSeat s s' → entry' ≡ entry → held' ≡ held
       → reg_state (Some s') me entry' held' ≡ reg_state (Some s) me entry held
   same_reg entry entry' held held' s s' same is held_is = λ i. record {
     at = same.0 i;
@@ -51,34 +52,28 @@ module _ {T K : Type 0} (allows : K → Allows) (table : TableId) (terms : Terms
     seen = (known_of (same.2 i)).seen;
   }
 
-  -- the seat of a registration, as contracts see it
-  pub reg_is : {A : Type 0} (entry : Entry) (held : Parcel A) (o : Option (Seat T (Terms K) View)) (s : Seat T (Terms K) View) (reg : RegState A K)
-      → o ≡ Some s → reg_state o me entry held ≡ reg → reg_state (Some s) me entry held ≡ reg
-  reg_is entry held o s reg is seen = ap (λ p. reg_state p me entry held) (sym is) ∙ seen
-
   -- a step of a registration's seat is a try of the registration, where what stays of the one stays
   -- of the other
-  pub is_try_as : {A X R : Type 0} (no_task : R) (after : Option X → Entry → Entry) (same : Type 0) (same' : RegState A K → Type 0)
+  pub is_try_as : {X R : Type 0} (no_task : R) (after : Option X → Entry → Entry) (same : Type 0) (same' : RegState A K → Type 0)
       (call : RegState A K → History → Result X R → Type 0)
       → (entry entry' : Entry) (held held' : Parcel A) (s s' : Seat T (Terms K) View) (reg : RegState A K) (result : Result X (Tried R))
-      → reg_state (Some s) me entry held ≡ reg → reg.at ≡ (table, Some terms) → seat_place s' ≡ (table, Some terms)
-      → ((answer : Option X) (e : Entry) → (after answer e).mode ≡ e.mode) → (IsErr result → same → same' (reg_state (Some s) me entry held))
-      → IsStep allows terms me no_task after (Tries same (call (reg_state (Some s) me entry held) (known_of (seat_view s')).seen) result)
-      entry entry' (seat_view s) (seat_view s') result
-      → IsTry allows terms no_task after (Tries (same' reg) (call reg (known_of (seat_view s')).seen) result) reg (reg_state (Some s') me entry' held') result
-  is_try_as {A} {X} {R} no_task after same same' call entry entry' held held' s s' reg result is at at' mode stays step =
+      → Opened entry held s reg → ((answer : Option X) (e : Entry) → (after answer e).mode ≡ e.mode) → (IsErr result → same → same' (reg_state (Some s) me entry held))
+      → IsStep allows phaser me no_task after (Tries same (call (reg_state (Some s) me entry held) (known_of (seat_view s')).seen) result) entry entry' s s' result
+      → IsTry allows (locked_terms phaser) no_task after (Tries (same' reg) (call reg (known_of (seat_view s')).seen) result) reg (reg_state (Some s') me entry' held') result
+  is_try_as {X} {R} no_task after same same' call entry entry' held held' s s' reg result o mode stays step =
+      let old = reg_state (Some s) me entry held in
       let seen = (known_of (seat_view s')).seen in
       let P : RegState A K → Type 0 = λ r. Tries (same' r) (call r seen) result in
       let Q : RegState A K → Type 0 = λ r. OnlyUsed (r.number ∷ []) r.seen in
-      let entry_is : entry' ≡ after (result_ok result) reg.entry = step.entry_is ∙ ap (λ (r : RegState A K). after (result_ok result) r.entry) is in
+      let entry_is : entry' ≡ after (result_ok result) reg.entry = step.entry_is ∙ ap (λ (r : RegState A K). after (result_ok result) r.entry) o.is in
       record {
-        call = subst P is (tried result stays step.call);
+        call = subst P o.is (tried result stays step.call);
         entry = entry_is;
         mode = ap (λ (e : Entry). e.mode) entry_is ∙ mode (result_ok result) reg.entry;
-        at = (at' ∙ sym at, ap (λ (r : RegState A K). r.number) is);
-        good = step.at.good;
+        at = (step.at.here ∙ sym o.at, ap (λ (r : RegState A K). r.number) o.is);
+        good = step.at.knows.good;
         known = step.known;
-        alone = λ only. step.alone (subst Q (sym is) only);
+        alone = λ only. step.alone (subst Q (sym o.is) only);
       }
     where
       tried : (result : Result X (Tried R)) → (IsErr result → same → same' (reg_state (Some s) me entry held))
@@ -89,32 +84,16 @@ module _ {T K : Type 0} (allows : K → Allows) (table : TableId) (terms : Terms
       tried (Err (Refused refusal)) stays answered = answered
 
   -- where nothing is lent beside it, it is as it was. What is held stays where the step is refused
-  pub is_try : {A X R : Type 0} (no_task : R) (after : Option X → Entry → Entry) (call : RegState A K → History → Result X R → Type 0)
+  pub is_try : {X R : Type 0} (no_task : R) (after : Option X → Entry → Entry) (call : RegState A K → History → Result X R → Type 0)
       → (entry entry' : Entry) (held held' : Parcel A) (s s' : Seat T (Terms K) View) (reg : RegState A K) (result : Result X (Tried R))
-      → reg_state (Some s) me entry held ≡ reg → reg.at ≡ (table, Some terms) → seat_place s' ≡ (table, Some terms)
-      → ((answer : Option X) (e : Entry) → (after answer e).mode ≡ e.mode) → (IsErr result → held' ≡ held)
-      → IsStep allows terms me no_task after
-      (Tries (IsSameSeat s s' × (entry' ≡ entry)) (call (reg_state (Some s) me entry held) (known_of (seat_view s')).seen) result)
-      entry entry' (seat_view s) (seat_view s') result
-      → IsTry allows terms no_task after (Tries (reg_state (Some s') me entry' held' ≡ reg) (call reg (known_of (seat_view s')).seen) result)
+      → Opened entry held s reg → ((answer : Option X) (e : Entry) → (after answer e).mode ≡ e.mode) → (IsErr result → held' ≡ held)
+      → IsStep allows phaser me no_task after (Tries (IsSameSeat s s' × (entry' ≡ entry))
+      (call (reg_state (Some s) me entry held) (known_of (seat_view s')).seen) result) entry entry' s s' result
+      → IsTry allows (locked_terms phaser) no_task after (Tries (reg_state (Some s') me entry' held' ≡ reg) (call reg (known_of (seat_view s')).seen) result)
       reg (reg_state (Some s') me entry' held') result
-  is_try {A} no_task after call entry entry' held held' s s' reg result is at at' mode stays step =
-      let same' : RegState A K → Type 0 = λ r. reg_state (Some s') me entry' held' ≡ r in
-      is_try_as no_task after (IsSameSeat s s' × (entry' ≡ entry)) same' call entry entry' held held' s s' reg result is at at' mode
-      (λ err same. same_reg entry entry' held held' s s' same.0 same.1 (stays err)) step
-
-  -- the same of a step that registers a child
-  pub is_try_of_parent : {A X R : Type 0} (no_task : R) (call : RegState A K → History → Result X R → Type 0)
-      → (entry : Entry) (held : Parcel A) (s s' : Seat T (Terms K) View) (reg : RegState A K) (result : Result X (Tried R))
-      → reg_state (Some s) me entry held ≡ reg → reg.at ≡ (table, Some terms) → seat_place s' ≡ (table, Some terms)
-      → IsStep allows terms me no_task entry_stays (Tries (IsSameSeat s s') (call (reg_state (Some s) me entry held) (known_of (seat_view s')).seen) result)
-      entry entry (seat_view s) (seat_view s') result
-      → IsTry allows terms no_task entry_stays (Tries (reg_state (Some s') me entry held ≡ reg) (call reg (known_of (seat_view s')).seen) result)
-      reg (reg_state (Some s') me entry held) result
-  is_try_of_parent {A} no_task call entry held s s' reg result is at at' step =
-      let same' : RegState A K → Type 0 = λ r. reg_state (Some s') me entry held ≡ r in
-      is_try_as no_task entry_stays (IsSameSeat s s') same' call entry entry held held s s' reg result is at at' (λ answer e. refl)
-      (λ err same. same_reg entry entry held held s s' same refl refl) step
+  is_try no_task after call entry entry' held held' s s' reg result o mode stays step =
+      is_try_as no_task after (IsSameSeat s s' × (entry' ≡ entry)) (λ r. reg_state (Some s') me entry' held' ≡ r) call entry entry' held held' s s' reg result
+      o mode (λ err same. same_reg entry entry' held held' s s' same.0 same.1 (stays err)) step
 
 module _ {A K X Y R : Type 0} (allows : K → Allows) (terms : Terms K) (no_task : R) (answered answered' : Type 0) (old new : RegState A K)
     (result : Result X (Tried R)) where

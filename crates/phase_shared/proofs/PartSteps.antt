@@ -3,30 +3,12 @@ use Rattle.std.proofs.Common.{◌≡◌, ℕ, ◌≤◌, ℤ, Bool, true, false,
 use Rattle.std.specs.Prelude.{Result, ◌||◌, unwrap_or}
 use Rattle.std.proofs.lemmas.Bool.{eq-eqb}
 use Rattle.std.proofs.lemmas.Option.{same_Some}
-use Rattle.phase_core.specs.phase_base.Limits.{Limits}
-use Rattle.phase_core.specs.phase_base.Members.{entry_of}
-use Rattle.phase_core.specs.phase_base.Modes.{mode_signals, mode_waits}
-use Rattle.phase_core.specs.phase_base.declared.entry.Entry.{Entry}
-use Rattle.phase_core.specs.phase_base.declared.mode.Mode.{Mode}
-use Rattle.phase_core.specs.phase_accum.declared.outcome.Outcome.{Outcome}
+use Rattle.phase_shared.specs.Phasers.{Limits, entry_of, mode_signals, mode_waits, Entry, Mode, Outcome, Single, Operation, Parcel, Got, RegisterRefusal, SignalRefusal, WaitRefusal, History, HasNoSignaller, members_of, founder, signal_phase, wait_phase, done_of, start_of, entry_at, received_by, IsLegal, OthersCame, is_in, HasNoEvents, sent_by}
 use Rattle.phase_core.specs.phase_accum.declared.outcome.Outcome.TheVariants.{Empty}
-use Rattle.phase_core.specs.phase_accum.declared.single.Single.{Single}
-use Rattle.phase_core.specs.phase_accum.Operations.{Operation}
-use Rattle.phase_core.specs.phase_accum.Parcels.{Parcel}
 use Rattle.phase_core.specs.phase_history.declared.event.Event.TheVariants.{Registered}
-use Rattle.phase_core.specs.phase_history.declared.got.Got.{Got}
 use Rattle.phase_core.specs.phase_history.declared.got.Got.TheVariants.{Value, Ended}
-use Rattle.phase_core.specs.phase_history.declared.refusal.RegisterRefusal.{RegisterRefusal}
 use Rattle.phase_core.specs.phase_history.declared.refusal.RegisterRefusal.TheVariants as register
-use Rattle.phase_core.specs.phase_history.declared.refusal.SignalRefusal.{SignalRefusal}
-use Rattle.phase_core.specs.phase_history.declared.refusal.WaitRefusal.{WaitRefusal}
-use Rattle.phase_core.specs.phase_history.Histories.{History, HasNoSignaller, members_of, founder, signal_phase, wait_phase, done_of, start_of, entry_at, has_dropped}
-use Rattle.phase_core.specs.phase_history.Phases.{received_by}
-use Rattle.phase_core.specs.phase_history.Legal.{IsLegal}
-use Rattle.phase_core.specs.phase_history.Others.{OthersCame}
-use Rattle.phase_core.specs.phase_base.Lists.{is_in}
-use Rattle.phase_core.specs.phase_history.Laws.{HasNoEvents}
-use Rattle.phase_core.specs.phase_history.Sent.{sent_by}
+use Rattle.phase_core.specs.phase_history.Histories.{has_dropped}
 use Rattle.phase_core.proofs.phase_history_lemmas.LawProofs.{above_law, answers_law}
 use Rattle.phase_core.proofs.phase_history_lemmas.Answered.{ended_tells}
 use Rattle.phase_core.proofs.phase_history_lemmas.OthersEvents.{received_by-others, sent_by-others}

@@ -1,15 +1,13 @@
 -- What is said of the seats that asked or that have the turn stays while these seats stay.
-use Rattle.std.proofs.Common.{◌≡◌, ◌≢◌, ℕ, Bool, true, false, eqb, List, ◌⊎◌, Option, Some, set, sym, ap, ◌∙◌, inl, inr, ⊎_elim}
+use Rattle.std.proofs.Common.{◌≡◌, ◌≢◌, ℕ, Bool, true, false, eqb, List, Option, Some, set, sym, ap, ◌∙◌, inl, inr}
 use Rattle.std.proofs.lemmas.Bool.{eq-eqb}
 use mathlib.Core.Option.{some, some-injective}
 use lib.ListN.{get_elem?}
 use Rattle.atomic_table.proofs.Lists.{at_set, set_else}
-use Rattle.phase_core.specs.phase_base.Limits.{Limits}
-use Rattle.phase_core.specs.phase_accum.declared.outcome.Outcome.{Outcome}
-use Rattle.phase_core.specs.phase_history.Histories.{History}
+use Rattle.phase_shared.specs.Phasers.{Limits, Outcome, History}
 use Rattle.phase_shared.specs.declared.seats.view.Knowledge.{Knowledge}
 use Rattle.phase_shared.specs.Asks.{Ask}
-use Rattle.phase_shared.specs.Desks.{View, Turning, Asking, StandsAsked, AskedAt, IsPast, HeldAt, IsLane}
+use Rattle.phase_shared.specs.Desks.{View, Turning, Asking, StandsAsked, IsLane}
 use Rattle.phase_shared.proofs.Small.{not_both}
 
 abbrev pub is_asking : View → Bool
@@ -36,10 +34,10 @@ ne_of a b f same = not_both (eqb a b) (eq-eqb a b same) f
 -- a view of a kind that the new view is not was there before
 pub was : (kind : View → Bool) (views : List View) (number j : ℕ) (w u : View) → kind w ≡ false → kind u ≡ true
     → get_elem? (set views number w) j ≡ some u → (j ≢ number) × (get_elem? views j ≡ some u)
-was kind views number j w u not is e = ⊎_elim
-    (λ (p : (j ≡ number) × (w ≡ u)). absurd (not_both (kind u) is (ap kind (sym p.1) ∙ not)))
-    (λ (p : (j ≢ number) × (get_elem? views j ≡ some u)). p)
-    (at_set views number j w u e)
+was kind views number j w u not is e = elim (at_set views number j w u e) [
+  | inl p ↦ absurd (not_both (kind u) is (ap kind (sym p.1) ∙ not))
+  | inr p ↦ p
+]
 
 -- a view of a kind that the old view was not is there still
 pub stays : (kind : View → Bool) (views : List View) (number j : ℕ) (v w u : View) → get_elem? views number ≡ some v → kind v ≡ false → kind u ≡ true
@@ -61,21 +59,16 @@ asked_stays limits log views after a stay c = record { seat = c.seat; knows = c.
 
 pub lane_stays : (log : History) (views after : List View) (i n : ℕ) → AskingStay views after → TurningStay views after
     → IsLane log views i n → IsLane log after i n
-lane_stays log views after i n stay stay' l = ⊎_elim
-    (λ (z : n ≡ 0). inl z)
-    (λ (r : AskedAt views i ⊎ (IsPast log i n ⊎ HeldAt views i)). inr (⊎_elim
-    (λ (q : AskedAt views i). inl record { seat = q.seat; knows = q.knows; ask = q.ask; at = stay q.seat q.knows q.ask q.at; is = q.is })
-    (λ (r' : IsPast log i n ⊎ HeldAt views i). inr (⊎_elim
-    (λ (p : IsPast log i n). inl p)
-    (λ (h : HeldAt views i). inr record {
-      seat = h.seat;
-      knows = h.knows;
-      claims = h.claims;
-      said = h.said;
-      n = h.n;
-      at = stay' h.seat h.knows h.claims h.said (Some h.n) h.at;
-      speaks = h.speaks;
-    })
-    r'))
-    r))
-    l
+lane_stays log views after i n stay stay' (inl z) = inl z
+lane_stays log views after i n stay stay' (inr (inl q)) =
+    inr (inl record { seat = q.seat; knows = q.knows; ask = q.ask; at = stay q.seat q.knows q.ask q.at; is = q.is })
+lane_stays log views after i n stay stay' (inr (inr (inl p))) = inr (inr (inl p))
+lane_stays log views after i n stay stay' (inr (inr (inr h))) = inr (inr (inr record {
+  seat = h.seat;
+  knows = h.knows;
+  claims = h.claims;
+  said = h.said;
+  n = h.n;
+  at = stay' h.seat h.knows h.claims h.said (Some h.n) h.at;
+  speaks = h.speaks;
+}))

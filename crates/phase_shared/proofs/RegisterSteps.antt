@@ -1,37 +1,28 @@
 -- A registration under the turn.
-use Rattle.std.proofs.Common.{◌≡◌, ◌≢◌, ℕ, ◌+◌, ◌*◌, ◌<◌, true, false, cond, eqb, List, [], ◌∷◌, ◌⊎◌, inl, inr, ⊎_elim, Option, Some, None, refl, sym, ap, subst, ◌∙◌, arith}
+use Rattle.std.proofs.Common.{◌≡◌, ◌≢◌, ℕ, ◌+◌, ◌*◌, ◌<◌, true, false, cond, eqb, List, [], ◌∷◌, ◌⊎◌, inl, inr, Option, Some, None, refl, sym, ap, subst, ◌∙◌, arith}
 use Rattle.std.specs.Prelude.{◌||◌, is_some, Result, Err}
 use Rattle.std.proofs.lemmas.Bool.Decides.{nat_tests}
 use Rattle.std.proofs.lemmas.Bool.{eqb-true, ne_eqb}
 use Rattle.turn_lock.specs.WordSteps.{GivesOf, ForksOf}
-use Rattle.phase_core.specs.phase_base.Limits.{Limits}
-use Rattle.phase_core.specs.phase_base.declared.mode.Mode.{Mode}
-use Rattle.phase_core.specs.phase_base.declared.entry.Entry.{Entry}
-use Rattle.phase_core.specs.phase_accum.Operations.{Operation}
-use Rattle.phase_core.specs.phase_history.declared.event.Event.{Event}
+use Rattle.phase_shared.specs.Phasers.{Limits, Mode, Entry, Operation, Event, RegisterRefusal, History, start_of, greatest_used, members_of, entry_at, signal_phase, wait_phase, entry_of, register_refusal, IsLegal, CoreState, StandsFor, IsUsed, is_by, OthersCame, is_in, Outcome}
 use Rattle.phase_core.specs.phase_history.declared.event.Event.TheVariants.{Registered}
-use Rattle.phase_core.specs.phase_history.declared.refusal.RegisterRefusal.{RegisterRefusal}
 use Rattle.phase_core.specs.phase_history.declared.refusal.RegisterRefusal.TheVariants as register
-use Rattle.phase_core.specs.phase_history.Histories.{History, start_of, greatest_used, members_of, entry_at, signal_phase, wait_phase}
-use Rattle.phase_core.specs.phase_base.Members.{entry_of}
 use Rattle.phase_core.proofs.phase_history_lemmas.MemberLemmas.{entry_of-push_new, entry_of-push_old}
 use Rattle.phase_core.proofs.phase_history_lemmas.Steps.{sound_of, member_entry_is}
-use Rattle.phase_core.specs.phase_history.Refusals.{register_refusal}
-use Rattle.phase_core.specs.phase_history.Legal.{IsLegal}
-use Rattle.phase_core.specs.Cores.{CoreState, StandsFor}
 use Rattle.phase_core.proofs.phase_history_lemmas.Refused.{registers_from}
 use Rattle.phase_core.proofs.phase_history_lemmas.Answered.{register_refusal-never}
 use Rattle.phase_shared.specs.declared.seats.view.View.{View}
 use Rattle.phase_shared.specs.declared.rule.Terms.{Terms}
-use Rattle.phase_core.specs.phase_history.Others.{IsUsed, is_by, OthersCame}
-use Rattle.phase_core.specs.phase_base.Lists.{is_in}
-use Rattle.phase_core.specs.phase_accum.declared.outcome.Outcome.{Outcome}
 use Rattle.phase_shared.specs.declared.seats.view.Ask.{Ask}
 use Rattle.phase_shared.specs.Views.{knowledge, resting, turning, known_of, speaks_of, first_part, other_part, SpeaksForTwo}
 use Rattle.phase_shared.specs.Rule.{Allows, IsGoodAt, HasOneHistory, StandsWithin, IsSeatOfTask, AfterTake}
 use Rattle.phase_shared.specs.Calls.{Tries, number_after, next_child, RefusesRegister}
 use Rattle.phase_shared.specs.Entries.{entry_stays}
-use Rattle.phase_shared.specs.Steps.{IsStep, GivesEven}
+use Rattle.phase_shared.specs.Steps.{IsStep, GivesNoAnswer}
+use Rattle.phase_shared.specs.declared.seats.locked.LockedPhaser.{LockedPhaser}
+use Rattle.phase_shared.specs.LockedPhasers.{locked_place, locked_terms, RestsOn}
+use Rattle.turn_lock.specs.declared.seat.Seat.{Seat}
+use Rattle.turn_lock.specs.Seats.{seat_view}
 use Rattle.phase_shared.specs.declared.tried.Tried.{Tried}
 use Rattle.phase_shared.specs.declared.tried.Tried.TheVariants.{Refused}
 use Rattle.phase_core.proofs.phase_history_lemmas.Used.{IsUsed-longer}
@@ -39,7 +30,7 @@ use Rattle.phase_core.proofs.phase_history_lemmas.Received.{start_of-above, fres
 use Rattle.phase_shared.proofs.Small.{or_false, is_in_self, eqb_refl}
 use Rattle.phase_shared.proofs.GivingAsks as asks
 use Rattle.phase_shared.proofs.Joining.{forks}
-use Rattle.phase_shared.proofs.Giving.{even, AfterCall, after_call, gives_same, stays, station, told_entry}
+use Rattle.phase_shared.proofs.Giving.{AfterCall, after_call, gives_same, stays, station, told_entry}
 
 in_two : (a b t : ℕ) → is_in t (a ∷ b ∷ []) ≡ true → (a ≡ t) ⊎ (b ≡ t)
 in_two a b t has = elim (eqb a t) as (λ c. (eqb a t ≡ c) → (c || (eqb b t || false)) ≡ true → (a ≡ t) ⊎ (b ≡ t)) [
@@ -91,22 +82,22 @@ module _ {A K : Type 0} (op : Operation A) (allows : K → Allows) (terms : Term
       → IsUsed (event ∷ now) child → w ≡ turning now (me ∷ []) claims said None → IsUsed now me → NewChild now me child
       → IsGoodAt allows terms (event ∷ now) → StandsWithin op terms.limits y (event ∷ now)
       → (goes : View → View → Type 0) → goes (turning now (me ∷ []) claims said None) (resting (event ∷ now) (me ∷ child ∷ []))
-      → GivesEven (HasOneHistory op allows) terms number w y told (λ v z u. goes v u)
-  gives_child number told y w now claims said event child by joined is used new good stands goes goes_on done =
+      → GivesNoAnswer (HasOneHistory op allows) terms number w y told (λ v z u. goes v u)
+  gives_child number told y w now claims said event child by joined is used new good stands goes goes_on next same =
       let out : eqb child me ≡ false = ne_eqb child me new.apart in
-      subst (λ (z : View). GivesOf (HasOneHistory op allows) terms number z y told (done * 2) (λ v q u. goes v u)) (sym is)
+      subst (λ (z : View). GivesOf (HasOneHistory op allows) terms number z y told next (λ v q u. goes v u)) (sym is)
       (λ words views long k at. (
         resting (event ∷ now) (me ∷ child ∷ []),
         asks.gives_own op.value terms.limits (allows terms.rule) (StandsWithin op terms.limits) number (knowledge now (me ∷ [])) claims said y (event ∷ [])
-            (me ∷ child ∷ []) told (done * 2) (even done)
+            (me ∷ child ∷ []) told next same
             (λ task none. ap (λ b. cond b (event ∷ []) []) (by task ∙ or_false (eqb me task) none))
             good stands (rw out refl)
-            (λ task has. ⊎_elim
-            (λ (m : me ≡ task). subst (λ (n : ℕ). IsUsed (event ∷ now) n × ((is_in n (me ∷ []) ≡ true) ⊎ (IsUsed now n → ⊥))) m
-            (IsUsed-longer terms.limits now (event ∷ now) me good.legal (record { later = event ∷ []; is = refl }) used, inl (is_in_self me [])))
-            (λ (m : child ≡ task). subst (λ (n : ℕ). IsUsed (event ∷ now) n × ((is_in n (me ∷ []) ≡ true) ⊎ (IsUsed now n → ⊥))) m
-            (joined, inr new.unused))
-            (in_two me child task has)) words views k at,
+            (λ task has. elim (in_two me child task has) [
+              | inl m ↦ subst (λ (n : ℕ). IsUsed (event ∷ now) n × ((is_in n (me ∷ []) ≡ true) ⊎ (IsUsed now n → ⊥))) m
+                  (IsUsed-longer terms.limits now (event ∷ now) me good.legal (record { later = event ∷ []; is = refl }) used, inl (is_in_self me []))
+              | inr m ↦ subst (λ (n : ℕ). IsUsed (event ∷ now) n × ((is_in n (me ∷ []) ≡ true) ⊎ (IsUsed now n → ⊥))) m
+                  (joined, inr new.unused)
+            ]) words views k at,
         goes_on,
       ))
 
@@ -184,7 +175,7 @@ module _ {A K : Type 0} (op : Operation A) (allows : K → Allows) (terms : Term
 
     -- the give
     pub gives_new_member : (number told : ℕ) (w : View) (claims : List Ask) (said : Outcome) → w ≡ turning now (me ∷ []) claims said None → IsUsed now me
-        → GivesEven (HasOneHistory op allows) terms number w x told (λ v z u. u ≡ resting (event ∷ (known_of v).seen) (me ∷ child ∷ []))
+        → GivesNoAnswer (HasOneHistory op allows) terms number w x told (λ v z u. u ≡ resting (event ∷ (known_of v).seen) (me ∷ child ∷ []))
     gives_new_member number told w claims said is used =
         gives_child op allows terms me number told x w now claims said event child b.own b.joined is used b.new b.good b.stands
         (λ v u. u ≡ resting (event ∷ (known_of v).seen) (me ∷ child ∷ [])) refl
@@ -208,25 +199,27 @@ module _ {A K : Type 0} (op : Operation A) (allows : K → Allows) (terms : Term
   gives_refused number told v w z old x e before same =
       gives_same op allows terms me number told entry v z x w e (subst (λ (q : CoreState A). StandsWithin op terms.limits q e.now) (sym same) before)
 
+module _ {A K : Type 0} (op : Operation A) (allows : K → Allows) (phaser : LockedPhaser A K) (me : ℕ) (entry : Entry) where
   -- the step whose call was refused
   pub refused_step : {X : Type 0} (now : History) (child greatest : ℕ) (mode : Mode) (refusal : RegisterRefusal) (same : Type 0)
-      (call : Result X RegisterRefusal → Type 0) (old u w : View) (claims : List Ask) (said : Outcome) → u ≡ resting (known_of w).seen (speaks_of w)
+      (call : Result X RegisterRefusal → Type 0) (old u : Seat (CoreState A) (Terms K) View) (w : View) (claims : List Ask) (said : Outcome)
+      → RestsOn (locked_place phaser) u (λ v. v ≡ resting (known_of w).seen (speaks_of w))
       → w ≡ turning now (me ∷ []) claims said None
-      → IsGoodAt allows terms now → entry_of (members_of now) me ≡ Some entry → OthersCame (me ∷ []) (known_of old).seen now
+      → IsGoodAt allows (locked_terms phaser) now → entry_of (members_of now) me ≡ Some entry → OthersCame (me ∷ []) (known_of (seat_view old)).seen now
       → greatest ≡ greatest_used now → child ≡ number_after greatest
       → (refusal ≢ register.OutOfMemory → register_refusal now me child mode ≡ Some refusal)
       → (refusal ≡ register.OutOfMemory → register_refusal now me child mode ≡ None)
-      → (RefusesRegister me mode (known_of old).seen (known_of u).seen refusal → call (Err refusal))
-      → IsStep {X = X} allows terms me register.NoTask entry_stays (Tries same call (Err (Refused refusal))) entry entry old u (Err (Refused refusal))
+      → (RefusesRegister me mode (known_of (seat_view old)).seen (known_of (seat_view u)).seen refusal → call (Err refusal))
+      → IsStep allows phaser {X = X} me register.NoTask entry_stays (Tries same call (Err (Refused refusal))) entry entry old u (Err (Refused refusal))
   refused_step {X} now child greatest mode refusal same call old u w claims said told is good member others greatest_is next refused memory answered =
-      let rests : u ≡ resting now (me ∷ []) = told ∙ ap (λ (v : View). resting (known_of v).seen (speaks_of v)) is in
+      let rests : seat_view u ≡ resting now (me ∷ []) = told.knows ∙ ap (λ (v : View). resting (known_of v).seen (speaks_of v)) is in
       let next' : child ≡ number_after (greatest_used now) = next ∙ ap number_after greatest_is in
       record {
         call = answered (rw (ap (λ (v : View). (known_of v).seen) rests)
-            (refuses refusal me mode (known_of old).seen now others
+            (refuses refusal me mode (known_of (seat_view old)).seen now others
             (λ other. ap (λ n. register_refusal now me n mode) (sym next') ∙ refused other)
             (λ none. ap (λ n. register_refusal now me n mode) (sym next') ∙ memory none)));
-        at = stays op allows terms me entry u now rests good member;
+        at = record { here = told.here; knows = stays op allows (locked_terms phaser) me entry (seat_view u) now rests good member };
         entry_is = refl;
         known = λ none. never_unknown now child mode refusal member refused (same_refusal refusal none);
         alone = λ only busy. cc;

@@ -1,18 +1,12 @@
 -- A signal under the turn.
 use Rattle.std.proofs.Common.{◌≡◌, ℕ, ℤ, true, List, [], ◌∷◌, Option, Some, ◌∙◌}
 use Rattle.std.specs.Prelude.{Result, is_some}
-use Rattle.phase_core.specs.phase_accum.declared.single.Single.{Single}
+use Rattle.phase_shared.specs.Phasers.{Single, entry_of, signalled, History, members_of, Entry, WaitRefusal, after_wait, Got}
 use Rattle.phase_core.specs.phase_history.declared.event.Event.TheVariants.{Signalled}
-use Rattle.phase_core.specs.phase_base.Members.{entry_of, signalled}
-use Rattle.phase_core.specs.phase_history.Histories.{History, members_of}
 use Rattle.std.specs.Result.{result_ok}
-use Rattle.phase_core.specs.phase_base.declared.entry.Entry.{Entry}
-use Rattle.phase_core.specs.phase_history.declared.refusal.WaitRefusal.{WaitRefusal}
-use Rattle.phase_core.specs.phase_history.Replies.{after_wait}
 use Rattle.phase_core.proofs.phase_history_lemmas.MemberLemmas.{is_some-entry_of-changed, entry_of-changed_same}
 use Rattle.phase_shared.specs.Entries.{entry_after_wait}
 use Rattle.phase_shared.proofs.WaitSteps.{member_waits}
-use Rattle.phase_core.specs.phase_history.declared.got.Got.{Got}
 
 -- a task that signals stays a member
 pub member_signals : (me : ℕ) (sends : List ℤ) (single : Option Single) (now : History)

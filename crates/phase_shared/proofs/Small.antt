@@ -1,12 +1,10 @@
 -- Small facts of numbers, lists and what was used.
-use Rattle.std.proofs.Common.{◌≡◌, ℕ, zero, suc, ◌+◌, Bool, true, false, not, eqb, List, [], ◌∷◌, ◌++◌, ◌⊎◌, Some, None, length, refl, sym, ap, inl, inr, ⊎_elim, arith}
+use Rattle.std.proofs.Common.{◌≡◌, ℕ, zero, suc, ◌+◌, ◌<◌, Bool, true, false, not, eqb, List, [], ◌∷◌, ◌++◌, ◌⊎◌, Some, None, length, refl, sym, ap, inl, inr, arith}
 use Rattle.std.specs.Prelude.{◌||◌}
 use Rattle.std.proofs.lemmas.Bool.{eq-eqb, eqb-true, and_parts, and_from, not-true, not_from_false}
 use mathlib.Core.Option.{some, some-injective, some-ne-none}
 use lib.ListN.{get_elem?}
-use Rattle.phase_core.specs.phase_history.Histories.{History}
-use Rattle.phase_core.specs.phase_history.Others.{IsUsed}
-use Rattle.phase_core.specs.phase_base.Lists.{is_distinct, is_in}
+use Rattle.phase_shared.specs.Phasers.{History, IsUsed, is_distinct, is_in}
 
 pub same_some : {A : Type 0} (x y : A) → Some x ≡ Some y → x ≡ y
 same_some x y e = cc
@@ -32,7 +30,7 @@ pub snoc_at : {A : Type 0} (l : List A) (a b : A) (j : ℕ) → get_elem? (l ++ 
 snoc_at [] a b zero e = inr (refl, some-injective a b e)
 snoc_at [] a b (suc j) e = absurd (some-ne-none b (sym e))
 snoc_at (x ∷ l) a b zero e = inl e
-snoc_at (x ∷ l) a b (suc j) e = ⊎_elim (λ (p : get_elem? l j ≡ some b). inl p) (λ (p : (j ≡ length l) × (a ≡ b)). inr (ap suc p.0, p.1)) (snoc_at l a b j e)
+snoc_at (x ∷ l) a b (suc j) e = elim (snoc_at l a b j e) [ inl p ↦ inl p | inr p ↦ inr (ap suc p.0, p.1) ]
 
 pub one_of : (a t : ℕ) → is_in t (a ∷ []) ≡ true → a ≡ t
 one_of a t has = elim (eqb a t) as (λ b. (eqb a t ≡ b) → (b || false) ≡ true → a ≡ t) [
@@ -80,6 +78,14 @@ in_append (x ∷ xs) ys t has = elim (eqb x t) as (λ c. (c || is_in t (xs ++ ys
 -- where a number was used, something has happened
 pub used_some : (h : History) (task : ℕ) → IsUsed h task → h ≡ [] → ⊥
 used_some h task used none = let never : IsUsed [] task = rw none at used in cc
+
+-- a history that begins with some event has one
+pub longer_some : (later h : History) → (h ≡ [] → ⊥) → later ++ h ≡ [] → ⊥
+longer_some [] h begun none = begun none
+longer_some (e ∷ later) h begun none = cc
+
+pub none_below : (n : ℕ) → n < 0 → ⊥
+none_below n low = omega arith
 
 -- a phase is not the next one
 pub apart_phases : (n : ℕ) → n + 1 ≡ n → ⊥

@@ -1,35 +1,26 @@
 -- An ask goes on by the events of a turn: unmade, made, answered, and no further.
-use Rattle.std.proofs.Common.{◌≡◌, ℕ, ℤ, ◌+◌, ◌<◌, ◌≤◌, true, false, cond, eqb, List, [], ◌∷◌, ◌++◌, ◌⊎◌, None, refl, sym, ap, subst, ◌∙◌, inl, inr, ⊎_elim, arith}
+use Rattle.std.proofs.Common.{◌≡◌, ℕ, ℤ, ◌+◌, ◌<◌, ◌≤◌, true, false, cond, eqb, List, [], ◌∷◌, ◌++◌, None, Some, refl, sym, ap, subst, ◌∙◌, inl, inr, arith}
 use Rattle.std.proofs.lemmas.Bool.{eqb-true}
-use Rattle.phase_core.specs.phase_base.Limits.{Limits}
-use Rattle.phase_core.specs.phase_base.Lists.{is_in}
-use Rattle.phase_core.specs.phase_base.Modes.{mode_signals}
-use Rattle.phase_core.specs.phase_base.declared.entry.Entry.{Entry}
-use Rattle.phase_core.specs.phase_base.Members.{signalled, waited}
-use Rattle.phase_core.specs.phase_history.declared.event.Event.{Event}
+use Rattle.phase_shared.specs.Phasers.{Limits, is_in, mode_signals, Entry, entry_of, signalled, waited, Event, History, positions_of, members_of, signal_phase, wait_phase, done_of, IsLegal, IsAccepted, is_by, OthersCame}
 use Rattle.phase_core.specs.phase_history.declared.event.Event.TheVariants.{Signalled, Waited}
-use Rattle.phase_core.specs.phase_history.Histories.{History, positions_of, members_of, signal_phase, wait_phase, done_of}
-use Rattle.phase_core.specs.phase_history.Legal.{IsLegal, IsAccepted}
-use Rattle.phase_core.specs.phase_history.Others.{is_by, OthersCame}
 use Rattle.phase_core.proofs.phase_history_lemmas.MemberLemmas.{Each-entry, entry_of-changed_same}
 use Rattle.phase_core.proofs.phase_history_lemmas.Steps.{done_low, member_entry_is, steps, sound_of}
 use Rattle.phase_core.proofs.phase_history_lemmas.Streams.{legal_rest}
 use Rattle.phase_core.proofs.phase_history_lemmas.Used.{entry_of-others}
 use Rattle.phase_core.proofs.phase_history_lemmas.OthersEvents.{OthersCame-refl, OthersCame-event, OthersCame-trans}
-use Rattle.phase_shared.proofs.Small.{one_of}
-use Rattle.phase_shared.specs.Asks.{Ask, IsAtPhases, IsUnmade, IsMade, IsAnsweredAsk, Stage, IsOwn, SignalsFor, WaitsFor, Batch}
+use Rattle.phase_shared.proofs.Small.{one_of, longer_some}
+use Rattle.phase_shared.specs.Asks.{Ask, IsAtPhases, IsMade, IsAnsweredAsk, Stage, SignalsFor, WaitsFor, Batch}
 
 -- ---- where a task stands
 
+-- where its entry is the same
+pub at_entry : (h now : History) (task s w : ℕ) (st : IsAtPhases h task s w) → entry_of (members_of now) task ≡ Some st.entry → IsAtPhases now task s w
+at_entry h now task s w st member = record { entry = st.entry; member = member; signals = st.signals; signal_at = st.signal_at; wait_at = st.wait_at }
+
 pub stands_other : (limits : Limits) (h : History) (e : Event) (task s w : ℕ) → IsLegal limits (e ∷ h) → is_by task e ≡ false
     → IsAtPhases h task s w → IsAtPhases (e ∷ h) task s w
-stands_other limits h e task s w legal other st = record {
-  entry = st.entry;
-  member = entry_of-others limits (e ∷ []) h task st.entry legal (ap (λ b. cond b (e ∷ []) []) other) st.member;
-  signals = st.signals;
-  signal_at = st.signal_at;
-  wait_at = st.wait_at;
-}
+stands_other limits h e task s w legal other st =
+    at_entry h (e ∷ h) task s w st (entry_of-others limits (e ∷ []) h task st.entry legal (ap (λ b. cond b (e ∷ []) []) other) st.member)
 
 pub stands_signalled : (h : History) (task s w : ℕ) (sends : List ℤ) → IsAtPhases h task s w → IsAtPhases (Signalled task (sends ∷ []) None ∷ h) task (s + 1) w
 stands_signalled h task s w sends st = record {
@@ -80,31 +71,27 @@ further task old h e other came = OthersCame-trans (task ∷ []) old h (e ∷ h)
 
 pub stage_other : (limits : Limits) (ask : Ask) (seen h : History) (e : Event) → IsLegal limits (e ∷ h) → is_by ask.task e ≡ false
     → Stage limits ask seen h → Stage limits ask seen (e ∷ h)
-stage_other limits ask seen h e legal other stage = ⊎_elim
-    (λ (u : IsUnmade ask seen h). inl record {
-      others = further ask.task seen h e other u.others;
-      stands = stands_other limits h e ask.task ask.phase ask.phase legal other u.stands;
-    })
-    (λ (r : IsMade limits ask seen h ⊎ IsAnsweredAsk limits ask seen h). inr (⊎_elim
-    (λ (m : IsMade limits ask seen h). inl record {
-      before = m.before;
-      others = m.others;
-      accepted = m.accepted;
-      signalled_in = m.signalled_in;
-      since = further ask.task (Signalled ask.task (ask.sends ∷ []) None ∷ m.before) h e other m.since;
-      stands = stands_other limits h e ask.task (ask.phase + 1) ask.phase legal other m.stands;
-    })
-    (λ (a : IsAnsweredAsk limits ask seen h). inr record {
-      middle = a.middle;
-      made = a.made;
-      accepted = a.accepted;
-      complete = a.complete;
-      below = (let more = grows limits h e (some_of h ask.task (ask.phase + 1) (ask.phase + 1) a.stands) legal in let low = a.below in omega arith);
-      since = further ask.task (Waited ask.task 1 ∷ a.middle) h e other a.since;
-      stands = stands_other limits h e ask.task (ask.phase + 1) (ask.phase + 1) legal other a.stands;
-    })
-    r))
-    stage
+stage_other limits ask seen h e legal other (inl u) = inl record {
+  others = further ask.task seen h e other u.others;
+  stands = stands_other limits h e ask.task ask.phase ask.phase legal other u.stands;
+}
+stage_other limits ask seen h e legal other (inr (inl m)) = inr (inl record {
+  before = m.before;
+  others = m.others;
+  accepted = m.accepted;
+  signalled_in = m.signalled_in;
+  since = further ask.task (Signalled ask.task (ask.sends ∷ []) None ∷ m.before) h e other m.since;
+  stands = stands_other limits h e ask.task (ask.phase + 1) ask.phase legal other m.stands;
+})
+stage_other limits ask seen h e legal other (inr (inr a)) = inr (inr record {
+  middle = a.middle;
+  made = a.made;
+  accepted = a.accepted;
+  complete = a.complete;
+  below = (let more = grows limits h e (some_of h ask.task (ask.phase + 1) (ask.phase + 1) a.stands) legal in let low = a.below in omega arith);
+  since = further ask.task (Waited ask.task 1 ∷ a.middle) h e other a.since;
+  stands = stands_other limits h e ask.task (ask.phase + 1) (ask.phase + 1) legal other a.stands;
+})
 
 apart : (n : ℕ) → n + 1 ≡ n → ⊥
 apart n e = omega arith
@@ -113,62 +100,52 @@ apart n e = omega arith
 pub stage_signalled : (limits : Limits) (ask : Ask) (seen h : History) → IsLegal limits h
     → IsAccepted limits h (Signalled ask.task (ask.sends ∷ []) None) → signal_phase h ask.task ≡ ask.phase
     → Stage limits ask seen h → IsMade limits ask seen (Signalled ask.task (ask.sends ∷ []) None ∷ h)
-stage_signalled limits ask seen h legal accepted at stage = ⊎_elim
-    (λ (u : IsUnmade ask seen h). record {
-      before = h;
-      others = u.others;
-      accepted = accepted.0;
-      signalled_in = at;
-      since = OthersCame-refl (ask.task ∷ []) (Signalled ask.task (ask.sends ∷ []) None ∷ h);
-      stands = stands_signalled h ask.task ask.phase ask.phase ask.sends u.stands;
-    })
-    (λ (r : IsMade limits ask seen h ⊎ IsAnsweredAsk limits ask seen h). absurd (⊎_elim
-    (λ (m : IsMade limits ask seen h). apart ask.phase (sym (signal_is h ask.task (ask.phase + 1) ask.phase m.stands) ∙ at))
-    (λ (a : IsAnsweredAsk limits ask seen h). apart ask.phase (sym (signal_is h ask.task (ask.phase + 1) (ask.phase + 1) a.stands) ∙ at))
-    r))
-    stage
+stage_signalled limits ask seen h legal accepted at (inl u) = record {
+  before = h;
+  others = u.others;
+  accepted = accepted.0;
+  signalled_in = at;
+  since = OthersCame-refl (ask.task ∷ []) (Signalled ask.task (ask.sends ∷ []) None ∷ h);
+  stands = stands_signalled h ask.task ask.phase ask.phase ask.sends u.stands;
+}
+stage_signalled limits ask seen h legal accepted at (inr (inl m)) =
+    absurd (apart ask.phase (sym (signal_is h ask.task (ask.phase + 1) ask.phase m.stands) ∙ at))
+stage_signalled limits ask seen h legal accepted at (inr (inr a)) =
+    absurd (apart ask.phase (sym (signal_is h ask.task (ask.phase + 1) (ask.phase + 1) a.stands) ∙ at))
 
 -- its own wait: only where its signal was made, and the phase is complete
 pub stage_waited : (limits : Limits) (ask : Ask) (seen h : History) → IsLegal limits h → IsAccepted limits h (Waited ask.task 1)
     → signal_phase h ask.task ≡ ask.phase + 1 → wait_phase h ask.task ≡ ask.phase
     → Stage limits ask seen h → IsAnsweredAsk limits ask seen (Waited ask.task 1 ∷ h)
-stage_waited limits ask seen h legal accepted signalled at stage = ⊎_elim
-    (λ (u : IsUnmade ask seen h). absurd (apart ask.phase (sym signalled ∙ signal_is h ask.task ask.phase ask.phase u.stands)))
-    (λ (r : IsMade limits ask seen h ⊎ IsAnsweredAsk limits ask seen h). ⊎_elim
-    (λ (m : IsMade limits ask seen h). record {
-      middle = h;
-      made = m;
-      accepted = accepted.0;
-      complete = (let fits : wait_phase h ask.task + 1 ≤ done_of h = accepted.1 in omega arith);
-      below = (let fits : wait_phase h ask.task + 1 ≤ done_of h = accepted.1 in let more = (steps limits h (Waited ask.task 1) legal (sound_of limits h legal) accepted).grows in omega arith);
-      since = OthersCame-refl (ask.task ∷ []) (Waited ask.task 1 ∷ h);
-      stands = stands_waited h ask.task (ask.phase + 1) ask.phase m.stands;
-    })
-    (λ (a : IsAnsweredAsk limits ask seen h). absurd (apart ask.phase (sym (wait_is h ask.task (ask.phase + 1) (ask.phase + 1) a.stands) ∙ at)))
-    r)
-    stage
+stage_waited limits ask seen h legal accepted signalled at (inl u) =
+    absurd (apart ask.phase (sym signalled ∙ signal_is h ask.task ask.phase ask.phase u.stands))
+stage_waited limits ask seen h legal accepted signalled at (inr (inl m)) = record {
+  middle = h;
+  made = m;
+  accepted = accepted.0;
+  complete = (let fits : wait_phase h ask.task + 1 ≤ done_of h = accepted.1 in omega arith);
+  below = (let fits : wait_phase h ask.task + 1 ≤ done_of h = accepted.1 in let more = (steps limits h (Waited ask.task 1) legal (sound_of limits h legal) accepted).grows in omega arith);
+  since = OthersCame-refl (ask.task ∷ []) (Waited ask.task 1 ∷ h);
+  stands = stands_waited h ask.task (ask.phase + 1) ask.phase m.stands;
+}
+stage_waited limits ask seen h legal accepted signalled at (inr (inr a)) =
+    absurd (apart ask.phase (sym (wait_is h ask.task (ask.phase + 1) (ask.phase + 1) a.stands) ∙ at))
 
 -- ---- the events of a turn
 
 module _ (limits : Limits) (Claimed : Ask → Type 0) (speaks : List ℕ) (log : History) (some : log ≡ [] → ⊥) where
-  longer_some : (later : History) → later ++ log ≡ [] → ⊥
-  longer_some [] none = some none
-  longer_some (e ∷ later) none = cc
-
   pub stage_goes : (ask : Ask) (seen : History) → is_in ask.task speaks ≡ false → ((a : Ask) → Claimed a → a.task ≡ ask.task → a ≡ ask)
       → (later : History) → Batch Claimed speaks later log → IsLegal limits (later ++ log) → Stage limits ask seen log → Stage limits ask seen (later ++ log)
   stage_goes ask seen apart_from one [] batch legal stage = stage
   stage_goes ask seen apart_from one (e ∷ later) batch legal stage =
       let h : History = later ++ log in
-      let r = legal_rest limits e h (longer_some later) legal in
+      let r = legal_rest limits e h (longer_some later log some) legal in
       let here : Stage limits ask seen h = stage_goes ask seen apart_from one later batch.0 r.0 stage in
-      ⊎_elim
-      (λ (own : IsOwn speaks e). stage_other limits ask seen h e legal (own ask.task apart_from) here)
-      (λ (c : SignalsFor Claimed h e ⊎ WaitsFor Claimed h e). ⊎_elim
-      (λ (s : SignalsFor Claimed h e). by_signal e h s legal r.1 here)
-      (λ (w : WaitsFor Claimed h e). by_wait e h w legal r.1 here)
-      c)
-      batch.1
+      elim batch.1 [
+        | inl own ↦ stage_other limits ask seen h e legal (own ask.task apart_from) here
+        | inr (inl s) ↦ by_signal e h s legal r.1 here
+        | inr (inr w) ↦ by_wait e h w legal r.1 here
+      ]
     where
       by_signal : (e : Event) (h : History) (s : SignalsFor Claimed h e) → IsLegal limits (e ∷ h) → IsAccepted limits h e → Stage limits ask seen h → Stage limits ask seen (e ∷ h)
       by_signal e h s legal accepted here = elim (eqb s.ask.task ask.task) as (λ b. (eqb s.ask.task ask.task ≡ b) → Stage limits ask seen (e ∷ h)) [
@@ -199,10 +176,6 @@ module _ (limits : Limits) (Claimed : Ask → Type 0) (speaks : List ℕ) (log :
 
 pub answered : (limits : Limits) (ask : Ask) (seen h : History) (told : ℕ) → told ≤ done_of h → ask.phase < told
     → (IsMade limits ask seen h → told ≤ ask.phase) → Stage limits ask seen h → IsAnsweredAsk limits ask seen h
-answered limits ask seen h told within found waits stage = ⊎_elim
-    (λ (u : IsUnmade ask seen h). let low = done_within h ask.task ask.phase ask.phase u.stands in absurd (omega arith))
-    (λ (r : IsMade limits ask seen h ⊎ IsAnsweredAsk limits ask seen h). ⊎_elim
-    (λ (m : IsMade limits ask seen h). let low = waits m in absurd (omega arith))
-    (λ (a : IsAnsweredAsk limits ask seen h). a)
-    r)
-    stage
+answered limits ask seen h told within found waits (inl u) = let low = done_within h ask.task ask.phase ask.phase u.stands in absurd (omega arith)
+answered limits ask seen h told within found waits (inr (inl m)) = let low = waits m in absurd (omega arith)
+answered limits ask seen h told within found waits (inr (inr a)) = a

@@ -2,20 +2,19 @@
 use Rattle.std.proofs.Common.{◌≡◌, ◌≢◌, ℕ, true, false, [], ◌∷◌, Option, Some, None, sym, ap, subst, ◌∙◌}
 use Rattle.std.specs.Prelude.{Result, Err, is_some}
 use Rattle.std.specs.Result.{result_ok}
-use Rattle.phase_core.specs.phase_base.Members.{entry_of}
-use Rattle.phase_core.specs.phase_base.declared.entry.Entry.{Entry}
-use Rattle.phase_core.specs.phase_accum.Operations.{Operation}
-use Rattle.phase_core.specs.phase_history.Histories.{History, members_of}
-use Rattle.phase_core.specs.phase_history.Others.{OnlyUsed}
-use Rattle.phase_core.specs.Cores.{CoreState, StandsFor}
+use Rattle.turn_lock.specs.declared.seat.Seat.{Seat}
+use Rattle.turn_lock.specs.Seats.{IsSeatAt, seat_view}
+use Rattle.phase_shared.specs.Phasers.{entry_of, Entry, Operation, History, members_of, OnlyUsed, CoreState, StandsFor}
+use Rattle.phase_shared.specs.declared.seats.locked.LockedPhaser.{LockedPhaser}
 use Rattle.phase_shared.specs.declared.seats.view.View.{View}
 use Rattle.phase_shared.specs.declared.rule.Terms.{Terms}
 use Rattle.phase_shared.specs.declared.tried.Tried.{Tried}
 use Rattle.phase_shared.specs.declared.tried.Tried.TheVariants.{Busy}
+use Rattle.phase_shared.specs.LockedPhasers.{locked_place, locked_terms}
 use Rattle.phase_shared.specs.Views.{resting, turning, known_of}
-use Rattle.phase_shared.specs.Rule.{Allows, IsGoodAt, HasOneHistory, StandsWithin, IsSeatOfTask, AfterTake, Keeps}
+use Rattle.phase_shared.specs.Rule.{Allows, IsGoodAt, HasOneHistory, StandsWithin, AfterTake, Keeps}
 use Rattle.phase_shared.specs.Calls.{Tries, tried}
-use Rattle.phase_shared.specs.Steps.{IsStep, GivesEven}
+use Rattle.phase_shared.specs.Steps.{IsStep, IsSeatOn, GivesNoAnswer}
 use Rattle.phase_shared.proofs.Answering.{tries, result_ok-tried, tried_never_busy, refused_as}
 use Rattle.phase_shared.proofs.Giving.{OwnCame, AfterCall, after_call, gives_own, station, told_entry}
 
@@ -51,18 +50,26 @@ module _ {A K : Type 0} (op : Operation A) (allows : K → Allows) (terms : Term
   pub gives_called : (goes : View → View → Type 0) (number told : ℕ) (entry : Entry) (v : View) (w : View) (y x : CoreState A) (new : History) (expected : Entry)
       → (e : AfterTake op allows terms me entry v y w) → Called e.now new x expected
       → goes (turning e.now (me ∷ []) e.claims e.said None) (resting new (me ∷ []))
-      → GivesEven (HasOneHistory op allows) terms number w x told (λ p q r. goes p r)
+      → GivesNoAnswer (HasOneHistory op allows) terms number w x told (λ p q r. goes p r)
   gives_called goes number told entry v w y x new expected e c goes_on =
       gives_own op allows terms me goes number told x w e.now new e.claims e.said e.is e.used c.own c.good c.stands goes_on
 
+module _ {A K : Type 0} (op : Operation A) (allows : K → Allows) (phaser : LockedPhaser A K) (me : ℕ) where
+  abbrev terms : Terms K
+  terms = locked_terms phaser
+
+  abbrev PhaserSeat : Type 0
+  PhaserSeat = Seat (CoreState A) (Terms K) View
+
   -- the step, once its seat rests again
   pub stepped : {X R : Type 0} (no_task : R) (after : Option X → Entry → Entry) (same : Type 0) (call : Result X R → Type 0) (entry new_entry : Entry)
-      (old u : View) (now new : History) (x : CoreState A) (o : Option Entry) (answer : Result X R) (result : Result X (Tried R)) → result ≡ tried answer
-      → Called now new x (after (result_ok answer) entry) → u ≡ resting new (me ∷ []) → o ≡ entry_of x.members me → o ≡ Some new_entry
-      → call answer → answer ≢ Err no_task → IsStep allows terms me no_task after (Tries same call result) entry new_entry old u result
-  stepped {X} {R} no_task after same call entry new_entry old u now new x o answer result is c rests viewed some answered known = record {
+      (old u : PhaserSeat) (now new : History) (x : CoreState A) (o : Option Entry) (answer : Result X R) (result : Result X (Tried R)) → result ≡ tried answer
+      → Called op allows terms me now new x (after (result_ok answer) entry) → IsSeatAt (locked_place phaser) u → seat_view u ≡ resting new (me ∷ [])
+      → o ≡ entry_of x.members me → o ≡ Some new_entry
+      → call answer → answer ≢ Err no_task → IsStep allows phaser me no_task after (Tries same call result) entry new_entry old u result
+  stepped {X} {R} no_task after same call entry new_entry old u now new x o answer result is c here rests viewed some answered known = record {
     call = subst (Tries same call) (sym is) (tries same call answer answered);
-    at = station op allows terms me new_entry u new x o rests c.good c.stands viewed some;
+    at = record { here = here; knows = station op allows terms me new_entry (seat_view u) new x o rests c.good c.stands viewed some };
     entry_is = told_entry op allows terms me new_entry (after (result_ok answer) entry) new x o c.stands viewed some c.member
         ∙ ap (λ (r : Option X). after r entry) (sym (result_ok-tried answer) ∙ sym (ap result_ok is));
     known = λ none. known (refused_as answer no_task (sym is ∙ none));
@@ -70,9 +77,9 @@ module _ {A K : Type 0} (op : Operation A) (allows : K → Allows) (terms : Term
   }
 
   -- a step whose turn was another's
-  pub kept_out : {X R : Type 0} (no_task : R) (after : Option X → Entry → Entry) (answered : Type 0) (entry : Entry) (old u : View)
-      → entry ≡ after None entry → answered → IsSeatOfTask allows terms me entry u → (OnlyUsed (me ∷ []) (known_of old).seen → ⊥)
-      → IsStep allows terms me no_task after answered entry entry old u (Err Busy)
+  pub kept_out : {X R : Type 0} (no_task : R) (after : Option X → Entry → Entry) (answered : Type 0) (entry : Entry) (old u : PhaserSeat)
+      → entry ≡ after None entry → answered → IsSeatOn allows phaser me entry u → (OnlyUsed (me ∷ []) (known_of (seat_view old)).seen → ⊥)
+      → IsStep allows phaser me no_task after answered entry entry old u (Err Busy)
   kept_out no_task after answered entry old u stood answer still never = record {
     call = answer;
     at = still;

@@ -1,20 +1,17 @@
 -- A take that wins: the taker has then read each ask whose signal is made and whose wait is not.
-use Rattle.std.proofs.Common.{◌≡◌, ◌≢◌, ℕ, zero, suc, ℤ, ◌+◌, true, false, cond, eqb, List, [], ◌∷◌, ◌⊎◌, Option, Some, None, set, refl, sym, ap, subst, ◌∙◌, inl, inr, ⊎_elim}
+use Rattle.std.proofs.Common.{◌≡◌, ◌≢◌, ℕ, zero, suc, ℤ, ◌+◌, true, false, cond, eqb, List, [], ◌∷◌, ◌⊎◌, Option, Some, None, set, refl, sym, ap, subst, ◌∙◌, inl, inr}
 use Rattle.std.proofs.lemmas.Bool.{eq-eqb, eqb-true, and_parts, and_from}
 use mathlib.Core.Option.{some, some-injective, some-ne-none}
 use lib.ListN.{get_elem?}
 use Rattle.atomic_table.proofs.Lists.{at_set, set_here, set_else}
 use Rattle.turn_lock.proofs.Keeping.{within}
-use Rattle.phase_core.specs.phase_base.Limits.{Limits}
-use Rattle.phase_core.specs.phase_base.Lists.{is_distinct, is_in}
-use Rattle.phase_core.specs.phase_accum.declared.outcome.Outcome.{Outcome}
-use Rattle.phase_core.specs.phase_history.Histories.{History, signal_phase, wait_phase}
+use Rattle.phase_shared.specs.Phasers.{Limits, is_distinct, is_in, Outcome, History, signal_phase, wait_phase}
 use Rattle.phase_shared.specs.declared.seats.view.Knowledge.{Knowledge}
 use Rattle.phase_shared.specs.Views.{knowledge, speaks_of, claims_of}
 use Rattle.phase_shared.specs.Goods.{Allows}
-use Rattle.phase_shared.specs.Asks.{Ask, IsAtPhases, Stage, IsUnmade, IsMade, IsAnsweredAsk, IsOneOf}
+use Rattle.phase_shared.specs.Asks.{Ask, IsAtPhases, Stage, IsMade, IsOneOf}
 use Rattle.phase_shared.specs.Lanes.{board, posted}
-use Rattle.phase_shared.specs.Desks.{View, Resting, Turning, Joining, Posting, Asking, Reading, Spent, IsSound, AskStands, LaneIs, StandsAsked, AskedAt, IsPast, HeldAt, IsLane, Kept, is_made, made_asks}
+use Rattle.phase_shared.specs.Desks.{View, Resting, Turning, Joining, Posting, Asking, Reading, Spent, IsSound, AskStands, LaneIs, StandsAsked, AskedAt, HeldAt, IsLane, Kept, is_made, made_asks}
 use Rattle.phase_shared.specs.Tells.{Took, TookAsked}
 use Rattle.phase_shared.proofs.Small.{none_some, not_true_is, apart_phases, is_in_self}
 use Rattle.phase_shared.proofs.Stages.{signal_is, wait_is}
@@ -33,10 +30,10 @@ listed log (Spent ∷ views) a one = let r = listed log views a one in (suc r.0,
 listed log (Asking g b ∷ views) a one =
     elim (is_made log b) as (λ c. (is_made log b ≡ c) → IsOneOf (cond c (b ∷ made_asks log views) (made_asks log views)) a
     → (k : ℕ) × (h : Knowledge) × (get_elem? (Asking g b ∷ views) k ≡ some (Asking h a)) × (is_made log a ≡ true)) [
-      | true ↦ λ t o. ⊎_elim
-          (λ (same : b ≡ a). (0, g, ap (λ (x : Ask). some (Asking g x)) same, ap (λ (x : Ask). is_made log x) (sym same) ∙ t))
-          (λ (rest : IsOneOf (made_asks log views) a). let r = listed log views a rest in (suc r.0, r.1, r.2, r.3))
-          o
+      | true ↦ λ t o. elim o [
+        | inl same ↦ (0, g, ap (λ (x : Ask). some (Asking g x)) same, ap (λ (x : Ask). is_made log x) (sym same) ∙ t)
+        | inr rest ↦ let r = listed log views a rest in (suc r.0, r.1, r.2, r.3)
+      ]
       | false ↦ λ t o. let r = listed log views a o in (suc r.0, r.1, r.2, r.3)
     ]
     refl one
@@ -77,13 +74,11 @@ made_stands limits a seen log t stage =
     let p = and_parts (eqb (signal_phase log a.task) (a.phase + 1)) (eqb (wait_phase log a.task) a.phase) t in
     let s : signal_phase log a.task ≡ a.phase + 1 = eqb-true (signal_phase log a.task) (a.phase + 1) p.0 in
     let w : wait_phase log a.task ≡ a.phase = eqb-true (wait_phase log a.task) a.phase p.1 in
-    ⊎_elim
-    (λ (u : IsUnmade a seen log). absurd (apart_phases a.phase (sym s ∙ signal_is log a.task a.phase a.phase u.stands)))
-    (λ (r : IsMade limits a seen log ⊎ IsAnsweredAsk limits a seen log). ⊎_elim
-    (λ (m : IsMade limits a seen log). m)
-    (λ (n : IsAnsweredAsk limits a seen log). absurd (apart_phases a.phase (sym (wait_is log a.task (a.phase + 1) (a.phase + 1) n.stands) ∙ w)))
-    r)
-    stage
+    elim stage [
+      | inl u ↦ absurd (apart_phases a.phase (sym s ∙ signal_is log a.task a.phase a.phase u.stands))
+      | inr (inl m) ↦ m
+      | inr (inr n) ↦ absurd (apart_phases a.phase (sym (wait_is log a.task (a.phase + 1) (a.phase + 1) n.stands) ∙ w))
+    ]
 
 -- a take of any seat that has no turn: what it has read is what the others' views list
 module _ {T : Type 0} (value : List ℤ → Outcome) (limits : Limits) (allows : Allows) (StandsFor : T → History → Type 0)
@@ -176,19 +171,11 @@ module _ {T : Type 0} (value : List ℤ → Outcome) (limits : Limits) (allows :
   ] refl
 
   lane_now : (i n : ℕ) → IsLane k.log views i n → IsLane k.log (set views number taken) i n
-  lane_now i n l = ⊎_elim
-      (λ (z : n ≡ 0). inl z)
-      (λ (r : AskedAt views i ⊎ (IsPast k.log i n ⊎ HeldAt views i)). inr (⊎_elim
-      (λ (q : AskedAt views i). ⊎_elim
-      (λ (q' : AskedAt (set views number taken) i). inl q')
-      (λ (h : HeldAt (set views number taken) i). inr (inr h))
-      (lane_asked i q))
-      (λ (r' : IsPast k.log i n ⊎ HeldAt views i). ⊎_elim
-      (λ (p : IsPast k.log i n). inr (inl p))
-      (λ (h : HeldAt views i). absurd (no_turn h.seat h.knows h.claims h.said (Some h.n) h.at))
-      r')
-      r))
-      l
+  lane_now i n (inl z) = inl z
+  lane_now i n (inr (inl q)) =
+      inr (elim (lane_asked i q) [ inl q' ↦ inl q' | inr h ↦ inr (inr h) ])
+  lane_now i n (inr (inr (inl p))) = inr (inr (inl p))
+  lane_now i n (inr (inr (inr h))) = inr (absurd (no_turn h.seat h.knows h.claims h.said (Some h.n) h.at))
 
   took : Kept value limits allows StandsFor None told words (set views number taken)
   took = record {
@@ -198,28 +185,25 @@ module _ {T : Type 0} (value : List ℤ → Outcome) (limits : Limits) (allows :
     within = k.within;
     holder = number;
     out = λ e. (knowledge k.log speaks, made_asks k.log (set views number Spent), board words, lane, here);
-    sound = λ j u e. ⊎_elim
-        (λ (p : (j ≡ number) × (taken ≡ u)). subst (λ (z : View). IsSound {T = T} value limits allows None number k.log told words j z) p.1
-        (refl, distinct, p.0, refl, one, refl, lane_is))
-        (λ (p : (j ≢ number) × (get_elem? views j ≡ some u)). out_now j u p.1 (k.sound j u p.1))
-        (at_set views number j taken u e);
+    sound = λ j u e. elim (at_set views number j taken u e) [
+      | inl p ↦ subst (λ (z : View). IsSound {T = T} value limits allows None number k.log told words j z) p.1
+          (refl, distinct, p.0, refl, one, refl, lane_is)
+      | inr p ↦ out_now j u p.1 (k.sound j u p.1)
+    ];
     owner = k.owner;
-    owns = λ j u task e has. ⊎_elim
-        (λ (p : (j ≡ number) × (taken ≡ u)).
-        let mine : is_in task speaks ≡ true = subst (λ (z : View). is_in task (speaks_of z) ≡ true) (sym p.1) has in
-        let o = k.owns number v task at (subst (λ (l : List ℕ). is_in task l ≡ true) (sym speaks_is) mine) in (o.0 ∙ sym p.0, o.1))
-        (λ (p : (j ≢ number) × (get_elem? views j ≡ some u)). k.owns j u task p.1 has)
-        (at_set views number j taken u e);
-    claimed = λ j g cs said l e a one'. ⊎_elim
-        (λ (p : (j ≡ number) × (taken ≡ Turning g cs said l)).
-        read_stands a (subst (λ (z : List Ask). IsOneOf z a) (sym (ap claims_of p.1)) one'))
-        (λ (p : (j ≢ number) × (get_elem? views j ≡ some (Turning g cs said l))). absurd (no_turn j g cs said l p.1))
-        (at_set views number j taken (Turning g cs said l) e);
-    all = λ j g cs said l e i h a e' m. ⊎_elim
-        (λ (p : (j ≡ number) × (taken ≡ Turning g cs said l)).
-        subst (λ (z : List Ask). IsOneOf z a) (ap claims_of p.1) (made_read i h a e' m))
-        (λ (p : (j ≢ number) × (get_elem? views j ≡ some (Turning g cs said l))). absurd (no_turn j g cs said l p.1))
-        (at_set views number j taken (Turning g cs said l) e);
+    owns = λ j u task e has. elim (at_set views number j taken u e) [
+      | inl p ↦ let mine : is_in task speaks ≡ true = subst (λ (z : View). is_in task (speaks_of z) ≡ true) (sym p.1) has in
+          let o = k.owns number v task at (subst (λ (l : List ℕ). is_in task l ≡ true) (sym speaks_is) mine) in (o.0 ∙ sym p.0, o.1)
+      | inr p ↦ k.owns j u task p.1 has
+    ];
+    claimed = λ j g cs said l e a one'. elim (at_set views number j taken (Turning g cs said l) e) [
+      | inl p ↦ read_stands a (subst (λ (z : List Ask). IsOneOf z a) (sym (ap claims_of p.1)) one')
+      | inr p ↦ absurd (no_turn j g cs said l p.1)
+    ];
+    all = λ j g cs said l e i h a e' m. elim (at_set views number j taken (Turning g cs said l) e) [
+      | inl p ↦ subst (λ (z : List Ask). IsOneOf z a) (ap claims_of p.1) (made_read i h a e' m)
+      | inr p ↦ absurd (no_turn j g cs said l p.1)
+    ];
     lanes = λ i low. lane_now i (posted words i) (k.lanes i low);
   }
 

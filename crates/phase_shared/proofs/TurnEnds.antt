@@ -1,18 +1,9 @@
 -- What a turn of a seat that asks owes at its give.
-use Rattle.std.proofs.Common.{◌≡◌, ℕ, ◌+◌, ◌*◌, ◌<◌, ◌≤◌, Bool, true, false, [], ◌∷◌, ◌++◌, ◌⊎◌, Option, Some, None, refl, sym, ap, subst, ◌∙◌, inl, inr, ⊎_elim, arith}
+use Rattle.std.proofs.Common.{◌≡◌, ℕ, ◌+◌, ◌*◌, ◌<◌, ◌≤◌, Bool, true, false, [], ◌∷◌, ◌++◌, ◌⊎◌, Option, Some, None, refl, sym, ap, subst, ◌∙◌, inl, inr, arith}
 use Rattle.std.specs.Prelude.{◌/◌, ◌%◌}
 use Rattle.turn_lock.specs.WordSteps.{GivesOf}
-use Rattle.phase_core.specs.phase_base.Limits.{Limits}
-use Rattle.phase_core.specs.phase_accum.Operations.{Operation}
-use Rattle.phase_core.specs.phase_accum.declared.outcome.Outcome.{Outcome}
+use Rattle.phase_shared.specs.Phasers.{Limits, Operation, Outcome, SignalRefusal, History, done_of, value_of_phase, IsLegal, signal_refusal, OthersCame, CoreState}
 use Rattle.phase_core.specs.phase_history.declared.event.Event.TheVariants.{Waited}
-use Rattle.phase_core.specs.phase_history.declared.refusal.SignalRefusal.{SignalRefusal}
-use Rattle.phase_core.specs.phase_history.Histories.{History, done_of}
-use Rattle.phase_core.specs.phase_history.Phases.{value_of_phase}
-use Rattle.phase_core.specs.phase_history.Legal.{IsLegal}
-use Rattle.phase_core.specs.phase_history.Refusals.{signal_refusal}
-use Rattle.phase_core.specs.phase_history.Others.{OthersCame}
-use Rattle.phase_core.specs.Cores.{CoreState}
 use Rattle.phase_core.specs.Cores as core
 use Rattle.phase_core.proofs.phase_history_lemmas.OthersEvents.{OthersCame-refl}
 use Rattle.phase_core.proofs.phase_history_lemmas.Used.{IsLegal-beginning}
@@ -43,18 +34,6 @@ same_phase n m e = let is : n + 1 ≡ m + 1 = same_some (n + 1) (m + 1) e in ome
 rests : (f g : Knowledge) (a : Ask) → Resting f ≡ Asking g a → ⊥
 rests f g a e = cc
 
--- a give of the same turn, in other words
-pub gives_told : {A : Type 0} (op : Operation A) (limits : Limits) (allows : Allows) (goes : View → View → Type 0) (n m : ℕ) (v u : View) (y z : CoreState A) (told other next : ℕ)
-    → m ≡ n → u ≡ v → z ≡ y → other ≡ told → next ≡ told
-    → GivesOf (IsOneHistory op limits allows) tt n v y told told (λ p q r. goes p r) → GivesOf (IsOneHistory op limits allows) tt m u z other next (λ p q r. goes p r)
-gives_told {A} op limits allows goes n m v u y z told other next e1 e2 e3 e4 e5 gives =
-    let rule : ℕ → View → CoreState A → ℕ → ℕ → Type 0 = λ j x c t s. GivesOf (IsOneHistory op limits allows) tt j x c t s (λ p q r. goes p r) in
-    subst (λ (j : ℕ). rule j u z other next) (sym e1)
-    (subst (λ (x : View). rule n x z other next) (sym e2)
-    (subst (λ (c : CoreState A). rule n v c other next) (sym e3)
-    (subst (λ (t : ℕ). rule n v y t next) (sym e4)
-    (subst (λ (s : ℕ). rule n v y told s) (sym e5) gives))))
-
 module _ {A : Type 0} (op : Operation A) (limits : Limits) (allows : Allows) (ask : Ask) where
   abbrev StandsFor : CoreState A → History → Type 0
   StandsFor = StandsWithin op limits
@@ -64,16 +43,16 @@ module _ {A : Type 0} (op : Operation A) (limits : Limits) (allows : Allows) (as
 
   -- a give that tells what was told, where no ask that was read was answered
   gives_same : (then : View → Type 0) (number told k : ℕ) (v u : View) (x y : CoreState A) (lane : Option ℕ) (w : View)
-      → (t : Turned op limits allows ask false k v x) → u ≡ turning t.now (ask.task ∷ []) t.claims t.said lane → y ≡ x
-      → EndsTurn limits allows 0 (t.later ++ t.now) (mine t.now) lane w
-      → ((s : StillAsks limits allows 0 (t.later ++ t.now) (mine t.now) lane w) → done_of t.now ≤ s.ask.phase)
+      → (t : Turned op limits allows ask false k v x) → u ≡ turning t.did.now (ask.task ∷ []) t.did.claims t.did.said lane → y ≡ x
+      → EndsTurn limits allows 0 (t.did.later ++ t.did.now) (mine t.did.now) lane w
+      → ((s : StillAsks limits allows 0 (t.did.later ++ t.did.now) (mine t.did.now) lane w) → done_of t.did.now ≤ s.ask.phase)
       → then w → GivesOf (IsOneHistory op limits allows) tt number u y told told (λ p q r. then r)
   gives_same then number told k v u x y lane w t is same ends open' goes =
       subst (λ (z : View). GivesOf (IsOneHistory op limits allows) tt number z y told told (λ p q r. then r)) (sym is)
       (λ words views long kept at. (
         w,
-        asks.gives_same op.value limits allows StandsFor number (mine t.now) t.claims t.said lane y t.later
-            told w t.batch t.good (subst (λ (z : CoreState A). StandsWithin op limits z (t.later ++ t.now)) (sym same) t.stands)
+        asks.gives_same op.value limits allows StandsFor number (mine t.did.now) t.did.claims t.did.said lane y t.did.later
+            told w t.did.batch t.good (subst (λ (z : CoreState A). StandsWithin op limits z (t.did.later ++ t.did.now)) (sym same) t.stands)
             (λ a one low st. absurd (t.quiet refl a one st)) ends open' words views kept at,
         goes,
       ))
@@ -81,10 +60,8 @@ module _ {A : Type 0} (op : Operation A) (limits : Limits) (allows : Allows) (as
   -- what its own lane has is past
   lane_past : (lane : Option ℕ) (now new : History) → (lane ≡ None) ⊎ (lane ≡ Some (ask.phase + 1)) → IsPast new ask.task (ask.phase + 1)
       → LaneIsPast new (mine now) lane
-  lane_past lane now new own past = ⊎_elim
-      (λ (e : lane ≡ None). subst (λ (l : Option ℕ). LaneIsPast new (mine now) l) (sym e) tt)
-      (λ (e : lane ≡ Some (ask.phase + 1)). subst (λ (l : Option ℕ). LaneIsPast new (mine now) l) (sym e) (ask.task, refl, past))
-      own
+  lane_past lane now new (inl e) past = subst (λ (l : Option ℕ). LaneIsPast new (mine now) l) (sym e) tt
+  lane_past lane now new (inr e) past = subst (λ (l : Option ℕ). LaneIsPast new (mine now) l) (sym e) (ask.task, refl, past)
 
   module _ (seen : History) where
     -- ---- its signal is refused
@@ -95,12 +72,12 @@ module _ {A : Type 0} (op : Operation A) (limits : Limits) (allows : Allows) (as
         → GivesOf (IsOneHistory op limits allows) tt number u y told told (λ p q r. IsRefused op limits allows ask seen refusal r)
     gives_refused number told refusal v u x y s is same refused =
         let t = s.turned in
-        gives_same (λ r. IsRefused op limits allows ask seen refusal r) number told 0 v u x y None (resting t.now (ask.task ∷ [])) t
+        gives_same (λ r. IsRefused op limits allows ask seen refusal r) number told 0 v u x y None (resting t.did.now (ask.task ∷ [])) t
         (is ∙ ap (with_lane None) t.is) same
-        (inl (t.now, refl, subst (λ (l : History). OthersCame (ask.task ∷ []) t.now (l ++ t.now)) (sym s.first) (OthersCame-refl (ask.task ∷ []) t.now), tt))
+        (inl (t.did.now, refl, subst (λ (l : History). OthersCame (ask.task ∷ []) t.did.now (l ++ t.did.now)) (sym s.first) (OthersCame-refl (ask.task ∷ []) t.did.now), tt))
         (λ q. absurd (asks.no_lane (q.ask.phase + 1) q.posts))
         (record {
-          now = t.now;
+          now = t.did.now;
           others = s.unmade.others;
           refused = subst (λ (h : History). signal_refusal limits h ask.task (ask.sends ∷ []) None ≡ Some refusal) (seen_is op limits allows ask false 0 v x t) refused;
           is = refl;
@@ -114,7 +91,7 @@ module _ {A : Type 0} (op : Operation A) (limits : Limits) (allows : Allows) (as
         → GivesOf (IsOneHistory op limits allows) tt number u y told told (λ p q r. r ≡ Asking (knowledge seen (ask.task ∷ [])) ask)
     gives_asking number told v u x y s is same open' =
         let t = s.turned in
-        let low : done_of t.now ≤ ask.phase = subst (λ (h : History). done_of h ≤ ask.phase) (seen_is op limits allows ask false 0 v x t) open' in
+        let low : done_of t.did.now ≤ ask.phase = subst (λ (h : History). done_of h ≤ ask.phase) (seen_is op limits allows ask false 0 v x t) open' in
         gives_same (λ r. r ≡ Asking (knowledge seen (ask.task ∷ [])) ask) number told 0 v u x y (Some (ask.phase + 1)) (Asking (knowledge seen (ask.task ∷ [])) ask) t
         (is ∙ ap (with_lane (Some (ask.phase + 1))) t.is) same
         (inr record {
@@ -122,13 +99,13 @@ module _ {A : Type 0} (op : Operation A) (limits : Limits) (allows : Allows) (as
           knows = knowledge seen (ask.task ∷ []);
           mine = refl;
           speaks = refl;
-          made = s.made;
-          may = s.may;
+          made = s.owes.made;
+          may = s.owes.may;
           posts = refl;
           waits = λ odd. absurd (odd_nought odd);
           is = refl;
         })
-        (λ q. subst (λ (n : ℕ). done_of t.now ≤ n) (same_phase ask.phase q.ask.phase q.posts) low)
+        (λ q. subst (λ (n : ℕ). done_of t.did.now ≤ n) (same_phase ask.phase q.ask.phase q.posts) low)
         refl
 
     -- ---- its wait is made
@@ -145,13 +122,13 @@ module _ {A : Type 0} (op : Operation A) (limits : Limits) (allows : Allows) (as
           (signal_is f.middle ask.task (ask.phase + 1) ask.phase f.made.stands) (wait_is f.middle ask.task (ask.phase + 1) ask.phase f.made.stands) (inr (inl f.made))
 
       -- the view that the turn ends with
-      ends_last : (told : ℕ) → EndsTurn limits allows told (f.turned.later ++ f.turned.now) (mine f.turned.now) f.turned.lane (resting (Waited ask.task 1 ∷ f.middle) (ask.task ∷ []))
-      ends_last told = subst (λ (h : History). EndsTurn limits allows told h (mine f.turned.now) f.turned.lane (resting (Waited ask.task 1 ∷ f.middle) (ask.task ∷ []))) (sym f.last)
+      ends_last : (told : ℕ) → EndsTurn limits allows told (f.turned.did.later ++ f.turned.did.now) (mine f.turned.did.now) f.turned.did.lane (resting (Waited ask.task 1 ∷ f.middle) (ask.task ∷ []))
+      ends_last told = subst (λ (h : History). EndsTurn limits allows told h (mine f.turned.did.now) f.turned.did.lane (resting (Waited ask.task 1 ∷ f.middle) (ask.task ∷ []))) (sym f.last)
           (inl (
             Waited ask.task 1 ∷ f.middle,
             refl,
             OthersCame-refl (ask.task ∷ []) (Waited ask.task 1 ∷ f.middle),
-            lane_past f.turned.lane f.turned.now (Waited ask.task 1 ∷ f.middle) f.turned.own
+            lane_past f.turned.did.lane f.turned.did.now (Waited ask.task 1 ∷ f.middle) f.turned.did.own
                 (answered_past limits ask seen (Waited ask.task 1 ∷ f.middle) good_last.legal answered_last),
           ))
 
@@ -167,7 +144,7 @@ module _ {A : Type 0} (op : Operation A) (limits : Limits) (allows : Allows) (as
       }
 
       -- so many phases are complete then
-      done_last : (done_of (f.turned.later ++ f.turned.now) ≤ ask.phase + 1) × (ask.phase < done_of (f.turned.later ++ f.turned.now))
+      done_last : (done_of (f.turned.did.later ++ f.turned.did.now) ≤ ask.phase + 1) × (ask.phase < done_of (f.turned.did.later ++ f.turned.did.now))
       done_last = subst (λ (h : History). (done_of h ≤ ask.phase + 1) × (ask.phase < done_of h)) (sym f.last) (
         done_within (Waited ask.task 1 ∷ f.middle) ask.task (ask.phase + 1) (ask.phase + 1) answered_last.stands,
         answered_last.below,
@@ -177,53 +154,53 @@ module _ {A : Type 0} (op : Operation A) (limits : Limits) (allows : Allows) (as
         → GivesOf (IsOneHistory op limits allows) tt number v y told told (λ p q r. HasAnswer op limits allows ask seen outcome r)
     gives_late number told outcome v x y f same =
         let t = f.turned in
-        gives_same (λ r. HasAnswer op limits allows ask seen outcome r) number told 0 v v x y t.lane (resting (Waited ask.task 1 ∷ f.middle) (ask.task ∷ [])) t t.is same
+        gives_same (λ r. HasAnswer op limits allows ask seen outcome r) number told 0 v v x y t.did.lane (resting (Waited ask.task 1 ∷ f.middle) (ask.task ∷ [])) t t.is same
         (ends_last false 0 outcome v x f 0)
         (λ q. absurd (rests (knowledge (Waited ask.task 1 ∷ f.middle) (ask.task ∷ [])) q.knows q.ask q.is))
         (has_last false 0 outcome v x f)
 
     -- what it knows of each ask that it read, where those for its phase are answered
     leaves : (k next : ℕ) (outcome : Outcome) (v : View) (x : CoreState A) (f : Finished op limits allows ask seen true k outcome v x)
-        → (next % 2 ≡ 1 → (k ≡ 16) × (next / 2 ≡ done_of (f.turned.later ++ f.turned.now)))
-        → (a : Ask) → IsOneOf f.turned.claims a → a.task < lanes_most → Leaves op.value (f.turned.later ++ f.turned.now) next outcome a
+        → (next % 2 ≡ 1 → (k ≡ 16) × (next / 2 ≡ done_of (f.turned.did.later ++ f.turned.did.now)))
+        → (a : Ask) → IsOneOf f.turned.did.claims a → a.task < lanes_most → Leaves op.value (f.turned.did.later ++ f.turned.did.now) next outcome a
     leaves k next outcome v x f tells a one low =
         let t = f.turned in
-        let new : History = t.later ++ t.now in
+        let new : History = t.did.later ++ t.did.now in
         let d = done_last true k outcome v x f in
         record {
           waits = λ odd st.
               let p = tells odd in
-              let most : done_of (t.later ++ t.now) ≤ a.phase + 1 = done_within (t.later ++ t.now) a.task (a.phase + 1) a.phase st in
+              let most : done_of (t.did.later ++ t.did.now) ≤ a.phase + 1 = done_within (t.did.later ++ t.did.now) a.task (a.phase + 1) a.phase st in
               let apart : a.phase ≡ ask.phase → ⊥ = λ same.
               let few : a.task < k = subst (λ (n : ℕ). a.task < n) (sym p.0) low in
-              let answered : IsAtPhases (t.later ++ t.now) a.task (a.phase + 1) (a.phase + 1) = t.served a one few same in
-              apart_phases a.phase (sym (wait_is (t.later ++ t.now) a.task (a.phase + 1) (a.phase + 1) answered) ∙ wait_is (t.later ++ t.now) a.task (a.phase + 1) a.phase st) in
-              let is : next / 2 ≡ done_of (t.later ++ t.now) = p.1 in
+              let answered : IsAtPhases (t.did.later ++ t.did.now) a.task (a.phase + 1) (a.phase + 1) = t.served a one few same in
+              apart_phases a.phase (sym (wait_is (t.did.later ++ t.did.now) a.task (a.phase + 1) (a.phase + 1) answered) ∙ wait_is (t.did.later ++ t.did.now) a.task (a.phase + 1) a.phase st) in
+              let is : next / 2 ≡ done_of (t.did.later ++ t.did.now) = p.1 in
               let low' = d.0 in let high = d.1 in
               omega arith;
           has = λ st.
-              let most : done_of (t.later ++ t.now) ≤ a.phase + 1 = done_within (t.later ++ t.now) a.task (a.phase + 1) (a.phase + 1) st in
-              let least : st.entry.wait_phase ≤ done_of (t.later ++ t.now) = waits_low limits (t.later ++ t.now) a.task st.entry t.good.legal st.member in
+              let most : done_of (t.did.later ++ t.did.now) ≤ a.phase + 1 = done_within (t.did.later ++ t.did.now) a.task (a.phase + 1) (a.phase + 1) st in
+              let least : st.entry.wait_phase ≤ done_of (t.did.later ++ t.did.now) = waits_low limits (t.did.later ++ t.did.now) a.task st.entry t.good.legal st.member in
               let at : st.entry.wait_phase ≡ a.phase + 1 = st.wait_at in
               let low' = d.0 in let high = d.1 in
               let same : ask.phase ≡ a.phase = omega arith in
-              f.has ∙ ap (λ (h : History). value_of_phase op.value h ask.phase) (sym f.last) ∙ ap (λ (n : ℕ). value_of_phase op.value (t.later ++ t.now) n) same;
+              f.has ∙ ap (λ (h : History). value_of_phase op.value h ask.phase) (sym f.last) ∙ ap (λ (n : ℕ). value_of_phase op.value (t.did.later ++ t.did.now) n) same;
         }
 
     pub gives_finished : (number told next k : ℕ) (outcome : Outcome) (v u : View) (x y : CoreState A) → (f : Finished op limits allows ask seen true k outcome v x)
         → u ≡ with_board outcome v → y ≡ x
-        → (next % 2 ≡ 1 → (k ≡ 16) × (next / 2 ≡ done_of (f.turned.later ++ f.turned.now)))
+        → (next % 2 ≡ 1 → (k ≡ 16) × (next / 2 ≡ done_of (f.turned.did.later ++ f.turned.did.now)))
         → GivesOf (IsOneHistory op limits allows) tt number u y told next (λ p q r. HasAnswer op limits allows ask seen outcome r)
     gives_finished number told next k outcome v u x y f is same tells =
         let t = f.turned in
         let w : View = resting (Waited ask.task 1 ∷ f.middle) (ask.task ∷ []) in
-        let here : u ≡ turning t.now (ask.task ∷ []) t.claims outcome t.lane = is ∙ ap (with_board outcome) t.is in
+        let here : u ≡ turning t.did.now (ask.task ∷ []) t.did.claims outcome t.did.lane = is ∙ ap (with_board outcome) t.is in
         subst (λ (z : View). GivesOf (IsOneHistory op limits allows) tt number z y told next (λ p q r. HasAnswer op limits allows ask seen outcome r)) (sym here)
         (λ words views long kept at. (
           w,
-          asks.gives_asks op.value limits allows StandsFor number (mine t.now) t.claims outcome t.lane y t.later
-              told next w t.batch t.good (subst (λ (z : CoreState A). StandsWithin op limits z (t.later ++ t.now)) (sym same) t.stands)
-              (λ odd. let p = tells odd in let is' : next / 2 ≡ done_of (t.later ++ t.now) = p.1 in omega arith)
+          asks.gives_asks op.value limits allows StandsFor number (mine t.did.now) t.did.claims outcome t.did.lane y t.did.later
+              told next w t.did.batch t.good (subst (λ (z : CoreState A). StandsWithin op limits z (t.did.later ++ t.did.now)) (sym same) t.stands)
+              (λ odd. let p = tells odd in let is' : next / 2 ≡ done_of (t.did.later ++ t.did.now) = p.1 in omega arith)
               (leaves k next outcome v x f tells) (ends_last true k outcome v x f next) words views kept at,
           has_last true k outcome v x f,
         ))
@@ -231,15 +208,15 @@ module _ {A : Type 0} (op : Operation A) (limits : Limits) (allows : Allows) (as
     -- what is told then: each ask for the phase was answered, or only how many phases are complete
     pub tells_odd : (k : ℕ) (outcome : Outcome) (v : View) (x y : CoreState A) (f : Finished op limits allows ask seen true k outcome v x) (done next : ℕ)
         → y ≡ x → ((h : History) → core.StandsFor op y h → done ≡ done_of h) → next ≡ done * 2 + 1
-        → next % 2 ≡ 1 → (k ≡ k) × (next / 2 ≡ done_of (f.turned.later ++ f.turned.now))
+        → next % 2 ≡ 1 → (k ≡ k) × (next / 2 ≡ done_of (f.turned.did.later ++ f.turned.did.now))
     tells_odd k outcome v x y f done next same says is odd =
-        let all : done ≡ done_of (f.turned.later ++ f.turned.now) = says (f.turned.later ++ f.turned.now)
-        (subst (λ (z : CoreState A). core.StandsFor op z (f.turned.later ++ f.turned.now)) (sym same) f.turned.stands.stands) in
+        let all : done ≡ done_of (f.turned.did.later ++ f.turned.did.now) = says (f.turned.did.later ++ f.turned.did.now)
+        (subst (λ (z : CoreState A). core.StandsFor op z (f.turned.did.later ++ f.turned.did.now)) (sym same) f.turned.stands.stands) in
         let half : next / 2 ≡ done = omega arith in
         (refl, half ∙ all)
 
     pub tells_even : (k : ℕ) (outcome : Outcome) (v : View) (x : CoreState A) (f : Finished op limits allows ask seen true k outcome v x) (done next : ℕ)
-        → next ≡ done * 2 → next % 2 ≡ 1 → (k ≡ 16) × (next / 2 ≡ done_of (f.turned.later ++ f.turned.now))
+        → next ≡ done * 2 → next % 2 ≡ 1 → (k ≡ 16) × (next / 2 ≡ done_of (f.turned.did.later ++ f.turned.did.now))
     tells_even k outcome v x f done next is odd = absurd (omega arith)
 
     -- ---- others have answered
@@ -250,14 +227,14 @@ module _ {A : Type 0} (op : Operation A) (limits : Limits) (allows : Allows) (as
     gives_answered number told outcome v u x y n is same read =
         let t = n.turned in
         let m = n.answered.middle in
-        let good_now : IsGood limits allows t.now = subst (λ (l : History). IsGood limits allows (l ++ t.now)) n.first t.good in
-        let first : IsLegal limits (Waited ask.task 1 ∷ m) = IsLegal-beginning limits (Waited ask.task 1 ∷ m) t.now (λ none. cc) good_now.legal
+        let good_now : IsGood limits allows t.did.now = subst (λ (l : History). IsGood limits allows (l ++ t.did.now)) n.first t.good in
+        let first : IsLegal limits (Waited ask.task 1 ∷ m) = IsLegal-beginning limits (Waited ask.task 1 ∷ m) t.did.now (λ none. cc) good_now.legal
         (record { later = n.answered.since.later; is = n.answered.since.is }) in
-        let past : IsPast t.now ask.task (ask.phase + 1) = answered_past limits ask seen t.now good_now.legal n.answered in
-        gives_same (λ r. HasAnswer op limits allows ask seen outcome r) number told 0 v u x y t.lane (resting (Waited ask.task 1 ∷ m) (ask.task ∷ [])) t
+        let past : IsPast t.did.now ask.task (ask.phase + 1) = answered_past limits ask seen t.did.now good_now.legal n.answered in
+        gives_same (λ r. HasAnswer op limits allows ask seen outcome r) number told 0 v u x y t.did.lane (resting (Waited ask.task 1 ∷ m) (ask.task ∷ [])) t
         (is ∙ t.is) same
-        (subst (λ (l : History). EndsTurn limits allows 0 (l ++ t.now) (mine t.now) t.lane (resting (Waited ask.task 1 ∷ m) (ask.task ∷ []))) (sym n.first)
-        (inl (Waited ask.task 1 ∷ m, refl, n.answered.since, lane_past t.lane t.now t.now t.own past)))
+        (subst (λ (l : History). EndsTurn limits allows 0 (l ++ t.did.now) (mine t.did.now) t.did.lane (resting (Waited ask.task 1 ∷ m) (ask.task ∷ []))) (sym n.first)
+        (inl (Waited ask.task 1 ∷ m, refl, n.answered.since, lane_past t.did.lane t.did.now t.did.now t.did.own past)))
         (λ q. absurd (rests (knowledge (Waited ask.task 1 ∷ m) (ask.task ∷ [])) q.knows q.ask q.is))
         (record {
           middle = m;
@@ -266,7 +243,7 @@ module _ {A : Type 0} (op : Operation A) (limits : Limits) (allows : Allows) (as
           complete = n.answered.complete;
           is = refl;
           has = read ∙ ap board_of t.is ∙ n.has
-              ∙ later_value op.value limits ask n.answered.since.later m t.now n.answered.since.is good_now.legal first n.answered.complete;
+              ∙ later_value op.value limits ask n.answered.since.later m t.did.now n.answered.since.is good_now.legal first n.answered.complete;
           good = record {
             legal = first;
             keeps = keeps_before allows n.answered.since.later (Waited ask.task 1 ∷ m)

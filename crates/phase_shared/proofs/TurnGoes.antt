@@ -1,15 +1,8 @@
 -- A seat that asked goes on under its turn, from where its ask stands.
-use Rattle.std.proofs.Common.{◌≡◌, ℕ, ◌+◌, ◌<◌, ◌≤◌, true, false, [], ◌∷◌, ◌⊎◌, Option, Some, None, refl, sym, ap, subst, ◌∙◌, inr, ⊎_elim, arith}
+use Rattle.std.proofs.Common.{◌≡◌, ℕ, ◌+◌, ◌<◌, ◌≤◌, true, false, [], ◌∷◌, Option, Some, None, refl, sym, ap, subst, ◌∙◌, inr, arith, inl}
 use Rattle.std.specs.Prelude.{is_some}
-use Rattle.phase_core.specs.phase_base.Limits.{Limits}
-use Rattle.phase_core.specs.phase_base.Modes.{mode_waits}
-use Rattle.phase_core.specs.phase_base.Members.{entry_of, signalled, waited}
-use Rattle.phase_core.specs.phase_base.declared.entry.Entry.{Entry}
-use Rattle.phase_core.specs.phase_accum.Operations.{Operation}
+use Rattle.phase_shared.specs.Phasers.{Limits, mode_waits, entry_of, signalled, waited, Entry, Operation, History, members_of, done_of, IsAlive, IsLegal, CoreState, StandsFor}
 use Rattle.phase_core.specs.phase_history.declared.event.Event.TheVariants.{Signalled, Waited}
-use Rattle.phase_core.specs.phase_history.Histories.{History, members_of, done_of, IsAlive}
-use Rattle.phase_core.specs.phase_history.Legal.{IsLegal}
-use Rattle.phase_core.specs.Cores.{CoreState, StandsFor}
 use Rattle.phase_core.proofs.phase_history_lemmas.MemberLemmas.{entry_of-changed_same}
 use Rattle.phase_core.proofs.phase_history_lemmas.Used.{IsLegal-beginning}
 use Rattle.phase_shared.specs.Asks.{Ask, IsAtPhases, IsUnmade, IsMade, IsAnsweredAsk, Stage}
@@ -19,10 +12,10 @@ use Rattle.phase_shared.specs.Rule.{StandsWithin}
 use Rattle.phase_shared.specs.Servings.{Turned, Starting, Serving, IsAnsweredIn, IsWaiterIn, WasOpen}
 use Rattle.phase_shared.specs.Tells.{TookAsked}
 use Rattle.phase_shared.specs.Views.{knowledge, known_of}
-use Rattle.phase_shared.proofs.Small.{same_some, apart_phases}
+use Rattle.phase_shared.proofs.Small.{same_some, apart_phases, none_below}
 use Rattle.phase_shared.proofs.Stages.{wait_is}
 use Rattle.phase_shared.proofs.Giving.{member_after}
-use Rattle.phase_shared.proofs.TurnParts.{none_below, false_true}
+use Rattle.phase_shared.proofs.TurnParts.{false_true}
 
 -- ---- a task's mode stays
 
@@ -43,18 +36,14 @@ made_goes limits a seen h e legal m member =
 
 stage_member : (limits : Limits) (a : Ask) (seen h : History) (e : Entry) → IsLegal limits h → Stage limits a seen h
     → entry_of (members_of seen) a.task ≡ Some e → Goes h a.task e
-stage_member limits a seen h e legal stage member = ⊎_elim
-    (λ (u : IsUnmade a seen h). record { entry = e; member = member_after limits a.task e seen h u.others legal member; mode_is = refl })
-    (λ (r : IsMade limits a seen h ⊎ IsAnsweredAsk limits a seen h). ⊎_elim
-    (λ (m : IsMade limits a seen h). made_goes limits a seen h e legal m member)
-    (λ (n : IsAnsweredAsk limits a seen h).
+stage_member limits a seen h e legal (inl u) member = record { entry = e; member = member_after limits a.task e seen h u.others legal member; mode_is = refl }
+stage_member limits a seen h e legal (inr (inl m)) member = made_goes limits a seen h e legal m member
+stage_member limits a seen h e legal (inr (inr n)) member =
     let wait : IsLegal limits (Waited a.task 1 ∷ n.middle) = IsLegal-beginning limits (Waited a.task 1 ∷ n.middle) h (λ none. cc) legal
     (record { later = n.since.later; is = n.since.is }) in
     let g = made_goes limits a seen n.middle e wait.0 n.made member in
     let then = entry_of-changed_same a.task (waited 1) g.entry (members_of n.middle) g.member in
-    record { entry = waited 1 g.entry; member = member_after limits a.task (waited 1 g.entry) (Waited a.task 1 ∷ n.middle) h n.since legal then; mode_is = g.mode_is })
-    r)
-    stage
+    record { entry = waited 1 g.entry; member = member_after limits a.task (waited 1 g.entry) (Waited a.task 1 ∷ n.middle) h n.since legal then; mode_is = g.mode_is }
 
 entry_in : {X : Type 0} (o : Option X) → is_some o ≡ true → (x : X) × (o ≡ Some x)
 entry_in (Some x) yes' = (x, refl)
@@ -76,31 +65,19 @@ module _ (limits : Limits) (a : Ask) (seen h : History) (e : Entry) (member : en
   waits_at s w st = ap (λ (d : Entry). d.wait_phase) (same_some e st.entry (sym member ∙ st.member)) ∙ st.wait_at
 
   pub is_answered : Stage limits a seen h → a.phase < e.wait_phase → IsAnsweredAsk limits a seen h
-  is_answered stage more = ⊎_elim
-      (λ (u : IsUnmade a seen h). let w = waits_at a.phase a.phase u.stands in absurd (omega arith))
-      (λ (r : IsMade limits a seen h ⊎ IsAnsweredAsk limits a seen h). ⊎_elim
-      (λ (m : IsMade limits a seen h). let w = waits_at (a.phase + 1) a.phase m.stands in absurd (omega arith))
-      (λ (n : IsAnsweredAsk limits a seen h). n)
-      r)
-      stage
+  is_answered (inl u) more = let w = waits_at a.phase a.phase u.stands in absurd (omega arith)
+  is_answered (inr (inl m)) more = let w = waits_at (a.phase + 1) a.phase m.stands in absurd (omega arith)
+  is_answered (inr (inr n)) more = n
 
   pub is_unmade : Stage limits a seen h → e.signal_phase ≡ a.phase → IsUnmade a seen h
-  is_unmade stage at = ⊎_elim
-      (λ (u : IsUnmade a seen h). u)
-      (λ (r : IsMade limits a seen h ⊎ IsAnsweredAsk limits a seen h). absurd (⊎_elim
-      (λ (m : IsMade limits a seen h). apart_phases a.phase (sym (signals_at (a.phase + 1) a.phase m.stands) ∙ at))
-      (λ (n : IsAnsweredAsk limits a seen h). apart_phases a.phase (sym (signals_at (a.phase + 1) (a.phase + 1) n.stands) ∙ at))
-      r))
-      stage
+  is_unmade (inl u) at = u
+  is_unmade (inr (inl m)) at = absurd (apart_phases a.phase (sym (signals_at (a.phase + 1) a.phase m.stands) ∙ at))
+  is_unmade (inr (inr n)) at = absurd (apart_phases a.phase (sym (signals_at (a.phase + 1) (a.phase + 1) n.stands) ∙ at))
 
   pub is_made : Stage limits a seen h → e.wait_phase ≤ a.phase → (e.signal_phase ≡ a.phase → ⊥) → IsMade limits a seen h
-  is_made stage low apart = ⊎_elim
-      (λ (u : IsUnmade a seen h). absurd (apart (signals_at a.phase a.phase u.stands)))
-      (λ (r : IsMade limits a seen h ⊎ IsAnsweredAsk limits a seen h). ⊎_elim
-      (λ (m : IsMade limits a seen h). m)
-      (λ (n : IsAnsweredAsk limits a seen h). let w = waits_at (a.phase + 1) (a.phase + 1) n.stands in absurd (omega arith))
-      r)
-      stage
+  is_made (inl u) low apart = absurd (apart (signals_at a.phase a.phase u.stands))
+  is_made (inr (inl m)) low apart = m
+  is_made (inr (inr n)) low apart = let w = waits_at (a.phase + 1) (a.phase + 1) n.stands in absurd (omega arith)
 
 module _ {A : Type 0} (op : Operation A) (limits : Limits) (allows : Allows) (ask : Ask) (seen : History) where
   -- ---- in other words
@@ -126,18 +103,20 @@ module _ {A : Type 0} (op : Operation A) (limits : Limits) (allows : Allows) (as
 
     pub took_turn : Turned op limits allows ask false 0 v x
     took_turn = record {
-      now = k.now;
-      claims = k.claims;
-      said = k.said;
-      lane = Some (ask.phase + 1);
-      later = [];
+      did = record {
+        now = k.now;
+        claims = k.claims;
+        said = k.said;
+        lane = Some (ask.phase + 1);
+        later = [];
+        some = legal_some;
+        batch = tt;
+        theirs = λ a one. (k.read a one).1;
+        own = inr refl;
+      };
       is = k.is;
-      some = legal_some;
-      batch = tt;
       good = k.good;
       stands = k.stands;
-      theirs = λ a one. (k.read a one).1;
-      own = inr refl;
       quiet = λ no a one st. apart_phases a.phase (sym (wait_is k.now a.task (a.phase + 1) (a.phase + 1) st) ∙ wait_is k.now a.task (a.phase + 1) a.phase (k.read a one).0);
       complete = λ yes'. absurd (false_true yes');
       served = λ a one low at. absurd (none_below a.task low);
@@ -149,13 +128,11 @@ module _ {A : Type 0} (op : Operation A) (limits : Limits) (allows : Allows) (as
 
     -- the task is registered
     pub stage_found : (o : Option Entry) → o ≡ entry_of x.members ask.task → o ≡ None → ⊥
-    stage_found o viewed none = ⊎_elim
-        (λ (u : IsUnmade ask seen k.now). no u.stands.entry u.stands.member)
-        (λ (r : IsMade limits ask seen k.now ⊎ IsAnsweredAsk limits ask seen k.now). ⊎_elim
-        (λ (m : IsMade limits ask seen k.now). no m.stands.entry m.stands.member)
-        (λ (n : IsAnsweredAsk limits ask seen k.now). no n.stands.entry n.stands.member)
-        r)
-        k.stage
+    stage_found o viewed none = elim k.stage [
+      | inl u ↦ no u.stands.entry u.stands.member
+      | inr (inl m) ↦ no m.stands.entry m.stands.member
+      | inr (inr n) ↦ no n.stands.entry n.stands.member
+    ]
       where
         no : (e : Entry) → entry_of (members_of k.now) ask.task ≡ Some e → ⊥
         no e member =
@@ -188,7 +165,9 @@ module _ {A : Type 0} (op : Operation A) (limits : Limits) (allows : Allows) (as
         unfolding took_turn
         serving low apart = record {
           turned = took_turn;
-          made = is_made limits ask seen k.now e member k.stage low apart;
-          waits = still_waits limits ask seen k.now k.good.legal k.stage alive waits;
-          may = may;
+          owes = record {
+            made = is_made limits ask seen k.now e member k.stage low apart;
+            waits = still_waits limits ask seen k.now k.good.legal k.stage alive waits;
+            may = may;
+          };
         }

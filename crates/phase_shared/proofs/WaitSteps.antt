@@ -2,20 +2,11 @@
 use Rattle.std.proofs.Common.{◌≡◌, ℕ, ℤ, Bool, true, false, List, [], ◌∷◌, Some, refl, sym, ap, subst, ◌∙◌}
 use Rattle.std.specs.Prelude.{Ok, Err, Result, is_some, IsErr}
 use Rattle.std.specs.Result.{result_ok}
-use Rattle.phase_core.specs.phase_accum.Operations.{Operation}
+use Rattle.phase_shared.specs.Phasers.{Operation, Got, WaitRefusal, entry_of, waited, History, members_of, wait_reply, after_wait, CoreState, StandsFor, Entry, Limits, Outcome}
 use Rattle.phase_core.specs.phase_history.declared.event.Event.TheVariants.{Waited}
-use Rattle.phase_core.specs.phase_history.declared.got.Got.{Got}
 use Rattle.phase_core.specs.phase_history.declared.got.Got.TheVariants as got
-use Rattle.phase_core.specs.phase_history.declared.refusal.WaitRefusal.{WaitRefusal}
-use Rattle.phase_core.specs.phase_base.Members.{entry_of, waited}
-use Rattle.phase_core.specs.phase_history.Histories.{History, members_of}
-use Rattle.phase_core.specs.phase_history.Replies.{wait_reply, after_wait}
-use Rattle.phase_core.specs.Cores.{CoreState, StandsFor}
 use Rattle.phase_core.proofs.phase_history_lemmas.MemberLemmas.{is_some-entry_of-changed, entry_of-changed_same}
-use Rattle.phase_core.specs.phase_base.declared.entry.Entry.{Entry}
 use Rattle.phase_shared.specs.Entries.{entry_after_wait}
-use Rattle.phase_core.specs.phase_base.Limits.{Limits}
-use Rattle.phase_core.specs.phase_accum.declared.outcome.Outcome.{Outcome}
 use Rattle.phase_shared.specs.Rule.{Allows, Keeps}
 use Rattle.phase_shared.specs.Calls.{MayWait}
 use Rattle.phase_core.proofs.phase_history_lemmas.OthersEvents.{OthersCame-refl}

@@ -1,13 +1,9 @@
 -- No task has waited for a phase that is not complete.
 use Rattle.std.proofs.Common.{◌≡◌, ℕ, ◌+◌, ◌≤◌, not, eqb, [], ◌∷◌, Some, length, sym, ap, subst, arith}
-use Rattle.phase_core.specs.phase_base.Limits.{Limits}
-use Rattle.phase_core.specs.phase_base.declared.entry.Entry.{Entry}
+use Rattle.phase_shared.specs.Phasers.{Limits, Entry, entry_of, signalled, waited, Event, History, members_of, wait_phase, done_of, IsAccepted, IsLegal}
 use Rattle.phase_core.specs.phase_base.declared.member.Member.{Member}
-use Rattle.phase_core.specs.phase_base.Members.{entry_of, signalled, waited}
-use Rattle.phase_core.specs.phase_history.declared.event.Event.{Event}
 use Rattle.phase_core.specs.phase_history.declared.event.Event.TheVariants.{Made, Registered, RegisteredNow, Signalled, Waited, Dropped}
-use Rattle.phase_core.specs.phase_history.Histories.{History, members_of, member_entry, wait_phase, done_of}
-use Rattle.phase_core.specs.phase_history.Legal.{IsAccepted, IsLegal}
+use Rattle.phase_core.specs.phase_history.Histories.{member_entry}
 use Rattle.phase_core.proofs.phase_history_lemmas.Each.{Each, Each-from, Each-push, Each-filter}
 use Rattle.phase_core.proofs.phase_history_lemmas.MemberLemmas.{Each-entry, Each-changed}
 use Rattle.phase_core.proofs.phase_history_lemmas.Refused.{passes_from, registers_from, waits_from}

@@ -2,11 +2,7 @@
 use Rattle.std.proofs.Common.{◌≡◌, ℕ, ◌+◌, ◌<◌, List, [], ◌∷◌, Option, Some, None, set, slice_index, refl, sym, ap, subst, ◌∙◌}
 use mathlib.Core.Option.{some}
 use Rattle.turn_lock.specs.WordSteps.{WritesOf, ReadsIn, WritesIn}
-use Rattle.phase_core.specs.phase_base.Limits.{Limits}
-use Rattle.phase_core.specs.phase_accum.Operations.{Operation}
-use Rattle.phase_core.specs.phase_accum.declared.outcome.Outcome.{Outcome}
-use Rattle.phase_core.specs.phase_history.Histories.{History}
-use Rattle.phase_core.specs.Cores.{CoreState}
+use Rattle.phase_shared.specs.Phasers.{Limits, Operation, Outcome, History, CoreState}
 use Rattle.phase_shared.specs.declared.seats.request.Request.{Request}
 use Rattle.phase_shared.specs.declared.seats.view.Knowledge.{Knowledge}
 use Rattle.phase_shared.specs.Asks.{Ask}

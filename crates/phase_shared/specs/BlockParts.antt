@@ -1,12 +1,6 @@
 -- What a call on a block of phases adds to its task's own part of the history.
 use Rattle.std.specs.Prelude.{◌≡◌, ◌≤◌, ℕ, ℤ, List, ◌++◌, take, length}
-use Rattle.phase_core.specs.phase_accum.Operations.{Operation}
-use Rattle.phase_core.specs.phase_accum.Parcels.{Parcel}
-use Rattle.phase_core.specs.phase_accum.declared.outcome.Outcome.{Outcome}
-use Rattle.phase_core.specs.phase_history.Histories.{History}
-use Rattle.phase_core.specs.phase_history.Phases.{received_by}
-use Rattle.phase_core.specs.phase_history.Sent.{sent_by}
-use Rattle.phase_core.specs.Blocks.{StandForLists}
+use Rattle.phase_shared.specs.Phasers.{Operation, Parcel, Outcome, History, received_by, sent_by, StandForLists}
 
 -- the task has sent one list more for each parcel, in their order
 pub record SendsLists {A : Type 0} (op : Operation A) (task : ℕ) (parcels : List (Parcel A))

@@ -1,21 +1,9 @@
 -- Blocks of phases, which one call signals or waits for: what each step answers, and how the
 -- history that its task has seen goes on.
 use Rattle.std.specs.Prelude.{◌≡◌, ℕ, ◌+◌, ℤ, List, [], ◌∷◌, Option, Some, None, Result, length, Ok, Err}
-use Rattle.phase_core.specs.phase_base.Limits.{Limits}
-use Rattle.phase_core.specs.phase_base.declared.entry.Entry.{Entry}
-use Rattle.phase_core.specs.phase_accum.Operations.{Operation}
-use Rattle.phase_core.specs.phase_accum.Parcels.{Parcel}
-use Rattle.phase_core.specs.phase_accum.declared.outcome.Outcome.{Outcome}
-use Rattle.phase_core.specs.phase_accum.declared.single.Single.{Single}
-use Rattle.phase_core.specs.phase_history.declared.got.GotBlock.{GotBlock}
+use Rattle.phase_shared.specs.Phasers.{Limits, Entry, Operation, Parcel, Outcome, Single, GotBlock, SignalRefusal, WaitRefusal, History, stream_of, signal_reply, after_signal, wait_block_reply, after_wait_block, OthersCame, StandForLists, one_each}
 use Rattle.phase_core.specs.phase_history.declared.got.GotBlock.TheVariants.{Values, Ended}
-use Rattle.phase_core.specs.phase_history.declared.refusal.SignalRefusal.{SignalRefusal}
-use Rattle.phase_core.specs.phase_history.declared.refusal.WaitRefusal.{WaitRefusal}
-use Rattle.phase_core.specs.phase_history.Histories.{History}
-use Rattle.phase_core.specs.phase_history.Phases.{stream_of}
-use Rattle.phase_core.specs.phase_history.Replies.{signal_reply, after_signal, wait_block_reply, after_wait_block}
-use Rattle.phase_core.specs.phase_history.Others.{OthersCame}
-use Rattle.phase_core.specs.Blocks.{StandForLists, one_each, written}
+use Rattle.phase_core.specs.Blocks.{written}
 use Rattle.phase_shared.specs.declared.rule.Terms.{Terms}
 use Rattle.phase_shared.specs.Rule.{Allows, IsGoodAt}
 use Rattle.phase_shared.specs.Regs.{RegState}

@@ -3,22 +3,9 @@
 -- task has seen goes on by events of others, up to the moment of the call, and then by the call's
 -- own event, where it makes one.
 use Rattle.std.specs.Prelude.{◌≡◌, ℕ, ℤ, Bool, true, false, List, [], ◌∷◌, Option, Result, Ok, Err, IsErr, None, Some, min, ◌+◌, ◌-◌, ◌^◌, ◌≢◌}
-use Rattle.phase_core.specs.phase_base.Limits.{Limits}
-use Rattle.phase_core.specs.phase_base.declared.mode.Mode.{Mode}
-use Rattle.phase_core.specs.phase_accum.Operations.{Operation}
-use Rattle.phase_core.specs.phase_accum.Parcels.{Parcel, StandsForSends}
-use Rattle.phase_core.specs.phase_accum.declared.outcome.Outcome.{Outcome}
-use Rattle.phase_core.specs.phase_accum.declared.single.Single.{Single}
+use Rattle.phase_shared.specs.Phasers.{Limits, Mode, Operation, Parcel, StandsForSends, Outcome, Single, Got, RegisterRefusal, SignalRefusal, WaitRefusal, History, greatest_used, entry_at, register_refusal, signal_reply, after_signal, wait_reply, after_wait, OthersCame, OnlyUsed, Entry}
 use Rattle.phase_core.specs.phase_history.declared.event.Event.TheVariants.{Registered, Dropped}
-use Rattle.phase_core.specs.phase_history.declared.got.Got.{Got}
-use Rattle.phase_core.specs.phase_history.declared.refusal.RegisterRefusal.{RegisterRefusal}
 use Rattle.phase_core.specs.phase_history.declared.refusal.RegisterRefusal.TheVariants as register
-use Rattle.phase_core.specs.phase_history.declared.refusal.SignalRefusal.{SignalRefusal}
-use Rattle.phase_core.specs.phase_history.declared.refusal.WaitRefusal.{WaitRefusal}
-use Rattle.phase_core.specs.phase_history.Histories.{History, greatest_used, entry_at}
-use Rattle.phase_core.specs.phase_history.Refusals.{register_refusal}
-use Rattle.phase_core.specs.phase_history.Replies.{signal_reply, after_signal, wait_reply, after_wait}
-use Rattle.phase_core.specs.phase_history.Others.{OthersCame, OnlyUsed}
 use Rattle.phase_shared.specs.declared.seats.view.View.{View}
 use Rattle.phase_shared.specs.declared.rule.Terms.{Terms}
 use Rattle.phase_shared.specs.Views.{resting}
@@ -26,7 +13,6 @@ use Rattle.phase_shared.specs.Rule.{Allows, IsGoodAt}
 use Rattle.phase_shared.specs.declared.tried.Tried.{Tried}
 use Rattle.phase_shared.specs.declared.tried.Tried.TheVariants.{Busy, Refused}
 use Rattle.std.specs.Result.{result_ok}
-use Rattle.phase_core.specs.phase_base.declared.entry.Entry.{Entry}
 use Rattle.phase_shared.specs.Regs.{RegState}
 
 -- a refused try: the turn was another's and all stayed as it was, or the call is refused

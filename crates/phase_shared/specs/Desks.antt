@@ -5,13 +5,7 @@
 use Rattle.std.specs.Prelude.{◌≡◌, ℕ, ℤ, ◌+◌, ◌<◌, ◌≤◌, ◌/◌, ◌%◌, List, [], ◌∷◌, ◌++◌, ◌⊎◌, Option, None, Some, Bool, true, ◌==◌, ◌&&◌, if◌then◌else◌}
 use mathlib.Core.Option.{some}
 use lib.ListN.{get_elem?}
-use Rattle.phase_core.specs.phase_base.Limits.{Limits}
-use Rattle.phase_core.specs.phase_base.Lists.{is_distinct, is_in}
-use Rattle.phase_core.specs.phase_base.declared.entry.Entry.{Entry}
-use Rattle.phase_core.specs.phase_accum.declared.outcome.Outcome.{Outcome}
-use Rattle.phase_core.specs.phase_history.Histories.{History, signal_phase, wait_phase, done_of, start_of, phases_waited}
-use Rattle.phase_core.specs.phase_history.Phases.{value_of_phase}
-use Rattle.phase_core.specs.phase_history.Others.{IsUsed, OthersCame}
+use Rattle.phase_shared.specs.Phasers.{Limits, is_distinct, is_in, Entry, Outcome, History, signal_phase, wait_phase, done_of, start_of, phases_waited, value_of_phase, IsUsed, OthersCame}
 use Rattle.phase_shared.specs.Goods.{Allows, IsGood}
 use Rattle.phase_shared.specs.declared.seats.view.Knowledge.{Knowledge}
 use Rattle.phase_shared.specs.Views.{Fits, speaks_of}

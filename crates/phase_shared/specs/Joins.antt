@@ -1,15 +1,9 @@
 -- A waiter that joins now: what its registration answers, and how the history that its parent has
 -- seen goes on.
 use Rattle.std.specs.Prelude.{◌≡◌, ℕ, ◌+◌, [], ◌∷◌, None, Result, Ok, Err}
-use Rattle.phase_core.specs.phase_base.declared.entry.Entry.{Entry}
+use Rattle.phase_shared.specs.Phasers.{Entry, History, greatest_used, done_of, entry_at, register_now_refusal, OthersCame, Operation, StandsForSends, RegisterRefusal}
 use Rattle.phase_core.specs.phase_base.declared.mode.Mode.TheVariants.{Wait}
 use Rattle.phase_core.specs.phase_history.declared.event.Event.TheVariants.{RegisteredNow}
-use Rattle.phase_core.specs.phase_history.Histories.{History, greatest_used, done_of, entry_at}
-use Rattle.phase_core.specs.phase_history.Refusals.{register_now_refusal}
-use Rattle.phase_core.specs.phase_history.Others.{OthersCame}
-use Rattle.phase_core.specs.phase_accum.Operations.{Operation}
-use Rattle.phase_core.specs.phase_accum.Parcels.{StandsForSends}
-use Rattle.phase_core.specs.phase_history.declared.refusal.RegisterRefusal.{RegisterRefusal}
 use Rattle.phase_shared.specs.Regs.{RegState}
 use Rattle.phase_shared.specs.Calls.{RefusesRegister}
 

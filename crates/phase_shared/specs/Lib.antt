@@ -11,6 +11,7 @@ pub mod LockedPhasers
 pub mod Nexts
 pub mod OneSends
 pub mod Parts
+pub mod Phasers
 pub mod Puts
 pub mod Regs
 pub mod Rule

@@ -1,6 +1,8 @@
 -- What contracts see of a phaser under a lock.
 use Rattle.std.specs.Prelude.{Option, Some, None, []}
-use Rattle.turn_lock.specs.Seats.{Place, word_lock_name, word_lock_place}
+use Rattle.turn_lock.specs.declared.seat.Seat.{Seat}
+use Rattle.turn_lock.specs.declared.seat.Turn.{Turn}
+use Rattle.turn_lock.specs.Seats.{Place, IsSeatAt, IsTurnAt, seat_view, turn_value, turn_view, word_lock_name, word_lock_place}
 use Rattle.phase_core.specs.phase_base.Limits.{Limits}
 use Rattle.phase_shared.specs.declared.rule.Terms.{Terms}
 use Rattle.phase_shared.specs.declared.seats.locked.LockedPhaser.{LockedPhaser}
@@ -29,6 +31,17 @@ no_terms = record {
 -- the same terms, with the rule that there is
 abbrev pub some_terms : {K : Type 0} → Terms K → Terms (Option K)
 some_terms terms = record { limits = terms.limits; rule = Some terms.rule }
+
+module _ {T N V : Type 0} (place : Place N) where
+  -- a seat of the lock at this place, which knows this
+  pub record RestsOn (seat : Seat T N V) (Knows : V → Type 0) : Type 0 where
+    pub here : IsSeatAt place seat
+    pub knows : Knows (seat_view seat)
+
+  -- a turn of it, which knows this of the value
+  pub record IsTurnOn (turn : Turn T N V) (Knows : T → V → Type 0) : Type 0 where
+    pub here : IsTurnAt place turn
+    pub knows : Knows (turn_value turn) (turn_view turn)
 
 module _ {A K : Type 0} where
   -- which phaser it is

@@ -1,15 +1,8 @@
 -- What a call adds to its task's own part of the history: to what the task has received, and to
 -- what it has sent.
 use Rattle.std.specs.Prelude.{◌≡◌, ℕ, ℤ, List, [], ◌∷◌, ◌++◌, Option, Some, None, true, false}
-use Rattle.phase_core.specs.phase_base.Modes.{mode_signals}
-use Rattle.phase_core.specs.phase_accum.Operations.{Operation}
-use Rattle.phase_core.specs.phase_accum.Parcels.{Parcel, StandsForSends}
-use Rattle.phase_core.specs.phase_accum.declared.outcome.Outcome.{Outcome}
-use Rattle.phase_core.specs.phase_history.declared.got.Got.{Got}
+use Rattle.phase_shared.specs.Phasers.{mode_signals, Operation, Parcel, StandsForSends, Outcome, Got, History, received_by, sent_by}
 use Rattle.phase_core.specs.phase_history.declared.got.Got.TheVariants.{Value, Ended}
-use Rattle.phase_core.specs.phase_history.Histories.{History}
-use Rattle.phase_core.specs.phase_history.Phases.{received_by}
-use Rattle.phase_core.specs.phase_history.Sent.{sent_by}
 use Rattle.phase_shared.specs.declared.next.Next.{Next}
 use Rattle.phase_shared.specs.Regs.{RegState}
 

@@ -1,13 +1,6 @@
 -- A signal with one value, by one call.
 use Rattle.std.specs.Prelude.{◌≡◌, ◌⊎◌, ℕ, ℤ, [], ◌∷◌, Option, Result}
-use Rattle.phase_core.specs.phase_base.Limits.{Limits}
-use Rattle.phase_core.specs.phase_accum.Operations.{Operation}
-use Rattle.phase_core.specs.phase_accum.Parcels.{Parcel, StandsForSends}
-use Rattle.phase_core.specs.phase_accum.declared.single.Single.{Single}
-use Rattle.phase_core.specs.phase_history.declared.refusal.SignalRefusal.{SignalRefusal}
-use Rattle.phase_core.specs.phase_history.Histories.{History}
-use Rattle.phase_core.specs.phase_history.Replies.{signal_reply, after_signal}
-use Rattle.phase_core.specs.phase_history.Others.{OthersCame}
+use Rattle.phase_shared.specs.Phasers.{Limits, Operation, Parcel, StandsForSends, Single, SignalRefusal, History, signal_reply, after_signal, OthersCame}
 use Rattle.phase_shared.specs.declared.rule.Terms.{Terms}
 use Rattle.phase_shared.specs.Rule.{Allows, IsGoodAt}
 use Rattle.phase_shared.specs.Regs.{RegState}

@@ -1,18 +1,10 @@
 -- The rule of a shared phaser: there is one legal history, which keeps the phaser's rule.
-use Rattle.std.specs.Prelude.{◌≡◌, ℕ, ◌+◌, List, [], ◌∷◌, ◌++◌, Option, Some, None, true, false}
-use Rattle.phase_core.specs.phase_base.Limits.{Limits}
-use Rattle.phase_core.specs.phase_accum.Operations.{Operation}
+use Rattle.std.specs.Prelude.{◌≡◌, ℕ, ◌+◌, List, [], ◌∷◌, Option, Some, None, true, false}
+use Rattle.phase_shared.specs.Phasers.{Limits, Operation, Entry, entry_of, History, members_of, CoreState, StandsFor, OthersCame, IsUsed, is_distinct, is_in, Outcome}
 use Rattle.phase_core.specs.phase_history.declared.event.Event.TheVariants.{Made}
-use Rattle.phase_core.specs.phase_base.declared.entry.Entry.{Entry}
-use Rattle.phase_core.specs.phase_base.Members.{entry_of}
-use Rattle.phase_core.specs.phase_history.Histories.{History, members_of}
-use Rattle.phase_core.specs.Cores.{CoreState, StandsFor}
 use Rattle.phase_shared.specs.declared.seats.view.View.{View}
 use Rattle.phase_shared.specs.declared.rule.Terms.{Terms}
-use Rattle.phase_core.specs.phase_history.Others.{OthersCame, IsUsed}
-use Rattle.phase_core.specs.phase_base.Lists.{is_distinct, is_in}
 use Rattle.phase_shared.specs.Views.{resting, turning, speaks_of, known_of, second_of, Fits}
-use Rattle.phase_core.specs.phase_accum.declared.outcome.Outcome.{Outcome}
 use Rattle.phase_shared.specs.declared.seats.view.Ask.{Ask}
 use Rattle.phase_shared.specs.Asks.{IsAtPhases, IsOneOf}
 pub use Rattle.phase_shared.specs.Goods.{Allows, Keeps, IsGood, IsGoodAt}
@@ -76,17 +68,6 @@ pub record AfterTake {A K : Type 0} (op : Operation A) (allows : K → Allows) (
   pub is : w ≡ turning now (me ∷ []) claims said None
   pub member : entry_of (members_of now) me ≡ Some entry
   pub used : IsUsed now me
-
--- two seats at rest that met have seen one good history, and each speaks for what it spoke for
-pub record HaveMet {K : Type 0} (allows : K → Allows) (terms : Terms K) (v w new_v new_w : View)
-    : Type 0 where
-  pub now : History
-  pub left : new_v ≡ resting now (known_of v).speaks
-  pub right : new_w ≡ resting now (known_of w).speaks
-  pub first : OthersCame (known_of v).speaks (known_of v).seen now
-  pub second : OthersCame (known_of w).speaks (known_of w).seen now
-  pub distinct : is_distinct ((known_of v).speaks ++ (known_of w).speaks) ≡ true
-  pub good : IsGoodAt allows terms now
 
 -- a look, at a phaser's terms
 abbrev pub LearnedAt : {K : Type 0} → (K → Allows) → Terms K → View → View → Type 0

@@ -1,22 +1,10 @@
 -- A turn of a seat that asked: what it read of others' asks, and what it did so far.
 use Rattle.std.specs.Prelude.{◌≡◌, ℕ, ◌+◌, ◌<◌, ◌≤◌, List, [], ◌∷◌, ◌++◌, ◌⊎◌, Bool, true, false, Option, Some, None, Result, Ok, Err}
 use Rattle.turn_lock.specs.Seats.{Place}
-use Rattle.phase_core.specs.phase_base.Limits.{Limits}
-use Rattle.phase_core.specs.phase_base.Modes.{mode_signals, mode_waits}
-use Rattle.phase_core.specs.phase_base.Members.{Members, entry_of}
-use Rattle.phase_core.specs.phase_base.declared.entry.Entry.{Entry}
-use Rattle.phase_core.specs.phase_accum.Operations.{Operation}
-use Rattle.phase_core.specs.phase_accum.Parcels.{StandsForSends}
+use Rattle.phase_shared.specs.Phasers.{Limits, mode_signals, mode_waits, entry_of, Entry, Operation, StandsForSends, Outcome, SignalRefusal, History, IsAlive, members_of, done_of, value_of_phase, signal_refusal, wait_refusal, OthersCame, CoreState, StandsFor, is_in}
+use Rattle.phase_core.specs.phase_base.Members.{Members}
 use Rattle.phase_shared.specs.Regs.{RegState}
-use Rattle.phase_core.specs.phase_accum.declared.outcome.Outcome.{Outcome}
 use Rattle.phase_core.specs.phase_history.declared.event.Event.TheVariants.{Waited}
-use Rattle.phase_core.specs.phase_history.declared.refusal.SignalRefusal.{SignalRefusal}
-use Rattle.phase_core.specs.phase_history.Histories.{History, IsAlive, members_of, done_of}
-use Rattle.phase_core.specs.phase_history.Phases.{value_of_phase}
-use Rattle.phase_core.specs.phase_history.Refusals.{signal_refusal, wait_refusal}
-use Rattle.phase_core.specs.phase_history.Others.{OthersCame}
-use Rattle.phase_core.specs.Cores.{CoreState, StandsFor}
-use Rattle.phase_core.specs.phase_base.Lists.{is_in}
 use Rattle.phase_shared.specs.declared.seats.view.View.{View}
 use Rattle.phase_shared.specs.declared.seats.view.View.TheVariants.{Asking}
 use Rattle.phase_shared.specs.declared.seats.request.Request.{Request}
@@ -99,44 +87,50 @@ pub record IsBetween (members : Members) (task phase : ℕ) : Type 0 where
   pub wait_at : entry.wait_phase ≡ phase
 
 module _ {A : Type 0} (op : Operation A) (limits : Limits) (allows : Allows) (ask : Ask) where
-  -- a turn: what the seat read, and the events of the turn. Where it has not begun to serve, none
-  -- of the asks that it read is answered; else its phase is complete, and those for it, of tasks
-  -- below k, are
-  pub record Turned (serves : Bool) (k : ℕ) (v : View) (x : CoreState A) : Type 0 where
+  -- what the seat read in its turn, and the events of the turn
+  pub record Did : Type 0 where
     pub now : History
     pub claims : List Ask
     pub said : Outcome
     pub lane : Option ℕ
     pub later : History
-    pub is : v ≡ turning now (ask.task ∷ []) claims said lane
     pub some : now ≡ [] → ⊥
     pub batch : Batch (IsOneOf claims) (ask.task ∷ []) later now
-    pub good : IsGood limits allows (later ++ now)
-    pub stands : StandsWithin op limits x (later ++ now)
     pub theirs : (a : Ask) → IsOneOf claims a → is_in a.task (ask.task ∷ []) ≡ false
     pub own : (lane ≡ None) ⊎ (lane ≡ Some (ask.phase + 1))
-    pub quiet : serves ≡ false → (a : Ask) → IsOneOf claims a
-        → IsAtPhases (later ++ now) a.task (a.phase + 1) (a.phase + 1) → ⊥
-    pub complete : serves ≡ true → ask.phase < done_of (later ++ now)
-    pub served : (a : Ask) → IsOneOf claims a → a.task < k → a.phase ≡ ask.phase
-        → IsAtPhases (later ++ now) a.task (a.phase + 1) (a.phase + 1)
+
+  -- a turn. Where it has not begun to serve, none of the asks that it read is answered; else its
+  -- phase is complete, and those for it, of tasks below k, are
+  pub record Turned (serves : Bool) (k : ℕ) (v : View) (x : CoreState A) : Type 0 where
+    pub did : Did
+    pub is : v ≡ turning did.now (ask.task ∷ []) did.claims did.said did.lane
+    pub good : IsGood limits allows (did.later ++ did.now)
+    pub stands : StandsWithin op limits x (did.later ++ did.now)
+    pub quiet : serves ≡ false → (a : Ask) → IsOneOf did.claims a
+        → IsAtPhases (did.later ++ did.now) a.task (a.phase + 1) (a.phase + 1) → ⊥
+    pub complete : serves ≡ true → ask.phase < done_of (did.later ++ did.now)
+    pub served : (a : Ask) → IsOneOf did.claims a → a.task < k → a.phase ≡ ask.phase
+        → IsAtPhases (did.later ++ did.now) a.task (a.phase + 1) (a.phase + 1)
 
 module _ {A : Type 0} (op : Operation A) (limits : Limits) (allows : Allows) (ask : Ask)
     (seen : History) where
   -- at the beginning of a turn: nothing of what it asked for is made
   pub record Starting (v : View) (x : CoreState A) : Type 0 where
     pub turned : Turned op limits allows ask false 0 v x
-    pub first : turned.later ≡ []
-    pub unmade : IsUnmade ask seen turned.now
-    pub waits : IsWaiterIn turned.now ask.task
+    pub first : turned.did.later ≡ []
+    pub unmade : IsUnmade ask seen turned.did.now
+    pub waits : IsWaiterIn turned.did.now ask.task
     pub may : MayMakeAsk limits allows seen ask
 
   -- its signal is made, and its wait is still to be made
+  pub record OwesWait (h : History) : Type 0 where
+    pub made : IsMade limits ask seen h
+    pub waits : IsWaiterIn h ask.task
+    pub may : MayMakeAsk limits allows seen ask
+
   pub record Serving (serves : Bool) (k : ℕ) (v : View) (x : CoreState A) : Type 0 where
     pub turned : Turned op limits allows ask serves k v x
-    pub made : IsMade limits ask seen (turned.later ++ turned.now)
-    pub waits : IsWaiterIn (turned.later ++ turned.now) ask.task
-    pub may : MayMakeAsk limits allows seen ask
+    pub owes : OwesWait (turned.did.later ++ turned.did.now)
 
   -- the same, where its phase was open when the turn was taken
   pub record ServingOpen (serves : Bool) (v : View) (x : CoreState A) : Type 0 where
@@ -149,7 +143,7 @@ module _ {A : Type 0} (op : Operation A) (limits : Limits) (allows : Allows) (as
       : Type 0 where
     pub turned : Turned op limits allows ask serves k v x
     pub middle : History
-    pub last : turned.later ++ turned.now ≡ Waited ask.task 1 ∷ middle
+    pub last : turned.did.later ++ turned.did.now ≡ Waited ask.task 1 ∷ middle
     pub made : IsMade limits ask seen middle
     pub accepted : wait_refusal limits middle ask.task 1 ≡ None
     pub complete : ask.phase < done_of middle
@@ -158,10 +152,10 @@ module _ {A : Type 0} (op : Operation A) (limits : Limits) (allows : Allows) (as
   -- at the beginning of a turn: others have answered, and the board has the value
   pub record IsAnsweredIn (v : View) (x : CoreState A) : Type 0 where
     pub turned : Turned op limits allows ask false 0 v x
-    pub first : turned.later ≡ []
-    pub lane_is : turned.lane ≡ Some (ask.phase + 1)
-    pub answered : IsAnsweredAsk limits ask seen turned.now
-    pub has : turned.said ≡ value_of_phase op.value turned.now ask.phase
+    pub first : turned.did.later ≡ []
+    pub lane_is : turned.did.lane ≡ Some (ask.phase + 1)
+    pub answered : IsAnsweredAsk limits ask seen turned.did.now
+    pub has : turned.did.said ≡ value_of_phase op.value turned.did.now ask.phase
 
   -- the answer: its signal, others' events, and its wait
   pub record HasAnswer (outcome : Outcome) (w : View) : Type 0 where
@@ -190,7 +184,7 @@ module _ {A : Type 0} (op : Operation A) (limits : Limits) (allows : Allows) (as
 abbrev pub IsPhaseDone : {A : Type 0} {op : Operation A} {limits : Limits} {allows : Allows}
     {ask : Ask} {seen : History} {serves : Bool} {k : ℕ} {v : View} {x : CoreState A}
     → Serving op limits allows ask seen serves k v x → Type 0
-IsPhaseDone {ask = ask} s = ask.phase < done_of (s.turned.later ++ s.turned.now)
+IsPhaseDone {ask = ask} s = ask.phase < done_of (s.turned.did.later ++ s.turned.did.now)
 
 -- the phase is complete in whatever the core stands for
 abbrev pub IsCompleteIn : {A : Type 0} → Operation A → CoreState A → ℕ → Type 0

@@ -1,13 +1,7 @@
 -- What the steps of a seat tell it.
 use Rattle.std.specs.Prelude.{◌≡◌, ℕ, ℤ, ◌+◌, ◌<◌, ◌≤◌, ◌/◌, ◌%◌, List, [], ◌∷◌, ◌++◌, ◌⊎◌, Option, None, Some, false}
-use Rattle.phase_core.specs.phase_base.Limits.{Limits}
-use Rattle.phase_core.specs.phase_base.Lists.{is_in}
-use Rattle.phase_core.specs.phase_accum.declared.outcome.Outcome.{Outcome}
-use Rattle.phase_core.specs.phase_history.Histories.{History, done_of}
-use Rattle.phase_core.specs.phase_history.Phases.{value_of_phase}
-use Rattle.phase_core.specs.phase_history.Refusals.{wait_refusal}
+use Rattle.phase_shared.specs.Phasers.{Limits, is_in, Outcome, History, done_of, value_of_phase, wait_refusal, OthersCame}
 use Rattle.phase_core.specs.phase_history.declared.event.Event.TheVariants.{Waited}
-use Rattle.phase_core.specs.phase_history.Others.{OthersCame}
 use Rattle.phase_shared.specs.Goods.{Allows, IsGood}
 use Rattle.phase_shared.specs.declared.seats.view.Knowledge.{Knowledge}
 use Rattle.phase_shared.specs.Views.{knowledge, speaks_of, known_of}

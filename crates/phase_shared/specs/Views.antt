@@ -1,8 +1,6 @@
 -- What a seat knows: the history that it has seen, and the tasks that it speaks for.
 use Rattle.std.specs.Prelude.{◌≡◌, ℕ, List, [], ◌∷◌, ◌++◌, Bool, true, false, Option, None, take, drop}
-use Rattle.phase_core.specs.phase_history.Histories.{History}
-use Rattle.phase_core.specs.phase_history.Others.{OthersCame}
-use Rattle.phase_core.specs.phase_accum.declared.outcome.Outcome.{Outcome}
+use Rattle.phase_shared.specs.Phasers.{History, OthersCame, Outcome}
 use Rattle.phase_core.specs.phase_accum.declared.outcome.Outcome.TheVariants.{Empty}
 use Rattle.phase_shared.specs.declared.seats.view.Ask.{Ask}
 use Rattle.phase_shared.specs.declared.seats.view.Knowledge.{Knowledge}
@@ -66,6 +64,10 @@ first_part v = resting (known_of v).seen (take 1 (known_of v).speaks)
 -- the other numbers, with what was seen
 abbrev pub other_part : View → View
 other_part v = resting (known_of v).seen (drop 1 (known_of v).speaks)
+
+-- the view is at rest
+abbrev pub IsResting : View → Type 0
+IsResting v = v ≡ Resting (known_of v)
 
 -- the view is at rest and speaks for one number
 pub record SpeaksForOne (v : View) : Type 0 where

@@ -9,7 +9,7 @@ ghost use Rattle.phase_shared.specs.Joins.{RegistersNow};
 
 use crate::held::Held;
 use crate::phaser::Phaser;
-use crate::reg::Reg;
+use crate::reg::{Reg, taken};
 use crate::rule::SignalRule;
 use crate::seats::spins::Spins;
 use crate::seats::{block_steps, join_steps};
@@ -67,9 +67,7 @@ impl<A: Accumulate, K: SignalRule> Reg<A, K> {
             old.seen self.new.seen) result) old self.new result }
         ensures held { self.new.held ≡ self.old.held }
     {
-        let Some(seat) = self.seat.take() else {
-            unreachable!()
-        };
+        let seat = taken(&mut self.seat);
         let (seat, entry, answer) = block_steps::signal_lists(
             &phaser.locked,
             seat,
@@ -100,9 +98,7 @@ impl<A: Accumulate, K: SignalRule> Reg<A, K> {
             self.new.seen out.old out.new) result) old self.new result }
         ensures held { self.new.held ≡ self.old.held }
     {
-        let Some(seat) = self.seat.take() else {
-            unreachable!()
-        };
+        let seat = taken(&mut self.seat);
         let (seat, entry, answer) = block_steps::wait_block(
             &phaser.locked,
             seat,
@@ -130,9 +126,7 @@ impl<A: Accumulate, K: SignalRule> Reg<A, K> {
             result }
         ensures held { self.new.held ≡ self.old.held }
     {
-        let Some(seat) = self.seat.take() else {
-            unreachable!()
-        };
+        let seat = taken(&mut self.seat);
         let (seat, answer) = join_steps::register_now(
             &phaser.locked,
             seat,

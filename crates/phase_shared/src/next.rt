@@ -12,7 +12,7 @@ use crate::held::Held;
 use crate::lane_words::LANES;
 use crate::patience::Patience;
 use crate::phaser::Phaser;
-use crate::reg::Reg;
+use crate::reg::{Reg, taken};
 use crate::rule::SignalRule;
 use crate::seats::nexts;
 use crate::seats::request::Request;
@@ -168,9 +168,7 @@ impl<A: Accumulate, K: SignalRule> Reg<A, K> {
             old self.new result }
         ensures held { HeldAfter A.operation (is_ok result) self.old.held self.new.held }
     {
-        let Some(seat) = self.seat.take() else {
-            unreachable!()
-        };
+        let seat = taken(&mut self.seat);
         let (seat, answer) = nexts::next::<A, K, Brand, W>(
             rt,
             &phaser.locked,

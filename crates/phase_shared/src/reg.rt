@@ -1,5 +1,5 @@
 //! A registration, and what it reads and holds without a turn.
-ghost use Rattle.std.specs.Prelude.{◌≡◌, ◌≢◌, ◌↔◌, ◌+◌, ℤ, List, [], ◌∷◌, ◌++◌, Some, Err, OnOk, OnErr, true, false};
+ghost use Rattle.std.specs.Prelude.{◌≡◌, ◌≢◌, ◌↔◌, ◌+◌, ℤ, List, [], ◌∷◌, ◌++◌, Some, is_some, Err, OnOk, OnErr, true, false};
 ghost use Rattle.phase_core.specs.phase_base.declared.limits.TheConstants.{SENDS_MAX};
 ghost use Rattle.phase_core.specs.phase_base.Members.{entry_of};
 ghost use Rattle.phase_core.specs.phase_base.Modes.{mode_signals};
@@ -50,6 +50,17 @@ impl<A: Accumulate, K: SignalRule> Model for Reg<A, K> {
     ghost view = { λ r. reg_state r.seat r.number r.entry r.pending };
 
     ghost invariant = { λ r. IsReg K.allows r.seat r.number r.entry };
+}
+
+// Takes a seat from where a registration keeps it, for the time of a call.
+pub(crate) fn taken<T>(kept: &mut Option<T>) -> T
+    requires { is_some kept.old ≡ true }
+    ensures { kept.old ≡ Some result }
+{
+    let Some(seat) = kept.take() else {
+        unreachable!()
+    };
+    seat
 }
 
 impl<A: Accumulate, K: SignalRule> Reg<A, K> {
@@ -137,6 +148,15 @@ impl<A: Accumulate, K: SignalRule> Reg<A, K> {
             ≡ Some self.now.entry }
     {
         (self.entry.signal_phase, self.entry.wait_phase)
+    }
+
+    /// Returns how many of the phases that `next` went to were told by another's turn, which had
+    /// made its wait for it, and how many of these before it tried to take a turn: that one had
+    /// made its signal too. It takes no turn.
+    ///
+    /// These are counts for tests and measurements, and no contract speaks of them.
+    pub fn answers(&self) -> (u64, u64) {
+        self.spins.counts()
     }
 
     /// Returns how many phases from its signal phase on are not ahead, as far as the turns that

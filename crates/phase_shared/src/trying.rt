@@ -12,7 +12,7 @@ ghost use Rattle.phase_shared.specs.Nexts.{SignalsAndMayWait};
 use crate::held::Held;
 use crate::past::Past;
 use crate::phaser::Phaser;
-use crate::reg::Reg;
+use crate::reg::{Reg, taken};
 use crate::rule::SignalRule;
 use crate::seats::spins::Spins;
 use crate::seats::steps;
@@ -65,9 +65,7 @@ impl<A: Accumulate, K: SignalRule> Reg<A, K> {
             (StandsForSends A.operation self.new.held [] × (self.new.held.count ≡ 0)) }
         ensures held { OnErr result (self.new.held ≡ self.old.held) }
     {
-        let Some(seat) = self.seat.take() else {
-            unreachable!()
-        };
+        let seat = taken(&mut self.seat);
         let (seat, entry, answer) = steps::signal(
             &phaser.locked,
             seat,
@@ -99,9 +97,7 @@ impl<A: Accumulate, K: SignalRule> Reg<A, K> {
             old.seen self.new.seen) result) old self.new result }
         ensures held { self.new.held ≡ self.old.held }
     {
-        let Some(seat) = self.seat.take() else {
-            unreachable!()
-        };
+        let seat = taken(&mut self.seat);
         let (seat, entry, answer) = steps::wait(&phaser.locked, seat, self.number, self.entry);
         self.seat = Some(seat);
         self.entry = entry;
@@ -125,9 +121,7 @@ impl<A: Accumulate, K: SignalRule> Reg<A, K> {
             result }
         ensures held { self.new.held ≡ self.old.held }
     {
-        let Some(seat) = self.seat.take() else {
-            unreachable!()
-        };
+        let seat = taken(&mut self.seat);
         let (seat, answer) = steps::register(&phaser.locked, seat, self.number, self.entry, mode);
         self.seat = Some(seat);
         let made = match answer {
@@ -198,12 +192,8 @@ impl<A: Accumulate, K: SignalRule> Reg<A, K> {
             × (result.1.entry ≡ other.entry) × (result.1.held ≡ other.held) }
     {
         let (mut first, mut second) = (self, other);
-        let Some(seat) = first.seat.take() else {
-            unreachable!()
-        };
-        let Some(other_seat) = second.seat.take() else {
-            unreachable!()
-        };
+        let seat = taken(&mut first.seat);
+        let other_seat = taken(&mut second.seat);
         let (seat, other_seat) = steps::meet(&phaser.locked, seat, other_seat);
         first.seat = Some(seat);
         second.seat = Some(other_seat);

@@ -15,7 +15,6 @@ use crate::refusal;
 use crate::reg::Reg;
 use crate::rule::SignalRule;
 use crate::tried::Tried;
-use crossbeam_utils::Backoff;
 use phase_core::phase_accum::{Accumulate, Single};
 use phase_core::phase_base::Mode;
 use phase_core::{Got, RegisterRefusal, SignalRefusal, WaitRefusal};
@@ -100,7 +99,7 @@ impl<A: Accumulate, K: SignalRule> Reg<A, K> {
                 .locked
                 .pause_for_room(rt, phase, phases, patience.is_first());
         }
-        patience.snooze_if_busy(&tried);
+        patience.snooze_if_busy(rt, &tried);
     }
 
     /// Waits for its phase, and answers it with its value, or that no more will come. It waits
@@ -125,7 +124,7 @@ impl<A: Accumulate, K: SignalRule> Reg<A, K> {
             if let Some(refusal) = refusal::of_wait(tried) {
                 return Err(refusal);
             }
-            patience.snooze_if_busy(&tried);
+            patience.snooze_if_busy(rt, &tried);
         }
         unreachable!()
     }
@@ -157,7 +156,7 @@ impl<A: Accumulate, K: SignalRule> Reg<A, K> {
             (Registers A.operation mode old self.new result) old self.new result }
         ensures held { self.new.held ≡ self.old.held }
     {
-        let backoff = Backoff::new();
+        let patience = Patience::new();
         for _ in rt.forever() {
             let tried = match self.try_register(phaser, mode) {
                 Ok(child) => return Ok(child),
@@ -166,7 +165,7 @@ impl<A: Accumulate, K: SignalRule> Reg<A, K> {
             if let Tried::Refused(refusal) = tried {
                 return Err(refusal);
             }
-            backoff.snooze();
+            patience.snooze(rt);
         }
         unreachable!()
     }
@@ -181,14 +180,14 @@ impl<A: Accumulate, K: SignalRule> Reg<A, K> {
         ensures at { result.at ≡ self.at }
         ensures good { IsGoodAt K.allows (phaser_terms phaser.now) result.seen }
     {
-        let backoff = Backoff::new();
+        let patience = Patience::new();
         let mut reg = self;
         for _ in rt.forever() {
             match reg.try_leave(phaser) {
                 Ok(past) => return past,
                 Err(back) => reg = back,
             }
-            backoff.snooze();
+            patience.snooze(rt);
         }
         unreachable!()
     }

@@ -12,7 +12,6 @@ use crate::refusal;
 use crate::reg::Reg;
 use crate::rule::SignalRule;
 use crate::tried::Tried;
-use crossbeam_utils::Backoff;
 use phase_core::phase_accum::{Accumulate, Outcome, Pending, Single};
 use phase_core::{GotBlock, RegisterRefusal, SignalRefusal, WaitRefusal};
 use std::sync::Wait;
@@ -117,7 +116,7 @@ impl<A: Accumulate, K: SignalRule> Reg<A, K> {
             if let Some(refusal) = refusal::of_wait(tried) {
                 return Err(refusal);
             }
-            patience.snooze_if_busy(&tried);
+            patience.snooze_if_busy(rt, &tried);
         }
         unreachable!()
     }
@@ -137,7 +136,7 @@ impl<A: Accumulate, K: SignalRule> Reg<A, K> {
             (RegistersNow A.operation old self.new result) old self.new result }
         ensures held { self.new.held ≡ self.old.held }
     {
-        let backoff = Backoff::new();
+        let patience = Patience::new();
         for _ in rt.forever() {
             let tried = match self.try_register_now(phaser) {
                 Ok(child) => return Ok(child),
@@ -146,7 +145,7 @@ impl<A: Accumulate, K: SignalRule> Reg<A, K> {
             if let Tried::Refused(refusal) = tried {
                 return Err(refusal);
             }
-            backoff.snooze();
+            patience.snooze(rt);
         }
         unreachable!()
     }

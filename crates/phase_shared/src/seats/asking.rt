@@ -45,7 +45,11 @@ impl<'a, A: Accumulate, K: SignalRule, S: Since<K>> AskingDesk<'a, A, K, S> {
         }
         let (desk, outcome) = desk.read_answer();
         let answer = Ok(outcome);
-        Came::Ended(EndedDesk { desk, answer })
+        Came::Ended(EndedDesk {
+            desk,
+            answer,
+            is_told: true,
+        })
     }
 }
 

@@ -1,15 +1,15 @@
 //! The steps of a seat for a block of phases.
 ghost use Rattle.std.specs.Prelude.{◌≡◌, ℤ, List, [], ◌∷◌, length, true};
-ghost use Rattle.turn_lock.specs.Seats.{IsSeatAt, IsSameSeat, seat_view};
+ghost use Rattle.turn_lock.specs.Seats.{IsSameSeat, seat_view};
 ghost use Rattle.phase_core.specs.phase_history.Histories.{History};
 ghost use Rattle.phase_core.specs.phase_history.Others.{OthersCame};
 ghost use Rattle.phase_core.specs.Blocks.{StandForLists};
 ghost use Rattle.phase_shared.specs.Views.{known_of};
-ghost use Rattle.phase_shared.specs.Rule.{IsGoodAt, IsSeatOfTask};
-ghost use Rattle.phase_shared.specs.Steps.{IsStep};
+ghost use Rattle.phase_shared.specs.Rule.{IsGoodAt};
+ghost use Rattle.phase_shared.specs.Steps.{IsStep, IsSeatOn};
 ghost use Rattle.phase_shared.specs.Calls.{Tries};
 ghost use Rattle.phase_shared.specs.Blocks.{SignalsBlock, WaitsBlock, entry_after_block, entry_after_values};
-ghost use Rattle.phase_shared.specs.LockedPhasers.{locked_place, locked_terms, locked_limits};
+ghost use Rattle.phase_shared.specs.LockedPhasers.{locked_terms, locked_limits};
 
 use crate::rule::SignalRule;
 use crate::seats::hints::Hints;
@@ -42,20 +42,18 @@ pub fn signal_lists<A: Accumulate, K: SignalRule>(
     lists: &[Pending<A>],
     single: Option<Single>,
 ) -> (PhaserSeat<A, K>, Entry, Result<u64, Tried<SignalRefusal>>)
-    requires seat { IsSeatAt (locked_place phaser.now) seat }
-    requires at { IsSeatOfTask K.allows (locked_terms phaser.now) me entry (seat_view seat) }
+    requires seat { IsSeatOn K.allows phaser.now me entry seat }
     requires rule { (h : History) (sends : List (List ℤ))
         → IsGoodAt K.allows (locked_terms phaser.now) h
         → OthersCame (me ∷ []) (known_of (seat_view seat)).seen h
         → StandForLists A.operation lists.now sends
         → K.allows (locked_terms phaser.now).rule h me sends single }
-    ensures seat { IsSeatAt (locked_place phaser.now) result.0 }
-    ensures step { IsStep K.allows (locked_terms phaser.now) me SignalRefusal.NoTask
+    ensures { IsStep K.allows phaser.now me SignalRefusal.NoTask
         (entry_after_block (length lists.now))
         (Tries (IsSameSeat seat result.0 × (result.1 ≡ entry))
         (SignalsBlock A.operation (locked_limits phaser.now) me lists.now single
         (known_of (seat_view seat)).seen (known_of (seat_view result.0)).seen) result.2)
-        entry result.1 (seat_view seat) (seat_view result.0) result.2 }
+        entry result.1 seat result.0 result.2 }
 {
     prove!(are_held(lists));
     let mut turn = match enter(phaser, seat, me, entry) {
@@ -87,15 +85,13 @@ pub fn wait_block<A: Accumulate, K: SignalRule>(
     Entry,
     Result<GotBlock, Tried<WaitRefusal>>,
 )
-    requires seat { IsSeatAt (locked_place phaser.now) seat }
-    requires at { IsSeatOfTask K.allows (locked_terms phaser.now) me entry (seat_view seat) }
-    ensures seat { IsSeatAt (locked_place phaser.now) result.0 }
-    ensures step { IsStep K.allows (locked_terms phaser.now) me WaitRefusal.NoTask
+    requires { IsSeatOn K.allows phaser.now me entry seat }
+    ensures { IsStep K.allows phaser.now me WaitRefusal.NoTask
         entry_after_values
         (Tries (IsSameSeat seat result.0 × (result.1 ≡ entry) × (out.new ≡ out.old))
         (WaitsBlock A.operation.value (locked_limits phaser.now) me
         (known_of (seat_view seat)).seen (known_of (seat_view result.0)).seen out.old out.new)
-        result.2) entry result.1 (seat_view seat) (seat_view result.0) result.2 }
+        result.2) entry result.1 seat result.0 result.2 }
 {
     let mut turn = match enter(phaser, seat, me, entry) {
         Ok(turn) => turn,

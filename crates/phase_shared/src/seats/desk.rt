@@ -76,11 +76,13 @@ impl<'a, A: Accumulate, K: SignalRule, S: Since<K>> Model for AskingDesk<'a, A, 
         × MayWait S.terms.limits (allows_or K.allows S.terms.rule) S.ask S.seen };
 }
 
-/// A seat whose call has ended: with the value of its phase, or as a signal is refused.
+/// A seat whose call has ended: with the value of its phase, or as a signal is refused. Another's
+/// turn told it that, or its own came to it.
 #[derive(Drop)]
 pub struct EndedDesk<'a, A: Accumulate, K: SignalRule, S: Since<K>> {
     pub desk: Desk<'a, A, K, S>,
     pub answer: Result<Outcome, SignalRefusal>,
+    pub is_told: bool,
 }
 
 impl<'a, A: Accumulate, K: SignalRule, S: Since<K>> Model for EndedDesk<'a, A, K, S> {

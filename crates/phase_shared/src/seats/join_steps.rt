@@ -1,11 +1,9 @@
 //! The step of a seat that registers a waiter which joins now.
-ghost use Rattle.turn_lock.specs.Seats.{IsSeatAt, IsSameSeat, seat_view};
+ghost use Rattle.turn_lock.specs.Seats.{IsSameSeat, seat_view};
 ghost use Rattle.phase_shared.specs.Views.{known_of};
-ghost use Rattle.phase_shared.specs.Rule.{IsSeatOfTask};
-ghost use Rattle.phase_shared.specs.Steps.{IsStep, RegistersSeatNow};
+ghost use Rattle.phase_shared.specs.Steps.{IsStep, RegistersSeatNow, IsSeatOn};
 ghost use Rattle.phase_shared.specs.Calls.{Tries};
 ghost use Rattle.phase_shared.specs.Entries.{entry_stays};
-ghost use Rattle.phase_shared.specs.LockedPhasers.{locked_place, locked_terms};
 
 use crate::rule::SignalRule;
 use crate::seats::hints::Hints;
@@ -28,14 +26,11 @@ pub fn register_now<A: Accumulate, K: SignalRule>(
     PhaserSeat<A, K>,
     Result<(u64, PhaserSeat<A, K>, Entry), Tried<RegisterRefusal>>,
 )
-    requires seat { IsSeatAt (locked_place phaser.now) seat }
-    requires at { IsSeatOfTask K.allows (locked_terms phaser.now) me entry (seat_view seat) }
-    ensures seat { IsSeatAt (locked_place phaser.now) result.0 }
-    ensures step { let old = (known_of (seat_view seat)).seen in
-        IsStep K.allows (locked_terms phaser.now) me RegisterRefusal.NoTask entry_stays
-        (Tries (IsSameSeat seat result.0) (RegistersSeatNow K.allows (locked_place phaser.now)
-        (locked_terms phaser.now) me entry old (known_of (seat_view result.0)).seen) result.1)
-        entry entry (seat_view seat) (seat_view result.0) result.1 }
+    requires { IsSeatOn K.allows phaser.now me entry seat }
+    ensures { let old = (known_of (seat_view seat)).seen in
+        IsStep K.allows phaser.now me RegisterRefusal.NoTask entry_stays
+        (Tries (IsSameSeat seat result.0) (RegistersSeatNow K.allows phaser.now me entry old
+        (known_of (seat_view result.0)).seen) result.1) entry entry seat result.0 result.1 }
 {
     let mut turn = match enter(phaser, seat, me, entry) {
         Ok(turn) => turn,

@@ -119,7 +119,7 @@ impl<'a, A: Accumulate, K: SignalRule, S: Since<K>> AskingDesk<'a, A, K, S> {
     // Looks for its answer once more, and then waits for it.
     fn wait_longer<W: Wait>(self, rt: &W, spins: &mut Spins) -> EndedDesk<'a, A, K, S> {
         let times = if spins.is_slow() { FEW } else { LOOKS };
-        match self.look_for(times) {
+        let ended = match self.look_for(times) {
             Came::Ended(ended) => {
                 spins.quick();
                 ended
@@ -129,7 +129,11 @@ impl<'a, A: Accumulate, K: SignalRule, S: Since<K>> AskingDesk<'a, A, K, S> {
                 spins.answered();
                 asking.wait_for(rt)
             }
+        };
+        if ended.is_told {
+            spins.told(false);
         }
+        ended
     }
 }
 
@@ -175,6 +179,7 @@ impl<'a, A: Accumulate, K: SignalRule, S: Since<K>> ReadyDesk<'a, A, K, S> {
         match asking.look_for(spins.first()) {
             Came::Ended(ended) => {
                 spins.quick();
+                spins.told(true);
                 ended
             }
             Came::Asked(asking) => asking.try_turn(spins.serve()).after_turn(rt, spins),
@@ -223,7 +228,7 @@ pub fn next<A: Accumulate, K: SignalRule, S: Since<K>, W: Wait>(
     let desk = Desk { of, seat };
     let ready = ReadyDesk { desk, entry };
     let ended = ready.go(rt, spins);
-    let EndedDesk { desk, answer } = ended;
+    let EndedDesk { desk, answer, .. } = ended;
     let Desk { seat, .. } = desk;
     (seat, answer)
 }

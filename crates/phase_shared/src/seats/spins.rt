@@ -20,6 +20,9 @@ pub struct Spins {
     // How often it looks for posts under the turn, and for its answer after a post.
     serve: u32,
     first: u32,
+    // How many phases others' turns answered, and how many of these before it tried to take a turn.
+    answers: u64,
+    asks: u64,
 }
 
 fn doubled(number: u32, most: u32) -> u32 {
@@ -37,7 +40,14 @@ impl Spins {
             serves_others: false,
             serve: SERVE,
             first: FIRST,
+            answers: 0,
+            asks: 0,
         }
+    }
+
+    // How many phases others' turns answered, and how many of these before it tried to take a turn.
+    pub fn counts(&self) -> (u64, u64) {
+        (self.answers, self.asks)
     }
 
     // Before a phase: who did not look tries to again, now and then.
@@ -90,6 +100,14 @@ impl Spins {
     pub fn answered(&mut self) {
         self.has_served = false;
         self.serves_others = false;
+    }
+
+    // Another's turn told it the answer, before it tried to take one or behind that.
+    pub fn told(&mut self, is_first: bool) {
+        self.answers = self.answers.wrapping_add(1);
+        if is_first {
+            self.asks = self.asks.wrapping_add(1);
+        }
     }
 
     // Its answer did not come soon.

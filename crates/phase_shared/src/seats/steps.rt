@@ -1,21 +1,20 @@
 //! The steps of a seat at rest that speaks for one task. Each call of a registration is one.
 ghost use Rattle.std.specs.Prelude.{◌≡◌, ℤ, List, [], ◌∷◌, true, false, Ok, Err, IfOk, IfErr, IsOk, IsErr, OnErr};
-ghost use Rattle.turn_lock.specs.Seats.{IsSeatAt, IsTurnAt, IsSameSeat, seat_view, turn_number, turn_view, turn_value, turn_told};
+ghost use Rattle.turn_lock.specs.Seats.{IsTurnAt, IsSameSeat, seat_view, turn_number, turn_view, turn_value, turn_told};
 ghost use Rattle.turn_lock.specs.WordSteps.{GivesOf};
 ghost use Rattle.phase_core.specs.phase_accum.Parcels.{StandsForSends};
 ghost use Rattle.phase_core.specs.phase_history.Histories.{History};
 ghost use Rattle.phase_core.specs.phase_history.declared.event.Event.TheVariants.{Signalled};
 ghost use Rattle.phase_core.specs.phase_history.Replies.{signal_reply, wait_reply};
 ghost use Rattle.phase_core.specs.phase_history.Others.{OnlyUsed, OthersCame};
-ghost use Rattle.phase_shared.specs.declared.seats.view.View.TheVariants.{Resting};
-ghost use Rattle.phase_shared.specs.Views.{resting, known_of, speaks_of, joining, first_part, other_part, SpeaksForOne, SpeaksForTwo};
-ghost use Rattle.phase_shared.specs.Rule.{HasOneHistory, AfterTake, IsGoodAt, IsSeatOfTask, LearnedAt, HaveMet};
+ghost use Rattle.phase_shared.specs.Views.{resting, known_of, speaks_of, joining, first_part, other_part, IsResting, SpeaksForOne, SpeaksForTwo};
+ghost use Rattle.phase_shared.specs.Rule.{HasOneHistory, AfterTake, IsGoodAt, LearnedAt};
 ghost use Rattle.phase_core.specs.Cores.{StandsFor};
 ghost use Rattle.phase_core.specs.Passes.{after_both};
-ghost use Rattle.phase_shared.specs.Steps.{IsStep, RegistersSeat, GivesEven};
+ghost use Rattle.phase_shared.specs.Steps.{IsStep, RegistersSeat, GivesNoAnswer, IsSeatOn, HaveMet};
 ghost use Rattle.phase_shared.specs.Calls.{Tries, Waits, LeavesSeat, SignalsAndMayWait, number_after, tried};
 ghost use Rattle.phase_shared.specs.Entries.{entry_stays, entry_after_wait, entry_after_both};
-ghost use Rattle.phase_shared.specs.LockedPhasers.{locked_place, locked_terms, locked_limits};
+ghost use Rattle.phase_shared.specs.LockedPhasers.{locked_place, locked_terms, locked_limits, RestsOn, IsTurnOn};
 
 use crate::rule::SignalRule;
 use crate::seats::ghost_steps::{OnGive, OnJoin, OnLook, OnSplit, OnTake, Plan, Same};
@@ -35,15 +34,12 @@ pub(crate) fn enter<A: Accumulate, K: SignalRule>(
     me: u64,
     entry: Entry,
 ) -> Result<PhaserTurn<A, K>, PhaserSeat<A, K>>
-    requires seat { IsSeatAt (locked_place phaser.now) seat }
-    requires at { IsSeatOfTask K.allows (locked_terms phaser.now) me entry (seat_view seat) }
-    ensures turn { IfOk result (λ turn. IsTurnAt (locked_place phaser.now) turn) }
-    ensures took { IfOk result (λ turn. AfterTake A.operation K.allows (locked_terms phaser.now) me
-        entry (seat_view seat) (turn_value turn) (turn_view turn)) }
+    requires { IsSeatOn K.allows phaser.now me entry seat }
+    ensures turn { IfOk result (λ turn. IsTurnOn (locked_place phaser.now) turn
+        (AfterTake A.operation K.allows (locked_terms phaser.now) me entry (seat_view seat))) }
 
     ensures err { IfErr result (λ back. IsSameSeat seat back) }
-    ensures still { IfErr result (λ back.
-        IsSeatOfTask K.allows (locked_terms phaser.now) me entry (seat_view back)) }
+    ensures still { IfErr result (λ back. IsSeatOn K.allows phaser.now me entry back) }
     ensures alone { OnlyUsed (me ∷ []) (known_of (seat_view seat)).seen → IsOk result }
 {
     match phaser.lock.try_take::<OnTake<A, K>>(seat) {
@@ -60,15 +56,18 @@ pub(crate) fn put_back<A: Accumulate, K: SignalRule, E: Plan, X: Copy>(
     told: X,
 ) -> PhaserSeat<A, K>
     requires turn { IsTurnAt (locked_place phaser.now) turn }
-    requires rule { GivesEven (HasOneHistory A.operation K.allows) (locked_terms phaser.now)
+    requires rule { GivesNoAnswer (HasOneHistory A.operation K.allows) (locked_terms phaser.now)
         (turn_number turn) (turn_view turn) (turn_value turn) (turn_told turn)
         (λ v y w. E.goes v w) }
-    ensures seat { IsSeatAt (locked_place phaser.now) result }
-    ensures rule { E.goes (turn_view turn) (seat_view result) }
+    ensures { RestsOn (locked_place phaser.now) result (E.goes (turn_view turn)) }
 {
     let _ = told;
-    let news = phaser.news(reached);
-    let seat = phaser.lock.give::<OnGive<E>>(turn, news.done * 2);
+    let (turn, last) = phaser.lock.told_in(turn);
+    let news = phaser.hints.news(reached, last / 2);
+    // What was told may answer asks: it stands until more phases are complete.
+    let done = news.done * 2;
+    let next = if last < done { done } else { last };
+    let seat = phaser.lock.give::<OnGive<E>>(turn, next);
     phaser.hints.tell::<K>(news);
     seat
 }
@@ -82,9 +81,8 @@ pub(crate) fn give_same<A: Accumulate, K: SignalRule>(
     requires rule { GivesOf (HasOneHistory A.operation K.allows) (locked_terms phaser.now)
         (turn_number turn) (turn_view turn) (turn_value turn) (turn_told turn) (turn_told turn)
         (λ v y w. w ≡ resting (known_of v).seen (speaks_of v)) }
-    ensures seat { IsSeatAt (locked_place phaser.now) result }
-    ensures rule { seat_view result
-        ≡ resting (known_of (turn_view turn)).seen (speaks_of (turn_view turn)) }
+    ensures { RestsOn (locked_place phaser.now) result
+        (λ w. w ≡ resting (known_of (turn_view turn)).seen (speaks_of (turn_view turn))) }
 {
     let (turn, told) = phaser.lock.told_in(turn);
     phaser.lock.give::<Same>(turn, told)
@@ -138,18 +136,16 @@ pub fn signal<A: Accumulate, K: SignalRule>(
     Entry,
     Result<(u64, Option<Got>), Tried<SignalRefusal>>,
 )
-    requires seat { IsSeatAt (locked_place phaser.now) seat }
-    requires at { IsSeatOfTask K.allows (locked_terms phaser.now) me entry (seat_view seat) }
+    requires seat { IsSeatOn K.allows phaser.now me entry seat }
     requires rule { (h : History) (sends : List ℤ) → IsGoodAt K.allows (locked_terms phaser.now) h
         → OthersCame (me ∷ []) (known_of (seat_view seat)).seen h
         → StandsForSends A.operation pending sends
         → K.allows (locked_terms phaser.now).rule h me (sends ∷ []) single }
-    ensures seat { IsSeatAt (locked_place phaser.now) result.0 }
-    ensures step { IsStep K.allows (locked_terms phaser.now) me SignalRefusal.NoTask
-        entry_after_both (Tries (IsSameSeat seat result.0 × (result.1 ≡ entry))
+    ensures { IsStep K.allows phaser.now me SignalRefusal.NoTask entry_after_both
+        (Tries (IsSameSeat seat result.0 × (result.1 ≡ entry))
         (SignalsAndMayWait waits A.operation (locked_limits phaser.now) me pending single
         (known_of (seat_view seat)).seen (known_of (seat_view result.0)).seen) result.2)
-        entry result.1 (seat_view seat) (seat_view result.0) result.2 }
+        entry result.1 seat result.0 result.2 }
 {
     let mut turn = match enter(phaser, seat, me, entry) {
         Ok(turn) => turn,
@@ -183,11 +179,9 @@ pub fn leave<A: Accumulate, K: SignalRule>(
     me: u64,
     entry: Entry,
 ) -> Result<PhaserSeat<A, K>, PhaserSeat<A, K>>
-    requires seat { IsSeatAt (locked_place phaser.now) seat }
-    requires at { IsSeatOfTask K.allows (locked_terms phaser.now) me entry (seat_view seat) }
-    ensures seat { IfOk result (λ s. IsSeatAt (locked_place phaser.now) s) }
-    ensures ok { IfOk result (λ s. LeavesSeat K.allows (locked_terms phaser.now) me
-        (known_of (seat_view seat)).seen (seat_view s)) }
+    requires { IsSeatOn K.allows phaser.now me entry seat }
+    ensures ok { IfOk result (λ s. RestsOn (locked_place phaser.now) s
+        (LeavesSeat K.allows (locked_terms phaser.now) me (known_of (seat_view seat)).seen)) }
     ensures err { IfErr result (λ s. IsSameSeat seat s) }
     ensures alone { OnlyUsed (me ∷ []) (known_of (seat_view seat)).seen → IsOk result }
 {
@@ -219,14 +213,12 @@ pub fn wait<A: Accumulate, K: SignalRule>(
     me: u64,
     entry: Entry,
 ) -> (PhaserSeat<A, K>, Entry, Result<Got, Tried<WaitRefusal>>)
-    requires seat { IsSeatAt (locked_place phaser.now) seat }
-    requires at { IsSeatOfTask K.allows (locked_terms phaser.now) me entry (seat_view seat) }
-    ensures seat { IsSeatAt (locked_place phaser.now) result.0 }
-    ensures step { IsStep K.allows (locked_terms phaser.now) me WaitRefusal.NoTask
+    requires { IsSeatOn K.allows phaser.now me entry seat }
+    ensures { IsStep K.allows phaser.now me WaitRefusal.NoTask
         entry_after_wait (Tries (IsSameSeat seat result.0 × (result.1 ≡ entry))
         (Waits A.operation.value (locked_limits phaser.now) me
         (known_of (seat_view seat)).seen (known_of (seat_view result.0)).seen) result.2)
-        entry result.1 (seat_view seat) (seat_view result.0) result.2 }
+        entry result.1 seat result.0 result.2 }
 {
     let mut turn = match enter(phaser, seat, me, entry) {
         Ok(turn) => turn,
@@ -260,14 +252,11 @@ pub fn register<A: Accumulate, K: SignalRule>(
     PhaserSeat<A, K>,
     Result<(u64, PhaserSeat<A, K>, Entry), Tried<RegisterRefusal>>,
 )
-    requires seat { IsSeatAt (locked_place phaser.now) seat }
-    requires at { IsSeatOfTask K.allows (locked_terms phaser.now) me entry (seat_view seat) }
-    ensures seat { IsSeatAt (locked_place phaser.now) result.0 }
-    ensures step { let old = (known_of (seat_view seat)).seen in
-        IsStep K.allows (locked_terms phaser.now) me RegisterRefusal.NoTask entry_stays
-        (Tries (IsSameSeat seat result.0) (RegistersSeat K.allows (locked_place phaser.now)
-        (locked_terms phaser.now) me mode entry old (known_of (seat_view result.0)).seen) result.1)
-        entry entry (seat_view seat) (seat_view result.0) result.1 }
+    requires { IsSeatOn K.allows phaser.now me entry seat }
+    ensures { let old = (known_of (seat_view seat)).seen in
+        IsStep K.allows phaser.now me RegisterRefusal.NoTask entry_stays
+        (Tries (IsSameSeat seat result.0) (RegistersSeat K.allows phaser.now me mode entry old
+        (known_of (seat_view result.0)).seen) result.1) entry entry seat result.0 result.1 }
 {
     let mut turn = match enter(phaser, seat, me, entry) {
         Ok(turn) => turn,
@@ -293,13 +282,10 @@ pub fn join<A: Accumulate, K: SignalRule>(
     seat: PhaserSeat<A, K>,
     other: PhaserSeat<A, K>,
 ) -> PhaserSeat<A, K>
-    requires seats { IsSeatAt (locked_place phaser.now) seat
-        × IsSeatAt (locked_place phaser.now) other }
-    requires rests { (seat_view seat ≡ Resting (known_of (seat_view seat)))
-        × (seat_view other ≡ Resting (known_of (seat_view other))) }
-    ensures seat { IsSeatAt (locked_place phaser.now) result }
-    ensures rule { LearnedAt K.allows (locked_terms phaser.now)
-        (joining (seat_view seat) (seat_view other)) (seat_view result) }
+    requires seat { RestsOn (locked_place phaser.now) seat IsResting }
+    requires other { RestsOn (locked_place phaser.now) other IsResting }
+    ensures { RestsOn (locked_place phaser.now) result (LearnedAt K.allows
+        (locked_terms phaser.now) (joining (seat_view seat) (seat_view other))) }
 {
     phaser.lock.join::<OnJoin, OnLook<K>>(seat, other)
 }
@@ -309,12 +295,11 @@ pub(crate) fn split<A: Accumulate, K: SignalRule>(
     phaser: &LockedPhaser<A, K>,
     seat: PhaserSeat<A, K>,
 ) -> (PhaserSeat<A, K>, PhaserSeat<A, K>)
-    requires seat { IsSeatAt (locked_place phaser.now) seat }
-    requires two { SpeaksForTwo (seat_view seat) }
-    ensures seats { IsSeatAt (locked_place phaser.now) result.0
-        × IsSeatAt (locked_place phaser.now) result.1 }
-    ensures left { seat_view result.0 ≡ first_part (seat_view seat) }
-    ensures right { seat_view result.1 ≡ other_part (seat_view seat) }
+    requires { RestsOn (locked_place phaser.now) seat SpeaksForTwo }
+    ensures left { RestsOn (locked_place phaser.now) result.0
+        (λ v. v ≡ first_part (seat_view seat)) }
+    ensures right { RestsOn (locked_place phaser.now) result.1
+        (λ v. v ≡ other_part (seat_view seat)) }
 {
     phaser.lock.split::<OnSplit>(seat)
 }
@@ -325,13 +310,9 @@ pub fn meet<A: Accumulate, K: SignalRule>(
     seat: PhaserSeat<A, K>,
     other: PhaserSeat<A, K>,
 ) -> (PhaserSeat<A, K>, PhaserSeat<A, K>)
-    requires seats { IsSeatAt (locked_place phaser.now) seat
-        × IsSeatAt (locked_place phaser.now) other }
-    requires rests { SpeaksForOne (seat_view seat) × SpeaksForOne (seat_view other) }
-    ensures seats { IsSeatAt (locked_place phaser.now) result.0
-        × IsSeatAt (locked_place phaser.now) result.1 }
-    ensures met { HaveMet K.allows (locked_terms phaser.now) (seat_view seat) (seat_view other)
-        (seat_view result.0) (seat_view result.1) }
+    requires seat { RestsOn (locked_place phaser.now) seat SpeaksForOne }
+    requires other { RestsOn (locked_place phaser.now) other SpeaksForOne }
+    ensures { HaveMet K.allows phaser.now (seat_view seat) (seat_view other) result.0 result.1 }
 {
     let both = join(phaser, seat, other);
     split(phaser, both)

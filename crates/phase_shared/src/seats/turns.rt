@@ -59,7 +59,11 @@ impl<'a, A: Accumulate, K: SignalRule, S: Since<K>> OnTurn<'a, A, K, S> {
         let (on, outcome) = self.read_board();
         let desk = on.give_same::<Brand, _>(outcome);
         let answer = Ok(outcome);
-        EndedDesk { desk, answer }
+        EndedDesk {
+            desk,
+            answer,
+            is_told: false,
+        }
     }
 
     // Waits for its phase, which is complete, and gives the turn back: others go on by themselves.
@@ -75,7 +79,11 @@ impl<'a, A: Accumulate, K: SignalRule, S: Since<K>> OnTurn<'a, A, K, S> {
         let desk = on.give_same::<Brand, _>(outcome);
         desk.of.phaser.hints.tell::<K>(news);
         let answer = Ok(outcome);
-        EndedDesk { desk, answer }
+        EndedDesk {
+            desk,
+            answer,
+            is_told: false,
+        }
     }
 }
 
@@ -119,7 +127,11 @@ impl<'a, A: Accumulate, K: SignalRule, S: Since<K>> RefusedTurn<'a, A, K, S> {
         let on = OnTurn { of, turn };
         let desk = on.clear_in().give_same::<Brand, _>(refusal);
         let answer = Err(refusal);
-        EndedDesk { desk, answer }
+        EndedDesk {
+            desk,
+            answer,
+            is_told: false,
+        }
     }
 }
 
@@ -162,7 +174,11 @@ impl<'a, A: Accumulate, K: SignalRule, S: Since<K>> FullTurn<'a, A, K, S> {
         let desk = on.give::<Brand, _>(told, outcome);
         desk.of.phaser.hints.tell::<K>(news);
         let answer = Ok(outcome);
-        EndedDesk { desk, answer }
+        EndedDesk {
+            desk,
+            answer,
+            is_told: false,
+        }
     }
 }
 

@@ -1,18 +1,12 @@
 use Rattle.std.proofs.Common.{◌≡◌, ℕ, Some, Ok, true, false, sym, subst, ap, refl, ◌∙◌, rules}
 use Rattle.std.specs.Prelude.{is_some}
-use Rattle.phase_core.specs.phase_base.declared.entry.Entry.{Entry}
-use Rattle.phase_core.specs.phase_base.Modes.{mode_signals, mode_waits}
-use Rattle.phase_core.specs.phase_base.Members.{entry_of, signalled}
-use Rattle.phase_core.specs.phase_history.declared.got.Got.{Got}
-use Rattle.phase_core.specs.phase_history.Histories.{History, members_of}
+use Rattle.phase_shared.specs.Phasers.{Entry, mode_signals, mode_waits, entry_of, signalled, Got, History, members_of, IsLegal, Limits}
 use Rattle.phase_shared.specs.Regs.{RegState, phaser_limits, phaser_terms}
-use Rattle.phase_core.specs.phase_history.Legal.{IsLegal}
 use Rattle.phase_core.specs.phase_history.declared.refusal.SignalRefusal.TheVariants.{NoTask}
 use Rattle.phase_shared.specs.Calls.{IsCall, Signals, Waits}
 use Rattle.phase_shared.specs.Entries.{entry_after_next}
 use Rattle.phase_shared.specs.Nexts.{GoesOrRefuses, SignalsAndMayWait, HasSignalledAndMayWait}
 use Rattle.phase_shared.proofs.NextSteps.{waits_else, signalled_member, signalled_apart, made, not_made, is_none, MadeWait, not_asked, answered, unanswered}
-use Rattle.phase_core.specs.phase_base.Limits.{Limits}
 use Rattle.phase_shared.proofs.reg.Reg.next.Given.{Over}
 use Rattle.phase_shared.proofs.reg.Reg.next.Goals.{After-mode-mode, then-not-waits-via-then-not-waits, then-not-waits-via-else-not-waits+then-is_some-2}
 use Rattle.phase_shared.proofs.reg.Reg.next.Goals as goal

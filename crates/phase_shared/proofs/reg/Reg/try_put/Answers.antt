@@ -1,9 +1,7 @@
 -- The one send is the value, held before the signal.
 use Rattle.std.proofs.Common.{[], ◌∷◌, sym, subst, ap, ◌∙◌, to_z-of_z}
 use Rattle.std.specs.Result.{result_ok}
-use Rattle.phase_core.specs.phase_accum.Parcels.{StandsForSends}
-use Rattle.phase_core.specs.phase_history.Histories.{History}
-use Rattle.phase_core.specs.phase_history.Others.{OnlyUsed}
+use Rattle.phase_shared.specs.Phasers.{StandsForSends, History, OnlyUsed}
 use Rattle.phase_shared.specs.Regs.{phaser_terms}
 use Rattle.phase_shared.specs.Entries.{entry_after_signal}
 use Rattle.phase_shared.proofs.OneValue.{may_value, tries_value}

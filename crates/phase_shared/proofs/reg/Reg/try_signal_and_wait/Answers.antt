@@ -1,62 +1,37 @@
-use Rattle.std.proofs.Common.{◌≡◌, ℕ, Option, Some, None, true, false, refl, sym, subst, ap, ◌∙◌}
-use Rattle.std.specs.Prelude.{is_some, Result, IsErr}
-use Rattle.phase_core.specs.phase_base.declared.entry.Entry.{Entry}
-use Rattle.phase_core.specs.phase_accum.Parcels.{Parcel}
-use Rattle.phase_core.specs.phase_history.declared.got.Got.{Got}
-use Rattle.phase_core.specs.phase_history.declared.refusal.SignalRefusal.{SignalRefusal}
+use Rattle.std.proofs.Common.{◌≡◌, ℕ, Option, Some, None, true, false, refl, sym, subst}
+use Rattle.std.specs.Prelude.{Result, IsErr}
+use Rattle.phase_shared.specs.Phasers.{Entry, Parcel, Got, SignalRefusal, StandsForSends}
 use Rattle.phase_core.specs.phase_history.declared.refusal.SignalRefusal.TheVariants.{NoTask}
 use Rattle.phase_shared.specs.declared.rule.Terms.{Terms}
 use Rattle.phase_shared.specs.declared.tried.Tried.{Tried}
-use Rattle.phase_shared.specs.Regs.{RegState, reg_state, phaser_lock, phaser_terms}
+use Rattle.phase_shared.specs.Regs.{RegState, reg_state, phaser_terms}
 use Rattle.phase_shared.specs.Calls.{IsTry, Tries, MaySignal}
-use Rattle.phase_core.specs.phase_accum.Parcels.{StandsForSends}
 use Rattle.turn_lock.specs.Seats.{IsSameSeat, seat_view}
 use Rattle.phase_shared.specs.Views.{known_of}
 use Rattle.phase_shared.specs.Steps.{IsStep}
 use Rattle.phase_shared.specs.Entries.{entry_after_both}
 use Rattle.phase_shared.specs.Nexts.{SignalsAndMayWait}
-use Rattle.phase_shared.proofs.Opening.{opened, closed, reg_is, is_try}
+use Rattle.phase_shared.proofs.Opening.{opened, closed, is_try}
 use Rattle.phase_shared.proofs.reg.Reg.try_signal_and_wait.Given.{Over}
 use Rattle.phase_shared.proofs.reg.Reg.try_signal_and_wait.Goals.{After-signal-seat}
 use Rattle.phase_shared.proofs.reg.Reg.try_signal_and_wait.Goals as goal
 
-pub unreachable-requires : goal.unreachable-requires
-unreachable-requires g c =
-    let none : is_some c.self.inside.seat ≡ false = ap (λ o. is_some o) (sym c.take.ensures.value ∙ c.in_default.is) in
-    absurd (let z : false ≡ true = sym none ∙ c.self.invariant.there in cc)
-
 pub signal-seat-requires : goal.signal-seat-requires
 signal-seat-requires g c =
-    let p = phaser_lock c.args.phaser.now in
-    let terms = phaser_terms c.args.phaser.now in
-    let inside = c.self.inside in
-    let o = opened g.K.SignalRule.allows p.0 terms inside.number inside.entry inside.seat c.in-Some.seat
-    (sym c.take.ensures.value ∙ c.in-Some.is) c.self.invariant (ap (λ r. r.at) c.self.view_is ∙ c.requires.at) in
-    let P : RegState g.row.A.Denot g.row.K.Denot → Type 0 = λ r. MaySignal g.A.Accumulate.operation g.K.SignalRule.allows terms r c.args.single in
-    let is : reg_state (Some c.in-Some.seat) inside.number inside.entry inside.pending ≡ c.args.self.now =
-    reg_is g.K.SignalRule.allows p.0 terms inside.number inside.entry inside.pending inside.seat c.in-Some.seat c.args.self.now
-    (sym c.take.ensures.value ∙ c.in-Some.is) c.self.view_is in
-    let may : P (reg_state (Some c.in-Some.seat) inside.number inside.entry inside.pending) = subst P (sym is) c.requires.rule in
+    let o = opened g.K.SignalRule.allows c.args.phaser.now.locked c.self.inside.number c.self.inside.entry c.self.inside.pending c.self.inside.seat c.taken-seat.result c.args.self.now
+    c.taken-seat.ensures c.self.invariant c.self.view_is c.requires.at in
+    let P : RegState g.row.A.Denot g.row.K.Denot → Type 0 = λ r. MaySignal g.A.Accumulate.operation g.K.SignalRule.allows (phaser_terms c.args.phaser.now) r c.args.single in
     record {
-      seat = o.at;
-      at = o.station;
-      rule = λ h sends good others held.
-          may h sends good others (subst (λ (p : Parcel g.row.A.Denot). StandsForSends g.A.Accumulate.operation p sends) c.sends.ensures held);
+      seat = o.seat;
+      rule = λ h sends good others held. subst P (sym o.is) c.requires.rule h sends good others
+          (subst (λ (p : Parcel g.row.A.Denot). StandsForSends g.A.Accumulate.operation p sends) c.sends.ensures held);
     }
 
 pub invariant_of-self : goal.invariant_of-self
-invariant_of-self g c =
-    let p = phaser_lock c.args.phaser.now in
-    let terms = phaser_terms c.args.phaser.now in
-    let inside = c.self.inside in
-    closed g.K.SignalRule.allows p.0 terms inside.number c.signal-seat.result.1 c.signal-seat.result.0 c.signal-seat.ensures.seat c.signal-seat.ensures.step.at
+invariant_of-self g c = closed g.K.SignalRule.allows c.args.phaser.now.locked c.self.inside.number c.signal-seat.result.1 c.signal-seat.result.0 c.signal-seat.ensures.at
 
 pub invariant_of-self-in-Err : goal.invariant_of-self-in-Err
-invariant_of-self-in-Err g c =
-    let p = phaser_lock c.args.phaser.now in
-    let terms = phaser_terms c.args.phaser.now in
-    let inside = c.self.inside in
-    closed g.K.SignalRule.allows p.0 terms inside.number c.signal-seat.result.1 c.signal-seat.result.0 c.signal-seat.ensures.seat c.signal-seat.ensures.step.at
+invariant_of-self-in-Err g c = closed g.K.SignalRule.allows c.args.phaser.now.locked c.self.inside.number c.signal-seat.result.1 c.signal-seat.result.0 c.signal-seat.ensures.at
 
 -- where a task stands after both, its mode is the same
 mode_stays : (answer : Option (ℕ × Option Got)) (entry : Entry) → (entry_after_both answer entry).mode ≡ entry.mode
@@ -80,21 +55,21 @@ module _ (g : Over) (c : After-signal-seat g) where
 
   -- the step, of these sends
   abbrev IsStepOf : Parcel g.row.A.Denot → Type 0
-  IsStepOf held = IsStep g.K.SignalRule.allows terms c.self.inside.number NoTask entry_after_both
-      (Tries (IsSameSeat c.in-Some.seat c.signal-seat.result.0 × (c.signal-seat.result.1 ≡ c.self.inside.entry))
+  IsStepOf held = IsStep g.K.SignalRule.allows c.args.phaser.now.locked c.self.inside.number NoTask entry_after_both
+      (Tries (IsSameSeat c.taken-seat.result c.signal-seat.result.0 × (c.signal-seat.result.1 ≡ c.self.inside.entry))
       (SignalsAndMayWait c.args.waits g.A.Accumulate.operation terms.limits c.self.inside.number held c.args.single
-      (known_of (seat_view c.in-Some.seat)).seen (known_of (seat_view c.signal-seat.result.0)).seen) c.signal-seat.result.2)
-      c.self.inside.entry c.signal-seat.result.1 (seat_view c.in-Some.seat) (seat_view c.signal-seat.result.0) c.signal-seat.result.2
+      (known_of (seat_view c.taken-seat.result)).seen (known_of (seat_view c.signal-seat.result.0)).seen) c.signal-seat.result.2)
+      c.self.inside.entry c.signal-seat.result.1 c.taken-seat.result c.signal-seat.result.0 c.signal-seat.result.2
 
   tried : (held : Parcel g.row.A.Denot) → (IsErr c.signal-seat.result.2 → held ≡ c.self.inside.pending) → IsTried held c.signal-seat.result.2
   tried held stays =
       let inside = c.self.inside in
-      is_try g.K.SignalRule.allows (phaser_lock c.args.phaser.now).0 terms inside.number NoTask entry_after_both
+      is_try g.K.SignalRule.allows c.args.phaser.now.locked inside.number NoTask entry_after_both
       (λ old new answer. SignalsAndMayWait c.args.waits g.A.Accumulate.operation terms.limits old.number old.held c.args.single old.seen new answer)
-      inside.entry c.signal-seat.result.1 inside.pending held c.in-Some.seat c.signal-seat.result.0 c.args.self.now c.signal-seat.result.2
-      (reg_is g.K.SignalRule.allows (phaser_lock c.args.phaser.now).0 terms inside.number inside.entry inside.pending inside.seat c.in-Some.seat
-      c.args.self.now (sym c.take.ensures.value ∙ c.in-Some.is) c.self.view_is)
-      c.requires.at c.signal-seat.ensures.seat mode_stays stays (subst IsStepOf c.sends.ensures c.signal-seat.ensures.step)
+      inside.entry c.signal-seat.result.1 inside.pending held c.taken-seat.result c.signal-seat.result.0 c.args.self.now c.signal-seat.result.2
+      (opened g.K.SignalRule.allows c.args.phaser.now.locked c.self.inside.number c.self.inside.entry c.self.inside.pending c.self.inside.seat c.taken-seat.result c.args.self.now
+      c.taken-seat.ensures c.self.invariant c.self.view_is c.requires.at)
+      mode_stays stays (subst IsStepOf c.sends.ensures c.signal-seat.ensures)
 
 pub returns-in-Ok-clause-call : goal.returns-in-Ok-clause-call
 returns-in-Ok-clause-call g c =

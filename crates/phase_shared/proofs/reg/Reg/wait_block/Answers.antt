@@ -1,7 +1,5 @@
 use Rattle.std.proofs.Common.{◌≡◌, [], ◌∷◌, Ok, Err, List, refl, sym, subst, ap, ◌∙◌}
-use Rattle.phase_core.specs.phase_accum.declared.outcome.Outcome.{Outcome}
-use Rattle.phase_core.specs.phase_history.Histories.{History}
-use Rattle.phase_core.specs.phase_history.Others.{OthersCame}
+use Rattle.phase_shared.specs.Phasers.{Outcome, History, OthersCame}
 use Rattle.phase_core.specs.phase_history.declared.refusal.WaitRefusal.TheVariants.{NotYet, NoTask}
 use Rattle.phase_shared.specs.Regs.{phaser_terms}
 use Rattle.phase_shared.specs.Calls.{Tries}

@@ -1,8 +1,5 @@
 use Rattle.std.proofs.Common.{Err, subst, ap, ◌∙◌}
-use Rattle.phase_core.specs.phase_history.Histories.{History, wait_phase}
-use Rattle.phase_core.specs.phase_history.Legal.{IsLegal}
-use Rattle.phase_core.specs.phase_history.Refusals.{wait_refusal}
-use Rattle.phase_core.specs.phase_history.Replies.{got_at}
+use Rattle.phase_shared.specs.Phasers.{History, wait_phase, IsLegal, wait_refusal, got_at}
 use Rattle.phase_shared.specs.Regs.{phaser_limits}
 use Rattle.phase_shared.specs.Calls.{Waits}
 use Rattle.phase_shared.proofs.Answering.{refused_is}

@@ -2,14 +2,9 @@ use Rattle.std.proofs.Common.{◌≡◌, ℕ, ℤ, List, [], ◌∷◌, None, le
 use Rattle.std.specs.Prelude.{is_some, Result}
 use Rattle.std.specs.Result.{result_ok}
 use Rattle.turn_lock.specs.Seats.{seat_view, turn_view, turn_value, turn_number, turn_told, IsSameSeat}
-use Rattle.phase_core.specs.phase_history.declared.refusal.SignalRefusal.{SignalRefusal}
+use Rattle.phase_shared.specs.Phasers.{SignalRefusal, History, signal_phase, signal_refusal, signal_reply, after_signal, StandForLists, StandsFor}
 use Rattle.phase_core.specs.phase_history.declared.refusal.SignalRefusal.TheVariants as signal
-use Rattle.phase_core.specs.phase_history.Histories.{History, signal_phase}
-use Rattle.phase_core.specs.phase_history.Refusals.{signal_refusal}
-use Rattle.phase_core.specs.phase_history.Replies.{signal_reply, after_signal}
 use Rattle.phase_core.proofs.phase_history_lemmas.Answered.{signal_refusal-never}
-use Rattle.phase_core.specs.Blocks.{StandForLists}
-use Rattle.phase_core.specs.Cores.{StandsFor}
 use Rattle.phase_core.proofs.SignalSlots.{lists-length}
 use Rattle.phase_shared.specs.LockedPhasers.{locked_terms}
 use Rattle.phase_shared.specs.Views.{resting, turning, known_of, speaks_of}
@@ -26,20 +21,20 @@ use Rattle.phase_shared.proofs.seats.block_steps.signal_lists.Goals as goal
 
 -- the phaser under the turn stood for what was seen
 stood : (g : Over) (c : After-signal_lists-answer g)
-    → StandsWithin g.A.Accumulate.operation (locked_terms c.args.phaser.now).limits c.value_in-core.result.now c.in-Ok.ensures.took.now
+    → StandsWithin g.A.Accumulate.operation (locked_terms c.args.phaser.now).limits c.value_in-core.result.now c.in-Ok.ensures.turn.knows.now
 stood g c =
     lent g.A.Accumulate.operation g.K.SignalRule.allows (locked_terms c.args.phaser.now) c.args.me (turn_value c.in-Ok.turn) c.value_in-core.result.now
-    c.in-Ok.ensures.took.now c.value_in-core.ensures.value c.in-Ok.ensures.took.stands
+    c.in-Ok.ensures.turn.knows.now c.value_in-core.ensures.value c.in-Ok.ensures.turn.knows.stands
 
 -- what the signal of these sends leaves there
 left : (g : Over) (c : After-signal_lists-answer g) (sends : List (List ℤ)) → StandForLists g.A.Accumulate.operation c.args.lists.now sends
-    → Called g.A.Accumulate.operation g.K.SignalRule.allows (locked_terms c.args.phaser.now) c.args.me c.in-Ok.ensures.took.now
-    (after_signal c.signal_lists-answer.result c.args.me sends c.args.single c.in-Ok.ensures.took.now) c.signal_lists-answer.new.self
+    → Called g.A.Accumulate.operation g.K.SignalRule.allows (locked_terms c.args.phaser.now) c.args.me c.in-Ok.ensures.turn.knows.now
+    (after_signal c.signal_lists-answer.result c.args.me sends c.args.single c.in-Ok.ensures.turn.knows.now) c.signal_lists-answer.new.self
     (entry_after_block (length c.args.lists.now) (result_ok c.signal_lists-answer.result) c.args.entry)
 left g c sends stand =
     let op = g.A.Accumulate.operation in
     let terms = locked_terms c.args.phaser.now in
-    let e = c.in-Ok.ensures.took in
+    let e = c.in-Ok.ensures.turn.knows in
     let me = c.args.me in
     let n = length c.args.lists.now in
     let answer = c.signal_lists-answer.result in
@@ -52,16 +47,16 @@ left g c sends stand =
 
 -- the definition's answer, whichever lists of sends the parcels stand for
 replies : (g : Over) (c : After-signal_lists-answer g) (sends : List (List ℤ)) → StandForLists g.A.Accumulate.operation c.args.lists.now sends
-    → signal_reply c.value_in-core.result.now.limits c.in-Ok.ensures.took.now c.args.me sends c.args.single ≡ c.signal_lists-answer.result
+    → signal_reply c.value_in-core.result.now.limits c.in-Ok.ensures.turn.knows.now c.args.me sends c.args.single ≡ c.signal_lists-answer.result
 replies g c sends stand =
     let P : Result ℕ SignalRefusal → Type 0 = λ r. (h : History) (lists : List (List ℤ)) → StandsFor g.A.Accumulate.operation c.value_in-core.result.now h
     → StandForLists g.A.Accumulate.operation c.args.lists.now lists → signal_reply c.value_in-core.result.now.limits h c.args.me lists c.args.single ≡ r in
-    either P c.signal_lists-answer.result c.signal_lists-answer.ensures.ok c.signal_lists-answer.ensures.refused c.in-Ok.ensures.took.now sends
+    either P c.signal_lists-answer.result c.signal_lists-answer.ensures.ok c.signal_lists-answer.ensures.refused c.in-Ok.ensures.turn.knows.now sends
     (stood g c).stands stand
 
 pub unreachable-requires : goal.unreachable-requires
 unreachable-requires g c =
-    let e = c.in-Ok.ensures.took in
+    let e = c.in-Ok.ensures.turn.knows in
     let held = c.are_held.ensures.held in
     let answer = c.signal_lists-answer.result in
     is_found g.A.Accumulate.operation g.K.SignalRule.allows (locked_terms c.args.phaser.now) c.args.me e.now
@@ -72,7 +67,7 @@ unreachable-requires g c =
 pub put_back-seat-requires-clause-rule : goal.put_back-seat-requires-clause-rule
 put_back-seat-requires-clause-rule g c =
     let op = g.A.Accumulate.operation in
-    let e = c.in-Ok.ensures.took in
+    let e = c.in-Ok.ensures.turn.knows in
     let held = c.are_held.ensures.held in
     let answer = c.signal_lists-answer.result in
     gives_called op g.K.SignalRule.allows (locked_terms c.args.phaser.now) c.args.me
@@ -82,16 +77,16 @@ put_back-seat-requires-clause-rule g c =
     (after_signal answer c.args.me held.0 c.args.single e.now) (entry_after_block (length c.args.lists.now) (result_ok answer) c.args.entry) e
     (left g (goal.at.put_back-seat-requires-clause-rule g c).After-signal_lists-answer held.0 held.1) (held.0, held.1, refl)
 
-pub returns-clause-step : goal.returns-clause-step
-returns-clause-step g c =
+pub returns : goal.returns
+returns g c =
     let op = g.A.Accumulate.operation in
     let terms = locked_terms c.args.phaser.now in
     let me = c.args.me in
     let single = c.args.single in
-    let e = c.in-Ok.ensures.took in
-    let after = (goal.at.returns-clause-step g c).After-signal_lists-answer in
+    let e = c.in-Ok.ensures.turn.knows in
+    let after = (goal.at.returns g c).After-signal_lists-answer in
     let before = stood g after in
-    let told = c.put_back-seat.ensures.rule in
+    let told = c.put_back-seat.ensures.knows in
     let answer = c.signal_lists-answer.result in
     let seat = c.put_back-seat.result in
     let limits = c.value_in-core.result.now.limits in
@@ -101,9 +96,9 @@ returns-clause-step g c =
     (turning e.now (me ∷ []) e.claims e.said None) told.2 e.is in
     let call : Result ℕ SignalRefusal → Type 0 =
     SignalsBlock op terms.limits me c.args.lists.now single (known_of (seat_view c.args.seat)).seen (known_of (seat_view seat)).seen in
-    stepped op g.K.SignalRule.allows terms me signal.NoTask (entry_after_block (length c.args.lists.now))
-    (IsSameSeat c.args.seat seat × (c.in-Some.entry ≡ c.args.entry)) call c.args.entry c.in-Some.entry (seat_view c.args.seat) (seat_view seat) e.now new
-    c.signal_lists-answer.new.self c.view.result answer c.tried_of.result c.tried_of.ensures (left g after told.0 told.1) rests c.view.ensures c.in-Some.is
+    stepped op g.K.SignalRule.allows c.args.phaser.now me signal.NoTask (entry_after_block (length c.args.lists.now))
+    (IsSameSeat c.args.seat seat × (c.in-Some.entry ≡ c.args.entry)) call c.args.entry c.in-Some.entry c.args.seat seat e.now new
+    c.signal_lists-answer.new.self c.view.result answer c.tried_of.result c.tried_of.ensures (left g after told.0 told.1) c.put_back-seat.ensures.here rests c.view.ensures c.in-Some.is
     (record {
       before = e.now;
       sends = told.0;
@@ -117,8 +112,8 @@ returns-clause-step g c =
     (refused_is (signal_refusal limits e.now me told.0 single) (signal_phase e.now me) signal.NoTask (replies g after told.0 told.1 ∙ none)))
 
 -- the turn was another's
-pub returns-in-Err-clause-step : goal.returns-in-Err-clause-step
-returns-in-Err-clause-step g c =
-    kept_out g.A.Accumulate.operation g.K.SignalRule.allows (locked_terms c.args.phaser.now) c.args.me signal.NoTask
-    (entry_after_block (length c.args.lists.now)) _ c.args.entry (seat_view c.args.seat) (seat_view c.in-Err.seat) refl (c.in-Err.ensures.err, refl)
+pub returns-in-Err : goal.returns-in-Err
+returns-in-Err g c =
+    kept_out g.A.Accumulate.operation g.K.SignalRule.allows c.args.phaser.now c.args.me signal.NoTask
+    (entry_after_block (length c.args.lists.now)) _ c.args.entry c.args.seat c.in-Err.seat refl (c.in-Err.ensures.err, refl)
     c.in-Err.ensures.still (λ only. let z : false ≡ true = c.in-Err.ensures.alone only in cc)

@@ -1,6 +1,5 @@
 use Rattle.std.specs.Prelude.{◌≡◌, ℤ, List}
-use Rattle.phase_core.specs.Blocks.{StandForLists}
-use Rattle.phase_core.specs.phase_history.Replies.{after_signal}
+use Rattle.phase_shared.specs.Phasers.{StandForLists, after_signal}
 use Rattle.phase_shared.specs.Views.{resting, known_of, speaks_of}
 use Rattle.phase_shared.proofs.seats.block_steps.signal_lists.Given as goal
 

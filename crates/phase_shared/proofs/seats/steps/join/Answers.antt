@@ -19,7 +19,7 @@ join-requires-clause-merges g c =
     let number = seat_number c.args.seat in
     let other = seat_number c.args.other in
     let P : View → View → Type 0 = λ v w. MergesOf (HasOneHistory op allows) terms number v other w (Joining f h) Spent in
-    rw c.requires.rests.0 (subst (P (Resting f)) (sym c.requires.rests.1)
+    rw c.requires.seat.knows (subst (P (Resting f)) (sym c.requires.other.knows)
     (λ home told words views long k. merges op.value terms.limits (allows terms.rule) (StandsWithin op terms.limits) number other f h home told words views k))
 
 pub join-requires-clause-looks : goal.join-requires-clause-looks

@@ -1,13 +1,9 @@
 use Rattle.std.proofs.Common.{◌≡◌, [], ◌∷◌, None, true, false, refl, sym, ap, ◌∙◌, rules}
 use Rattle.turn_lock.specs.Seats.{seat_view, turn_view, turn_value, turn_number, turn_told, IsSameSeat}
-use Rattle.phase_core.specs.phase_base.declared.entry.Entry.{Entry}
-use Rattle.phase_core.specs.phase_history.declared.event.Event.{Event}
+use Rattle.phase_shared.specs.Phasers.{Entry, Event, History, entry_at, register_refusal, StandsFor}
 use Rattle.phase_core.specs.phase_history.declared.event.Event.TheVariants.{Registered}
 use Rattle.phase_core.specs.phase_history.declared.refusal.RegisterRefusal.TheVariants as register
-use Rattle.phase_core.specs.phase_history.Histories.{History, entry_at}
-use Rattle.phase_core.specs.phase_history.Refusals.{register_refusal}
-use Rattle.phase_core.specs.Cores.{StandsFor}
-use Rattle.phase_shared.specs.LockedPhasers.{locked_place, locked_terms}
+use Rattle.phase_shared.specs.LockedPhasers.{locked_terms}
 use Rattle.phase_shared.specs.Views.{resting, known_of}
 use Rattle.phase_shared.specs.Rule.{StandsWithin}
 use Rattle.phase_shared.specs.Entries.{entry_stays}
@@ -22,10 +18,10 @@ use Rattle.phase_shared.proofs.seats.steps.register.Goals as goal
 
 -- the phaser under the turn stood for what was seen
 stood : (g : Over) (c : After-view-found g)
-    → StandsWithin g.A.Accumulate.operation (locked_terms c.args.phaser.now).limits c.value_in-core.result.now c.in-Ok.ensures.took.now
+    → StandsWithin g.A.Accumulate.operation (locked_terms c.args.phaser.now).limits c.value_in-core.result.now c.in-Ok.ensures.turn.knows.now
 stood g c =
     lent g.A.Accumulate.operation g.K.SignalRule.allows (locked_terms c.args.phaser.now) c.args.me (turn_value c.in-Ok.turn) c.value_in-core.result.now
-    c.in-Ok.ensures.took.now c.value_in-core.ensures.value c.in-Ok.ensures.took.stands
+    c.in-Ok.ensures.turn.knows.now c.value_in-core.ensures.value c.in-Ok.ensures.turn.knows.stands
 
 -- the event, and where the child stands
 abbrev event : (g : Over) (c : After-view-found g) → Event
@@ -36,7 +32,7 @@ begins g c = entry_at c.args.mode c.args.entry.signal_phase c.args.entry.wait_ph
 
 module _ (g : Over) (c : After-view-found g) where
   abbrev IsMade : Type 0
-  IsMade = NewMember g.A.Accumulate.operation g.K.SignalRule.allows (locked_terms c.args.phaser.now) c.args.me c.args.entry c.in-Ok.ensures.took.now (event g c)
+  IsMade = NewMember g.A.Accumulate.operation g.K.SignalRule.allows (locked_terms c.args.phaser.now) c.args.me c.args.entry c.in-Ok.ensures.turn.knows.now (event g c)
       c.child_of-child.result (begins g c) c.register-answer.new.self
 
   -- what the registration leaves, where the core accepted it
@@ -45,7 +41,7 @@ module _ (g : Over) (c : After-view-found g) where
       → ((h : History) → StandsFor g.A.Accumulate.operation c.value_in-core.result.now h → StandsFor g.A.Accumulate.operation c.register-answer.new.self (event g c ∷ h))
       → IsMade
   made ok limits after =
-      let e = c.in-Ok.ensures.took in
+      let e = c.in-Ok.ensures.turn.knows in
       let before = stood g c in
       new_member g.A.Accumulate.operation g.K.SignalRule.allows (locked_terms c.args.phaser.now) c.args.me c.args.entry e.now c.child_of-child.result c.args.mode
       c.value_in-core.result.now c.register-answer.new.self before e.good e.used e.member (ok e.now before.stands) limits (after e.now before.stands)
@@ -55,92 +51,92 @@ pub unreachable-requires : goal.unreachable-requires
 unreachable-requires g c =
     let at = (goal.at.unreachable-requires g c).After-view-found in
     c.in_default-found.not-Some (begins g at)
-    (is_there g.A.Accumulate.operation g.K.SignalRule.allows (locked_terms c.args.phaser.now) c.args.me c.args.entry c.in-Ok.ensures.took.now (event g at)
+    (is_there g.A.Accumulate.operation g.K.SignalRule.allows (locked_terms c.args.phaser.now) c.args.me c.args.entry c.in-Ok.ensures.turn.knows.now (event g at)
     c.child_of-child.result (begins g at) c.register-answer.new.self (made g at c.in_default.ensures.ok c.in_default.ensures.limits c.in_default.ensures.after)
     c.view-found.result c.view-found.ensures)
 
 pub put_back-both-requires-clause-rule : goal.put_back-both-requires-clause-rule
 put_back-both-requires-clause-rule g c =
     let at = (goal.at.put_back-both-requires-clause-rule g c).After-view-found in
-    let e = c.in-Ok.ensures.took in
+    let e = c.in-Ok.ensures.turn.knows in
     gives_new_member g.A.Accumulate.operation g.K.SignalRule.allows (locked_terms c.args.phaser.now) c.args.me c.args.entry e.now (event g at)
     c.child_of-child.result (begins g at) c.register-answer.new.self (made g at c.in_default.ensures.ok c.in_default.ensures.limits c.in_default.ensures.after)
     (turn_number c.in-Ok.turn) (turn_told c.in-Ok.turn) (turn_view c.in-Ok.turn) e.claims e.said e.is e.used
 
 pub give_same-requires-clause-rule : goal.give_same-requires-clause-rule
 give_same-requires-clause-rule g c =
-    let e = c.in-Ok.ensures.took in
+    let e = c.in-Ok.ensures.turn.knows in
     gives_refused g.A.Accumulate.operation g.K.SignalRule.allows (locked_terms c.args.phaser.now) c.args.me c.args.entry (turn_number c.in-Ok.turn) (turn_told c.in-Ok.turn)
     (seat_view c.args.seat) (turn_view c.in-Ok.turn) (turn_value c.in-Ok.turn) c.value_in-core.result.now c.register-answer.new.self e (stood g (goal.at.give_same-requires-clause-rule g c).After-view-found)
     c.in-Err-answer.ensures.err
 
-pub split-seat-requires-clause-two : goal.split-seat-requires-clause-two
-split-seat-requires-clause-two g c =
-    let at = (goal.at.split-seat-requires-clause-two g c).After-view-found in
-    let e = c.in-Ok.ensures.took in
+pub split-seat-requires : goal.split-seat-requires
+split-seat-requires g c =
+    let at = (goal.at.split-seat-requires g c).After-view-found in
+    let e = c.in-Ok.ensures.turn.knows in
     let child = c.child_of-child.result in
-    speaks_for_both c.args.me e.now (event g at) child (seat_view c.put_back-both.result)
-    (for_both c.args.me e.now (event g at) child (seat_view c.put_back-both.result) (turn_view c.in-Ok.turn) e.claims e.said c.put_back-both.ensures.rule e.is)
+    record {
+      here = c.put_back-both.ensures.here;
+      knows = speaks_for_both c.args.me e.now (event g at) child (seat_view c.put_back-both.result)
+          (for_both c.args.me e.now (event g at) child (seat_view c.put_back-both.result) (turn_view c.in-Ok.turn) e.claims e.said c.put_back-both.ensures.knows e.is);
+    }
 
-pub returns-clause-step : goal.returns-clause-step
-returns-clause-step g c =
-    let at = (goal.at.returns-clause-step g c).After-view-found in
+pub returns : goal.returns
+returns g c =
+    let at = (goal.at.returns g c).After-view-found in
     let op = g.A.Accumulate.operation in
     let allows = g.K.SignalRule.allows in
     let terms = locked_terms c.args.phaser.now in
     let me = c.args.me in
     let child = c.child_of-child.result in
-    let e = c.in-Ok.ensures.took in
+    let e = c.in-Ok.ensures.turn.knows in
     let before = stood g at in
     let x = c.register-answer.new.self in
     let b : IsMade g at = made g at c.in_default.ensures.ok c.in_default.ensures.limits c.in_default.ensures.after in
     let both : seat_view c.put_back-both.result ≡ resting (event g at ∷ e.now) (me ∷ child ∷ []) =
-    for_both me e.now (event g at) child (seat_view c.put_back-both.result) (turn_view c.in-Ok.turn) e.claims e.said c.put_back-both.ensures.rule e.is in
+    for_both me e.now (event g at) child (seat_view c.put_back-both.result) (turn_view c.in-Ok.turn) e.claims e.said c.put_back-both.ensures.knows e.is in
     let left : seat_view c.split-seat.result.0 ≡ resting (event g at ∷ e.now) (me ∷ []) =
-    parent_rests me e.now (event g at) child (seat_view c.put_back-both.result) (seat_view c.split-seat.result.0) c.split-seat.ensures.left both in
+    parent_rests me e.now (event g at) child (seat_view c.put_back-both.result) (seat_view c.split-seat.result.0) c.split-seat.ensures.left.knows both in
     let right : seat_view c.split-seat.result.1 ≡ resting (event g at ∷ e.now) (child ∷ []) =
-    child_rests me e.now (event g at) child (seat_view c.put_back-both.result) (seat_view c.split-seat.result.1) c.split-seat.ensures.right both in
+    child_rests me e.now (event g at) child (seat_view c.put_back-both.result) (seat_view c.split-seat.result.1) c.split-seat.ensures.right.knows both in
     let stands = child_stands op allows terms me c.args.entry e.now (event g at) child (begins g at) x b c.in-Some.start c.view-found.result
     (seat_view c.split-seat.result.1) right c.view-found.ensures c.in-Some.is in
     record {
-      call = (
-        c.split-seat.ensures.seats.1,
-        record {
-          registered = record {
-            before = e.now;
-            others = e.others;
-            seen = ap (λ (v : View). (known_of v).seen) left;
-            reply = c.in_default.ensures.ok e.now before.stands;
-            next = child_is_next e.now child c.value_in-core.result.now.greatest before.stands.greatest_is c.child_of-child.ensures b.new.above;
-          };
-          at = stands.0;
-          seen = ap (λ (v : View). (known_of v).seen) right ∙ sym (ap (λ (v : View). (known_of v).seen) left);
-          start_is = stands.1;
-        },
-      );
-      at = parent_stays op allows terms me c.args.entry e.now (event g at) child (begins g at) x b (seat_view c.split-seat.result.0) left;
+      call = record {
+        registered = record {
+          before = e.now;
+          others = e.others;
+          seen = ap (λ (v : View). (known_of v).seen) left;
+          reply = c.in_default.ensures.ok e.now before.stands;
+          next = child_is_next e.now child c.value_in-core.result.now.greatest before.stands.greatest_is c.child_of-child.ensures b.new.above;
+        };
+        at = record { here = c.split-seat.ensures.right.here; knows = stands.0 };
+        seen = ap (λ (v : View). (known_of v).seen) right ∙ sym (ap (λ (v : View). (known_of v).seen) left);
+        start_is = stands.1;
+      };
+      at = record { here = c.split-seat.ensures.left.here; knows = parent_stays op allows terms me c.args.entry e.now (event g at) child (begins g at) x b (seat_view c.split-seat.result.0) left };
       entry_is = refl;
       known = search rules;
       alone = search rules;
     }
 
 -- the core refused it
-pub returns-in-Err-answer-clause-step : goal.returns-in-Err-answer-clause-step
-returns-in-Err-answer-clause-step g c =
-    let e = c.in-Ok.ensures.took in
-    let before = stood g (goal.at.returns-in-Err-answer-clause-step g c).After-view-found in
+pub returns-in-Err-answer : goal.returns-in-Err-answer
+returns-in-Err-answer g c =
+    let e = c.in-Ok.ensures.turn.knows in
+    let before = stood g (goal.at.returns-in-Err-answer g c).After-view-found in
     let old = (known_of (seat_view c.args.seat)).seen in
     let new = (known_of (seat_view c.give_same.result)).seen in
-    refused_step g.A.Accumulate.operation g.K.SignalRule.allows (locked_terms c.args.phaser.now) c.args.me c.args.entry e.now c.child_of-child.result
+    refused_step g.A.Accumulate.operation g.K.SignalRule.allows c.args.phaser.now c.args.me c.args.entry e.now c.child_of-child.result
     c.value_in-core.result.now.greatest c.args.mode c.in-Err-answer.refusal (IsSameSeat c.args.seat c.give_same.result)
-    (RegistersSeat g.K.SignalRule.allows (locked_place c.args.phaser.now) (locked_terms c.args.phaser.now) c.args.me c.args.mode c.args.entry old new)
-    (seat_view c.args.seat) (seat_view c.give_same.result) (turn_view c.in-Ok.turn) e.claims e.said c.give_same.ensures.rule e.is e.good e.member e.others
+    (RegistersSeat g.K.SignalRule.allows c.args.phaser.now c.args.me c.args.mode c.args.entry old new)
+    c.args.seat c.give_same.result (turn_view c.in-Ok.turn) e.claims e.said c.give_same.ensures e.is e.good e.member e.others
     before.stands.greatest_is c.child_of-child.ensures (λ other. c.in-Err-answer.ensures.refused other e.now before.stands)
     (λ none. c.in-Err-answer.ensures.out_of_memory none e.now before.stands) (λ r. r)
 
 -- the turn was another's
-pub returns-in-Err-clause-step : goal.returns-in-Err-clause-step
-returns-in-Err-clause-step g c =
-    kept_out g.A.Accumulate.operation g.K.SignalRule.allows (locked_terms c.args.phaser.now) c.args.me register.NoTask entry_stays _ c.args.entry
-    (seat_view c.args.seat) (seat_view c.in-Err.seat) refl c.in-Err.ensures.err c.in-Err.ensures.still
+pub returns-in-Err : goal.returns-in-Err
+returns-in-Err g c =
+    kept_out g.A.Accumulate.operation g.K.SignalRule.allows c.args.phaser.now c.args.me register.NoTask entry_stays _ c.args.entry
+    c.args.seat c.in-Err.seat refl c.in-Err.ensures.err c.in-Err.ensures.still
     (λ only. let z : false ≡ true = c.in-Err.ensures.alone only in cc)

@@ -6,6 +6,6 @@ use Rattle.phase_shared.proofs.seats.steps.split.Goals as goal
 
 pub split-requires-clause-rule : goal.split-requires-clause-rule
 split-requires-clause-rule g c =
-    let two = c.requires.two in
+    let two = c.requires.knows in
     forks_child g.A.Accumulate.operation g.K.SignalRule.allows (locked_terms c.args.phaser.now) two.one (seat_number c.args.seat)
     (seat_view c.args.seat) (known_of (seat_view c.args.seat)).seen two.other two.rests

@@ -1,8 +1,7 @@
-use Rattle.std.proofs.Common.{◌≡◌, ◌∷◌, [], ap, ◌∙◌, ℕ, arith}
+use Rattle.std.proofs.Common.{◌≡◌, ◌∷◌, [], ap, ◌∙◌, arith}
 use Rattle.turn_lock.specs.Seats.{seat_number, seat_view}
 use Rattle.phase_shared.specs.LockedPhasers.{locked_terms}
 use Rattle.phase_shared.specs.Servings.{HasAnswer}
-use Rattle.phase_shared.specs.Tells.{Learnt}
 use Rattle.phase_shared.specs.Views.{knowledge}
 use Rattle.phase_shared.proofs.AskCalls.{looks_ask, asks_still, was_answered, is_read, has_answer}
 use Rattle.phase_shared.proofs.CallSteps.{at_call}

@@ -1,8 +1,7 @@
-use Rattle.std.proofs.Common.{◌≡◌, sym, subst, ◌∙◌}
+use Rattle.std.proofs.Common.{sym, subst}
 use Rattle.turn_lock.specs.Seats.{seat_number, seat_view}
 use Rattle.phase_shared.specs.Asks.{Ask}
 use Rattle.phase_shared.specs.Servings.{ask_of, MayAsk, IsAsking}
-use Rattle.phase_shared.specs.Views.{known_of}
 use Rattle.phase_shared.proofs.WordCalls.{has_asked, post_send, post_phase}
 use Rattle.phase_shared.specs.Goods.{allows_or}
 use Rattle.phase_shared.proofs.seats.desk.Desk.post.Goals as goal

@@ -3,7 +3,7 @@ use Rattle.turn_lock.specs.WordSteps.{GivesOf}
 use Rattle.phase_shared.specs.LockedPhasers.{locked_terms}
 use Rattle.phase_shared.specs.Rule.{IsOneHistory}
 use Rattle.phase_shared.proofs.CallSteps.{at_phaser}
-use Rattle.phase_shared.proofs.TurnEnds.{gives_told}
+use Rattle.phase_shared.proofs.Giving.{gives_told}
 use Rattle.phase_shared.proofs.seats.desk.OnTurn.give_same.Goals as goal
 
 pub give-seat-requires-clause-rule : goal.give-seat-requires-clause-rule
@@ -13,7 +13,7 @@ give-seat-requires-clause-rule g c =
     let told = c.told_in-turn.ensures in
     let at = locked_terms c.args.self.of.phaser.now in
     gives_told g.A.Accumulate.operation at.limits (g.K.SignalRule.allows at.rule) g.E.Plan.goes (turn_number turn) (turn_number same)
-    (turn_view turn) (turn_view same) (turn_value turn) (turn_value same) (turn_told turn) (turn_told same) c.told_in-turn.result.1
+    (turn_view turn) (turn_view same) (turn_value turn) (turn_value same) (turn_told turn) (turn_told same) (turn_told turn) c.told_in-turn.result.1
     told.turn.1 told.view told.value told.stays told.told
     (at_phaser g.K.SignalRule.allows at g.S.Since.terms c.args.self.of.terms_is
     (λ limits allows. GivesOf (IsOneHistory g.A.Accumulate.operation limits allows) tt (turn_number turn) (turn_view turn) (turn_value turn) (turn_told turn) (turn_told turn) (λ v y w. g.E.Plan.goes v w))

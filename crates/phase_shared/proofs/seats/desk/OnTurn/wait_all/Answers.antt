@@ -1,7 +1,6 @@
-use Rattle.std.proofs.Common.{◌∙◌}
 use Rattle.std.proofs.lemmas.Bool.{and_parts}
 use Rattle.turn_lock.specs.Seats.{turn_view, turn_value}
-use Rattle.phase_shared.proofs.ServingSteps.{as_far}
+use Rattle.phase_shared.proofs.ServingTurns.{as_far}
 use Rattle.phase_shared.specs.Goods.{allows_or}
 use Rattle.phase_shared.proofs.seats.desk.OnTurn.wait_all.Goals as goal
 

@@ -1,13 +1,11 @@
 use Rattle.std.proofs.Common.{◌≡◌, ◌≤◌, ◌+◌, ℕ, true, ◌++◌, refl, sym, ap, subst, ◌∙◌, arith}
 use Rattle.std.specs.Prelude.{Result, Ok}
 use Rattle.turn_lock.specs.Seats.{turn_view, turn_value}
-use Rattle.phase_core.specs.phase_history.Replies.{after_wait}
-use Rattle.phase_core.specs.phase_history.declared.got.Got.{Got}
-use Rattle.phase_core.specs.phase_history.declared.refusal.WaitRefusal.{WaitRefusal}
-use Rattle.phase_core.specs.Cores.{CoreState, StandsFor}
+use Rattle.phase_shared.specs.Phasers.{after_wait, Got, WaitRefusal, CoreState, StandsFor}
 use Rattle.phase_shared.specs.Servings.{Serving, ServingOpen, IsBetween}
-use Rattle.phase_shared.specs.Views.{known_of}
-use Rattle.phase_shared.proofs.ServingSteps.{HasRead, reads_more, reads_knows, waits_more, same_turn, stays_open, core_stays, none_asked, none_own, below_or, is_other_task}
+use Rattle.phase_shared.proofs.ServingReads.{HasRead, reads_more}
+use Rattle.phase_shared.proofs.ServingSteps.{waits_more}
+use Rattle.phase_shared.proofs.ServingTurns.{reads_knows, same_turn, stays_open, core_stays, none_asked, none_own, below_or, is_other_task}
 use Rattle.phase_shared.proofs.seats.desk.OnTurn.wait_for.Given.{Over}
 use Rattle.phase_shared.proofs.seats.desk.OnTurn.wait_for.Goals.{After-read_lane-on}
 use Rattle.phase_shared.specs.Goods.{allows_or}
@@ -70,10 +68,10 @@ returns-in-Ok-Value-clause-serving g c =
     (subst (λ (n : ℕ). IsBetween (turn_value c.args.self.turn).members c.args.task n) (ap (λ a. a.phase) asked)
     (subst (λ (x : CoreState _). IsBetween x.members c.args.task c.args.self.of.request.phase) value (c.is_between.ensures c.if-not-is_between.false)))
     (c.wait.ensures.limits ∙ ap (λ (x : CoreState _). x.limits) value)
-    (subst (λ (r : Result Got WaitRefusal). StandsFor g.A.Accumulate.operation c.wait.new.self (after_wait r c.args.task (h.serving.turned.later ++ h.serving.turned.now)))
+    (subst (λ (r : Result Got WaitRefusal). StandsFor g.A.Accumulate.operation c.wait.new.self (after_wait r c.args.task (h.serving.turned.did.later ++ h.serving.turned.did.now)))
     (c.in-Ok-Value.is ∙ ap Ok c.in-Ok-Value.field-0-is)
-    (c.wait.ensures.after (h.serving.turned.later ++ h.serving.turned.now)
-    (subst (λ (x : CoreState _). StandsFor g.A.Accumulate.operation x (h.serving.turned.later ++ h.serving.turned.now)) (sym value) h.serving.turned.stands.stands)))
+    (c.wait.ensures.after (h.serving.turned.did.later ++ h.serving.turned.did.now)
+    (subst (λ (x : CoreState _). StandsFor g.A.Accumulate.operation x (h.serving.turned.did.later ++ h.serving.turned.did.now)) (sym value) h.serving.turned.stands.stands)))
     0 (λ b low. absurd (omega arith)))
 
 pub returns-in-Ok-Value-clause-served : goal.returns-in-Ok-Value-clause-served
@@ -86,10 +84,10 @@ returns-in-Ok-Value-clause-served g c _ s =
     (subst (λ (n : ℕ). IsBetween (turn_value c.args.self.turn).members c.args.task n) (ap (λ a. a.phase) asked)
     (subst (λ (x : CoreState _). IsBetween x.members c.args.task c.args.self.of.request.phase) value (c.is_between.ensures c.if-not-is_between.false)))
     (c.wait.ensures.limits ∙ ap (λ (x : CoreState _). x.limits) value)
-    (subst (λ (r : Result Got WaitRefusal). StandsFor g.A.Accumulate.operation c.wait.new.self (after_wait r c.args.task (h.serving.turned.later ++ h.serving.turned.now)))
+    (subst (λ (r : Result Got WaitRefusal). StandsFor g.A.Accumulate.operation c.wait.new.self (after_wait r c.args.task (h.serving.turned.did.later ++ h.serving.turned.did.now)))
     (c.in-Ok-Value.is ∙ ap Ok c.in-Ok-Value.field-0-is)
-    (c.wait.ensures.after (h.serving.turned.later ++ h.serving.turned.now)
-    (subst (λ (x : CoreState _). StandsFor g.A.Accumulate.operation x (h.serving.turned.later ++ h.serving.turned.now)) (sym value) h.serving.turned.stands.stands)))
+    (c.wait.ensures.after (h.serving.turned.did.later ++ h.serving.turned.did.now)
+    (subst (λ (x : CoreState _). StandsFor g.A.Accumulate.operation x (h.serving.turned.did.later ++ h.serving.turned.did.now)) (sym value) h.serving.turned.stands.stands)))
     (c.args.task + 1) (λ b low. below_or b.task c.args.task low)
 
 pub returns-in-Ok-Ended-clause-serving : goal.returns-in-Ok-Ended-clause-serving
@@ -98,8 +96,8 @@ returns-in-Ok-Ended-clause-serving g c =
     let s = (as_read g at c.value_in-core.result.now (c.value_in-core.ensures.value ∙ c.read_lane-on.ensures.value)).serving in
     goes_on g at c.wait.new.self
     (core_stays g.A.Accumulate.operation g.S.Since.terms.limits (allows_or g.K.SignalRule.allows g.S.Since.terms.rule) g.S.Since.ask g.S.Since.seen true 0 (turn_view c.read_lane-on.result.0.turn) c.value_in-core.result.now c.wait.new.self s c.wait.ensures.limits
-    (subst (λ (r : Result Got WaitRefusal). StandsFor g.A.Accumulate.operation c.wait.new.self (after_wait r c.args.task (s.turned.later ++ s.turned.now)))
-    (c.in-Ok-Ended.is ∙ ap Ok c.in-Ok-Ended.field-0-is) (c.wait.ensures.after (s.turned.later ++ s.turned.now) s.turned.stands.stands)))
+    (subst (λ (r : Result Got WaitRefusal). StandsFor g.A.Accumulate.operation c.wait.new.self (after_wait r c.args.task (s.turned.did.later ++ s.turned.did.now)))
+    (c.in-Ok-Ended.is ∙ ap Ok c.in-Ok-Ended.field-0-is) (c.wait.ensures.after (s.turned.did.later ++ s.turned.did.now) s.turned.stands.stands)))
 
 pub returns-in-Err-clause-serving : goal.returns-in-Err-clause-serving
 returns-in-Err-clause-serving g c =

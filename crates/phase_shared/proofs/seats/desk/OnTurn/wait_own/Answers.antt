@@ -1,12 +1,9 @@
 use Rattle.std.proofs.Common.{◌≡◌, ◌++◌, sym, ap, subst, ◌∙◌}
 use Rattle.std.specs.Prelude.{Result, Ok, Err}
 use Rattle.turn_lock.specs.Seats.{turn_view, turn_value}
-use Rattle.phase_core.specs.Cores.{CoreState, StandsFor}
-use Rattle.phase_core.specs.phase_history.Replies.{after_wait, wait_reply}
-use Rattle.phase_core.specs.phase_history.declared.got.Got.{Got}
+use Rattle.phase_shared.specs.Phasers.{CoreState, StandsFor, after_wait, wait_reply, Got, WaitRefusal}
 use Rattle.phase_core.specs.phase_history.declared.got.Got.TheVariants as got
-use Rattle.phase_core.specs.phase_history.declared.refusal.WaitRefusal.{WaitRefusal}
-use Rattle.phase_shared.proofs.ServingSteps.{own_reply, own_waited}
+use Rattle.phase_shared.proofs.ServingTurns.{own_reply, own_waited}
 use Rattle.phase_shared.specs.Goods.{allows_or}
 use Rattle.phase_shared.proofs.seats.desk.OnTurn.wait_own.Goals as goal
 
@@ -14,7 +11,7 @@ pub returns-clause-finished : goal.returns-clause-finished
 returns-clause-finished g c serves k s done =
     let task = g.S.Since.ask.task in
     let asked = ap (λ a. a.task) (sym c.args.self.of.ask_is) in
-    let h = s.turned.later ++ s.turned.now in
+    let h = s.turned.did.later ++ s.turned.did.now in
     let x = c.value_in-core.result.now in
     let new = c.wait.new.self in
     let value = c.value_in-core.ensures.value in
@@ -35,7 +32,7 @@ unreachable-requires-in-Err g c =
     let task = g.S.Since.ask.task in
     let asked = ap (λ a. a.task) (sym c.args.self.of.ask_is) in
     let s = c.requires.serving.2 in
-    let h = s.turned.later ++ s.turned.now in
+    let h = s.turned.did.later ++ s.turned.did.now in
     let x = c.value_in-core.result.now in
     let value = c.value_in-core.ensures.value in
     let stands : StandsFor g.A.Accumulate.operation x h = subst (λ (y : CoreState _). StandsFor g.A.Accumulate.operation y h) (sym value) s.turned.stands.stands in

@@ -4,7 +4,9 @@ use Rattle.phase_core.specs.Cores.{CoreState, StandsFor}
 use Rattle.phase_shared.specs.Lanes.{sends_of}
 use Rattle.phase_shared.specs.Servings.{Serving, ServingOpen, HasToSignal}
 use Rattle.phase_shared.specs.Views.{known_of}
-use Rattle.phase_shared.proofs.ServingSteps.{HasRead, reads_more, reads_knows, signals_more, same_turn, stays_open, is_other_task, send_knows}
+use Rattle.phase_shared.proofs.ServingReads.{HasRead, reads_more}
+use Rattle.phase_shared.proofs.ServingSteps.{signals_more}
+use Rattle.phase_shared.proofs.ServingTurns.{reads_knows, same_turn, stays_open, is_other_task, send_knows}
 use Rattle.phase_shared.proofs.seats.desk.OpenTurn.signal_for.Given.{Over}
 use Rattle.phase_shared.proofs.seats.desk.OpenTurn.signal_for.Goals.{After-read_lane-on, After-read_send-on}
 use Rattle.phase_shared.specs.Goods.{allows_or}
@@ -89,5 +91,5 @@ invariant_of-result-in-Ok g c =
     (signals_more g.A.Accumulate.operation g.S.Since.terms.limits (allows_or g.K.SignalRule.allows g.S.Since.terms.rule) g.S.Since.ask g.S.Since.seen c.args.task c.read_lane-on.result.1 c.read_send-on.result.1 (turn_view c.read_lane-on.result.0.turn)
     (turn_view c.read_send-on.result.0.turn) x c.signal.new.self h (c.if-found-request.false ∙ ap (λ a. a.phase + 1) (sym asked)) c.read_send-on.ensures.send before
     (c.signal.ensures.limits ∙ ap (λ (y : CoreState _). y.limits) value)
-    (c.in-Ok.ensures.after (h.serving.turned.later ++ h.serving.turned.now) (sends_of c.read_send-on.result.1)
-    (subst (λ (y : CoreState _). StandsFor g.A.Accumulate.operation y (h.serving.turned.later ++ h.serving.turned.now)) (sym value) h.serving.turned.stands.stands) c.sends_of.ensures))
+    (c.in-Ok.ensures.after (h.serving.turned.did.later ++ h.serving.turned.did.now) (sends_of c.read_send-on.result.1)
+    (subst (λ (y : CoreState _). StandsFor g.A.Accumulate.operation y (h.serving.turned.did.later ++ h.serving.turned.did.now)) (sym value) h.serving.turned.stands.stands) c.sends_of.ensures))

@@ -1,4 +1,4 @@
-use Rattle.std.proofs.Common.{ap, sym, subst, ◌∙◌}
+use Rattle.std.proofs.Common.{sym, subst, ◌∙◌}
 use Rattle.turn_lock.specs.Seats.{seat_view, turn_value, turn_view}
 use Rattle.phase_shared.specs.Asks.{Ask}
 use Rattle.phase_shared.specs.LockedPhasers.{locked_terms}
@@ -9,8 +9,8 @@ use Rattle.phase_shared.proofs.CallSteps.{at_call, at_phaser}
 use Rattle.phase_shared.specs.Goods.{allows_or}
 use Rattle.phase_shared.proofs.seats.desk.ReadyDesk.take.Goals as goal
 
-pub enter-requires-clause-at : goal.enter-requires-clause-at
-enter-requires-clause-at g c = c.self.invariant.at
+pub enter-requires : goal.enter-requires
+enter-requires g c = record { here = c.self.inside.desk.here ∙ sym c.self.inside.desk.of.place_is; knows = c.self.invariant.at }
 
 pub invariant_of-result : goal.invariant_of-result
 invariant_of-result g c =
@@ -25,7 +25,7 @@ invariant_of-result g c =
     let waits = subst (λ (a : Ask). MayWait g.S.Since.terms.limits (allows_or g.K.SignalRule.allows g.S.Since.terms.rule) a g.S.Since.seen) of.ask_is i.waits in (
       subst (λ (a : Ask). Starting g.A.Accumulate.operation g.S.Since.terms.limits (allows_or g.K.SignalRule.allows g.S.Since.terms.rule) a g.S.Since.seen w x) (sym of.ask_is)
           (at_call g.K.SignalRule.allows at g.S.Since.terms of.terms_is (λ limits allows. Starting g.A.Accumulate.operation limits allows (ask_of of.request) g.S.Since.seen w x)
-          (starting g.A.Accumulate.operation g.K.SignalRule.allows at of.request g.S.Since.seen c.self.inside.entry v x w may i.seen_is (waits.alive, waits.waits) c.in-Ok.ensures.took)),
+          (starting g.A.Accumulate.operation g.K.SignalRule.allows at of.request g.S.Since.seen c.self.inside.entry v x w may i.seen_is (waits.alive, waits.waits) c.in-Ok.ensures.turn.knows)),
       i.waits,
     )
 

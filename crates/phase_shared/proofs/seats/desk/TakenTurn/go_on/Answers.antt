@@ -1,8 +1,6 @@
-use Rattle.std.proofs.Common.{◌≡◌, ◌∷◌, [], ◌<◌, ◌≤◌, Some, ap, sym, subst, ℕ, ◌∙◌, arith}
+use Rattle.std.proofs.Common.{◌≡◌, ◌∷◌, [], ◌<◌, Some, ap, sym, subst, ℕ, ◌∙◌, arith}
 use Rattle.turn_lock.specs.Seats.{turn_view, turn_value}
-use Rattle.phase_core.specs.Cores.{CoreState}
-use Rattle.phase_core.specs.phase_base.Members.{entry_of}
-use Rattle.phase_core.specs.phase_history.Histories.{done_of, members_of}
+use Rattle.phase_shared.specs.Phasers.{entry_of, done_of, members_of}
 use Rattle.phase_shared.specs.Rule.{StandsWithin}
 use Rattle.phase_shared.specs.Tells.{TookAsked}
 use Rattle.phase_shared.specs.Views.{knowledge}

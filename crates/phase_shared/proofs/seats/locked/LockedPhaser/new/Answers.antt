@@ -1,8 +1,6 @@
 use Rattle.std.proofs.Common.{[], ◌∷◌, sym, subst, refl}
-use Rattle.phase_core.specs.phase_base.Limits.{Limits}
+use Rattle.phase_shared.specs.Phasers.{Limits, founder, IsLegal}
 use Rattle.phase_core.specs.phase_history.declared.event.Event.TheVariants.{Made}
-use Rattle.phase_core.specs.phase_history.Histories.{founder}
-use Rattle.phase_core.specs.phase_history.Legal.{IsLegal}
 use Rattle.phase_shared.specs.Rule.{IsSeatOfTask, StandsWithin}
 use Rattle.phase_shared.specs.declared.seats.view.View.{View}
 use Rattle.phase_shared.proofs.Joining.{founds}

@@ -1,0 +1,6 @@
+use Rattle.std.specs.Prelude.{◌≡◌}
+use Rattle.phase_received.specs.phase_shared.Regs.{phaser_lock}
+use Rattle.thread_tests.proofs.asked.follow.Given as goal
+
+abbrev pub invariant-loop : goal.invariant-loop
+invariant-loop g l = l.reg.at ≡ phaser_lock l.phaser
