@@ -8,7 +8,7 @@ use Rattle.std.specs.declared.result.Result.{Result}
 use Rattle.graph_commands.specs.FileJobs.{Known}
 use Rattle.stream_job.specs.Machines.{kept_behind}
 use Rattle.stream_job.specs.SinkLines.{kept_by}
-use Rattle.stream_job.specs.InRange.{is_held_up, stands_before}
+use Rattle.stream_job.specs.InRange.{is_held_up}
 use Rattle.stream_job.specs.Streams.{IsSourceAt, IsStreamAt, Meets, StreamState, StreamStopsAt, all_tasks, ended_at, first_full, first_hungry, has_ended, is_full, is_hungry, is_some_live, rests, stop_by}
 use Rattle.stream_job.specs.declared.input.Input.{Input}
 use Rattle.stream_job.specs.declared.stopped.Stopped.{Stopped}

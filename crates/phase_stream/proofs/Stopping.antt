@@ -20,6 +20,7 @@ use Rattle.stream_job.specs.stream_lists.Ranges.{Where}
 use Rattle.phase_stream.specs.Sessions.{IsKnownAs, IsKeptRight, IsKeptWhole, IsSameSession, IsSinkNumber, StandsPart, StandsStopped}
 use Rattle.phase_stream.specs.Streams.{IsStandstill, StopsBehind, StopsKept, StopsOf, WritesKept, WritesWhole}
 use Rattle.phase_stream.specs.declared.session.Session.{Session}
+use Rattle.stream_job.proofs.StillStays.{all_still}
 use Rattle.phase_stream.proofs.Writing.{kept_of, left_of, part_of, whole_of}
 
 pub sink_same : {R : Type 0} (old new : Session R) → IsSameSession old new
@@ -82,12 +83,17 @@ pub stall_stops : {R : Type 0} (remaining : R → Option (List ℕ)) (held : Kno
     → IsKeptRight session.stream session.task
     → StandsStopped remaining held old.written new.written session stopped.Stalled
     → StopsKept held first.stream.job first.task old new
-    (λ samples ended m. IsStandstill first.stream.job samples m)
+    (λ samples ended m. IsStandstill first.stream.job samples ended m)
 stall_stops remaining held old new first session same right st =
-    moved (λ j t. StopsKept held j t old new (λ samples ended m. IsStandstill j samples m)) first
+    moved (λ j t. StopsKept held j t old new (λ samples ended m. IsStandstill j samples ended m)) first
     session same (record {
       kept = stopped_kept remaining held old.written new.written session stopped.Stalled right st;
-      cause = record { live = st.stopped_is.0; rest = st.stopped_is.1 };
+      cause = record {
+        live = st.stopped_is.0;
+        rest = st.stopped_is.1;
+        stays = λ more goes sends. all_still session.stream st.stands.samples st.stands.moment
+            st.stands.given more st.stands.reaches.at goes.feeds sends st.stopped_is.1;
+      };
     })
 
 pub too_big_stops : {R : Type 0} (remaining : R → Option (List ℕ)) (held : Known)

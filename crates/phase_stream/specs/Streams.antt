@@ -27,15 +27,17 @@ use Rattle.stream_job.specs.Gone.{has_gone}
 use Rattle.stream_job.specs.SinkLines.{kept_by}
 use Rattle.stream_job.specs.InRange.{is_held_up}
 use Rattle.stream_job.specs.Streams.{IsSourceAt, all_tasks, is_some_live, most_of}
-use Rattle.stream_job.specs.graph_base.Graphs.{file_at, name_at, source_number, sources_of}
+use Rattle.stream_job.specs.graph_base.Graphs.{file_at, name_at, source_number, sources_of, task_at}
+use Rattle.stream_job.specs.graph_base.declared.line.Kind.TheVariants.{Source}
 use Rattle.stream_job.specs.graph_base.declared.place.Place.TheVariants as place
 use Rattle.sample_pieces.specs.graph_lang.declared.fault.FaultKind.{FaultKind}
 use Rattle.sample_pieces.specs.graph_lang.declared.fault.FaultKind.TheVariants.{AnyMeets}
+use Rattle.stream_job.specs.phase_accum.Sends.{AreSends}
 use Rattle.stream_job.specs.graph_runs.Feeds.{IsFed}
 use Rattle.stream_job.specs.graph_runs.Moments.{Moment, started}
 use Rattle.stream_job.specs.graph_runs.Reached.{IsReachable}
 use Rattle.stream_job.specs.graph_runs.Settled.{IsFaultAt, IsReady}
-use Rattle.stream_job.specs.stream_lists.Jobs.{Job, counted, with_samples, with_starts}
+use Rattle.stream_job.specs.stream_lists.Jobs.{Job, counted, samples_in, with_samples, with_starts}
 use Rattle.stream_job.specs.stream_lists.Lists.{sinks_of}
 use Rattle.stream_job.specs.stream_lists.Meetings.{meeting_line}
 use Rattle.stream_job.specs.stream_lists.Ranges.{Fits, Where}
@@ -159,10 +161,15 @@ pub record EndsInRecord (held : Known) (job : Job) (named : List ℕ) (number : 
   pub bad : HasBadFrom (held (file_at job.graph source)) number
   pub rest : AllWait job ended samples moment
 
--- some task is live, and no task can move
-pub record IsStandstill (job : Job) (samples : List (List ℤ)) (moment : Moment) : Type 0 where
+-- some task is live, and no task can move, with whatever samples go on behind those that came
+pub record IsStandstill (job : Job) (samples : List (List ℤ)) (ended : ℕ → Bool) (moment : Moment)
+    : Type 0 where
   pub live : is_some_live job moment ≡ true
   pub rest : list_all (is_held_up (with_samples samples job) moment) (all_tasks job) ≡ true
+  pub stays : (more : List (List ℤ)) → GoesOnBehind job ended samples more
+      → ((t : ℕ) → t < length job.graph.tasks → (task_at job.graph t).kind ≡ Source
+      → AreSends (samples_in job more t))
+      → list_all (is_held_up (with_samples more job) moment) (all_tasks job) ≡ true
 
 -- a value is out of range in every run whose samples go on behind those that came, and no task
 -- makes an event but those that stand before one, of which the first stands before this one
@@ -188,7 +195,7 @@ StopsOf held job sink old new (failure.TooBig other at phase) =
     (λ samples ended m. IsFaultBehind job samples ended m (at, phase))
 StopsOf held job sink old new (failure.Stalled further) =
     AreFurtherLines further.items × StopsKept held job sink old new
-    (λ samples ended m. IsStandstill job samples m)
+    (λ samples ended m. IsStandstill job samples ended m)
 StopsOf held job sink old new (failure.Io found) =
     (found ≡ io_fault.WriteFault → new.failed ≡ true)
     × StopsBehind held job sink old new (λ samples ended starts. ⊤)

@@ -107,7 +107,7 @@ rests_so stream before none is looked s m given at =
           (looked s m given at).first);
     }
 
-below_all : (test : ℕ → Bool) (n : ℕ) → list_all test (range_with_len 0 n) ≡ true
+pub below_all : (test : ℕ → Bool) (n : ℕ) → list_all test (range_with_len 0 n) ≡ true
     → (d : ℕ) → d < n → test d ≡ true
 below_all test n all d lt = by (test d) refl
   where

@@ -64,3 +64,4 @@ pub mod FedWent
 pub mod FedStands
 pub mod FedLooks
 pub mod FedRuns
+pub mod StillStays

@@ -60,11 +60,11 @@ use Rattle.graph_runs.proofs.Stepping.{line_sizes}
 
 -- ---- a signal, phase by phase
 
-or_true : (a b : Bool) → b ≡ true → (a || b) ≡ true
+pub or_true : (a b : Bool) → b ≡ true → (a || b) ≡ true
 or_true true b e = refl
 or_true false b e = e
 
-ahead_later : (slowest : Option ℕ) (bound s more : ℕ) → s ≤ more
+pub ahead_later : (slowest : Option ℕ) (bound s more : ℕ) → s ≤ more
     → is_ahead slowest bound s ≡ true → is_ahead slowest bound more ≡ true
 ahead_later None bound s more le e = absurd (cc)
 ahead_later (Some slow) bound s more le e =

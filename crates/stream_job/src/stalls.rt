@@ -8,6 +8,9 @@ ghost use Rattle.phase_any.specs.phase_history.Refusals.{is_ahead};
 ghost use Rattle.graph_lang.specs.graph_base.Graphs.{phaser_at, task_at};
 ghost use Rattle.graph_lang.specs.graph_base.Registrations.{signalled_by};
 ghost use Rattle.phase_any.specs.Phasers.{PhaserStandsFor};
+ghost use Rattle.graph_lang.specs.graph_base.declared.line.Kind.TheVariants.{Source};
+ghost use Rattle.phase_any.specs.phase_accum.Sends.{AreSends};
+ghost use Rattle.graph_runs.specs.Feeds.{IsFed};
 ghost use Rattle.graph_runs.specs.Moments.{Moment, limits_at, input_at};
 ghost use Rattle.graph_runs.specs.Nexts.{has_signaller, is_live, number_on, samples, signals};
 ghost use Rattle.graph_runs.specs.Answers.{is_stalled, is_still, output_at};
@@ -16,7 +19,8 @@ ghost use Rattle.stream_job.specs.Blocking.{AreBlocked};
 ghost use Rattle.stream_job.specs.InRange.{is_blocked_before, is_held_up};
 ghost use Rattle.stream_job.specs.Machines.{next_by};
 ghost use Rattle.stream_job.specs.Plans.{IsPlan};
-ghost use Rattle.stream_eval.specs.stream_lists.Jobs.{with_samples};
+ghost use Rattle.stream_job.specs.Streams.{IsStreamAt, StreamState, all_tasks, ended_at};
+ghost use Rattle.stream_eval.specs.stream_lists.Jobs.{samples_in, with_samples};
 
 use crate::machine::Machine;
 use crate::parked::Parked;
@@ -251,3 +255,14 @@ fn wait_blocks(core: &AnyPhaser, number: u64) -> bool
     };
     core.done() <= entry.wait_phase && core.has_signaller()
 }
+
+/// Where each task is held up, each stays so with whatever samples go on behind those that came.
+pub fn stalls_stay()
+    ensures { (stream : StreamState) (s : List (List ℤ)) (m : Moment) (given : ℕ → List ℤ)
+        (more : List (List ℤ)) → IsStreamAt stream s m given
+        → IsFed (with_samples s stream.job) (ended_at stream) more
+        → ((t : ℕ) → t < length stream.job.graph.tasks
+        → (task_at stream.job.graph t).kind ≡ Source → AreSends (samples_in stream.job more t))
+        → list_all (is_held_up (with_samples s stream.job) m) (all_tasks stream.job) ≡ true
+        → list_all (is_held_up (with_samples more stream.job) m) (all_tasks stream.job) ≡ true }
+{}
