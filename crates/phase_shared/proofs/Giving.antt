@@ -1,6 +1,6 @@
 -- What a seat that speaks for one task owes at a give.
-use Rattle.std.proofs.Common.{◌≡◌, ℕ, ◌+◌, ◌*◌, false, cond, eqb, List, [], ◌∷◌, ◌++◌, Option, Some, None, refl, sym, ap, subst, ◌∙◌, inl, arith}
-use Rattle.std.specs.Prelude.{◌%◌, is_some}
+use Rattle.std.proofs.Common.{◌≡◌, ℕ, ◌+◌, false, cond, eqb, List, [], ◌∷◌, ◌++◌, Option, Some, None, refl, sym, ap, subst, ◌∙◌, inl}
+use Rattle.std.specs.Prelude.{is_some}
 use Rattle.turn_lock.specs.WordSteps.{GivesOf}
 use Rattle.phase_shared.specs.Phasers.{Limits, Entry, Operation, Event, entry_of, History, members_of, IsLegal, CoreState, StandsFor, IsUsed, is_by, events_of, OthersCame, is_in, Outcome}
 use Rattle.phase_shared.specs.declared.seats.view.View.{View}
