@@ -1,5 +1,5 @@
 -- A task that is held up stays so with more samples behind those that came.
-use Rattle.std.proofs.Common.{◌≡◌, ◌≢◌, ℕ, ℤ, zero, suc, ◌+◌, ◌-◌, ◌<◌, ◌≤◌, ◌||◌, Bool, true, false, cond, List, [], ◌∷◌, ◌++◌, Option, Some, None, length, take, drop, min, refl, sym, ap, subst, ◌∙◌, arith, ◌⊎◌, inl, inr}
+use Rattle.std.proofs.Common.{◌≡◌, ◌≢◌, ℕ, ℤ, zero, suc, ◌+◌, ◌-◌, ◌<◌, ◌≤◌, ◌||◌, Bool, true, false, cond, List, [], ◌∷◌, ◌++◌, Option, Some, None, length, take, drop, refl, sym, ap, subst, ◌∙◌, arith, ◌⊎◌, inl, inr}
 use Rattle.std.specs.Prelude.{nat_le, nat_lt}
 use Rattle.std.specs.List.{list_all, position_from}
 use Rattle.std.proofs.lemmas.Bool.{leb-false, lt-leb, lt-ltb, ltb-true}
@@ -16,10 +16,10 @@ use Rattle.graph_lang.specs.graph_base.declared.line.Kind.{Kind}
 use Rattle.graph_lang.specs.graph_base.declared.line.Kind.TheVariants.{Source, Fir, Split, Join, Peer, Sink}
 use Rattle.stream_eval.specs.stream_lists.Jobs.{Job, samples_at, samples_in, with_samples}
 use Rattle.stream_eval.specs.stream_lists.Ranges.{is_out_of_range}
-use Rattle.graph_runs.specs.Answers.{answer_up_to, output_at, signal_turn, was_blocked}
-use Rattle.graph_runs.specs.Moments.{Moment, limits_at, made_now}
-use Rattle.graph_runs.specs.NextBlocks.{block_of, sample_block_of}
-use Rattle.graph_runs.specs.Nexts.{Next, at_boundary, exchanges, first_due, first_owed, has_input_ended, in_step, is_cut, is_live, is_not_live, leaves, next_of, next_step, number_on, of_live, registers, samples, signals, waits}
+use Rattle.graph_runs.specs.Answers.{output_at, signal_turn, was_blocked}
+use Rattle.graph_runs.specs.Moments.{Moment, limits_at}
+use Rattle.graph_runs.specs.NextBlocks.{sample_block_of}
+use Rattle.graph_runs.specs.Nexts.{Next, at_boundary, exchanges, first_due, first_owed, has_input_ended, is_cut, is_live, is_not_live, leaves, next_of, next_step, number_on, of_live, registers, samples, signals, waits}
 use Rattle.graph_runs.specs.Reached.{IsReachable}
 use Rattle.graph_runs.specs.TaskEvents.{signal}
 use Rattle.graph_runs.proofs.Entries.{prefix_length}
@@ -28,7 +28,7 @@ use Rattle.graph_runs.proofs.FedFeeds.{feed_continues}
 use Rattle.graph_runs.proofs.FedNexts.{MayBe, next_fed, owed_fed}
 use Rattle.graph_runs.proofs.FedRuns.{made_fed, reachable_fed}
 use Rattle.stream_job.specs.InRange.{are_blocked, blocks_before, good_many, is_held_up}
-use Rattle.stream_job.specs.Stepping.{blocks_signal, blocks_signal_at, would_block}
+use Rattle.stream_job.specs.Stepping.{blocks_signal_at, would_block}
 use Rattle.stream_job.specs.Streams.{IsStreamAt, StreamState, all_tasks, ended_at}
 use Rattle.stream_job.proofs.FedStops.{below_all}
 use Rattle.stream_job.proofs.Searching.{all_in_range}
