@@ -3,6 +3,7 @@
 //! The first calls are `PhaserCore::new`, `PhaserCore::signal` and `PhaserCore::wait`.
 #![tactic(auto)]
 
+mod lent_slots;
 mod list_refusals;
 mod members;
 mod one_sends;
@@ -10,6 +11,8 @@ mod passing;
 mod phaser_core;
 mod refusal_rows;
 mod signalling;
+mod slot_core;
+mod slots;
 mod waiting;
 
 pub use one_sends::{are_sends, hold_each, one_send};

@@ -1,0 +1,5 @@
+//! The calls of a phaser that keeps a slot for each phase.
+pub mod members;
+pub mod passing;
+pub mod signalling;
+pub mod waiting;
