@@ -12,6 +12,8 @@ pub mod MemberSteps
 pub mod NewCore
 pub mod OneSends
 pub mod OnlyMember
+pub mod Parked
+pub mod PlainPhases
 pub mod Replies
 pub mod RingSlots
 pub mod SignalCore
