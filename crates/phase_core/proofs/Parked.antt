@@ -1,30 +1,34 @@
 -- Slots that stand aside, and slots that are set anew for values that were kept alone.
 use Rattle.std.proofs.Common.{◌≡◌, ℕ, zero, suc, ◌+◌, ◌-◌, ◌<◌, ◌≤◌, true, ℤ, List, [], ◌∷◌, ◌++◌, Option, Some, None, min, get_or, map, length, replicate, unwrap_or, refl, sym, ap, subst, ◌∙◌, arith, inl, inr, ⊎_elim}
 use Rattle.std.specs.List.{All}
-use Rattle.std.proofs.lemmas.Bool.{cases_eq}
+use Rattle.std.specs.Prelude.{slice_get}
+use Rattle.std.proofs.lemmas.Bool.{cases_eq, cases_lt}
 use Rattle.std.proofs.lemmas.Option.{same_Some}
-use Rattle.std.proofs.lemmas.List.{map-append}
+use Rattle.std.proofs.lemmas.List.{length-map, map-append}
 use Rattle.std.proofs.lemmas.Simd.{map-map}
 use Rattle.phase_history.proofs.Each.{Each, Each-of_picked, least_low}
 use Rattle.phase_history.specs.phase_accum.Operations.{Operation}
+use Rattle.phase_history.specs.phase_accum.declared.single.Single.{Single}
 use Rattle.phase_history.specs.declared.event.Event.TheVariants.{Made, Dropped}
 use Rattle.phase_registry.specs.phase_base.Limits.{AreLimits, Limits}
 use Rattle.phase_registry.specs.phase_base.Modes.{mode_signals, mode_waits}
+use Rattle.phase_registry.specs.phase_base.declared.entry.Entry.{Entry}
 use Rattle.phase_registry.specs.phase_base.declared.member.Member.{Member}
-use Rattle.phase_registry.specs.phase_base.Members.{Members, least, lesser, signal_phases, wait_phases}
-use Rattle.phase_registry.specs.Rosters.{Roster}
+use Rattle.phase_registry.specs.phase_base.Members.{Members, entry_of, least, lesser, signal_phases, wait_phases}
+use Rattle.phase_registry.specs.Rosters.{Roster, roster}
 use Rattle.phase_ring.specs.declared.board.Board.{Board}
 use Rattle.phase_ring.specs.declared.role.Role.{Role}
 use Rattle.phase_ring.specs.declared.role.Role.TheVariants.{Signaller, Waiter}
 use Rattle.phase_ring.specs.Boards.{IsRingAt}
 use Rattle.phase_ring.specs.Restarts.{MayStand, one_slot, ring_of_ones}
 use Rattle.phase_ring.specs.Rings.{Ring, sents, standing}
-use Rattle.phase_ring.specs.Slots.{Slot, empty_slot, sent}
+use Rattle.phase_ring.specs.Slots.{Slot, IsUnused, empty_slot, sent}
 use Rattle.phase_ring.specs.Standings.{count_of, one_if_same, phase_for, takes_part}
 use Rattle.phase_core.specs.Slots.{KeptSlot}
 use Rattle.phase_core.specs.Cores.{CoreState, StandsFor, IsBoarded, IsCore, core_of, sent_of}
 use Rattle.phase_core.specs.Plain.{IsPlain, left_roster, plain_core, plain_slot, unused_slot}
-use Rattle.phase_core.proofs.LeastCounts.{one-same, one-other}
+use Rattle.phase_core.proofs.Boarded.{slowest_is}
+use Rattle.phase_core.proofs.LeastCounts.{one-same, one-other, signaller-counted}
 use Rattle.phase_core.proofs.Replies.{limits_of}
 
 -- ---- slots that stand aside
@@ -185,4 +189,110 @@ resumed_core op r limits base values b has plain = record {
           let same = ap (λ p. count_of p (wait_phases r.members)) base_is in omega arith;
       signallers_are = λ p. (has.stand p).0;
       waiters_are = λ p. (has.stand p).1;
+    }
+
+-- ---- slots that keep nothing
+
+unused_kept : {A : Type 0} (op : Operation A) (slot : Slot A) → IsUnused op slot
+    → sent_of slot ≡ unused_slot op
+unused_kept {A} op slot unused =
+    let make : A → ℕ → Option (Option Single) → KeptSlot A =
+    λ part count named. record { part = part; count = count; named = named } in
+    ap (λ x. make x slot.count slot.named) unused.part_is
+    ∙ (ap (λ x. make op.unit x slot.named) unused.count_is
+    ∙ ap (λ x. make op.unit 0 x) unused.named_is)
+
+all_unused : {A : Type 0} (op : Operation A) (xs : List (Slot A))
+    → ((i : ℕ) (slot : Slot A) → slice_get xs i ≡ Some slot → IsUnused op slot)
+    → map sent_of xs ≡ replicate (length xs) (unused_slot op)
+all_unused op [] unused = refl
+all_unused op (x ∷ xs) unused =
+    ap (λ y. y ∷ map sent_of xs) (unused_kept op x (unused 0 x refl))
+    ∙ ap (λ l. unused_slot op ∷ l) (all_unused op xs (λ i slot found. unused (suc i) slot found))
+
+alone_of : (xs : List ℕ) (p : ℕ) → length xs ≡ 1 → 0 < count_of p xs → xs ≡ p ∷ []
+alone_of [] p one some = absurd (omega arith)
+alone_of (x ∷ []) p one some =
+    ⊎_elim (λ (same : x ≡ p). ap (λ n. n ∷ []) same)
+    (λ (apart : x ≡ p → ⊥). absurd (let none = one-other x p apart in omega arith)) (cases_eq x p)
+alone_of (x ∷ y ∷ xs) p one some = absurd (omega arith)
+
+high_by_counts : (xs : List ℕ) (t : ℕ) → ((p : ℕ) → t < p → count_of p xs ≡ 0)
+    → Each (λ x. x ≤ t) xs
+high_by_counts [] t none = tt
+high_by_counts (x ∷ xs) t none = (
+  ⊎_elim (λ above. absurd (let n : one_if_same x x + count_of x xs ≡ 0 = none x above in
+      let one = one-same x in omega arith)) (λ h. h) (cases_lt t x),
+  high_by_counts xs t (λ p h. let n : one_if_same x p + count_of p xs ≡ 0 = none p h in
+      omega arith),
+)
+
+-- the core is one of no values, and plain
+pub record IsBare {A : Type 0} (op : Operation A) (core : CoreState A) (members : Members)
+    (greatest phase : ℕ) : Type 0 where
+  pub plain : IsPlain op (roster members (Some greatest)) core.limits phase []
+  pub is : core ≡ plain_core op (roster members (Some greatest)) core.limits phase []
+  pub long : length core.slots ≡ core.limits.bound + 1
+
+pub bare_of : {A : Type 0} (op : Operation A) (r : Roster) (b : Board A) (task : ℕ) (e : Entry)
+    → IsCore op r b → entry_of r.members task ≡ Some e → mode_signals e.mode ≡ true
+    → length (signal_phases r.members) ≡ 1
+    → IsBoarded op r.members b.ring b.limits.bound b.done b.top
+    → b.top ≡ e.signal_phase → b.ring.base ≡ e.signal_phase
+    → IsBare op (core_of r b) r.members (unwrap_or r.greatest 0) e.signal_phase
+bare_of {A} op r b task e core found signals one boarded top base = record {
+  plain = plain;
+  is = is;
+  long = long_slots;
+}
+  where
+    phase : ℕ
+    phase = e.signal_phase
+
+    roster_is : Roster
+    roster_is = roster r.members (Some (unwrap_or r.greatest 0))
+
+    long_slots : length (map sent_of b.ring.slots) ≡ b.limits.bound + 1
+    long_slots = length-map b.ring.slots sent_of ∙ boarded.kept.long
+
+    slots_are : map sent_of b.ring.slots
+        ≡ (plain_core op roster_is b.limits phase []).slots
+    slots_are =
+        all_unused op b.ring.slots (λ i slot found.
+        let place : b.ring.base + i - b.ring.base ≡ i = omega arith in
+        boarded.kept.unused (b.ring.base + i) slot (omega arith)
+        (ap (slice_get b.ring.slots) place ∙ found) (omega arith))
+        ∙ ap (λ n. replicate n (unused_slot op))
+        (let n : length b.ring.slots ≡ b.limits.bound + 1 - 0 = omega (arith, boarded.kept.long) in n)
+
+    is : core_of r b ≡ plain_core op roster_is b.limits phase []
+    is =
+        let make : ℕ → ℕ → List (KeptSlot A) → CoreState A = λ t at slots. record {
+          limits = b.limits;
+          members = r.members;
+          greatest = unwrap_or r.greatest 0;
+          top = t;
+          base = at;
+          slots = slots;
+        } in
+        ap (λ t. make t b.ring.base (map sent_of b.ring.slots))
+        (let t : b.top ≡ phase + 0 = omega (arith, top) in t)
+        ∙ (ap (λ at. make (phase + 0) at (map sent_of b.ring.slots)) base
+        ∙ ap (make (phase + 0) phase) slots_are)
+
+    plain : IsPlain op roster_is b.limits phase []
+    plain = record {
+      history = core.history;
+      stands = subst (λ c. StandsFor op c core.history) is core.stands;
+      alone = alone_of (signal_phases r.members) phase one
+          (signaller-counted r.members task e found signals)
+          ∙ ap (λ n. n ∷ []) (let n : phase ≡ phase + 0 = omega arith in n);
+      slowest = slowest_is op r.members b.ring b.limits.bound b.done b.top boarded ∙ ap Some base;
+      low = All-of_each _ (wait_phases r.members) (high_by_counts (wait_phases r.members) (phase + 0)
+          (λ p above. sym (boarded.waiters_are p)
+          ∙ boarded.kept.waits_high p (omega (arith, boarded.kept.done_top, top))));
+      near = omega arith;
+      far = omega (arith, boarded.kept.top_far, top);
+      sends = tt;
+      used = refl;
     }

@@ -9,12 +9,18 @@ use crate::slot_core::SlotCore;
 use phase_history::phase_accum::Accumulate;
 
 impl<A: Accumulate> PhaserCore<A> {
-    /// Lends the slots.
+    /// Lends the slots, which are there from now on.
     pub(crate) fn slots(&mut self) -> &mut SlotCore<A>
-        ensures* writes_back { sem 𝓛 (Lends (the_row A.row A.Accumulate) (slots_row A.row A.Accumulate) self.entry result
-            (λ w. w)) }
+        ensures* writes_back { sem 𝓛 (Lends (the_row A.row A.Accumulate)
+            (slots_row A.row A.Accumulate) self.entry result (λ w. w)) }
         ensures value { result.now ≡ self.old }
     {
+        if self.plain.is_on {
+            let (front, back) = self.plain.values.as_slices();
+            self.slots
+                .resume(&mut self.plain.registry, self.plain.base, front, back);
+            self.plain.is_on = false;
+        }
         &mut self.slots
     }
 }

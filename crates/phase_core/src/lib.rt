@@ -9,6 +9,7 @@ mod members;
 mod one_sends;
 mod passing;
 mod phaser_core;
+mod plain;
 mod refusal_rows;
 mod signalling;
 mod slot_core;

@@ -6,6 +6,7 @@ ghost use Rattle.phase_history.specs.Histories.{History, done_of, top_of};
 ghost use Rattle.phase_registry.specs.Rosters.{next_after};
 ghost use Rattle.phase_core.specs.Cores.{StandsFor};
 
+use crate::plain::Plain;
 use crate::slot_core::SlotCore;
 use phase_history::phase_accum::Accumulate;
 use phase_registry::phase_base::{Entry, Spec};
@@ -53,14 +54,18 @@ use std::marker::Model;
 #[derive(Drop)]
 pub struct PhaserCore<A: Accumulate> {
     pub(crate) slots: SlotCore<A>,
+    pub(crate) plain: Plain,
 }
 
 impl<A: Accumulate> Model for PhaserCore<A> {
     ghost use Rattle.phase_core.specs.Cores.{CoreState};
+    ghost use Rattle.phase_core.specs.PlainCores.{IsPhaser, shown};
 
     ghost Value = { CoreState A };
 
-    ghost view = { λ c. c.slots };
+    ghost view = { λ c. shown A.operation c.slots c.plain };
+
+    ghost invariant = { λ c. IsPhaser A.operation c.slots c.plain };
 }
 
 impl<A: Accumulate> PhaserCore<A> {
@@ -70,8 +75,9 @@ impl<A: Accumulate> PhaserCore<A> {
         ensures stands { IfOk result (λ core. StandsFor A.operation core (Made first ∷ [])) }
         ensures limits { IfOk result (λ core. core.limits ≡ spec) }
     {
+        let plain = Plain::new(alloc, spec.bound())?;
         let slots = SlotCore::<A>::new(alloc, spec, first)?;
-        Ok(PhaserCore { slots })
+        Ok(PhaserCore { slots, plain })
     }
 
     /// Returns a task's mode and phases, where it is registered.

@@ -1,7 +1,8 @@
 //! Slots that stand aside while a phaser keeps values alone.
 ghost use Rattle.std.specs.Prelude.{◌≡◌, ℕ, ◌+◌, ◌≤◌, [], ◌++◌, Some, None, true, length};
 ghost use Rattle.std.specs.List.{All};
-ghost use Rattle.phase_registry.specs.phase_base.Members.{signal_phases, wait_phases};
+ghost use Rattle.phase_registry.specs.phase_base.Members.{entry_of, signal_phases, wait_phases};
+ghost use Rattle.phase_registry.specs.phase_base.Modes.{mode_signals};
 ghost use Rattle.phase_registry.specs.Rosters.{roster};
 ghost use Rattle.phase_ring.specs.declared.role.Role.{Role};
 ghost use Rattle.phase_ring.specs.declared.role.Role.TheVariants.{Signaller, Waiter};
@@ -15,7 +16,7 @@ ghost use Rattle.phase_core.specs.Plain.{IsPlain, left_roster, plain_core};
 use crate::slot_core::SlotCore;
 use phase_history::phase_accum::Accumulate;
 use phase_registry::Registry;
-use phase_registry::phase_base::{MEMBERS_MAX, Member};
+use phase_registry::phase_base::{Entry, MEMBERS_MAX, Member};
 use phase_ring::Board;
 use std::mem;
 
@@ -39,6 +40,25 @@ fn place_all<A: Accumulate>(board: &mut Board<A>, members: &[Member])
 }
 
 impl<A: Accumulate> SlotCore<A> {
+    /// Whether no phase is kept, and a task with this entry is the only one that signals. Then the
+    /// values alone may be kept of the phases that it signals.
+    pub(crate) fn can_park(&self, entry: Entry) -> bool
+        requires member { (task : ℕ) × (entry_of self.now.members task ≡ Some entry) }
+        requires signals { mode_signals entry.mode ≡ true }
+        ensures { result ≡ true → let r = roster self.now.members (Some self.now.greatest) in
+            IsPlain A.operation r self.now.limits entry.signal_phase []
+            × (self.now ≡ plain_core A.operation r self.now.limits entry.signal_phase [])
+            × (length self.now.slots ≡ self.now.limits.bound + 1) }
+    {
+        if self.registry.signallers() != 1 || self.registry.waiters() == 0 {
+            return false;
+        }
+        if self.board.top != entry.signal_phase {
+            return false;
+        }
+        self.board.ring.base() == entry.signal_phase
+    }
+
     /// Hands the registry out, and has that of a task that has left. It keeps its slots.
     pub(crate) fn park(&mut self, registry: &mut Registry)
         requires left { registry.old ≡ left_roster }

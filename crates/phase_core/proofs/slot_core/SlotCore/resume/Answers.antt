@@ -69,9 +69,9 @@ resumed g c =
       slots_are = c.place_all.ensures.same ∙ ap sents (c.restart.ensures.ring
           ∙ ap (λ n. ring_of_ones op n c.args.base values) (long g here));
       stand = λ p. let stand = c.place_all.ensures.stand p in (
-          stand.0 ∙ ap (λ ms. count_of p (signal_phases ms)) (members_are g here),
-          stand.1 ∙ ap (λ ms. count_of p (wait_phases ms)) (members_are g here),
-        );
+        stand.0 ∙ ap (λ ms. count_of p (signal_phases ms)) (members_are g here),
+        stand.1 ∙ ap (λ ms. count_of p (wait_phases ms)) (members_are g here),
+      );
     }
 
 pub invariant_of-self : goal.invariant_of-self
