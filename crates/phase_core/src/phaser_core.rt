@@ -84,6 +84,9 @@ impl<A: Accumulate> PhaserCore<A> {
     pub fn view(&self, task: u64) -> Option<Entry>
         ensures { result ≡ entry_of self.now.members task }
     {
+        if self.plain.is_on {
+            return self.plain.registry.get(task);
+        }
         self.slots.view(task)
     }
 
@@ -93,6 +96,9 @@ impl<A: Accumulate> PhaserCore<A> {
     pub fn done(&self) -> u64
         ensures { (h : History) → StandsFor A.operation self.now h → result ≡ done_of h }
     {
+        if self.plain.is_on {
+            return self.plain.top();
+        }
         self.slots.done()
     }
 
@@ -102,6 +108,9 @@ impl<A: Accumulate> PhaserCore<A> {
         // A phaser stands for some history, whatever was done with it before.
         ensures stands { (h : History) × StandsFor A.operation self.now h }
     {
+        if self.plain.is_on {
+            return self.plain.top();
+        }
         self.slots.top()
     }
 
@@ -109,6 +118,9 @@ impl<A: Accumulate> PhaserCore<A> {
     pub fn next_number(&self) -> Option<u64>
         ensures { result ≡ next_after (Some self.now.greatest) }
     {
+        if self.plain.is_on {
+            return self.plain.registry.next_number();
+        }
         self.slots.next_number()
     }
 
@@ -116,6 +128,9 @@ impl<A: Accumulate> PhaserCore<A> {
     pub fn least_wait(&self) -> Option<u64>
         ensures { result ≡ least (wait_phases self.now.members) }
     {
+        if self.plain.is_on {
+            return Some(self.plain.base);
+        }
         self.slots.least_wait()
     }
 
@@ -123,6 +138,9 @@ impl<A: Accumulate> PhaserCore<A> {
     pub fn has_signaller(&self) -> bool
         ensures { result ≡ is_some (least (signal_phases self.now.members)) }
     {
+        if self.plain.is_on {
+            return true;
+        }
         self.slots.has_signaller()
     }
 }

@@ -1,10 +1,10 @@
 //! The values of phases of one send each.
-ghost use Rattle.std.specs.Prelude.{◌≡◌, ◌≤◌, [], false, IfOk};
+ghost use Rattle.std.specs.Prelude.{◌≡◌, ◌+◌, ◌≤◌, [], false, length, IfOk};
 ghost use Rattle.phase_core.specs.Plain.{left_roster};
 
 use circular_buffer::HeapCircularBuffer;
 use phase_registry::Registry;
-use phase_registry::phase_base::BOUND_MAX;
+use phase_registry::phase_base::{BOUND_MAX, PHASES_MAX};
 use std::alloc::{AllocError, Global};
 
 /// The values of the phases from the slowest waiter's on, while one task signals, each of its
@@ -35,5 +35,12 @@ impl Plain {
             base: 0,
             values,
         })
+    }
+    /// The phase behind that of the last value.
+    pub fn top(&self) -> u64
+        requires { self.now.base + length self.now.values.items ≤ PHASES_MAX }
+        ensures { result ≡ self.now.base + length self.now.values.items }
+    {
+        self.base + self.values.len() as u64
     }
 }
