@@ -14,6 +14,7 @@ pub mod OneSends
 pub mod OnlyMember
 pub mod Parked
 pub mod PlainPhases
+pub mod PlainSteps
 pub mod Replies
 pub mod RingSlots
 pub mod SignalCore

@@ -12,6 +12,7 @@ mod phaser_core;
 mod plain;
 mod refusal_rows;
 mod signalling;
+mod signalling_plain;
 mod slot_core;
 mod slots;
 mod waiting;

@@ -83,6 +83,13 @@ impl<A: Accumulate> SlotCore<A> {
         Ok(SlotCore { registry, board })
     }
 
+    /// Returns the limits.
+    pub fn limits(&self) -> Spec
+        ensures { result ≡ self.now.limits }
+    {
+        self.board.limits
+    }
+
     /// Returns a task's mode and phases, where it is registered.
     pub fn view(&self, task: u64) -> Option<Entry>
         ensures { result ≡ entry_of self.now.members task }

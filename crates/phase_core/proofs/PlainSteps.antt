@@ -1,0 +1,150 @@
+-- A signal and a wait of a phaser that keeps values alone.
+use Rattle.std.proofs.Common.{◌≡◌, ℕ, zero, suc, ◌+◌, ◌-◌, ◌<◌, ◌≤◌, ◌==◌, ◌&&◌, ◌||◌, true, false, Bool, not, ltb, eqb, ℤ, List, [], ◌∷◌, ◌++◌, Option, Some, None, Ok, map, length, refl, sym, ap, ap₂, subst, ◌∙◌, arith, ⊎_elim}
+use Rattle.std.specs.Prelude.{is_some, nat_lt}
+use Rattle.std.specs.List.{All}
+use Rattle.std.proofs.lemmas.Bool.{cases_eq, cases_lt, le-ltb, ne_eqb}
+use Rattle.std.proofs.lemmas.List.{length-append, length-map}
+use Rattle.std.proofs.lemmas.List.Elements.{All-weaker}
+use Rattle.phase_history.proofs.phase_accum_lemmas.Parts.{AreSends-append}
+use Rattle.phase_history.proofs.MemberLemmas.{wait_phases-signalled}
+use Rattle.phase_history.specs.declared.event.Event.TheVariants.{Signalled}
+use Rattle.phase_history.specs.declared.refusal.SignalRefusal.{SignalRefusal}
+use Rattle.phase_history.specs.declared.refusal.SignalRefusal.TheVariants as refusal
+use Rattle.phase_history.specs.Histories.{History, members_of, signal_phase, top_of}
+use Rattle.phase_history.specs.Refusals.{is_bad_block, list_rows, refusal_at, signal_refusal, signal_rows}
+use Rattle.phase_history.specs.Replies.{refused_or, signal_reply}
+use Rattle.phase_history.specs.phase_accum.Operations.{AccumulateLaws, Operation}
+use Rattle.phase_history.specs.phase_accum.Sends.{AreSends}
+use Rattle.phase_registry.specs.phase_base.Limits.{Limits}
+use Rattle.phase_registry.specs.phase_base.Lists.{first_row}
+use Rattle.phase_registry.specs.phase_base.Modes.{mode_signals, mode_waits}
+use Rattle.phase_registry.specs.phase_base.declared.entry.Entry.{Entry}
+use Rattle.phase_registry.specs.phase_base.Members.{Members, changed_at, entry_of, least, signal_phases, signalled, wait_phases}
+use Rattle.phase_registry.specs.Rosters.{Roster, roster}
+use Rattle.phase_ring.specs.Standings.{count_of, one_if_same}
+use Rattle.phase_core.specs.Blocks.{one_each}
+use Rattle.phase_core.specs.Cores.{StandsFor}
+use Rattle.phase_core.specs.Plain.{IsPlain, plain_core}
+use Rattle.phase_core.proofs.LeastCounts.{one-other, one-same, signaller-counted, signallers-signalled}
+use Rattle.phase_core.proofs.PlainPhases.{rows_fit, short_core, signals_stand, to_plain, to_short}
+use Rattle.phase_core.proofs.Replies.{phases_most, signal_phase_is}
+
+-- ---- the one that signals
+
+in_one : (x p : ℕ) → 0 < count_of p (x ∷ []) → p ≡ x
+in_one x p some =
+    ⊎_elim (λ (same : x ≡ p). sym same)
+    (λ (apart : x ≡ p → ⊥). absurd (let none = one-other x p apart in omega arith)) (cases_eq x p)
+
+-- a list in which one number stands once, and no other
+one_by_counts : (xs : List ℕ) (t : ℕ) → ((q : ℕ) → count_of q xs ≡ one_if_same t q) → xs ≡ t ∷ []
+one_by_counts [] t counts = absurd (let c = counts t in let one = one-same t in omega arith)
+one_by_counts (x ∷ []) t counts =
+    ⊎_elim (λ (same : t ≡ x). ap (λ n. n ∷ []) (sym same))
+    (λ (apart : t ≡ x → ⊥). absurd (let c : one_if_same x x + 0 ≡ one_if_same t x = counts x in
+    let one = one-same x in let none = one-other t x apart in omega arith)) (cases_eq t x)
+one_by_counts (x ∷ y ∷ xs) t counts = absurd (
+    ⊎_elim (λ (same : x ≡ y). let c : one_if_same x y + (one_if_same y y + count_of y xs) ≡ one_if_same t y = counts y in
+    let one = one-same y in
+    let here : one_if_same x y ≡ 1 = ap (λ n. one_if_same n y) same ∙ one in
+    ⊎_elim (λ (s : t ≡ y). let z : one_if_same t y ≡ 1 = ap (λ n. one_if_same n y) s ∙ one in omega arith)
+    (λ (apart : t ≡ y → ⊥). let none = one-other t y apart in omega arith) (cases_eq t y))
+    (λ (apart : x ≡ y → ⊥).
+    let first : one_if_same x x + (one_if_same y x + count_of x xs) ≡ one_if_same t x = counts x in
+    let second : one_if_same x y + (one_if_same y y + count_of y xs) ≡ one_if_same t y = counts y in
+    let one_x = one-same x in
+    let one_y = one-same y in
+    ⊎_elim (λ (s : t ≡ x).
+    let none : one_if_same t y ≡ 0 = ap (λ n. one_if_same n y) s ∙ one-other x y apart in omega arith)
+    (λ (away : t ≡ x → ⊥). let none = one-other t x away in omega arith) (cases_eq t x))
+    (cases_eq x y))
+
+-- ---- rows
+
+row_passes : {R : Type 0} (b : Bool) (x : R) (rows : List (Bool × R)) → b ≡ false
+    → first_row ((b, x) ∷ rows) ≡ first_row rows
+row_passes b x rows e = rw e refl
+
+good_block : (limits : Limits) (n : ℕ) → 0 < n → n ≤ limits.bound → is_bad_block limits n ≡ false
+good_block limits n some few =
+    ap₂ (λ a b. a || b) (ne_eqb n 0 (λ e. omega arith)) (le-ltb limits.bound n few)
+
+-- ---- a signal
+
+module _ {A : Type 0} (op : Operation A) (laws : AccumulateLaws op) (r : Roster) (limits : Limits)
+    (base : ℕ) (xs values : List ℤ) (task : ℕ) (e : Entry) (plain : IsPlain op r limits base xs)
+    (found : entry_of r.members task ≡ Some e) (signals : mode_signals e.mode ≡ true)
+    (waits : mode_waits e.mode ≡ false) (sends : AreSends values) (some : 0 < length values)
+    (few : length values ≤ limits.bound) (room : length xs + length values ≤ limits.bound)
+    (near : e.signal_phase + length values ≤ limits.phases_max)
+  where
+    pub at_top : e.signal_phase ≡ base + length xs
+    at_top =
+        in_one (base + length xs) e.signal_phase (subst (λ l. 0 < count_of e.signal_phase l) plain.alone
+        (signaller-counted r.members task e found signals))
+
+    many : length (one_each values) ≡ length values
+    many = length-map values (λ v. v ∷ [])
+
+    not_refused : (h : History) → StandsFor op (plain_core op r limits base xs) h
+        → signal_refusal limits h task (one_each values) None ≡ None
+    not_refused h stands =
+        let found_h : entry_of (members_of h) task ≡ Some e =
+        ap (λ ms. entry_of ms task) (sym stands.members_are) ∙ found in
+        let slow : least (wait_phases (members_of h)) ≡ Some base =
+        ap (λ ms. least (wait_phases ms)) (sym stands.members_are) ∙ plain.slowest in
+        let rows = list_rows limits h (one_each values) None e in
+        let bad : is_bad_block limits (length (one_each values)) ≡ false =
+        ap (is_bad_block limits) many ∙ good_block limits (length values) some few in
+        ap (λ o. refusal_at o refusal.NoTask (signal_rows limits h (one_each values) None)) found_h
+        ∙ (row_passes (not (mode_signals e.mode)) refusal.NoSignal _ (ap not signals)
+        ∙ (row_passes (is_bad_block limits (length (one_each values))) refusal.BadBlock rows bad
+        ∙ rows_fit limits h base values e stands.legal slow (omega (arith, stands.top_is, at_top)) waits
+        near (omega (arith, at_top))))
+
+    pub replied : (h : History) → StandsFor op (plain_core op r limits base xs) h
+        → signal_reply limits h task (one_each values) None ≡ Ok e.signal_phase
+    replied h stands =
+        ap (λ o. refused_or o (signal_phase h task)) (not_refused h stands)
+        ∙ ap Ok (signal_phase_is op (plain_core op r limits base xs) h task e stands found)
+
+    after_members : Roster
+    after_members = roster (changed_at task (signalled (length values)) r.members) r.greatest
+
+    pub signalled_stands : (h : History) → StandsFor op (plain_core op r limits base xs) h
+        → StandsFor op (plain_core op after_members limits base (xs ++ values))
+        (Signalled task (one_each values) None ∷ h)
+    signalled_stands h stands =
+        to_plain op after_members limits base (xs ++ values) (Signalled task (one_each values) None ∷ h)
+        (signals_stand op laws r after_members limits base xs values h task e
+        (to_short op r limits base xs h stands) found at_top sends (not_refused h stands) refl)
+
+    pub signalled_plain : IsPlain op after_members limits base (xs ++ values)
+    signalled_plain = record {
+      history = Signalled task (one_each values) None ∷ plain.history;
+      stands = signalled_stands plain.history plain.stands;
+      alone = one_by_counts (signal_phases after_members.members) (base + length (xs ++ values)) counts;
+      slowest = ap least (wait_phases-signalled r.members task (length values)) ∙ plain.slowest;
+      low = subst (All (λ w. w ≤ base + length (xs ++ values)))
+          (sym (wait_phases-signalled r.members task (length values)))
+          (All-weaker (λ w. w ≤ base + length xs) (λ w. w ≤ base + length (xs ++ values))
+          (λ w le. omega (arith, length-append xs values)) (wait_phases r.members) plain.low);
+      near = omega (arith, length-append xs values);
+      far = omega (arith, length-append xs values, at_top, phases_most plain.stands);
+      sends = AreSends-append xs values plain.sends sends;
+      used = plain.used;
+    }
+      where
+        counts : (q : ℕ) → count_of q (signal_phases after_members.members)
+            ≡ one_if_same (base + length (xs ++ values)) q
+        counts q =
+            let moved = signallers-signalled r.members task q (length values) e found signals in
+            let old : count_of q (signal_phases r.members) ≡ one_if_same (base + length xs) q + 0 =
+            ap (count_of q) plain.alone in
+            let here : one_if_same e.signal_phase q ≡ one_if_same (base + length xs) q =
+            ap (λ n. one_if_same n q) at_top in
+            let more : e.signal_phase + length values ≡ base + length (xs ++ values) =
+            omega (arith, at_top, length-append xs values) in
+            let next : one_if_same (e.signal_phase + length values) q
+            ≡ one_if_same (base + length (xs ++ values)) q = ap (λ n. one_if_same n q) more in
+            omega (arith, moved, old, here, next)

@@ -1,0 +1,67 @@
+//! Signals of a phaser that keeps values alone.
+ghost use Rattle.std.specs.Prelude.{◌≡◌, ℕ, ◌∷◌, None, Some, Ok, true, IfSome, length};
+ghost use Rattle.phase_history.specs.phase_accum.Sends.{AreSends};
+ghost use Rattle.phase_history.specs.Histories.{History};
+ghost use Rattle.phase_history.specs.Replies.{signal_reply};
+ghost use Rattle.phase_history.specs.declared.event.Event.TheVariants.{Signalled};
+ghost use Rattle.phase_history.specs.phase_accum.declared.single.Single.{Single};
+ghost use Rattle.phase_registry.specs.phase_base.Members.{entry_of};
+ghost use Rattle.phase_registry.specs.phase_base.Modes.{mode_signals};
+ghost use Rattle.phase_core.specs.Blocks.{one_each};
+ghost use Rattle.phase_core.specs.Cores.{StandsFor};
+
+use crate::phaser_core::PhaserCore;
+use phase_history::phase_accum::Accumulate;
+use phase_registry::phase_base::Entry;
+
+impl<A: Accumulate> PhaserCore<A> {
+    // Keeps the values alone from now on, where no phase is kept and the task with this entry is
+    // the only one that signals.
+    fn enter_plain(&mut self, entry: Entry)
+        requires member { (task : ℕ) × (entry_of self.old.members task ≡ Some entry) }
+        requires signals { mode_signals entry.mode ≡ true }
+        ensures { self.new ≡ self.old }
+    {
+        if self.plain.is_on || !self.slots.can_park(entry) {
+            return;
+        }
+        if self.plain.values.capacity() as u64 != self.slots.limits().bound() {
+            return;
+        }
+        self.slots.park(&mut self.plain.registry);
+        self.plain.base = entry.signal_phase;
+        self.plain.values.clear();
+        self.plain.is_on = true;
+    }
+
+    // Signals as many phases in a row as there are values, with one send each and no single, where
+    // the values are kept alone and none is refused. Else it does nothing.
+    fn signal_plain(&mut self, task: u64, values: &[i64]) -> Option<u64>
+        requires { AreSends values.now }
+        ensures ok { IfSome result (λ phase. (h : History) → StandsFor A.operation self.old h
+            → signal_reply self.old.limits h task (one_each values.now) None ≡ Ok phase) }
+        ensures after { IfSome result (λ phase. (h : History) → StandsFor A.operation self.old h
+            → StandsFor A.operation self.new (Signalled task (one_each values.now) None ∷ h)) }
+        ensures none { result ≡ None → self.new ≡ self.old }
+        ensures limits { self.new.limits ≡ self.old.limits }
+    {
+        if !self.plain.is_on || values.is_empty() {
+            return None;
+        }
+        let entry = self.plain.registry.get(task)?;
+        if !entry.mode.signals() || entry.mode.waits() {
+            return None;
+        }
+        let room = self.plain.values.capacity() - self.plain.values.len();
+        if values.len() > room {
+            return None;
+        }
+        let phases = values.len() as u64;
+        if entry.signal_phase + phases > self.slots.limits().phases_max() {
+            return None;
+        }
+        let _ = self.plain.values.fill_from_slice(values);
+        self.plain.registry.signalled(task, phases);
+        Some(entry.signal_phase)
+    }
+}
