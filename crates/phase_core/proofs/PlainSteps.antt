@@ -1,6 +1,6 @@
 -- A signal and a wait of a phaser that keeps values alone.
 use Rattle.std.proofs.Common.{◌≡◌, ℕ, zero, suc, ◌+◌, ◌-◌, ◌<◌, ◌≤◌, ◌==◌, ◌&&◌, ◌||◌, true, false, Bool, not, ltb, eqb, ℤ, List, [], ◌∷◌, ◌++◌, Option, Some, None, Ok, map, length, refl, sym, ap, ap₂, subst, ◌∙◌, arith, ⊎_elim}
-use Rattle.std.specs.Prelude.{is_some, nat_lt}
+use Rattle.std.specs.Prelude.{is_some, nat_lt, if◌then◌else◌}
 use Rattle.std.specs.List.{All}
 use Rattle.std.proofs.lemmas.Bool.{cases_eq, cases_lt, le-ltb, ne_eqb}
 use Rattle.std.proofs.lemmas.List.{length-append, length-map}
@@ -23,7 +23,9 @@ use Rattle.phase_registry.specs.phase_base.Members.{Members, changed_at, entry_o
 use Rattle.phase_registry.specs.Rosters.{Roster, roster}
 use Rattle.phase_ring.specs.Standings.{count_of, one_if_same}
 use Rattle.phase_core.specs.Blocks.{one_each}
-use Rattle.phase_core.specs.Cores.{StandsFor}
+use Rattle.phase_core.specs.Cores.{CoreState, StandsFor}
+use Rattle.phase_core.specs.declared.plain.Plain.{Plain}
+use Rattle.phase_core.specs.PlainCores.{shown}
 use Rattle.phase_core.specs.Plain.{IsPlain, plain_core}
 use Rattle.phase_core.proofs.LeastCounts.{one-other, one-same, signaller-counted, signallers-signalled}
 use Rattle.phase_core.proofs.PlainPhases.{rows_fit, short_core, signals_stand, to_plain, to_short}
@@ -71,17 +73,36 @@ good_block limits n some few =
 
 -- ---- a signal
 
+-- the one that signals stands behind the values
+pub signaller_at : {A : Type 0} (op : Operation A) (r : Roster) (limits : Limits) (base : ℕ)
+    (xs : List ℤ) (task : ℕ) (e : Entry) → IsPlain op r limits base xs
+    → entry_of r.members task ≡ Some e → mode_signals e.mode ≡ true
+    → e.signal_phase ≡ base + length xs
+signaller_at op r limits base xs task e plain found signals =
+    in_one (base + length xs) e.signal_phase (subst (λ l. 0 < count_of e.signal_phase l) plain.alone
+    (signaller-counted r.members task e found signals))
+
+-- a task signals as many phases as there are values, and is not refused
+pub record PlainSignal {A : Type 0} (op : Operation A) (r : Roster) (limits : Limits) (base : ℕ)
+    (xs values : List ℤ) (task : ℕ) (e : Entry) : Type 0 where
+  pub plain : IsPlain op r limits base xs
+  pub found : entry_of r.members task ≡ Some e
+  pub signals : mode_signals e.mode ≡ true
+  pub waits : mode_waits e.mode ≡ false
+  pub sends : AreSends values
+  pub some : 0 < length values
+  pub room : length xs + length values ≤ limits.bound
+  pub near : e.signal_phase + length values ≤ limits.phases_max
+
 module _ {A : Type 0} (op : Operation A) (laws : AccumulateLaws op) (r : Roster) (limits : Limits)
-    (base : ℕ) (xs values : List ℤ) (task : ℕ) (e : Entry) (plain : IsPlain op r limits base xs)
-    (found : entry_of r.members task ≡ Some e) (signals : mode_signals e.mode ≡ true)
-    (waits : mode_waits e.mode ≡ false) (sends : AreSends values) (some : 0 < length values)
-    (few : length values ≤ limits.bound) (room : length xs + length values ≤ limits.bound)
-    (near : e.signal_phase + length values ≤ limits.phases_max)
+    (base : ℕ) (xs values : List ℤ) (task : ℕ) (e : Entry)
+    (s : PlainSignal op r limits base xs values task e)
   where
-    pub at_top : e.signal_phase ≡ base + length xs
-    at_top =
-        in_one (base + length xs) e.signal_phase (subst (λ l. 0 < count_of e.signal_phase l) plain.alone
-        (signaller-counted r.members task e found signals))
+    at_top : e.signal_phase ≡ base + length xs
+    at_top = signaller_at op r limits base xs task e s.plain s.found s.signals
+
+    few : length values ≤ limits.bound
+    few = omega (arith, s.room)
 
     many : length (one_each values) ≡ length values
     many = length-map values (λ v. v ∷ [])
@@ -90,25 +111,26 @@ module _ {A : Type 0} (op : Operation A) (laws : AccumulateLaws op) (r : Roster)
         → signal_refusal limits h task (one_each values) None ≡ None
     not_refused h stands =
         let found_h : entry_of (members_of h) task ≡ Some e =
-        ap (λ ms. entry_of ms task) (sym stands.members_are) ∙ found in
+        ap (λ ms. entry_of ms task) (sym stands.members_are) ∙ s.found in
         let slow : least (wait_phases (members_of h)) ≡ Some base =
-        ap (λ ms. least (wait_phases ms)) (sym stands.members_are) ∙ plain.slowest in
+        ap (λ ms. least (wait_phases ms)) (sym stands.members_are) ∙ s.plain.slowest in
         let rows = list_rows limits h (one_each values) None e in
         let bad : is_bad_block limits (length (one_each values)) ≡ false =
-        ap (is_bad_block limits) many ∙ good_block limits (length values) some few in
+        ap (is_bad_block limits) many ∙ good_block limits (length values) s.some few in
         ap (λ o. refusal_at o refusal.NoTask (signal_rows limits h (one_each values) None)) found_h
-        ∙ (row_passes (not (mode_signals e.mode)) refusal.NoSignal _ (ap not signals)
+        ∙ (row_passes (not (mode_signals e.mode)) refusal.NoSignal
+        ((is_bad_block limits (length (one_each values)), refusal.BadBlock) ∷ rows) (ap not s.signals)
         ∙ (row_passes (is_bad_block limits (length (one_each values))) refusal.BadBlock rows bad
-        ∙ rows_fit limits h base values e stands.legal slow (omega (arith, stands.top_is, at_top)) waits
-        near (omega (arith, at_top))))
+        ∙ rows_fit limits h base values e stands.legal slow (omega (arith, stands.top_is, at_top)) s.waits
+        s.near (omega (arith, s.room, at_top))))
 
     pub replied : (h : History) → StandsFor op (plain_core op r limits base xs) h
         → signal_reply limits h task (one_each values) None ≡ Ok e.signal_phase
     replied h stands =
         ap (λ o. refused_or o (signal_phase h task)) (not_refused h stands)
-        ∙ ap Ok (signal_phase_is op (plain_core op r limits base xs) h task e stands found)
+        ∙ ap Ok (signal_phase_is op (plain_core op r limits base xs) h task e stands s.found)
 
-    after_members : Roster
+    abbrev pub after_members : Roster
     after_members = roster (changed_at task (signalled (length values)) r.members) r.greatest
 
     pub signalled_stands : (h : History) → StandsFor op (plain_core op r limits base xs) h
@@ -117,30 +139,30 @@ module _ {A : Type 0} (op : Operation A) (laws : AccumulateLaws op) (r : Roster)
     signalled_stands h stands =
         to_plain op after_members limits base (xs ++ values) (Signalled task (one_each values) None ∷ h)
         (signals_stand op laws r after_members limits base xs values h task e
-        (to_short op r limits base xs h stands) found at_top sends (not_refused h stands) refl)
+        (to_short op r limits base xs h stands) s.found at_top s.sends (not_refused h stands) refl)
 
     pub signalled_plain : IsPlain op after_members limits base (xs ++ values)
     signalled_plain = record {
-      history = Signalled task (one_each values) None ∷ plain.history;
-      stands = signalled_stands plain.history plain.stands;
+      history = Signalled task (one_each values) None ∷ s.plain.history;
+      stands = signalled_stands s.plain.history s.plain.stands;
       alone = one_by_counts (signal_phases after_members.members) (base + length (xs ++ values)) counts;
-      slowest = ap least (wait_phases-signalled r.members task (length values)) ∙ plain.slowest;
+      slowest = ap least (wait_phases-signalled r.members task (length values)) ∙ s.plain.slowest;
       low = subst (All (λ w. w ≤ base + length (xs ++ values)))
           (sym (wait_phases-signalled r.members task (length values)))
           (All-weaker (λ w. w ≤ base + length xs) (λ w. w ≤ base + length (xs ++ values))
-          (λ w le. omega (arith, length-append xs values)) (wait_phases r.members) plain.low);
-      near = omega (arith, length-append xs values);
-      far = omega (arith, length-append xs values, at_top, phases_most plain.stands);
-      sends = AreSends-append xs values plain.sends sends;
-      used = plain.used;
+          (λ w le. omega (arith, length-append xs values)) (wait_phases r.members) s.plain.low);
+      near = omega (arith, s.room, length-append xs values);
+      far = omega (arith, s.near, length-append xs values, at_top, phases_most s.plain.stands);
+      sends = AreSends-append xs values s.plain.sends s.sends;
+      used = s.plain.used;
     }
       where
         counts : (q : ℕ) → count_of q (signal_phases after_members.members)
             ≡ one_if_same (base + length (xs ++ values)) q
         counts q =
-            let moved = signallers-signalled r.members task q (length values) e found signals in
+            let moved = signallers-signalled r.members task q (length values) e s.found s.signals in
             let old : count_of q (signal_phases r.members) ≡ one_if_same (base + length xs) q + 0 =
-            ap (count_of q) plain.alone in
+            ap (count_of q) s.plain.alone in
             let here : one_if_same e.signal_phase q ≡ one_if_same (base + length xs) q =
             ap (λ n. one_if_same n q) at_top in
             let more : e.signal_phase + length values ≡ base + length (xs ++ values) =
@@ -148,3 +170,11 @@ module _ {A : Type 0} (op : Operation A) (laws : AccumulateLaws op) (r : Roster)
             let next : one_if_same (e.signal_phase + length values) q
             ≡ one_if_same (base + length (xs ++ values)) q = ap (λ n. one_if_same n q) more in
             omega (arith, moved, old, here, next)
+
+-- what is shown while the values are kept alone
+pub shown_on : {A : Type 0} (op : Operation A) (slots : CoreState A) (plain : Plain)
+    → plain.is_on ≡ true → shown op slots plain
+    ≡ plain_core op plain.registry slots.limits plain.base plain.values.items
+shown_on op slots plain on =
+    ap (λ b. if b then plain_core op plain.registry slots.limits plain.base plain.values.items
+    else slots) on
