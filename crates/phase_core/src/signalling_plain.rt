@@ -1,8 +1,8 @@
 //! Signals of a phaser that keeps values alone.
-ghost use Rattle.std.specs.Prelude.{◌≡◌, ℕ, ◌∷◌, None, Some, Ok, true, IfSome, length};
+ghost use Rattle.std.specs.Prelude.{◌≡◌, ℕ, ◌∷◌, None, Some, Ok, true, ◌≤◌, IfSome, OnErr, length};
 ghost use Rattle.phase_history.specs.phase_accum.Sends.{AreSends};
 ghost use Rattle.phase_history.specs.Histories.{History};
-ghost use Rattle.phase_history.specs.Replies.{signal_reply};
+ghost use Rattle.phase_history.specs.Replies.{signal_reply, after_signal};
 ghost use Rattle.phase_history.specs.declared.event.Event.TheVariants.{Signalled};
 ghost use Rattle.phase_history.specs.phase_accum.declared.single.Single.{Single};
 ghost use Rattle.phase_registry.specs.phase_base.Members.{entry_of};
@@ -10,8 +10,10 @@ ghost use Rattle.phase_registry.specs.phase_base.Modes.{mode_signals};
 ghost use Rattle.phase_core.specs.Blocks.{one_each};
 ghost use Rattle.phase_core.specs.Cores.{StandsFor};
 
+use crate::one_sends::hold_each;
 use crate::phaser_core::PhaserCore;
-use phase_history::phase_accum::Accumulate;
+use phase_history::SignalRefusal;
+use phase_history::phase_accum::{Accumulate, Pending, Single};
 use phase_registry::phase_base::Entry;
 
 impl<A: Accumulate> PhaserCore<A> {
@@ -63,5 +65,61 @@ impl<A: Accumulate> PhaserCore<A> {
         let _ = self.plain.values.fill_from_slice(values);
         self.plain.registry.signalled(task, phases);
         Some(entry.signal_phase)
+    }
+
+    // Keeps the values alone from now on, where no phase is kept and the task is the only one that
+    // signals.
+    fn enter_for(&mut self, task: u64)
+        ensures { self.new ≡ self.old }
+    {
+        let Some(entry) = self.view(task) else {
+            return;
+        };
+        if entry.mode.signals() {
+            self.enter_plain(entry);
+        }
+    }
+
+    // The same as `signal_plain`, where the phaser keeps the values alone from now on if it can.
+    fn signal_alone(&mut self, task: u64, values: &[i64]) -> Option<u64>
+        requires { AreSends values.now }
+        ensures ok { IfSome result (λ phase. (h : History) → StandsFor A.operation self.old h
+            → signal_reply self.old.limits h task (one_each values.now) None ≡ Ok phase) }
+        ensures after { IfSome result (λ phase. (h : History) → StandsFor A.operation self.old h
+            → StandsFor A.operation self.new (Signalled task (one_each values.now) None ∷ h)) }
+        ensures none { result ≡ None → self.new ≡ self.old }
+        ensures limits { self.new.limits ≡ self.old.limits }
+    {
+        self.enter_for(task);
+        self.signal_plain(task, values)
+    }
+
+    /// Signals as many phases in a row as there are values, the first the task's, with one send
+    /// each and a single for all of them or none, and answers the first phase. A refused block
+    /// signals nothing. It takes no memory: the sends are held in the places where needed.
+    pub fn signal_values(
+        &mut self,
+        task: u64,
+        values: &[i64],
+        single: Option<Single>,
+        places: &mut [Pending<A>],
+    ) -> Result<u64, SignalRefusal>
+        requires sends { AreSends values.now }
+        requires room { length values.now ≤ length places.old }
+        ensures reply { (h : History) → StandsFor A.operation self.old h
+            → signal_reply self.old.limits h task (one_each values.now) single ≡ result }
+        ensures after { (h : History) → StandsFor A.operation self.old h
+            → StandsFor A.operation self.new
+            (after_signal result task (one_each values.now) single h) }
+
+        ensures limits { self.new.limits ≡ self.old.limits }
+        ensures err { OnErr result (self.new ≡ self.old) }
+        ensures places { length places.new ≡ length places.old }
+    {
+        if single.is_none() && let Some(phase) = self.signal_alone(task, values) {
+            return Ok(phase);
+        }
+        hold_each(places, values);
+        self.signal_lists(task, &places[..values.len()], single)
     }
 }
