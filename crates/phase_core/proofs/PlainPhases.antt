@@ -1,5 +1,5 @@
 -- Phases of one send each, of which the values alone are kept.
-use Rattle.std.proofs.Common.{◌≡◌, ℕ, zero, suc, ◌+◌, ◌-◌, ◌<◌, ◌≤◌, true, false, ◌&&◌, eqb, ltb, List, [], ◌∷◌, ◌++◌, Option, Some, None, ℤ, pos, max, get_or, map, drop, replicate, unwrap_or, length, refl, sym, ap, subst, ◌∙◌, arith, ⊎_elim}
+use Rattle.std.proofs.Common.{◌≡◌, ℕ, zero, suc, ◌+◌, ◌-◌, ◌<◌, ◌≤◌, true, false, ◌&&◌, eqb, ltb, List, [], ◌∷◌, ◌++◌, Some, None, ℤ, pos, max, get_or, map, drop, replicate, unwrap_or, length, refl, sym, ap, subst, ◌∙◌, arith, ⊎_elim}
 use Rattle.std.specs.Prelude.{slice_get}
 use Rattle.std.proofs.lemmas.List.{append-nil, length-append, length-map, length-drop}
 use Rattle.std.proofs.lemmas.Option.{same_Some}
@@ -8,7 +8,7 @@ use Rattle.phase_registry.specs.phase_base.Limits.{Limits}
 use Rattle.phase_registry.specs.phase_base.declared.entry.Entry.{Entry}
 use Rattle.phase_registry.specs.phase_base.Members.{entry_of, changed_at, signalled, waited, wait_phases, least}
 use Rattle.phase_registry.specs.Rosters.{Roster, roster}
-use Rattle.phase_history.specs.phase_accum.Operations.{Operation, AccumulateLaws, IsPartOf}
+use Rattle.phase_history.specs.phase_accum.Operations.{Operation, AccumulateLaws}
 use Rattle.phase_history.specs.phase_accum.Sends.{AreSends}
 use Rattle.phase_history.proofs.phase_accum_lemmas.Parts.{IsPartOf-one}
 use Rattle.phase_history.specs.declared.event.Event.TheVariants.{Signalled, Waited}
@@ -27,10 +27,7 @@ use Rattle.phase_history.proofs.BlockLeaves.{is_among-below}
 use Rattle.phase_history.proofs.Steps.{first_named_not}
 use Rattle.phase_core.specs.Slots.{KeptSlot}
 use Rattle.phase_core.specs.Blocks.{one_each}
-use Rattle.phase_core.specs.Cores.{CoreState, StandsFor, KeepsPhase, KeepsSends, sent_of, core_with}
-use Rattle.phase_ring.specs.Slots.{Slot}
-use Rattle.phase_ring.specs.Rings.{Ring, slot_at}
-use Rattle.phase_core.proofs.RingSlots.{slot_of}
+use Rattle.phase_core.specs.Cores.{CoreState, StandsFor, KeepsPhase, KeepsSends}
 use Rattle.phase_core.specs.Plain.{plain_slot, plain_core, unused_slot}
 use Rattle.phase_core.proofs.CoreSteps.{none_from_top, waits_stands, kept_value}
 use Rattle.phase_core.proofs.OneSends.{send-at}

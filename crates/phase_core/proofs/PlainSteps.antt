@@ -1,16 +1,15 @@
 -- A signal and a wait of a phaser that keeps values alone.
-use Rattle.std.proofs.Common.{◌≡◌, ℕ, zero, suc, ◌+◌, ◌-◌, ◌<◌, ◌≤◌, ◌==◌, ◌&&◌, ◌||◌, true, false, Bool, not, ltb, eqb, ℤ, List, [], ◌∷◌, ◌++◌, Option, Some, None, Ok, map, length, refl, sym, ap, ap₂, subst, ◌∙◌, arith, ⊎_elim}
-use Rattle.std.specs.Prelude.{is_some, nat_lt, if◌then◌else◌}
+use Rattle.std.proofs.Common.{◌≡◌, ℕ, ◌+◌, ◌<◌, ◌≤◌, ◌||◌, true, false, Bool, not, ℤ, List, [], ◌∷◌, ◌++◌, Some, None, Ok, length, refl, sym, ap, ap₂, subst, ◌∙◌, arith, ⊎_elim}
+use Rattle.std.specs.Prelude.{if◌then◌else◌}
 use Rattle.std.specs.List.{All}
-use Rattle.std.proofs.lemmas.Bool.{cases_eq, cases_lt, le-ltb, ne_eqb}
+use Rattle.std.proofs.lemmas.Bool.{cases_eq, le-ltb, ne_eqb}
 use Rattle.std.proofs.lemmas.List.{length-append, length-map}
 use Rattle.std.proofs.lemmas.List.Elements.{All-weaker}
 use Rattle.phase_history.proofs.phase_accum_lemmas.Parts.{AreSends-append}
 use Rattle.phase_history.proofs.MemberLemmas.{wait_phases-signalled}
 use Rattle.phase_history.specs.declared.event.Event.TheVariants.{Signalled}
-use Rattle.phase_history.specs.declared.refusal.SignalRefusal.{SignalRefusal}
 use Rattle.phase_history.specs.declared.refusal.SignalRefusal.TheVariants as refusal
-use Rattle.phase_history.specs.Histories.{History, members_of, signal_phase, top_of}
+use Rattle.phase_history.specs.Histories.{History, members_of, signal_phase}
 use Rattle.phase_history.specs.Refusals.{is_bad_block, list_rows, refusal_at, signal_refusal, signal_rows}
 use Rattle.phase_history.specs.Replies.{refused_or, signal_reply}
 use Rattle.phase_history.specs.phase_accum.Operations.{AccumulateLaws, Operation}
@@ -19,7 +18,7 @@ use Rattle.phase_registry.specs.phase_base.Limits.{Limits}
 use Rattle.phase_registry.specs.phase_base.Lists.{first_row}
 use Rattle.phase_registry.specs.phase_base.Modes.{mode_signals, mode_waits}
 use Rattle.phase_registry.specs.phase_base.declared.entry.Entry.{Entry}
-use Rattle.phase_registry.specs.phase_base.Members.{Members, changed_at, entry_of, least, signal_phases, signalled, wait_phases}
+use Rattle.phase_registry.specs.phase_base.Members.{changed_at, entry_of, least, signal_phases, signalled, wait_phases}
 use Rattle.phase_registry.specs.Rosters.{Roster, roster}
 use Rattle.phase_ring.specs.Standings.{count_of, one_if_same}
 use Rattle.phase_core.specs.Blocks.{one_each}
@@ -28,7 +27,7 @@ use Rattle.phase_core.specs.declared.plain.Plain.{Plain}
 use Rattle.phase_core.specs.PlainCores.{shown}
 use Rattle.phase_core.specs.Plain.{IsPlain, plain_core}
 use Rattle.phase_core.proofs.LeastCounts.{one-other, one-same, signaller-counted, signallers-signalled}
-use Rattle.phase_core.proofs.PlainPhases.{rows_fit, short_core, signals_stand, to_plain, to_short}
+use Rattle.phase_core.proofs.PlainPhases.{rows_fit, signals_stand, to_plain, to_short}
 use Rattle.phase_core.proofs.Replies.{phases_most, signal_phase_is}
 
 -- ---- the one that signals

@@ -1,5 +1,5 @@
 -- A phaser that keeps slots, or values alone.
-use Rattle.std.specs.Prelude.{◌≡◌, ℕ, ◌+◌, [], true, false, length, if◌then◌else◌}
+use Rattle.std.specs.Prelude.{◌≡◌, ◌+◌, [], true, false, length, if◌then◌else◌}
 use Rattle.phase_history.specs.phase_accum.Operations.{Operation}
 use Rattle.phase_core.specs.Cores.{CoreState}
 use Rattle.phase_core.specs.declared.plain.Plain.{Plain}

@@ -1,5 +1,4 @@
 -- The phaser stands for what its slots stand for.
-use Rattle.std.proofs.Common.{sym}
 use Rattle.phase_core.proofs.phaser_core.PhaserCore.signal_and_wait.Goals as goal
 
 pub returns-clause-after : goal.returns-clause-after

@@ -1,19 +1,14 @@
 -- The values come behind the others.
-use Rattle.std.proofs.Common.{ℕ, zero, suc, ◌==◌, ◌≡◌, ◌<◌, ◌≤◌, ◌+◌, ◌++◌, length, Some, None, true, false, sym, ap, subst, ◌∙◌, refl, arith}
-use Rattle.std.specs.Prelude.{take}
+use Rattle.std.proofs.Common.{ℕ, zero, suc, ◌==◌, ◌≡◌, ◌<◌, ◌++◌, length, Some, None, true, false, sym, ap, subst, ◌∙◌, refl, arith}
 use Rattle.std.proofs.lemmas.Bool.{eqb-false, true≢false}
 use Rattle.std.proofs.lemmas.List.{take_all}
 use Rattle.circular_buffer.specs.Buffer.{buffer}
-use Rattle.phase_history.specs.Histories.{History}
-use Rattle.phase_history.specs.declared.event.Event.TheVariants.{Signalled}
 use Rattle.phase_history.specs.Replies.{signal_reply}
-use Rattle.phase_registry.specs.phase_base.Members.{changed_at, entry_of, signalled}
+use Rattle.phase_registry.specs.phase_base.Members.{entry_of}
 use Rattle.phase_registry.specs.phase_base.Modes.{mode_signals, mode_waits}
-use Rattle.phase_registry.specs.Rosters.{roster}
 use Rattle.phase_core.specs.Blocks.{one_each}
-use Rattle.phase_core.specs.Cores.{CoreState, StandsFor}
+use Rattle.phase_core.specs.Cores.{StandsFor}
 use Rattle.phase_core.specs.Plain.{IsPlain, plain_core}
-use Rattle.phase_core.specs.PlainCores.{IsPhaser, shown}
 use Rattle.phase_core.proofs.PlainSteps.{PlainSignal, replied, shown_on, signaller_at, signalled_plain, signalled_stands}
 use Rattle.phase_core.proofs.phaser_core.PhaserCore.signal_plain.Given.{Over}
 use Rattle.phase_core.proofs.phaser_core.PhaserCore.signal_plain.Goals as goal

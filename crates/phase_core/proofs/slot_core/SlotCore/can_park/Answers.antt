@@ -1,10 +1,10 @@
 -- Nothing is kept where the slowest waiter stands at the top.
-use Rattle.std.proofs.Common.{◌≡◌, ◌<◌, length, Some, sym, subst, ◌∙◌, ap, arith}
+use Rattle.std.proofs.Common.{◌≡◌, Some, sym, ◌∙◌, ap}
 use Rattle.std.proofs.lemmas.Bool.{eqb-true}
-use Rattle.phase_registry.specs.phase_base.Members.{entry_of, signal_phases, wait_phases}
-use Rattle.phase_core.specs.Cores.{CoreState, core_of}
+use Rattle.phase_registry.specs.phase_base.Members.{entry_of}
+use Rattle.phase_core.specs.Cores.{CoreState}
 use Rattle.phase_core.proofs.Boarded.{boarded_while}
-use Rattle.phase_core.proofs.Parked.{IsBare, bare_of}
+use Rattle.phase_core.proofs.Parked.{bare_of}
 use Rattle.phase_core.proofs.slot_core.SlotCore.can_park.Goals as goal
 
 pub returns : goal.returns

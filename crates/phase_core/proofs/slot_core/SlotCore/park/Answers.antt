@@ -1,8 +1,5 @@
 -- A registry whose one task has left.
-use Rattle.std.proofs.Common.{sym, subst, refl, ◌∙◌}
-use Rattle.phase_registry.specs.Rosters.{Roster}
-use Rattle.phase_core.specs.Cores.{IsCore}
-use Rattle.phase_core.specs.Plain.{left_roster}
+use Rattle.std.proofs.Common.{refl}
 use Rattle.phase_core.proofs.Parked.{parked_core}
 use Rattle.phase_core.proofs.slot_core.SlotCore.park.Goals as goal
 

@@ -7,12 +7,11 @@ use Rattle.phase_registry.specs.phase_base.declared.member.Member.{Member}
 use Rattle.phase_registry.specs.phase_base.Limits.{Limits}
 use Rattle.phase_registry.specs.phase_base.Members.{Members, signal_phases, wait_phases}
 use Rattle.phase_ring.specs.declared.role.Role.{Role}
-use Rattle.phase_ring.specs.declared.role.Role.TheVariants.{Signaller, Waiter}
 use Rattle.phase_ring.specs.Restarts.{MayStand, ring_of_ones}
-use Rattle.phase_ring.specs.Rings.{Ring, sents, standing}
+use Rattle.phase_ring.specs.Rings.{sents}
 use Rattle.phase_ring.specs.Standings.{count_of, phase_for, takes_part}
-use Rattle.phase_core.specs.Cores.{CoreState, IsCore, core_of, sent_of}
-use Rattle.phase_core.specs.Plain.{IsPlain, plain_core}
+use Rattle.phase_core.specs.Cores.{sent_of}
+use Rattle.phase_core.specs.Plain.{IsPlain}
 use Rattle.phase_core.proofs.Parked.{HasResumed, members_stand, resumed_core, resumed_view}
 use Rattle.phase_core.proofs.slot_core.SlotCore.resume.Given.{Over}
 use Rattle.phase_core.proofs.slot_core.SlotCore.resume.Goals as goal

@@ -1,5 +1,5 @@
 -- One more stands at its phases.
-use Rattle.std.proofs.Common.{◌≡◌, ℕ, ◌+◌, ◌≤◌, List, ◌++◌, ◌∷◌, [], length, get_or, refl, sym, ap, subst, ◌∙◌, arith}
+use Rattle.std.proofs.Common.{◌≡◌, ◌+◌, ◌≤◌, length, get_or, sym, ap, ◌∙◌, arith}
 use Rattle.std.specs.Prelude.{take}
 use Rattle.std.proofs.lemmas.List.{length-take-le, take_more}
 use Rattle.phase_registry.specs.phase_base.Members.{Members}
@@ -7,7 +7,6 @@ use Rattle.phase_registry.specs.Rosters.{nobody}
 use Rattle.phase_registry.specs.phase_base.Members.{member}
 use Rattle.phase_ring.specs.declared.role.Role.{Role}
 use Rattle.phase_ring.specs.declared.role.Role.TheVariants.{Signaller, Waiter}
-use Rattle.phase_ring.specs.Rings.{standing}
 use Rattle.phase_ring.specs.Standings.{count_of, counted}
 use Rattle.phase_core.proofs.LeastCounts.{signal_phases-few, wait_phases-few}
 use Rattle.phase_core.proofs.MemberCounts.{count_of-few, counts-push, phases_of}
