@@ -20,7 +20,7 @@ use Rattle.phase_ring.specs.declared.board.Board.{Board}
 use Rattle.phase_ring.specs.declared.role.Role.{Role}
 use Rattle.phase_ring.specs.declared.role.Role.TheVariants.{Signaller, Waiter}
 use Rattle.phase_ring.specs.Boards.{IsRingAt}
-use Rattle.phase_ring.specs.Restarts.{MayStand, one_slot, ring_of_ones}
+use Rattle.phase_ring.specs.Restarts.{MayBePlaced, one_slot, ring_of_ones}
 use Rattle.phase_ring.specs.Rings.{Ring, sents, standing}
 use Rattle.phase_ring.specs.Slots.{Slot, IsUnused, empty_slot, sent}
 use Rattle.phase_ring.specs.Standings.{count_of, one_if_same, phase_for, takes_part}
@@ -108,7 +108,7 @@ pub members_stand : {A : Type 0} (op : Operation A) (r : Roster) (b : Board A) (
     (values : List ℤ) → IsPlain op r b.limits base values → b.ring.base ≡ base
     → b.top ≡ base + length values → b.done ≡ b.top
     → All (λ (m : Member). (role : Role) → takes_part role m.entry ≡ true
-    → MayStand role (phase_for role m.entry) b) r.members
+    → MayBePlaced role (phase_for role m.entry) b) r.members
 members_stand op r b base values plain base_is top_is done_is = All-of_each _ r.members (each r.members
     (Each-of_picked (λ p. p ≡ base + length values) (λ (m : Member). m.entry.signal_phase) (λ (m : Member). mode_signals m.entry.mode) r.members
     (subst (Each (λ p. p ≡ base + length values)) (sym plain.alone) (refl, tt)))
@@ -122,11 +122,11 @@ members_stand op r b base values plain base_is top_is done_is = All-of_each _ r.
         → Each (λ (m : Member). mode_waits m.entry.mode ≡ true → base ≤ m.entry.wait_phase) ms
         → Each (λ (m : Member). mode_waits m.entry.mode ≡ true → m.entry.wait_phase ≤ base + length values) ms
         → Each (λ (m : Member). (role : Role) → takes_part role m.entry ≡ true
-        → MayStand role (phase_for role m.entry) b) ms
+        → MayBePlaced role (phase_for role m.entry) b) ms
     each [] at low high = tt
     each (m ∷ ms) at low high = (by, each ms at.1 low.1 high.1)
       where
-        by : (role : Role) → takes_part role m.entry ≡ true → MayStand role (phase_for role m.entry) b
+        by : (role : Role) → takes_part role m.entry ≡ true → MayBePlaced role (phase_for role m.entry) b
         by Signaller takes = let e = at.0 takes in (omega arith, omega arith)
         by Waiter takes = let a = low.0 takes in let z = high.0 takes in (omega arith, omega arith)
 

@@ -24,7 +24,7 @@ use Rattle.phase_ring.specs.Standings.{count_of, one_if_same}
 use Rattle.phase_core.specs.Blocks.{one_each}
 use Rattle.phase_core.specs.Cores.{CoreState, StandsFor}
 use Rattle.phase_core.specs.declared.plain.Plain.{Plain}
-use Rattle.phase_core.specs.PlainCores.{shown}
+use Rattle.phase_core.specs.PlainCores.{core_shown}
 use Rattle.phase_core.specs.Plain.{IsPlain, plain_core}
 use Rattle.phase_core.proofs.LeastCounts.{one-other, one-same, signaller-counted, signallers-signalled}
 use Rattle.phase_core.proofs.PlainPhases.{rows_fit, signals_stand, to_plain, to_short}
@@ -172,7 +172,7 @@ module _ {A : Type 0} (op : Operation A) (laws : AccumulateLaws op) (r : Roster)
 
 -- what is shown while the values are kept alone
 pub shown_on : {A : Type 0} (op : Operation A) (slots : CoreState A) (plain : Plain)
-    → plain.is_on ≡ true → shown op slots plain
+    → plain.is_on ≡ true → core_shown op slots plain
     ≡ plain_core op plain.registry slots.limits plain.base plain.values.items
 shown_on op slots plain on =
     ap (λ b. if b then plain_core op plain.registry slots.limits plain.base plain.values.items

@@ -6,8 +6,8 @@ use Rattle.phase_core.specs.declared.plain.Plain.{Plain}
 use Rattle.phase_core.specs.Plain.{IsPlain, left_roster, plain_core}
 
 -- what it keeps: the values where it is plain, and else its slots
-abbrev pub shown : {A : Type 0} → Operation A → CoreState A → Plain → CoreState A
-shown op slots plain =
+abbrev pub core_shown : {A : Type 0} → Operation A → CoreState A → Plain → CoreState A
+core_shown op slots plain =
     if plain.is_on
     then plain_core op plain.registry slots.limits plain.base plain.values.items
     else slots

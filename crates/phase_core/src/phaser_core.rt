@@ -59,11 +59,11 @@ pub struct PhaserCore<A: Accumulate> {
 
 impl<A: Accumulate> Model for PhaserCore<A> {
     ghost use Rattle.phase_core.specs.Cores.{CoreState};
-    ghost use Rattle.phase_core.specs.PlainCores.{IsPhaser, shown};
+    ghost use Rattle.phase_core.specs.PlainCores.{IsPhaser, core_shown};
 
     ghost Value = { CoreState A };
 
-    ghost view = { λ c. shown A.operation c.slots c.plain };
+    ghost view = { λ c. core_shown A.operation c.slots c.plain };
 
     ghost invariant = { λ c. IsPhaser A.operation c.slots c.plain };
 }

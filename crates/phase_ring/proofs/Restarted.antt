@@ -9,7 +9,7 @@ use Rattle.phase_accum.specs.phase_base.declared.limits.TheConstants.{PHASES_MAX
 use Rattle.phase_ring.specs.declared.board.Board.{Board}
 use Rattle.phase_ring.specs.declared.role.Role.{Role}
 use Rattle.phase_ring.specs.declared.role.Role.TheVariants.{Signaller, Waiter}
-use Rattle.phase_ring.specs.Restarts.{MayStand, one_slot, ring_of_ones}
+use Rattle.phase_ring.specs.Restarts.{MayBePlaced, one_slot, ring_of_ones}
 use Rattle.phase_ring.specs.Rings.{Ring, IsWithin, slot_at, standing, standing_in}
 use Rattle.phase_ring.specs.Slots.{Slot, IsUnused, empty_slot}
 use Rattle.phase_ring.specs.Boards.{IsRingAt}
@@ -119,17 +119,17 @@ module _ {A : Type 0} (op : Operation A) (bound base : ℕ) (values : List ℤ) 
 
 -- ---- where somebody may stand
 
-pub MayStand-within : {A : Type 0} (op : Operation A) (board : Board A) (role : Role) (q : ℕ)
-    → IsRingAt op board.ring board.limits.bound board.done board.top → MayStand role q board
+pub MayBePlaced-within : {A : Type 0} (op : Operation A) (board : Board A) (role : Role) (q : ℕ)
+    → IsRingAt op board.ring board.limits.bound board.done board.top → MayBePlaced role q board
     → IsWithin board.ring q × IsPlace role q board.done board.top
-MayStand-within op board Signaller q k may = (
+MayBePlaced-within op board Signaller q k may = (
   record {
     low = omega (arith, k.base_done, may.0);
     high = omega (arith, k.long, k.top_bound, may.1);
   },
   (may.0, may.1),
 )
-MayStand-within op board Waiter q k may = (
+MayBePlaced-within op board Waiter q k may = (
   record {
     low = may.0;
     high = omega (arith, k.long, k.top_bound, k.done_top, may.1);

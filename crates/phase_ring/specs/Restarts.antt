@@ -26,6 +26,6 @@ ring_of_ones op size base values =
 
 -- somebody may stand at the phase in the role: a signaller from the first phase that is not
 -- complete to the top, a waiter from the first that is kept up to the first that is not complete
-abbrev pub MayStand : {A : Type 0} → Role → ℕ → Board A → Type 0
-MayStand Signaller p board = (board.done ≤ p) × (p ≤ board.top)
-MayStand Waiter p board = (board.ring.base ≤ p) × (p ≤ board.done)
+abbrev pub MayBePlaced : {A : Type 0} → Role → ℕ → Board A → Type 0
+MayBePlaced Signaller p board = (board.done ≤ p) × (p ≤ board.top)
+MayBePlaced Waiter p board = (board.ring.base ≤ p) × (p ≤ board.done)

@@ -10,7 +10,7 @@ ghost use Rattle.phase_ring.specs.Standings.{one_if_same, other, takes_part, pha
 ghost use Rattle.phase_ring.specs.Boards.{IsBoard};
 ghost use Rattle.phase_ring.specs.Blocks.{block_joined, block_values, is_not_too_big, BlockFits};
 ghost use Rattle.phase_accum.specs.Sends.{AreSends};
-ghost use Rattle.phase_ring.specs.Restarts.{MayStand, ring_of_ones};
+ghost use Rattle.phase_ring.specs.Restarts.{MayBePlaced, ring_of_ones};
 ghost use Rattle.phase_ring.specs.Calls.{MaySignal, MayWait, IsSettled, KeepsBounds, HasMoved, HasSignalled, HasWaited, HasPassed, StandsAlone, HasLeftBoard};
 ghost use Rattle.phase_ring.specs.GoingOn.{MayGoOn};
 
@@ -349,7 +349,7 @@ impl<A: Accumulate> Board<A> {
     fn place_as(&mut self, role: Role, entry: Entry)
         requires invariant { IsBoard A.operation self.old }
         requires place { takes_part role entry ≡ true
-            → MayStand role (phase_for role entry) self.old }
+            → MayBePlaced role (phase_for role entry) self.old }
         requires few { standing self.old.ring role (phase_for role entry) < MEMBERS_MAX }
         ensures invariant { IsBoard A.operation self.new }
         ensures keeps { KeepsBounds self.old self.new }
@@ -368,7 +368,7 @@ impl<A: Accumulate> Board<A> {
     pub fn place(&mut self, entry: Entry)
         requires invariant { IsBoard A.operation self.old }
         requires place { (role : Role) → takes_part role entry ≡ true
-            → MayStand role (phase_for role entry) self.old }
+            → MayBePlaced role (phase_for role entry) self.old }
         requires few { (role : Role) (p : ℕ) → standing self.old.ring role p < MEMBERS_MAX }
         ensures invariant { IsBoard A.operation self.new }
         ensures keeps { KeepsBounds self.old self.new }

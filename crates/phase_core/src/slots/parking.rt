@@ -8,7 +8,7 @@ ghost use Rattle.phase_ring.specs.declared.role.Role.{Role};
 ghost use Rattle.phase_ring.specs.declared.role.Role.TheVariants.{Signaller, Waiter};
 ghost use Rattle.phase_ring.specs.Boards.{IsBoard};
 ghost use Rattle.phase_ring.specs.Calls.{KeepsBounds};
-ghost use Rattle.phase_ring.specs.Restarts.{MayStand};
+ghost use Rattle.phase_ring.specs.Restarts.{MayBePlaced};
 ghost use Rattle.phase_ring.specs.Rings.{sents, standing};
 ghost use Rattle.phase_ring.specs.Standings.{count_of, phase_for, takes_part};
 ghost use Rattle.phase_core.specs.Plain.{IsPlain, left_roster, plain_core};
@@ -26,7 +26,7 @@ fn place_all<A: Accumulate>(board: &mut Board<A>, members: &[Member])
     requires nobody { (role : Role) (p : ℕ) → standing board.old.ring role p ≡ 0 }
     requires few { length members.now ≤ MEMBERS_MAX }
     requires places { All (λ m. (role : Role) → takes_part role m.entry ≡ true
-        → MayStand role (phase_for role m.entry) board.old) members.now }
+        → MayBePlaced role (phase_for role m.entry) board.old) members.now }
     ensures invariant { IsBoard A.operation board.new }
     ensures keeps { KeepsBounds board.old board.new }
     ensures same { sents board.new.ring ≡ sents board.old.ring }

@@ -7,7 +7,7 @@ use Rattle.phase_registry.specs.phase_base.declared.member.Member.{Member}
 use Rattle.phase_registry.specs.phase_base.Limits.{Limits}
 use Rattle.phase_registry.specs.phase_base.Members.{Members, signal_phases, wait_phases}
 use Rattle.phase_ring.specs.declared.role.Role.{Role}
-use Rattle.phase_ring.specs.Restarts.{MayStand, ring_of_ones}
+use Rattle.phase_ring.specs.Restarts.{MayBePlaced, ring_of_ones}
 use Rattle.phase_ring.specs.Rings.{sents}
 use Rattle.phase_ring.specs.Standings.{count_of, phase_for, takes_part}
 use Rattle.phase_core.specs.Cores.{sent_of}
@@ -41,7 +41,7 @@ place_all-requires-clause-places g c =
     let plain : IsPlain op r b.limits c.args.base values =
     subst (λ (l : Limits). IsPlain op r l c.args.base values) (sym (limits_are g here)) c.requires.plain in
     subst (λ (ms : Members). All (λ (m : Member). (role : Role) → takes_part role m.entry ≡ true
-    → MayStand role (phase_for role m.entry) b) ms) (sym (members_are g here))
+    → MayBePlaced role (phase_for role m.entry) b) ms) (sym (members_are g here))
     (members_stand op r b c.args.base values plain (ap (λ x. x.base) c.restart.ensures.ring)
     c.restart.ensures.top.0 c.restart.ensures.top.1)
 

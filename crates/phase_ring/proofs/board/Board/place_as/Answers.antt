@@ -2,9 +2,9 @@
 use Rattle.std.proofs.Common.{◌≡◌, ◌+◌, ℕ, true, subst, sym, ◌∙◌}
 use Rattle.phase_ring.specs.Rings.{standing}
 use Rattle.phase_ring.specs.Standings.{counted, takes_part}
-use Rattle.phase_ring.specs.Restarts.{MayStand}
+use Rattle.phase_ring.specs.Restarts.{MayBePlaced}
 use Rattle.phase_ring.proofs.Kept.{Counts, placed}
-use Rattle.phase_ring.proofs.Restarted.{MayStand-within}
+use Rattle.phase_ring.proofs.Restarted.{MayBePlaced-within}
 use Rattle.phase_ring.proofs.board.Board.place_as.Given.{Over}
 use Rattle.phase_ring.proofs.board.Board.place_as.Goals as goal
 use Rattle.phase_ring.proofs.board.Board.place_as.Goals.{After-enter}
@@ -19,9 +19,9 @@ stood : (g : Over) (c : After-enter g)
 stood g c =
     let old = c.args.self.now in
     let takes : takes_part c.args.role c.args.entry ≡ true = sym c.is_of.ensures ∙ c.if-is_of.true in
-    let may = subst (λ q. MayStand c.args.role q old) (sym c.phase_of.ensures)
+    let may = subst (λ q. MayBePlaced c.args.role q old) (sym c.phase_of.ensures)
     (c.requires.place takes) in
-    let there = MayStand-within g.A.Accumulate.operation old c.args.role c.phase_of.result
+    let there = MayBePlaced-within g.A.Accumulate.operation old c.args.role c.phase_of.result
     c.requires.invariant may in
     placed g.A.Accumulate.operation old.ring c.enter.new.self old.limits.bound old.done old.top
     c.phase_of.result c.args.role c.args.entry c.phase_of.ensures takes c.requires.invariant
