@@ -162,6 +162,14 @@ def links_little():
               key=lambda it: tuple(map(int, it.split(".")))))
 
 
+def alone():
+    """In a root that had the C library and its loader alone the program answered a script."""
+    with open("/tried/alone", encoding="utf-8") as written:
+        got = written.read()
+    with open(f"{PAGES}/examples/replay/members.stdout", encoding="utf-8") as wanted:
+        wants(got == wanted.read(), f"it wrote {got[-500:]}")
+
+
 def hardened():
     """The program and the library are stripped, and bind all names when they are loaded."""
     for name in ("bin/phase", "lib/libphase.so.0"):
@@ -387,8 +395,9 @@ def begins_soon():
 
 
 LOOKS = (
-    nothing_else, unpacked, proved_tells, tells_whose, links_lead, links_little, hardened, package,
-    readme, of_library, man, completion, in_c, in_rust, as_crates, in_python, rows, begins_soon,
+    nothing_else, unpacked, proved_tells, tells_whose, links_lead, links_little, alone, hardened,
+    package, readme, of_library, man, completion, in_c, in_rust, as_crates, in_python, rows,
+    begins_soon,
 )
 
 
