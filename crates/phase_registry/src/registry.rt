@@ -13,7 +13,7 @@ use std::marker::Model;
 /// The registered tasks of a phaser, by their numbers, with their entries.
 ///
 /// A number is used once: each task that is added has a number above all before it. A look-up is a
-/// binary search, or where no smaller number is missing, one step.
+/// binary search, or where no number between the first one's and it is missing, one step.
 #[derive(Drop)]
 pub struct Registry {
     members: Vec<Member>,
@@ -65,13 +65,37 @@ impl Registry {
         }
     }
 
-    /// Where a task is, or where it would be. Until a task leaves, each may stand at the place of
-    /// its number, so this is looked at first.
+    /// Makes a registry whose one task, number 0, has left. It takes no memory.
+    pub fn left(alloc: Global) -> Registry
+        ensures { result ≡ roster [] (Some 0) }
+    {
+        Registry {
+            members: Vec::new(alloc),
+            greatest: Some(0),
+            signallers: 0,
+            waiters: 0,
+        }
+    }
+
+    /// Returns the registered tasks with their entries, in the order in which they joined.
+    pub fn members(&self) -> &[Member]
+        ensures members { result.now ≡ self.now.members }
+        ensures few { length self.now.members ≤ MEMBERS_MAX }
+    {
+        &self.members
+    }
+
+    /// Where a task is, or where it would be. While no number between is missing, each stands as far
+    /// behind the first as its number is above that one's, so this place is looked at first.
     fn search(&self, number: u64) -> Result<usize, usize>
         ensures found { IfOk result (IsAt self.now.members number) }
         ensures absent { IfErr result (IsGapFor self.now.members number) }
     {
-        let place = number as usize;
+        let first = match self.members.first() {
+            Some(member) => member.task,
+            None => 0,
+        };
+        let place = number.saturating_sub(first) as usize;
         if place < self.members.len() && self.members[place].task == number {
             return Ok(place);
         }

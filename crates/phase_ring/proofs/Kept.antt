@@ -63,13 +63,13 @@ pub record Counts {A : Type 0} (op : Operation A) (r new : Ring A) (bound done t
 counted-of : (role : Role) (entry : Entry) (q p : ℕ) → q ≡ phase_for role entry → takes_part role entry ≡ true → counted role entry p ≡ one_if_same q p
 counted-of role entry q p at takes = ap (λ b. cond b (one_if_same (phase_for role entry) p) 0) takes ∙ ap (λ n. one_if_same n p) (sym at)
 
-pub entered : {A : Type 0} (op : Operation A) (r new : Ring A) (bound done top q : ℕ) (role : Role) (entry : Entry) → q ≡ phase_for role entry
-    → takes_part role entry ≡ true → IsRingAt op r bound done top → (takes_part role entry ≡ true → 0 < standing r role (phase_for role entry))
+-- where somebody may stand, one more does
+pub placed : {A : Type 0} (op : Operation A) (r new : Ring A) (bound done top q : ℕ) (role : Role) (entry : Entry) → q ≡ phase_for role entry
+    → takes_part role entry ≡ true → IsRingAt op r bound done top → IsWithin r q → IsPlace role q done top
     → ((slot : Slot A) → slot_at r q ≡ Some slot → new ≡ with_slot q (with_standing role (standing_of role slot + 1) slot) r)
     → Counts op r new bound done top role × ((p : ℕ) → standing new role p ≡ standing r role p + counted role entry p)
-entered op r new bound done top q role entry at takes k stands goes =
-    let some : 0 < standing r role q = (let s = stands takes in let e = ap (standing r role) at in omega arith) in
-    let m = enters op r new bound done top q role k (standing-within r role q some) (standing-place op r bound done top q role k some) goes in (
+placed op r new bound done top q role entry at takes k within place goes =
+    let m = enters op r new bound done top q role k within place goes in (
       record { kept = m.kept; same = m.sents_same; others = m.others },
       λ p. (let c = counted-of role entry q p at takes in
           ⊎_elim
@@ -77,6 +77,14 @@ entered op r new bound done top q role entry at takes k stands goes =
           (λ apart. let none = one-other q p apart in let a = m.apart p apart in omega arith)
           (cases_eq p q)),
     )
+
+pub entered : {A : Type 0} (op : Operation A) (r new : Ring A) (bound done top q : ℕ) (role : Role) (entry : Entry) → q ≡ phase_for role entry
+    → takes_part role entry ≡ true → IsRingAt op r bound done top → (takes_part role entry ≡ true → 0 < standing r role (phase_for role entry))
+    → ((slot : Slot A) → slot_at r q ≡ Some slot → new ≡ with_slot q (with_standing role (standing_of role slot + 1) slot) r)
+    → Counts op r new bound done top role × ((p : ℕ) → standing new role p ≡ standing r role p + counted role entry p)
+entered op r new bound done top q role entry at takes k stands goes =
+    let some : 0 < standing r role q = (let s = stands takes in let e = ap (standing r role) at in omega arith) in
+    placed op r new bound done top q role entry at takes k (standing-within r role q some) (standing-place op r bound done top q role k some) goes
 
 pub left : {A : Type 0} (op : Operation A) (r new : Ring A) (bound done top q : ℕ) (role : Role) (entry : Entry) → q ≡ phase_for role entry
     → takes_part role entry ≡ true → IsRingAt op r bound done top → (takes_part role entry ≡ true → 0 < standing r role (phase_for role entry))

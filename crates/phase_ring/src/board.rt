@@ -9,6 +9,8 @@ ghost use Rattle.phase_ring.specs.Rings.{standing, sents, slot_at, with_slot, is
 ghost use Rattle.phase_ring.specs.Standings.{one_if_same, other, takes_part, phase_for, counted};
 ghost use Rattle.phase_ring.specs.Boards.{IsBoard};
 ghost use Rattle.phase_ring.specs.Blocks.{block_joined, block_values, is_not_too_big, BlockFits};
+ghost use Rattle.phase_accum.specs.Sends.{AreSends};
+ghost use Rattle.phase_ring.specs.Restarts.{MayBePlaced, ring_of_ones};
 ghost use Rattle.phase_ring.specs.Calls.{MaySignal, MayWait, IsSettled, KeepsBounds, HasMoved, HasSignalled, HasWaited, HasPassed, StandsAlone, HasLeftBoard};
 ghost use Rattle.phase_ring.specs.GoingOn.{MayGoOn};
 
@@ -320,6 +322,62 @@ impl<A: Accumulate> Board<A> {
         if role.is_of(entry) {
             self.ring.leave(role.phase_of(entry), role);
         }
+    }
+
+    /// Has a complete phase of one send for each of these values from now on, the first the phase
+    /// `base`. Nobody stands at any phase.
+    pub fn restart(&mut self, base: u64, front: &[i64], back: &[i64])
+        requires sends { AreSends front.now × AreSends back.now }
+        requires long { length self.old.ring.slots ≡ self.old.limits.bound + 1 }
+        requires near { length front.now + length back.now ≤ self.old.limits.bound }
+        requires far { base + length front.now + length back.now ≤ PHASES_MAX }
+        ensures invariant { IsBoard A.operation self.new }
+        ensures limits { self.new.limits ≡ self.old.limits }
+        ensures ring { self.new.ring ≡ ring_of_ones A.operation (length self.old.ring.slots) base
+            (front.now ++ back.now) }
+        ensures top { (self.new.top ≡ base + length (front.now ++ back.now))
+            × (self.new.done ≡ self.new.top) }
+        ensures standing { (role : Role) (p : ℕ) → standing self.new.ring role p ≡ 0 }
+    {
+        self.ring.restart(base, front, back);
+        self.top = base + front.len() as u64 + back.len() as u64;
+        self.done = self.top;
+    }
+
+    /// Lets a task with this entry stand at its phase of the role, where it has one and somebody
+    /// may stand there.
+    fn place_as(&mut self, role: Role, entry: Entry)
+        requires invariant { IsBoard A.operation self.old }
+        requires place { takes_part role entry ≡ true
+            → MayBePlaced role (phase_for role entry) self.old }
+        requires few { standing self.old.ring role (phase_for role entry) < MEMBERS_MAX }
+        ensures invariant { IsBoard A.operation self.new }
+        ensures keeps { KeepsBounds self.old self.new }
+        ensures same { sents self.new.ring ≡ sents self.old.ring }
+        ensures standing { (p : ℕ) → standing self.new.ring role p
+            ≡ standing self.old.ring role p + counted role entry p }
+        ensures others { (p : ℕ) → standing self.new.ring (other role) p
+            ≡ standing self.old.ring (other role) p }
+    {
+        if role.is_of(entry) {
+            self.ring.enter(role.phase_of(entry), role);
+        }
+    }
+
+    /// Lets a task with this entry stand at its phases, where somebody may stand.
+    pub fn place(&mut self, entry: Entry)
+        requires invariant { IsBoard A.operation self.old }
+        requires place { (role : Role) → takes_part role entry ≡ true
+            → MayBePlaced role (phase_for role entry) self.old }
+        requires few { (role : Role) (p : ℕ) → standing self.old.ring role p < MEMBERS_MAX }
+        ensures invariant { IsBoard A.operation self.new }
+        ensures keeps { KeepsBounds self.old self.new }
+        ensures same { sents self.new.ring ≡ sents self.old.ring }
+        ensures standing { (role : Role) (p : ℕ) → standing self.new.ring role p
+            ≡ standing self.old.ring role p + counted role entry p }
+    {
+        self.place_as(Role::Signaller, entry);
+        self.place_as(Role::Waiter, entry);
     }
 
     /// Lets a task with this entry stand at its phases, at which others stand already.

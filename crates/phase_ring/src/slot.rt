@@ -120,6 +120,8 @@ impl<A: Copy> Slot<A> {
 }
 
 impl<A: Accumulate> Slot<A> {
+    ghost use Rattle.phase_ring.specs.Restarts.{one_slot};
+    ghost use Rattle.phase_accum.specs.Sends.{IsSend};
     ghost use Rattle.phase_ring.specs.Slots.{empty_slot, joined, slot_value, IsHeld, IsUnused};
 
     /// The slot of a phase that no signal has joined, and at which nobody stands.
@@ -135,6 +137,23 @@ impl<A: Accumulate> Slot<A> {
             waiters: 0,
             choice: Choice::Unsignalled,
             sealed: false,
+        }
+    }
+
+    /// The slot of a complete phase of this one send and no single, at which nobody stands.
+    pub(crate) fn of_one(value: i64) -> Slot<A>
+        requires { IsSend value }
+        ensures value { result ≡ one_slot A.operation value }
+        ensures held { IsHeld A.operation result }
+    {
+        Slot {
+            part: A::of(value),
+            ends: (0, 0),
+            count: 1,
+            signallers: 0,
+            waiters: 0,
+            choice: Choice::Plain,
+            sealed: true,
         }
     }
 

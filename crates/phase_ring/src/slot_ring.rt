@@ -1,8 +1,10 @@
 //! The ring of slots.
-ghost use Rattle.std.specs.Prelude.{◌≡◌, ◌+◌, ◌-◌, ◌^◌, ◌<◌, ◌≤◌, [], None, Some, length, replicate, true, false, OnOk, OnErr, IfOk, IfErr};
+ghost use Rattle.std.specs.Prelude.{◌≡◌, ◌+◌, ◌-◌, ◌^◌, ◌<◌, ◌≤◌, ◌++◌, [], None, Some, length, map, replicate, true, false, OnOk, OnErr, IfOk, IfErr};
 ghost use Rattle.circular_buffer.specs.Buffer.{buffer};
 ghost use Rattle.phase_ring.specs.declared.role.Role.TheVariants.{Waiter};
 ghost use Rattle.phase_ring.specs.Slots.{Slot, empty_slot, IsHeld, IsUnused, with_standing, standing_of, joined, sealed, slot_value, merge_refusal};
+ghost use Rattle.phase_accum.specs.Sends.{AreSends};
+ghost use Rattle.phase_ring.specs.Restarts.{one_slot, ring_of_ones};
 ghost use Rattle.phase_ring.specs.Rings.{Ring, ring, standing, IsWithin, slot_at, with_slot, is_sealed, fresh_ring, released, cleared};
 
 use crate::role::Role;
@@ -56,6 +58,44 @@ impl<A: Accumulate> SlotRing<A> {
         for _ in 0..slots.capacity() {
             slots.push_back(Slot::<A>::empty());
         }
+    }
+
+    // Puts slots behind the others, a complete one for each of these values.
+    fn put_ones(slots: &mut HeapCircularBuffer<Slot<A>>, values: &[i64])
+        requires sends { AreSends values.now }
+        requires room { length slots.old.items + length values.now ≤ slots.old.capacity }
+        ensures { slots.new ≡ buffer (slots.old.items ++ map (one_slot A.operation) values.now)
+            slots.old.capacity }
+    {
+        for value in values {
+            slots.push_back(Slot::<A>::of_one(*value));
+        }
+    }
+
+    // Fills a buffer with empty slots behind those that it has.
+    fn fill_up(slots: &mut HeapCircularBuffer<Slot<A>>)
+        ensures { let more = replicate (slots.old.capacity - length slots.old.items)
+            (empty_slot A.operation) in
+            slots.new ≡ buffer (slots.old.items ++ more) slots.old.capacity }
+    {
+        for _ in slots.len()..slots.capacity() {
+            slots.push_back(Slot::<A>::empty());
+        }
+    }
+
+    /// Has a complete phase of one send for each of these values from now on, the first the phase
+    /// `base`, and empty slots behind them. Nobody stands at any phase.
+    pub fn restart(&mut self, base: u64, front: &[i64], back: &[i64])
+        requires sends { AreSends front.now × AreSends back.now }
+        requires room { length front.now + length back.now ≤ length self.old.slots }
+        ensures { self.new ≡ ring_of_ones A.operation (length self.old.slots) base
+            (front.now ++ back.now) }
+    {
+        self.slots.clear();
+        SlotRing::<A>::put_ones(&mut self.slots, front);
+        SlotRing::<A>::put_ones(&mut self.slots, back);
+        SlotRing::<A>::fill_up(&mut self.slots);
+        self.base = base;
     }
 
     /// Returns the phase of the first slot.
