@@ -1,5 +1,5 @@
 -- What a wait leaves of a core over a registry and a board.
-use Rattle.std.proofs.Common.{◌≡◌, ℕ, ◌+◌, ◌<◌, ◌≤◌, ◌⊎◌, true, Bool, [], ◌∷◌, Option, Some, None, Ok, length, unwrap_or, refl, sym, ◌∙◌, ap, arith, ⊎_elim, inl, inr, zero, suc, ◌-◌, cond, map, take, drop, min, List, ◌++◌, Result}
+use Rattle.std.proofs.Common.{◌≡◌, ℕ, ◌+◌, ◌<◌, ◌≤◌, ◌⊎◌, true, Bool, [], ◌∷◌, Option, Some, None, Ok, length, unwrap_or, refl, sym, ◌∙◌, ap, arith, ⊎_elim, inl, inr, zero, suc, ◌-◌, cond, map, take, drop, min, List, ◌++◌, Result, ℤ}
 use Rattle.std.specs.Prelude.{is_some, slice_range}
 use Rattle.std.proofs.lemmas.Option.{same_Some}
 use Rattle.phase_registry.specs.phase_base.Modes.{mode_waits}
@@ -184,7 +184,7 @@ got_block_ended h w n done is past =
 
 -- ---- the values
 
-map-same : {X : Type 0} (f g : ℕ → X) (a n : ℕ) → ((p : ℕ) → a ≤ p → p < a + n → f p ≡ g p) → map f (range_with_len a n) ≡ map g (range_with_len a n)
+pub map-same : {X : Type 0} (f g : ℕ → X) (a n : ℕ) → ((p : ℕ) → a ≤ p → p < a + n → f p ≡ g p) → map f (range_with_len a n) ≡ map g (range_with_len a n)
 map-same f g a zero same = refl
 map-same f g a (suc n) same =
     ap (λ x. x ∷ map f (range_with_len (a + 1) n)) (same a (omega arith) (omega arith))
@@ -194,6 +194,15 @@ drop-map-range : {X : Type 0} (f : ℕ → X) (a n k s : ℕ) → a + k ≡ s �
 drop-map-range f a n zero s e = ap (λ m. map f (range_with_len a m)) (let z : n ≡ n - 0 = omega arith in z) ∙ ap (λ q. map f (range_with_len q (n - 0))) (let t : a ≡ s = omega arith in t)
 drop-map-range f a zero (suc k) s e = ap (λ m. map f (range_with_len s m)) (let z : 0 ≡ 0 - suc k = omega arith in z)
 drop-map-range f a (suc n) (suc k) s e = drop-map-range f (a + 1) n k s (omega arith) ∙ ap (λ m. map f (range_with_len s m)) (let z : n - k ≡ suc n - suc k = omega arith in z)
+
+-- the values of complete phases in a row, in the stream
+pub stream_range : (value : List ℤ → Outcome) (h : History) (phase count : ℕ)
+    → phase + count ≤ done_of h → map (value_of_phase value h) (range_with_len phase count)
+    ≡ slice_range (stream_of value h) phase (phase + count)
+stream_range value h phase count complete =
+    sym (take-map-range_with_len (value_of_phase value h) phase (done_of h - phase) count (omega arith))
+    ∙ sym (ap (take count) (drop-map-range (value_of_phase value h) 0 (done_of h) phase phase (omega arith)))
+    ∙ ap (λ k. take k (drop phase (stream_of value h))) (let e : count ≡ phase + count - phase = omega arith in e)
 
 pub values_are : {A : Type 0} (op : Operation A) (laws : AccumulateLaws op) (reg : Roster) (b : Board A) (h : History) (phase count : ℕ)
     → IsBoarded op reg.members b.ring b.limits.bound b.done b.top → StandsFor op (core_of reg b) h → b.ring.base ≤ phase → phase + count ≤ b.done
@@ -208,9 +217,7 @@ values_are op laws reg b h phase count boarded stands low complete =
     let keeps = slot_keeps op reg b.limits b.ring b.done b.top p h slot.0 stands boarded (omega arith) slot.1 in
     ap (value_in op) slot.1 ∙ kept_value op laws (sent_of slot.0) h p keeps) in
     map-same (value_at op b.ring) (value_of_phase op.value h) phase count each
-    ∙ sym (take-map-range_with_len (value_of_phase op.value h) phase (done_of h - phase) count (omega arith))
-    ∙ sym (ap (take count) (drop-map-range (value_of_phase op.value h) 0 (done_of h) phase phase (omega arith)))
-    ∙ ap (λ k. take k (drop phase (stream_of op.value h))) (let e : count ≡ phase + count - phase = omega arith in e)
+    ∙ stream_range op.value h phase count (omega arith)
 
 pub few_by : {A : Type 0} (op : Operation A) (reg : Roster) (b : Board A) (task n : ℕ) (e : Entry) → IsBoarded op reg.members b.ring b.limits.bound b.done b.top
     → entry_of reg.members task ≡ Some e → length reg.members ≤ MEMBERS_MAX → mode_waits e.mode ≡ true → 0 < n → standing b.ring Waiter (e.wait_phase + n) < MEMBERS_MAX

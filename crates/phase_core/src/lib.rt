@@ -3,13 +3,18 @@
 //! The first calls are `PhaserCore::new`, `PhaserCore::signal` and `PhaserCore::wait`.
 #![tactic(auto)]
 
+mod lent_slots;
 mod list_refusals;
 mod members;
 mod one_sends;
 mod passing;
 mod phaser_core;
+mod plain;
 mod refusal_rows;
 mod signalling;
+mod signalling_plain;
+mod slot_core;
+mod slots;
 mod waiting;
 
 pub use one_sends::{are_sends, hold_each, one_send};

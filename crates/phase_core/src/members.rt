@@ -5,24 +5,11 @@ ghost use Rattle.phase_history.specs.declared.event.Event.TheVariants.{Registere
 ghost use Rattle.phase_history.specs.Histories.{History, done_of};
 ghost use Rattle.phase_history.specs.Refusals.{register_refusal, register_now_refusal};
 ghost use Rattle.phase_core.specs.Cores.{StandsFor};
-ghost use Rattle.phase_core.specs.Admission.{refusal_of_add};
 
 use crate::phaser_core::PhaserCore;
 use phase_history::phase_accum::Accumulate;
 use phase_history::{NoTask, RegisterRefusal};
-use phase_registry::AddRefusal;
-use phase_registry::phase_base::{Entry, Mode};
-
-/// The refusal of a registration whose child was not added.
-fn register_refusal_of(refusal: AddRefusal) -> RegisterRefusal
-    ensures { result ≡ refusal_of_add refusal }
-{
-    match refusal {
-        AddRefusal::NotNew => RegisterRefusal::NotNew,
-        AddRefusal::TooManyTasks => RegisterRefusal::TooManyTasks,
-        AddRefusal::OutOfMemory => RegisterRefusal::OutOfMemory,
-    }
-}
+use phase_registry::phase_base::Mode;
 
 impl<A: Accumulate> PhaserCore<A> {
     /// Registers the task `child`, in a mode that the mode of `parent` holds and at both phases of
@@ -46,24 +33,7 @@ impl<A: Accumulate> PhaserCore<A> {
         ensures limits { self.new.limits ≡ self.old.limits }
         ensures err { OnErr result (self.new ≡ self.old) }
     {
-        let Some(entry) = self.registry.get(parent) else {
-            return Err(RegisterRefusal::NoTask);
-        };
-        if !entry.mode.holds(mode) {
-            return Err(RegisterRefusal::NotAllowed);
-        }
-        let waiters = self.registry.waiters();
-        let added = self
-            .registry
-            .add(child, mode, entry.signal_phase, entry.wait_phase);
-        if let Err(refusal) = added {
-            return Err(register_refusal_of(refusal));
-        }
-        if waiters == 0 {
-            return Ok(());
-        }
-        self.board.register(Entry { mode, ..entry });
-        Ok(())
+        self.slots().register(parent, child, mode)
     }
 
     /// Registers the task `child` as a waiter at the first phase that is not complete, and answers
@@ -86,21 +56,7 @@ impl<A: Accumulate> PhaserCore<A> {
         ensures limits { self.new.limits ≡ self.old.limits }
         ensures err { OnErr result (self.new ≡ self.old) }
     {
-        let Some(entry) = self.registry.get(parent) else {
-            return Err(RegisterRefusal::NoTask);
-        };
-        if !entry.mode.waits() {
-            return Err(RegisterRefusal::NotAllowed);
-        }
-        let done = self.board.done;
-        let added = self
-            .registry
-            .add(child, Mode::Wait, entry.signal_phase, done);
-        if let Err(refusal) = added {
-            return Err(register_refusal_of(refusal));
-        }
-        self.board.join_now();
-        Ok(done)
+        self.slots().register_now(parent, child)
     }
 
     /// Ends a task's registration. What it held and never signalled is in no phase.
@@ -115,19 +71,6 @@ impl<A: Accumulate> PhaserCore<A> {
         ensures limits { self.new.limits ≡ self.old.limits }
         ensures err { OnErr result (self.new ≡ self.old) }
     {
-        let Some(entry) = self.registry.get(task) else {
-            return Err(NoTask);
-        };
-        let waiters = self.registry.waiters();
-        let _ = self.registry.remove(task);
-        if waiters == 0 {
-            return Ok(());
-        }
-        if self.registry.waiters() == 0 {
-            self.board.clear();
-            return Ok(());
-        }
-        self.board.leave(entry);
-        Ok(())
+        self.slots().drop_task(task)
     }
 }

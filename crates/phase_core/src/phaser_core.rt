@@ -6,10 +6,10 @@ ghost use Rattle.phase_history.specs.Histories.{History, done_of, top_of};
 ghost use Rattle.phase_registry.specs.Rosters.{next_after};
 ghost use Rattle.phase_core.specs.Cores.{StandsFor};
 
+use crate::plain::Plain;
+use crate::slot_core::SlotCore;
 use phase_history::phase_accum::Accumulate;
-use phase_registry::Registry;
-use phase_registry::phase_base::{Entry, Mode, Spec};
-use phase_ring::Board;
+use phase_registry::phase_base::{Entry, Spec};
 use std::alloc::{AllocError, Global};
 use std::marker::Model;
 
@@ -53,18 +53,19 @@ use std::marker::Model;
 /// **Not promised.** That a phase is ever complete.
 #[derive(Drop)]
 pub struct PhaserCore<A: Accumulate> {
-    pub(crate) registry: Registry,
-    pub(crate) board: Board<A>,
+    pub(crate) slots: SlotCore<A>,
+    pub(crate) plain: Plain,
 }
 
 impl<A: Accumulate> Model for PhaserCore<A> {
-    ghost use Rattle.phase_core.specs.Cores.{CoreState, core_of, IsCore};
+    ghost use Rattle.phase_core.specs.Cores.{CoreState};
+    ghost use Rattle.phase_core.specs.PlainCores.{IsPhaser, core_shown};
 
     ghost Value = { CoreState A };
 
-    ghost view = { λ c. core_of c.registry c.board };
+    ghost view = { λ c. core_shown A.operation c.slots c.plain };
 
-    ghost invariant = { λ c. IsCore A.operation c.registry c.board };
+    ghost invariant = { λ c. IsPhaser A.operation c.slots c.plain };
 }
 
 impl<A: Accumulate> PhaserCore<A> {
@@ -74,20 +75,19 @@ impl<A: Accumulate> PhaserCore<A> {
         ensures stands { IfOk result (λ core. StandsFor A.operation core (Made first ∷ [])) }
         ensures limits { IfOk result (λ core. core.limits ≡ spec) }
     {
-        let _bound = spec.bound();
-        let board = Board::<A>::new(alloc, spec)?;
-        let mut registry = Registry::new(alloc);
-        let Ok(()) = registry.add(first, Mode::Single, 0, 0) else {
-            return Err(AllocError);
-        };
-        Ok(PhaserCore { registry, board })
+        let plain = Plain::new(alloc, spec.bound())?;
+        let slots = SlotCore::<A>::new(alloc, spec, first)?;
+        Ok(PhaserCore { slots, plain })
     }
 
     /// Returns a task's mode and phases, where it is registered.
     pub fn view(&self, task: u64) -> Option<Entry>
         ensures { result ≡ entry_of self.now.members task }
     {
-        self.registry.get(task)
+        if self.plain.is_on {
+            return self.plain.registry.get(task);
+        }
+        self.slots.view(task)
     }
 
     /// Returns the first phase that is not complete, counted from 0. The phases below it are.
@@ -96,10 +96,10 @@ impl<A: Accumulate> PhaserCore<A> {
     pub fn done(&self) -> u64
         ensures { (h : History) → StandsFor A.operation self.now h → result ≡ done_of h }
     {
-        if self.registry.waiters() > 0 {
-            return self.board.done;
+        if self.plain.is_on {
+            return self.plain.top();
         }
-        self.registry.least_signal().unwrap_or(self.board.top)
+        self.slots.done()
     }
 
     /// Returns one more than the greatest phase that was ever signalled, or 0.
@@ -108,30 +108,39 @@ impl<A: Accumulate> PhaserCore<A> {
         // A phaser stands for some history, whatever was done with it before.
         ensures stands { (h : History) × StandsFor A.operation self.now h }
     {
-        self.board.top
+        if self.plain.is_on {
+            return self.plain.top();
+        }
+        self.slots.top()
     }
 
     /// Returns the number above every number that a task of the phaser ever had, where one is left.
     pub fn next_number(&self) -> Option<u64>
         ensures { result ≡ next_after (Some self.now.greatest) }
     {
-        self.registry.next_number()
+        if self.plain.is_on {
+            return self.plain.registry.next_number();
+        }
+        self.slots.next_number()
     }
 
     /// Returns the least wait phase of the waiters, where one is registered.
     pub fn least_wait(&self) -> Option<u64>
         ensures { result ≡ least (wait_phases self.now.members) }
     {
-        if self.registry.waiters() == 0 {
-            return None;
+        if self.plain.is_on {
+            return Some(self.plain.base);
         }
-        Some(self.board.ring.base())
+        self.slots.least_wait()
     }
 
     /// Returns whether a signaller is registered.
     pub fn has_signaller(&self) -> bool
         ensures { result ≡ is_some (least (signal_phases self.now.members)) }
     {
-        self.registry.signallers() > 0
+        if self.plain.is_on {
+            return true;
+        }
+        self.slots.has_signaller()
     }
 }

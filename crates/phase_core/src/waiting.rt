@@ -10,7 +10,6 @@ ghost use Rattle.phase_core.specs.Cores.{StandsFor};
 ghost use Rattle.phase_core.specs.Blocks.{written, before_too_big, after_in_range};
 
 use crate::phaser_core::PhaserCore;
-use crate::refusal_rows;
 use phase_history::phase_accum::{Accumulate, Outcome};
 use phase_history::{Got, GotBlock, WaitRefusal};
 
@@ -28,25 +27,10 @@ impl<A: Accumulate> PhaserCore<A> {
         ensures limits { self.new.limits ≡ self.old.limits }
         ensures err { OnErr result (self.new ≡ self.old) }
     {
-        let Some(entry) = self.registry.get(task) else {
-            return Err(WaitRefusal::NoTask);
-        };
-        if !entry.mode.waits() {
-            return Err(WaitRefusal::NoWait);
+        if self.plain.is_on {
+            return self.plain.wait::<A>(self.slots.limits(), task);
         }
-        let done = self.board.done;
-        let has_signaller = self.has_signaller();
-        let limits = self.board.limits;
-        if let Some(refusal) = refusal_rows::wait_refusal(limits, done, has_signaller, 1, entry) {
-            return Err(refusal);
-        }
-        let phase = entry.wait_phase;
-        if done <= phase {
-            return Ok(Got::Ended);
-        }
-        let outcome = self.board.wait(phase);
-        self.registry.waited(task, 1);
-        Ok(Got::Value { phase, outcome })
+        self.slots().wait(task)
     }
 
     /// Waits for the task's phase and those behind it that are complete, as many as there are
@@ -66,31 +50,10 @@ impl<A: Accumulate> PhaserCore<A> {
         ensures limits { self.new.limits ≡ self.old.limits }
         ensures err { OnErr result (self.new ≡ self.old) }
     {
-        let Some(entry) = self.registry.get(task) else {
-            return Err(WaitRefusal::NoTask);
-        };
-        if !entry.mode.waits() {
-            return Err(WaitRefusal::NoWait);
+        if self.plain.is_on {
+            return self.plain.wait_block::<A>(self.slots.limits(), task, out);
         }
-        let done = self.board.done;
-        let has_signaller = self.has_signaller();
-        let limits = self.board.limits;
-        let asked = out.len();
-        let refusal = refusal_rows::wait_refusal(limits, done, has_signaller, asked as u64, entry);
-        if let Some(refusal) = refusal {
-            return Err(refusal);
-        }
-        let phase = entry.wait_phase;
-        if done <= phase {
-            return Ok(GotBlock::Ended);
-        }
-        let count = asked.min((done - phase) as usize);
-        self.board.wait_block(phase, count, out);
-        self.registry.waited(task, count as u64);
-        Ok(GotBlock::Values {
-            phase,
-            count: count as u64,
-        })
+        self.slots().wait_block(task, out)
     }
 
     /// Waits for a block as `wait_block` does, but goes no further than the values in range: it
@@ -123,31 +86,11 @@ impl<A: Accumulate> PhaserCore<A> {
         ensures limits { self.new.limits ≡ self.old.limits }
         ensures err { OnErr result (self.new ≡ self.old) }
     {
-        let Some(entry) = self.registry.get(task) else {
-            return Err(WaitRefusal::NoTask);
-        };
-        if !entry.mode.waits() {
-            return Err(WaitRefusal::NoWait);
+        if self.plain.is_on {
+            return self
+                .plain
+                .wait_in_range::<A>(self.slots.limits(), task, out);
         }
-        let done = self.board.done;
-        let has_signaller = self.has_signaller();
-        let limits = self.board.limits;
-        let asked = out.len();
-        let refusal = refusal_rows::wait_refusal(limits, done, has_signaller, asked as u64, entry);
-        if let Some(refusal) = refusal {
-            return Err(refusal);
-        }
-        let phase = entry.wait_phase;
-        if done <= phase {
-            return Ok(GotBlock::Ended);
-        }
-        let complete = asked.min((done - phase) as usize);
-        let count = self.board.write_in_range(phase, complete, out) as u64;
-        if count == 0 {
-            return Ok(GotBlock::Values { phase, count: 0 });
-        }
-        self.board.move_waiter(phase, phase + count);
-        self.registry.waited(task, count);
-        Ok(GotBlock::Values { phase, count })
+        self.slots().wait_in_range(task, out)
     }
 }

@@ -1,0 +1,34 @@
+-- The values lie in two slices.
+use Rattle.std.proofs.Common.{ℕ, ◌-◌, List, ℤ, take, drop, sym, subst, arith}
+use Rattle.std.proofs.lemmas.List.{take-append-drop}
+use Rattle.phase_history.proofs.phase_accum_lemmas.Parts.{AreSends-append_left, AreSends-append_right}
+use Rattle.phase_history.specs.phase_accum.Sends.{AreSends}
+use Rattle.phase_core.specs.Plain.{plain_value}
+use Rattle.phase_core.proofs.PlainWaits.{AreSends-drop}
+use Rattle.phase_core.proofs.TwoSlices.{written_in_two}
+use Rattle.phase_core.proofs.plain.Plain.write.Goals as goal
+
+AreSends-take : (n : ℕ) (xs : List ℤ) → AreSends xs → AreSends (take n xs)
+AreSends-take n xs sends =
+    AreSends-append_left (take n xs) (drop n xs) (subst AreSends (sym (take-append-drop n xs)) sends)
+
+pub write_ones-requires-clause-sends : goal.write_ones-requires-clause-sends
+write_ones-requires-clause-sends g c =
+    let front = c.as_slices.result.0.now in
+    AreSends-take _ _ (AreSends-take _ _ (AreSends-drop _ front (AreSends-append_left front
+    c.as_slices.result.1.now (subst AreSends (sym c.as_slices.ensures) c.requires.sends))))
+
+pub write_ones-requires-2-clause-sends : goal.write_ones-requires-2-clause-sends
+write_ones-requires-2-clause-sends g c =
+    let back = c.as_slices.result.1.now in
+    AreSends-take _ _ (AreSends-take _ _ (AreSends-drop _ back (AreSends-append_right
+    c.as_slices.result.0.now back (subst AreSends (sym c.as_slices.ensures) c.requires.sends))))
+
+pub returns : goal.returns
+returns g c =
+    let low = c.requires.low in
+    written_in_two (plain_value g.A.Accumulate.operation) c.as_slices.result.0.now
+    c.as_slices.result.1.now c.args.self.now.values.items c.args.out.now c.write_ones.new.out
+    c.write_ones-2.new.out (c.args.phase - c.args.self.now.base) c.args.count c.min-in_front.result
+    c.min-many.result c.as_slices.ensures c.min-in_front.ensures (omega (arith, c.requires.complete))
+    c.requires.room c.min-many.ensures c.write_ones.ensures c.write_ones-2.ensures
