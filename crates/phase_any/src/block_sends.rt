@@ -7,7 +7,7 @@ ghost use Rattle.phase_core.specs.Blocks.{one_each};
 ghost use Rattle.phase_core.specs.Cores.{StandsFor};
 
 use phase_core::phase_accum::{Accumulate, Pending, Single};
-use phase_core::{PhaserCore, SignalRefusal, hold_each};
+use phase_core::{PhaserCore, SignalRefusal};
 use std::alloc::{AllocError, Global};
 
 /// Signals as many phases in a row as there are values, the first the task's, with one send each
@@ -31,8 +31,7 @@ pub fn signal_values<A: Accumulate>(
     ensures err { OnErr result (core.new ≡ core.old) }
     ensures many { length places.new ≡ length places.old }
 {
-    hold_each(places, values);
-    core.signal_lists(task, &places[..values.len()], single)
+    core.signal_values(task, values, single, places)
 }
 
 /// Signals a block as `signal_values` does, in places of its own. It takes memory for them, and
