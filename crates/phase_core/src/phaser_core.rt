@@ -39,7 +39,9 @@ use std::marker::Model;
 /// which they are checked.
 ///
 /// **Memory.** A phaser keeps a slot for each of bound + 1 phases, from the slowest waiter's on,
-/// and an entry for each task. `new`, `register` and `register_now` alone take memory.
+/// and an entry for each task. While one task alone signals, by `signal_values` and with no single,
+/// and does not wait, it keeps a number for each of bound phases in place of the slots. `new`,
+/// `register` and `register_now` alone take memory.
 ///
 /// **Example.** A founder gets what it sent:
 /// ```text
