@@ -1,5 +1,7 @@
 //! Blocks of phases, and waiters that join now, as calls on a phaser under sum.
-use crate::calls::{Answer, Call, Case, Phaser, UNWRITTEN, follow_all, lists_of};
+use crate::calls::{
+    Answer, Call, Case, Phaser, UNWRITTEN, follow_all, follow_all_of_values, lists_of,
+};
 use phase_core::phase_accum::Outcome::{TooBig, Value};
 use phase_core::phase_accum::{Pending, Sum};
 use phase_core::phase_base::Mode;
@@ -274,6 +276,11 @@ const CASES: [Case; 12] = [
 #[test]
 fn calls_are_answered(rt: HostRuntime) -> Result<(), Fail> {
     follow_all(&rt, rt.alloc(), &CASES)
+}
+
+#[test]
+fn blocks_of_values_are_answered_in_the_same_way(rt: HostRuntime) -> Result<(), Fail> {
+    follow_all_of_values(&rt, rt.alloc(), &CASES)
 }
 
 /// Signals a block that is refused, and then the lists that came back but the first. Tells the

@@ -1,7 +1,9 @@
 //! Calls on a phaser under sum and what they are answered, of which this crate's tables are made.
 use phase_core::phase_accum::{Outcome, Pending, SendFault, Single, Sum};
 use phase_core::phase_base::{Entry, Mode, Spec};
-use phase_core::{Got, GotBlock, PhaserCore, RegisterRefusal, SignalRefusal, WaitRefusal};
+use phase_core::{
+    Got, GotBlock, PhaserCore, RegisterRefusal, SignalRefusal, WaitRefusal, are_sends,
+};
 use std::alloc::Global;
 use std::process::Abort;
 use std::test::Fail;
@@ -15,6 +17,8 @@ pub enum Call {
     /// A signal that names the negation.
     SignalNeg(u64, i64),
     Block(u64, &'static [i64]),
+    /// The same, of the values of the sends.
+    Values(u64, &'static [i64]),
     /// A signal and a wait in one.
     Both(u64, Option<i64>),
     /// The same, where the signal names the negation.
@@ -186,6 +190,19 @@ impl Phaser {
         })
     }
 
+    fn values(&mut self, task: u64, values: &[i64]) -> Result<Answer, Fail> {
+        if !are_sends(values) {
+            return Ok(Answer::Done);
+        }
+        let mut places = vec![in self.alloc; Pending::new(); values.len()]?;
+        Ok(
+            match self.core.signal_values(task, values, None, &mut places) {
+                Ok(phase) => Answer::Joined(phase),
+                Err(refusal) => Answer::NotJoined(refusal),
+            },
+        )
+    }
+
     fn take(&mut self, task: u64, count: usize) -> Answer {
         let places = &mut self.places[..];
         let count = count.min(places.len());
@@ -218,6 +235,7 @@ impl Phaser {
             Call::Signal(task, send) => self.signal(task, send, None)?,
             Call::SignalNeg(task, send) => self.signal(task, Some(send), Some(Single::Neg))?,
             Call::Block(task, sends) => self.block(task, sends)?,
+            Call::Values(task, values) => self.values(task, values)?,
             Call::Both(task, send) => self.both(task, send, None)?,
             Call::BothNeg(task, send) => self.both(task, Some(send), Some(Single::Neg))?,
             Call::Wait(task) => got(core.wait(task)),
@@ -250,6 +268,21 @@ impl Phaser {
         }
         Ok(())
     }
+}
+
+/// Makes the calls of each case on a phaser of its own, where a signal of a block is one of values.
+pub fn follow_all_of_values(rt: &impl Abort, alloc: Global, cases: &[Case]) -> Result<(), Fail> {
+    for case in cases {
+        let mut phaser = Phaser::new(alloc, case.bound, case.phases)?;
+        for (call, answer) in case.calls {
+            let reply = match *call {
+                Call::Block(task, sends) => phaser.values(task, sends)?,
+                other => phaser.reply_to(other)?,
+            };
+            assert_eq!(rt; reply, *answer, "{}, of values: {call:?}", case.name);
+        }
+    }
+    Ok(())
 }
 
 /// Makes the calls of each case on a phaser of its own.

@@ -22,4 +22,6 @@ mod sizes;
 #[cfg(test)]
 mod slots;
 #[cfg(test)]
+mod values;
+#[cfg(test)]
 mod worked_laws;
