@@ -72,6 +72,13 @@ MaySignalBlock op allows terms reg parcels single =
     → OthersCame (reg.number ∷ []) reg.seen h → StandForLists op parcels lists
     → allows terms.rule h reg.number lists single
 
+-- and a signal of these values, one a phase
+abbrev pub MaySignalValues : {A K : Type 0} → (K → Allows) → Terms K → RegState A K → List ℤ
+    → Option Single → Type 0
+MaySignalValues allows terms reg values single =
+    (h : History) → IsGoodAt allows terms h → OthersCame (reg.number ∷ []) reg.seen h
+    → allows terms.rule h reg.number (one_each values) single
+
 -- an answer without what was handed back beside a refusal
 abbrev pub without_lists : {X R L : Type 0} → Result X (R × L) → Result X R
 without_lists (Ok answer) = Ok answer

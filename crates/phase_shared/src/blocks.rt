@@ -1,10 +1,11 @@
 //! The calls of a registration on blocks of phases, and on a waiter that joins now, that wait for
 //! nobody.
-ghost use Rattle.std.specs.Prelude.{◌≡◌, IfErr, length};
+ghost use Rattle.std.specs.Prelude.{◌≡◌, ◌≤◌, IfErr, length};
+ghost use Rattle.phase_core.specs.phase_accum.Sends.{AreSends};
 ghost use Rattle.phase_shared.specs.Regs.{phaser_lock, phaser_terms, phaser_limits};
 ghost use Rattle.phase_shared.specs.Calls.{IsTry, Tries};
 ghost use Rattle.phase_shared.specs.Entries.{entry_stays};
-ghost use Rattle.phase_shared.specs.Blocks.{SignalsBlock, WaitsBlock, MaySignalBlock, entry_after_block, entry_after_values, without_lists};
+ghost use Rattle.phase_shared.specs.Blocks.{SignalsBlock, SignalsValues, WaitsBlock, MaySignalBlock, MaySignalValues, entry_after_block, entry_after_values, without_lists};
 ghost use Rattle.phase_shared.specs.Joins.{RegistersNow};
 
 use crate::held::Held;
@@ -75,6 +76,48 @@ impl<A: Accumulate, K: SignalRule> Reg<A, K> {
             self.entry,
             lists,
             single,
+        );
+        self.seat = Some(seat);
+        self.entry = entry;
+        answer
+    }
+
+    /// Signals as many phases in a row as there are values, the first its own, with one send each
+    /// and a single for all of them or none, and answers the first phase. A refused block signals
+    /// nothing. It takes no memory: the places have the sends where they are needed.
+    ///
+    /// Nothing may be held.
+    pub fn try_signal_values(
+        &mut self,
+        phaser: &Phaser<A, K>,
+        values: &[i64],
+        single: Option<Single>,
+        places: &mut [Pending<A>],
+    ) -> Result<u64, Tried<SignalRefusal>>
+        requires at { self.old.at ≡ phaser_lock phaser.now }
+        requires none_held { self.old.held.count ≡ 0 }
+        requires sends { AreSends values.now }
+        requires room { length values.now ≤ length places.old }
+        requires rule { MaySignalValues K.allows (phaser_terms phaser.now) self.old values.now
+            single }
+
+        ensures call { let old = self.old in
+            IsTry K.allows (phaser_terms phaser.now) SignalRefusal.NoTask
+            (entry_after_block (length values.now)) (Tries (self.new ≡ old)
+            (SignalsValues (phaser_limits phaser.now) old.number values.now single old.seen
+            self.new.seen) result) old self.new result }
+        ensures held { self.new.held ≡ self.old.held }
+        ensures places { length places.new ≡ length places.old }
+    {
+        let seat = taken(&mut self.seat);
+        let (seat, entry, answer) = block_steps::signal_values(
+            &phaser.locked,
+            seat,
+            self.number,
+            self.entry,
+            values,
+            single,
+            places,
         );
         self.seat = Some(seat);
         self.entry = entry;

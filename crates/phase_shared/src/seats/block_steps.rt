@@ -1,14 +1,15 @@
 //! The steps of a seat for a block of phases.
-ghost use Rattle.std.specs.Prelude.{◌≡◌, ℤ, List, [], ◌∷◌, length, true};
+ghost use Rattle.std.specs.Prelude.{◌≡◌, ◌≤◌, ℤ, List, [], ◌∷◌, length, true};
 ghost use Rattle.turn_lock.specs.Seats.{IsSameSeat, seat_view};
 ghost use Rattle.phase_core.specs.phase_history.Histories.{History};
 ghost use Rattle.phase_core.specs.phase_history.Others.{OthersCame};
-ghost use Rattle.phase_core.specs.Blocks.{StandForLists};
+ghost use Rattle.phase_core.specs.phase_accum.Sends.{AreSends};
+ghost use Rattle.phase_core.specs.Blocks.{StandForLists, one_each};
 ghost use Rattle.phase_shared.specs.Views.{known_of};
 ghost use Rattle.phase_shared.specs.Rule.{IsGoodAt};
 ghost use Rattle.phase_shared.specs.Steps.{IsStep, IsSeatOn};
 ghost use Rattle.phase_shared.specs.Calls.{Tries};
-ghost use Rattle.phase_shared.specs.Blocks.{SignalsBlock, WaitsBlock, entry_after_block, entry_after_values};
+ghost use Rattle.phase_shared.specs.Blocks.{SignalsBlock, SignalsValues, WaitsBlock, entry_after_block, entry_after_values};
 ghost use Rattle.phase_shared.specs.LockedPhasers.{locked_terms, locked_limits};
 
 use crate::rule::SignalRule;
@@ -69,6 +70,48 @@ pub fn signal_lists<A: Accumulate, K: SignalRule>(
     let wants = phaser.hints.wants(entry.signal_phase, lists.len() as u64);
     phaser.hints.want(answer.err(), wants, reached);
     let told = (me, lists, &single, answer);
+    let seat = put_back::<A, K, Brand, _>(phaser, turn, reached, told);
+    (seat, entry, tried_of(answer))
+}
+
+// Signals a phase for each of the values, with one send each. The places have the sends where they
+// are needed.
+pub fn signal_values<A: Accumulate, K: SignalRule>(
+    phaser: &LockedPhaser<A, K>,
+    seat: PhaserSeat<A, K>,
+    me: u64,
+    entry: Entry,
+    values: &[i64],
+    single: Option<Single>,
+    places: &mut [Pending<A>],
+) -> (PhaserSeat<A, K>, Entry, Result<u64, Tried<SignalRefusal>>)
+    requires seat { IsSeatOn K.allows phaser.now me entry seat }
+    requires sends { AreSends values.now }
+    requires room { length values.now ≤ length places.old }
+    requires rule { (h : History) → IsGoodAt K.allows (locked_terms phaser.now) h
+        → OthersCame (me ∷ []) (known_of (seat_view seat)).seen h
+        → K.allows (locked_terms phaser.now).rule h me (one_each values.now) single }
+    ensures step { IsStep K.allows phaser.now me SignalRefusal.NoTask
+        (entry_after_block (length values.now))
+        (Tries (IsSameSeat seat result.0 × (result.1 ≡ entry))
+        (SignalsValues (locked_limits phaser.now) me values.now single
+        (known_of (seat_view seat)).seen (known_of (seat_view result.0)).seen) result.2)
+        entry result.1 seat result.0 result.2 }
+    ensures places { length places.new ≡ length places.old }
+{
+    let mut turn = match enter(phaser, seat, me, entry) {
+        Ok(turn) => turn,
+        Err(seat) => return (seat, entry, Err(Tried::Busy)),
+    };
+    let core = turn.value_in(&phaser.lock);
+    let answer = core.signal_values(me, values, single, places);
+    let Some(entry) = core.view(me) else {
+        unreachable!()
+    };
+    let reached = Hints::look(core);
+    let wants = phaser.hints.wants(entry.signal_phase, values.len() as u64);
+    phaser.hints.want(answer.err(), wants, reached);
+    let told = (me, values, &single, answer);
     let seat = put_back::<A, K, Brand, _>(phaser, turn, reached, told);
     (seat, entry, tried_of(answer))
 }

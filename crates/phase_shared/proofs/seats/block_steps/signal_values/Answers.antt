@@ -1,0 +1,107 @@
+use Rattle.std.proofs.Common.{◌≡◌, ℕ, ℤ, List, [], ◌∷◌, None, length, true, false, refl, sym, ap, ◌∙◌}
+use Rattle.std.specs.Prelude.{is_some, Result}
+use Rattle.std.specs.Result.{result_ok}
+use Rattle.std.proofs.lemmas.List.{length-map}
+use Rattle.turn_lock.specs.Seats.{seat_view, turn_view, turn_value, turn_number, turn_told, IsSameSeat}
+use Rattle.phase_shared.specs.Phasers.{SignalRefusal, signal_phase, signal_refusal, signal_reply, after_signal, one_each}
+use Rattle.phase_core.specs.phase_history.declared.refusal.SignalRefusal.TheVariants as signal
+use Rattle.phase_core.proofs.phase_history_lemmas.Answered.{signal_refusal-never}
+use Rattle.phase_shared.specs.LockedPhasers.{locked_terms}
+use Rattle.phase_shared.specs.Views.{resting, turning, known_of, speaks_of}
+use Rattle.phase_shared.specs.Rule.{StandsWithin}
+use Rattle.phase_shared.specs.Blocks.{SignalsValues, entry_after_block}
+use Rattle.phase_shared.specs.declared.seats.view.View.{View}
+use Rattle.phase_shared.proofs.Answering.{refused_is}
+use Rattle.phase_shared.proofs.Giving.{own_none, lent}
+use Rattle.phase_shared.proofs.Stepping.{told_at, Called, called, is_found, gives_called, stepped, kept_out}
+use Rattle.phase_shared.proofs.BlockSteps.{own_signal, keeps_signal, member_signals_block}
+use Rattle.phase_shared.proofs.seats.block_steps.signal_values.Given.{Over}
+use Rattle.phase_shared.proofs.seats.block_steps.signal_values.Goals.{After-signal_values-answer}
+use Rattle.phase_shared.proofs.seats.block_steps.signal_values.Goals as goal
+
+-- the phaser under the turn stood for what was seen
+stood : (g : Over) (c : After-signal_values-answer g)
+    → StandsWithin g.A.Accumulate.operation (locked_terms c.args.phaser.now).limits c.value_in-core.result.now c.in-Ok.ensures.turn.knows.now
+stood g c =
+    lent g.A.Accumulate.operation g.K.SignalRule.allows (locked_terms c.args.phaser.now) c.args.me (turn_value c.in-Ok.turn) c.value_in-core.result.now
+    c.in-Ok.ensures.turn.knows.now c.value_in-core.ensures.value c.in-Ok.ensures.turn.knows.stands
+
+-- what the signal leaves there
+left : (g : Over) (c : After-signal_values-answer g)
+    → Called g.A.Accumulate.operation g.K.SignalRule.allows (locked_terms c.args.phaser.now) c.args.me c.in-Ok.ensures.turn.knows.now
+    (after_signal c.signal_values-answer.result c.args.me (one_each c.args.values.now) c.args.single c.in-Ok.ensures.turn.knows.now) c.signal_values-answer.new.self
+    (entry_after_block (length c.args.values.now) (result_ok c.signal_values-answer.result) c.args.entry)
+left g c =
+    let op = g.A.Accumulate.operation in
+    let terms = locked_terms c.args.phaser.now in
+    let e = c.in-Ok.ensures.turn.knows in
+    let me = c.args.me in
+    let values = c.args.values.now in
+    let n = length values in
+    let answer = c.signal_values-answer.result in
+    called op g.K.SignalRule.allows terms me e.now (after_signal answer me (one_each values) c.args.single e.now) c.value_in-core.result.now c.signal_values-answer.new.self
+    (entry_after_block n (result_ok answer) c.args.entry) (stood g c) c.signal_values-answer.ensures.limits
+    (c.signal_values-answer.ensures.after e.now (stood g c).stands)
+    (keeps_signal (g.K.SignalRule.allows terms.rule) me e.now answer (one_each values) c.args.single (c.requires.rule e.now e.good e.others) e.good.keeps)
+    (own_signal me e.now e.now answer (one_each values) c.args.single (own_none me e.now))
+    (member_signals_block me n e.now c.args.entry answer (one_each values) c.args.single (length-map values (λ v. v ∷ [])) e.member)
+
+pub unreachable-requires : goal.unreachable-requires
+unreachable-requires g c =
+    let e = c.in-Ok.ensures.turn.knows in
+    let answer = c.signal_values-answer.result in
+    is_found g.A.Accumulate.operation g.K.SignalRule.allows (locked_terms c.args.phaser.now) c.args.me e.now
+    (after_signal answer c.args.me (one_each c.args.values.now) c.args.single e.now) c.signal_values-answer.new.self
+    (entry_after_block (length c.args.values.now) (result_ok answer) c.args.entry) c.view.result
+    (left g (goal.at.unreachable-requires g c).After-signal_values-answer) c.view.ensures c.in_default.is
+
+pub put_back-seat-requires-clause-rule : goal.put_back-seat-requires-clause-rule
+put_back-seat-requires-clause-rule g c =
+    let e = c.in-Ok.ensures.turn.knows in
+    let answer = c.signal_values-answer.result in
+    gives_called g.A.Accumulate.operation g.K.SignalRule.allows (locked_terms c.args.phaser.now) c.args.me
+    (λ v w. w ≡ resting (after_signal answer c.args.me (one_each c.args.values.now) c.args.single (known_of v).seen) (speaks_of v))
+    (turn_number c.in-Ok.turn) (turn_told c.in-Ok.turn) c.args.entry (seat_view c.args.seat) (turn_view c.in-Ok.turn) (turn_value c.in-Ok.turn) c.signal_values-answer.new.self
+    (after_signal answer c.args.me (one_each c.args.values.now) c.args.single e.now) (entry_after_block (length c.args.values.now) (result_ok answer) c.args.entry) e
+    (left g (goal.at.put_back-seat-requires-clause-rule g c).After-signal_values-answer) refl
+
+pub returns-clause-step : goal.returns-clause-step
+returns-clause-step g c =
+    let op = g.A.Accumulate.operation in
+    let terms = locked_terms c.args.phaser.now in
+    let me = c.args.me in
+    let single = c.args.single in
+    let values = c.args.values.now in
+    let e = c.in-Ok.ensures.turn.knows in
+    let after = (goal.at.returns-clause-step g c).After-signal_values-answer in
+    let before = stood g after in
+    let told = c.put_back-seat.ensures.knows in
+    let answer = c.signal_values-answer.result in
+    let seat = c.put_back-seat.result in
+    let limits = c.value_in-core.result.now.limits in
+    let new = after_signal answer me (one_each values) single e.now in
+    let reply = c.signal_values-answer.ensures.reply e.now before.stands in
+    let rests : seat_view seat ≡ resting new (me ∷ []) =
+    told_at (λ v. resting (after_signal answer me (one_each values) single (known_of v).seen) (speaks_of v)) (seat_view seat) (turn_view c.in-Ok.turn)
+    (turning e.now (me ∷ []) e.claims e.said None) told e.is in
+    let call : Result ℕ SignalRefusal → Type 0 =
+    SignalsValues terms.limits me values single (known_of (seat_view c.args.seat)).seen (known_of (seat_view seat)).seen in
+    stepped op g.K.SignalRule.allows c.args.phaser.now me signal.NoTask (entry_after_block (length values))
+    (IsSameSeat c.args.seat seat × (c.in-Some.entry ≡ c.args.entry)) call c.args.entry c.in-Some.entry c.args.seat seat e.now new
+    c.signal_values-answer.new.self c.view.result answer c.tried_of.result c.tried_of.ensures (left g after) c.put_back-seat.ensures.here rests c.view.ensures c.in-Some.is
+    (record {
+      before = e.now;
+      others = e.others;
+      seen = ap (λ (v : View). (known_of v).seen) rests;
+      reply = ap (λ l. signal_reply l e.now me (one_each values) single) (sym before.limits_are) ∙ reply;
+    })
+    -- the task is registered
+    (λ none. signal_refusal-never limits e.now me (one_each values) single (ap is_some e.member)
+    (refused_is (signal_refusal limits e.now me (one_each values) single) (signal_phase e.now me) signal.NoTask (reply ∙ none)))
+
+-- the turn was another's
+pub returns-in-Err-clause-step : goal.returns-in-Err-clause-step
+returns-in-Err-clause-step g c =
+    kept_out g.A.Accumulate.operation g.K.SignalRule.allows c.args.phaser.now c.args.me signal.NoTask
+    (entry_after_block (length c.args.values.now)) _ c.args.entry c.args.seat c.in-Err.seat refl (c.in-Err.ensures.err, refl)
+    c.in-Err.ensures.still (λ only. let z : false ≡ true = c.in-Err.ensures.alone only in cc)
