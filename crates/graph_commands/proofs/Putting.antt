@@ -1,5 +1,6 @@
 -- Texts that are put one behind the other.
-use Rattle.std.proofs.Common.{◌≡◌, ℕ, List, [], ◌++◌, refl, sym, ◌∙◌, ap, append_assoc, append-nil}
+use Rattle.std.proofs.Common.{◌≡◌, ◌+◌, ℕ, List, [], ◌++◌, drop, refl, sym, take, ◌∙◌, ap, append_assoc, append-nil, arith, take-append-drop}
+use Rattle.std.proofs.lemmas.List.{drop-take, take-take}
 use Rattle.std.specs.Io.KnownBytes.{Appends}
 use Rattle.std.proofs.KnownBytes.{Appends-nil, Appends-trans}
 use Rattle.std.specs.declared.option.Option.{Option}
@@ -73,3 +74,11 @@ prefix_before old new before xs ys p =
 pub prefix_within : (old new : Option (List ℕ)) (before xs ys whole : List ℕ) → whole ≡ xs ++ ys
     → AppendsPrefix old new (before ++ xs) → AppendsPrefix old new (before ++ whole)
 prefix_within old new before xs ys whole e p = rw e (prefix_before old new before xs ys p)
+
+-- so many more items
+pub take_on : {X : Type 0} (n k : ℕ) (xs : List X)
+    → take (n + k) xs ≡ take n xs ++ take k (drop n xs)
+take_on n k xs =
+    let whole : take n (take (n + k) xs) ++ drop n (take (n + k) xs) ≡ take (n + k) xs =
+    take-append-drop n (take (n + k) xs) in
+    sym (rw (take-take n (n + k) xs (omega arith), drop-take n k xs) at whole)

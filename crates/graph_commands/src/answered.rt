@@ -17,7 +17,7 @@ use crate::columns::write_columns;
 use crate::further::further_lines;
 use crate::notes::job_notes;
 use crate::{Failure, read_job};
-use graph_show::graph_lang::Graph;
+use graph_show::graph_lang::{Graph, OneThread};
 use graph_show::watched_io::{Explain, Files, IoFault, Watched, WriteFailed, write_parts};
 use itoa::Buffer;
 use std::alloc::Global;
@@ -43,7 +43,7 @@ pub fn check<'a, W: Write, F: Files>(
         CheckFails explain (F.file files.old) name.now W.contents output.old output.new found) }
     ensures same { (other : List ℕ) → F.file files.new other ≡ F.file files.old other }
 {
-    let job = match read_job(alloc, files, name) {
+    let job = match read_job(alloc, files, &OneThread, name) {
         Ok(job) => job,
         Err(failure) => return Err(failure),
     };
@@ -113,7 +113,7 @@ pub fn eval<'a, W: Write, F: Files>(
         (option_map (λ s. s.now) sink.entry) W.contents output.old output.new found) }
     ensures same { (other : List ℕ) → F.file files.new other ≡ F.file files.old other }
 {
-    match read_asked(alloc, files, name, sink) {
+    match read_asked(alloc, files, &OneThread, name, sink) {
         Ok(asked) => eval_asked(alloc, asked, output),
         Err(failure) => Err(failure),
     }
@@ -149,7 +149,7 @@ fn eval_asked<'a, W: Write>(
 {
     let AskedJob { job, sink } = asked;
     match stream_eval::eval(alloc, &job) {
-        Ok(lines) => match write_sinks(output, &job, &lines, sink) {
+        Ok(lines) => match write_sinks(output, &OneThread, &job, &lines, sink) {
             Ok(()) => Ok(()),
             Err(_) => Err(Failure::Io(IoFault::WriteFault)),
         },
@@ -171,7 +171,7 @@ pub fn eval_columns<'a, W: Write, F: Files>(
         W.contents output.old output.new found) }
     ensures same { (other : List ℕ) → F.file files.new other ≡ F.file files.old other }
 {
-    match read_job(alloc, files, name) {
+    match read_job(alloc, files, &OneThread, name) {
         Ok(job) => job_columns(alloc, job, output),
         Err(failure) => Err(failure),
     }

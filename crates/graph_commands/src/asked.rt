@@ -11,8 +11,10 @@ ghost use Rattle.stream_eval.specs.stream_lists.Lists.{lines_of};
 ghost use Rattle.graph_show.specs.watched_io.Prefix.{AppendsPrefix};
 ghost use Rattle.graph_show.specs.watched_io.Watched.{has_failed_of, inner_of};
 
+use crate::lines::write_values_by;
 use crate::sinks::{find_sink, values_of};
-use crate::{Failure, read_job, write_lines, write_values};
+use crate::{Failure, ValueTexts, read_job, write_lines};
+use graph_show::graph_lang::SampleTexts;
 use graph_show::watched_io::{Files, Watched, WriteFailed};
 use std::alloc::Global;
 use std::io::Write;
@@ -30,12 +32,14 @@ pub struct AskedJob {
 
 /// Reads the job of a graph's file, as `read_job` does, and finds the sink of the name that is
 /// asked for.
-pub fn read_asked<'a, F: Files>(
+pub fn read_asked<'a, F: Files, T: SampleTexts>(
     alloc: Global,
     files: &mut F,
+    texts: &T,
     name: &str,
     sink: Option<&'a str>,
 ) -> Result<AskedJob, Failure<'a>>
+    requires { T.may_read texts.now }
     ensures job { IfOk result (λ asked. IsJobOf (F.file files.old) name.now asked.job) }
     ensures sink { IfOk result (λ asked.
         AsksSink asked.job (option_map (λ s. s.now) sink.entry) asked.sink) }
@@ -43,7 +47,7 @@ pub fn read_asked<'a, F: Files>(
         IsUnasked (F.file files.old) name.now (option_map (λ s. s.now) sink.entry) found) }
     ensures same { (other : List ℕ) → F.file files.new other ≡ F.file files.old other }
 {
-    let job = match read_job(alloc, files, name) {
+    let job = match read_job(alloc, files, texts, name) {
         Ok(job) => job,
         Err(failure) => return Err(failure),
     };
@@ -57,15 +61,17 @@ pub fn read_asked<'a, F: Files>(
 }
 
 /// Writes the text of each of these sinks of a job, or the values of the one of this number alone.
-/// The lines are those of the job, for some starts of its sinks that join now. It takes no memory.
-/// After a failed write the writer has a prefix of them.
-pub fn write_sinks<W: Write>(
+/// The lines are those of the job, for some starts of its sinks that join now. It takes no memory
+/// but what `texts` takes. After a failed write the writer has a prefix of them.
+pub fn write_sinks<W: Write, T: ValueTexts>(
     writer: &mut Watched<W>,
+    texts: &T,
     job: &Job,
     lines: &[Lines],
     sink: Option<usize>,
 ) -> Result<(), WriteFailed>
-    requires { (starts : List ℕ)
+    requires may { T.may_write texts.now }
+    requires lines { (starts : List ℕ)
         × (map sink_values lines.now ≡ lines_of (with_starts starts job.now)) }
     ensures ok { OnOk result (Appends (W.contents (inner_of writer.old))
         (W.contents (inner_of writer.new))
@@ -76,7 +82,7 @@ pub fn write_sinks<W: Write>(
     ensures failed { OnErr result (has_failed_of writer.new ≡ true) }
 {
     match sink {
-        None => write_lines(writer, job.graph(), lines),
-        Some(t) => write_values(writer, values_of(lines, t)),
+        None => write_lines(writer, texts, job.graph(), lines),
+        Some(t) => write_values_by(writer, texts, values_of(lines, t)),
     }
 }

@@ -6,7 +6,7 @@ ghost use Rattle.graph_commands.specs.FileJobs.{Explains, IsGraphOf, IsJobOf};
 
 use crate::sources::read_sources;
 use crate::{Failure, GRAPH_MAX, JobFault};
-use graph_show::graph_lang::{FaultKind, Graph, GraphFault, read_graph};
+use graph_show::graph_lang::{FaultKind, Graph, GraphFault, SampleTexts, read_graph};
 use graph_show::watched_io::Files;
 use std::alloc::Global;
 use stream_eval::stream_lists::{Job, JobRefusal};
@@ -15,13 +15,19 @@ use stream_eval::stream_lists::{Job, JobRefusal};
 /// of each source in the order of the lines, live or not, each read and checked before the next.
 ///
 /// `AnyMeets` is told once all samples were read. `OutOfMemory` comes where memory was refused.
-pub fn read_job<'a, F: Files>(alloc: Global, files: &mut F, name: &str) -> Result<Job, Failure<'a>>
+pub fn read_job<'a, F: Files, T: SampleTexts>(
+    alloc: Global,
+    files: &mut F,
+    texts: &T,
+    name: &str,
+) -> Result<Job, Failure<'a>>
+    requires { T.may_read texts.now }
     ensures ok { IfOk result (λ job. IsJobOf (F.file files.old) name.now job) }
     ensures failed { IfErr result (λ found. IsUnread (F.file files.old) name.now found) }
     ensures same { (other : List ℕ) → F.file files.new other ≡ F.file files.old other }
 {
     match files.read(alloc, name, GRAPH_MAX) {
-        Ok(text) => match job_of_text(alloc, files, &text) {
+        Ok(text) => match job_of_text(alloc, files, texts, &text) {
             Ok(job) => Ok(job),
             Err(fault) => Err(Failure::Graph { fault, text }),
         },
@@ -33,7 +39,13 @@ pub fn read_job<'a, F: Files>(alloc: Global, files: &mut F, name: &str) -> Resul
 }
 
 /// Makes the job of a graph's text.
-fn job_of_text<F: Files>(alloc: Global, files: &mut F, text: &[u8]) -> Result<Job, JobFault>
+fn job_of_text<F: Files, T: SampleTexts>(
+    alloc: Global,
+    files: &mut F,
+    texts: &T,
+    text: &[u8],
+) -> Result<Job, JobFault>
+    requires { T.may_read texts.now }
     ensures ok { IfOk result (λ job. (name : List ℕ)
         → IsTextOf (F.file files.old) name text.now → IsJobOf (F.file files.old) name job) }
     ensures fault { IfErr result (λ fault. (name : List ℕ)
@@ -41,19 +53,25 @@ fn job_of_text<F: Files>(alloc: Global, files: &mut F, text: &[u8]) -> Result<Jo
     ensures same { (other : List ℕ) → F.file files.new other ≡ F.file files.old other }
 {
     let graph = read_graph(alloc, text)?;
-    job_of_graph(alloc, files, graph)
+    job_of_graph(alloc, files, texts, graph)
 }
 
 /// Makes the job of a graph that was read: reads the samples of its sources, each read and checked
 /// before the next.
-fn job_of_graph<F: Files>(alloc: Global, files: &mut F, graph: Graph) -> Result<Job, JobFault>
+fn job_of_graph<F: Files, T: SampleTexts>(
+    alloc: Global,
+    files: &mut F,
+    texts: &T,
+    graph: Graph,
+) -> Result<Job, JobFault>
+    requires { T.may_read texts.now }
     ensures ok { IfOk result (λ job. (name : List ℕ)
         → IsGraphOf (F.file files.old) name graph → IsJobOf (F.file files.old) name job) }
     ensures fault { IfErr result (λ fault. (name : List ℕ)
         → IsGraphOf (F.file files.old) name graph → Explains (F.file files.old) name fault) }
     ensures same { (other : List ℕ) → F.file files.new other ≡ F.file files.old other }
 {
-    let samples = read_sources(alloc, files, &graph)?;
+    let samples = read_sources(alloc, files, texts, &graph)?;
     match Job::new(alloc, graph, samples) {
         Ok(job) => {
             let _graph = job.graph();

@@ -36,6 +36,7 @@ mod refused;
 mod sinks;
 mod sources;
 mod stalls;
+mod value_texts;
 
 pub use answered::{check, eval, eval_columns};
 pub use asked::{AskedJob, read_asked, write_sinks};
@@ -53,3 +54,4 @@ pub use sinks::find_sink;
 pub use sources::read_sources;
 pub use stalls::stall_told;
 pub use stream_eval::stream_lists;
+pub use value_texts::ValueTexts;

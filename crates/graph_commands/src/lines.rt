@@ -9,6 +9,7 @@ ghost use Rattle.graph_show.specs.watched_io.Prefix.{AppendsPrefix};
 ghost use Rattle.graph_show.specs.watched_io.Watched.{has_failed_of, inner_of};
 
 use crate::output_buffer::OutputBuffer;
+use crate::value_texts::ValueTexts;
 use graph_show::graph_base::{Graph, Place};
 use graph_show::watched_io::{Watched, WriteFailed};
 use itoa::Buffer;
@@ -19,13 +20,15 @@ use stream_eval::Lines;
 /// the count of its values, and then each value, each on a line of its own.
 ///
 /// The text is written in pieces of at most `CHUNK_MAX` bytes, each of them flushed. It takes no
-/// memory. After a failed write the writer has a prefix of the text.
-pub fn write_lines<W: Write>(
+/// memory but what `texts` takes. After a failed write the writer has a prefix of the text.
+pub fn write_lines<W: Write, T: ValueTexts>(
     writer: &mut Watched<W>,
+    texts: &T,
     graph: &Graph,
     lines: &[Lines],
 ) -> Result<(), WriteFailed>
-    requires { All (λ sink. sink.task < length graph.now.tasks) lines.now }
+    requires may { T.may_write texts.now }
+    requires lines { All (λ sink. sink.task < length graph.now.tasks) lines.now }
     ensures ok { OnOk result (Appends (W.contents (inner_of writer.old))
         (W.contents (inner_of writer.new)) (text_of graph.now (map sink_output lines.now))) }
     ensures err { OnErr result (AppendsPrefix (W.contents (inner_of writer.old))
@@ -36,7 +39,7 @@ pub fn write_lines<W: Write>(
     let mut piece = OutputBuffer::new();
     for sink in lines {
         let name = graph.name(Place::Task(sink.task));
-        piece.put_sink(name, sink, writer)?;
+        piece.put_sink(texts, name, sink, writer)?;
     }
     piece.hand_over(writer)
 }
@@ -56,8 +59,27 @@ pub fn write_values<W: Write>(writer: &mut Watched<W>, values: &[i64]) -> Result
     piece.hand_over(writer)
 }
 
+/// The same, with the text made by `texts`.
+pub(crate) fn write_values_by<W: Write, T: ValueTexts>(
+    writer: &mut Watched<W>,
+    texts: &T,
+    values: &[i64],
+) -> Result<(), WriteFailed>
+    requires { T.may_write texts.now }
+    ensures ok { OnOk result (Appends (W.contents (inner_of writer.old))
+        (W.contents (inner_of writer.new)) (flat_map value_text values.now)) }
+    ensures err { OnErr result (AppendsPrefix (W.contents (inner_of writer.old))
+        (W.contents (inner_of writer.new)) (flat_map value_text values.now)) }
+    ensures failed { OnErr result (has_failed_of writer.new ≡ true) }
+    ensures same { OnOk result (has_failed_of writer.new ≡ has_failed_of writer.old) }
+{
+    let mut piece = OutputBuffer::new();
+    piece.put_all(texts, values, writer)?;
+    piece.hand_over(writer)
+}
+
 impl OutputBuffer {
-    /// PutsBytes where a sink begins, of one that has a start.
+    /// Puts where a sink begins, of one that has a start.
     fn put_start<W: Write>(
         &mut self,
         start: Option<u64>,
@@ -77,7 +99,7 @@ impl OutputBuffer {
         self.put(Buffer::new().format(start).as_bytes(), writer)
     }
 
-    /// PutsBytes the line of a sink's name, its start and its count.
+    /// Puts the line of a sink's name, its start and its count.
     fn put_heading<W: Write>(
         &mut self,
         name: &str,
@@ -100,8 +122,8 @@ impl OutputBuffer {
         self.put(b"\n", writer)
     }
 
-    /// PutsBytes values, each on a line of its own.
-    fn put_values<W: Write>(
+    /// Puts values, each on a line of its own.
+    pub(crate) fn put_values<W: Write>(
         &mut self,
         values: &[i64],
         writer: &mut Watched<W>,
@@ -120,13 +142,15 @@ impl OutputBuffer {
         Ok(())
     }
 
-    /// PutsBytes a sink's name, its start, the count of its values, and the values.
-    fn put_sink<W: Write>(
+    /// Puts a sink's name, its start, the count of its values, and the values.
+    fn put_sink<W: Write, T: ValueTexts>(
         &mut self,
+        texts: &T,
         name: &str,
         sink: &Lines,
         writer: &mut Watched<W>,
     ) -> Result<(), WriteFailed>
+        requires { T.may_write texts.now }
         ensures ok { OnOk result (PutsBytes (W.contents (inner_of writer.old))
             (W.contents (inner_of writer.new)) self.old self.new
             (sink_text name.now sink.now.start sink.now.values.items)) }
@@ -137,6 +161,6 @@ impl OutputBuffer {
         ensures same { OnOk result (has_failed_of writer.new ≡ has_failed_of writer.old) }
     {
         self.put_heading(name, sink.start, sink.values.len(), writer)?;
-        self.put_values(&sink.values, writer)
+        self.put_all(texts, &sink.values, writer)
     }
 }

@@ -6,7 +6,7 @@ ghost use Rattle.graph_show.specs.graph_lang.declared.sample.TheConstants.{TEXT_
 use crate::sources::read_sources;
 use graph_show::MeetingPlace;
 use graph_show::graph_base::{Graph, Place};
-use graph_show::graph_lang::{FaultKind, GraphFault, read_graph};
+use graph_show::graph_lang::{FaultKind, GraphFault, OneThread, read_graph};
 use graph_show::watched_io::Files;
 use std::alloc::{AllocError, Global};
 use stream_eval::stream_lists::{Meeting, meeting_on};
@@ -95,7 +95,7 @@ pub(crate) fn meeting_found<F: Files>(
     let Ok(graph) = read_graph(alloc, text) else {
         return Ok(None);
     };
-    let Ok(samples) = read_sources(alloc, files, &graph) else {
+    let Ok(samples) = read_sources(alloc, files, &OneThread, &graph) else {
         return Ok(None);
     };
     match task_on(&graph, fault.line) {

@@ -132,7 +132,7 @@ impl OutputBuffer {
         self.hand_over(writer)
     }
 
-    /// PutsBytes a value on a line of its own.
+    /// Puts a value on a line of its own.
     pub(crate) fn put_value<W: Write>(
         &mut self,
         value: i64,
@@ -150,7 +150,7 @@ impl OutputBuffer {
         Ok(())
     }
 
-    /// PutsBytes the bytes behind those that wait, and writes what finds no room.
+    /// Puts the bytes behind those that wait, and writes what finds no room.
     pub(crate) fn put<W: Write>(
         &mut self,
         bytes: &[u8],

@@ -9,14 +9,15 @@ ghost use Rattle.stream_eval.specs.stream_lists.JobFields.{items_of};
 ghost use Rattle.graph_commands.specs.FileJobs.{AreFirstSamples, AreSamples, Explains, IsGraphOf, IsReached, file_of};
 
 use crate::JobFault;
-use graph_show::graph_lang::{Graph, Place, SampleFault, read_sample_file};
+use graph_show::graph_lang::{Graph, Place, SampleFault, SampleTexts, read_sample_file};
 use graph_show::watched_io::Files;
 use std::alloc::Global;
 
 /// Reads the samples of task number `t`, which is source number `source`.
-fn read_source<F: Files>(
+fn read_source<F: Files, T: SampleTexts>(
     alloc: Global,
     files: &mut F,
+    texts: &T,
     graph: &Graph,
     t: usize,
     source: usize,
@@ -24,6 +25,7 @@ fn read_source<F: Files>(
     requires task { t < length graph.now.tasks }
     requires source { source < sources_of graph.now }
     requires number { source ≡ source_number graph.now.tasks t }
+    requires may { T.may_read texts.now }
     ensures ok { IfOk result (λ values.
         AreSamplesOf (F.file files.old (file_of graph.now t)) values.items) }
     ensures values { IfOk result (λ values. AreSends values.items
@@ -32,7 +34,7 @@ fn read_source<F: Files>(
         → IsReached (F.file files.old) name graph.now t → Explains (F.file files.old) name fault) }
     ensures same { (other : List ℕ) → F.file files.new other ≡ F.file files.old other }
 {
-    match read_sample_file(alloc, files, graph.file(source)) {
+    match read_sample_file(alloc, files, texts, graph.file(source)) {
         Ok(values) => Ok(values),
         Err(SampleFault::BadSample { number }) => {
             match String::from_str(alloc, graph.name(Place::Task(t))) {
@@ -47,11 +49,13 @@ fn read_source<F: Files>(
 
 /// Reads the samples of each source in the order of the lines, each file whole before its first
 /// record, and each source before the next.
-pub fn read_sources<F: Files>(
+pub fn read_sources<F: Files, T: SampleTexts>(
     alloc: Global,
     files: &mut F,
+    texts: &T,
     graph: &Graph,
 ) -> Result<Vec<Vec<i64>>, JobFault>
+    requires { T.may_read texts.now }
     ensures ok { IfOk result (λ lists.
         AreSamples (F.file files.old) graph.now (items_of lists.items)) }
     ensures each { IfOk result (λ lists. length lists.items ≡ sources_of graph.now) }
@@ -64,7 +68,7 @@ pub fn read_sources<F: Files>(
     let mut lists = Vec::new(alloc);
     for t in 0..graph.tasks() {
         if graph.is_source(t) {
-            let list = match read_source(alloc, files, graph, t, lists.len()) {
+            let list = match read_source(alloc, files, texts, graph, t, lists.len()) {
                 Ok(list) => list,
                 Err(fault) => return Err(fault),
             };

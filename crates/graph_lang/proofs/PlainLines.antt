@@ -13,6 +13,7 @@ use Rattle.csv.specs.declared.parser.Action.TheVariants as act
 use Rattle.csv.proofs.ReadFacts.{run-copies, not-first}
 use Rattle.graph_base.specs.phase_accum.Sends.{AreSends, IsSend, value_max}
 use Rattle.graph_lang.specs.TextInside.{EndsLine, BeginsWithCount, BeginsWithLine, BeginsWithWord}
+use Rattle.graph_lang.specs.PlainLines.{ArePlainLines, Leads}
 use Rattle.graph_lang.specs.Samples.{AreRecordsOfValues, row_of}
 use Rattle.graph_lang.proofs.Digits.{looks_decimal}
 use lib.IntN.{pos, negsuc, neg_ℤ}
@@ -113,11 +114,6 @@ line-more c cs end rest rows bytes (inr (inr none)) records =
     one-more _ [] st.StartRecord _ rows (rw (none.0, none.1) (word-joins c cs [] bytes)) (rw none.1 at records)
 
 -- ---- the values of lines
-
--- with these values in front, the values of the rest are those of the text
-abbrev pub Leads : List ℕ → List ℤ → List ℕ → Type 0
-Leads text values rest = (more : List ℤ) → AreRecords default_config st.StartRecord rest (map row_of more)
-    → AreRecords default_config st.StartRecord text (map row_of (values ++ more))
 
 pub leads-none : (text : List ℕ) → Leads text [] text
 leads-none text more records = records

@@ -1,5 +1,6 @@
 pub mod Drafts
 pub mod Faults
+pub mod PlainLines
 pub mod Reading
 pub mod Reads
 pub mod Samples

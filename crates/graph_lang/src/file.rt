@@ -4,18 +4,20 @@ ghost use Rattle.graph_base.specs.phase_accum.Sends.{AreSends};
 ghost use Rattle.graph_lang.specs.Samples.{AreSamplesOf, HasBadSample, AreShortSamples, IsBadShortSample};
 ghost use Rattle.watched_io.specs.Files.{MayBeRefused, MayNeedMemory};
 
-use crate::{SampleFault, TEXT_MAX, samples_of};
+use crate::{SampleFault, SampleTexts, TEXT_MAX};
 use std::alloc::Global;
 use watched_io::Files;
 
 /// Reads the samples in the file of this name, the whole file before the first record.
 ///
 /// A file of more than `TEXT_MAX` bytes is a `ReadFault`, whatever its records are.
-pub fn read_sample_file<F: Files>(
+pub fn read_sample_file<F: Files, T: SampleTexts>(
     alloc: Global,
     files: &mut F,
+    texts: &T,
     name: &str,
 ) -> Result<Vec<i64>, SampleFault>
+    requires { T.may_read texts.now }
     ensures ok { IfOk result (λ values. IfSome (F.file files.old name.now)
         (AreShortSamples values.items)) }
 
@@ -40,5 +42,5 @@ pub fn read_sample_file<F: Files>(
     ensures same { (other : List ℕ) → F.file files.new other ≡ F.file files.old other }
 {
     let text = files.read(alloc, name, TEXT_MAX)?;
-    samples_of(alloc, text.as_slice())
+    texts.samples(alloc, text.as_slice())
 }

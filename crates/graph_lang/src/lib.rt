@@ -20,6 +20,7 @@ mod read;
 mod sample;
 mod text_fault;
 pub mod text_laws;
+mod texts;
 mod within;
 
 pub use fault::{FaultKind, GraphFault, GraphRefusal};
@@ -31,7 +32,9 @@ pub use graph_base::{
 };
 pub use graph_text;
 pub use graph_text::phase_base;
+pub use plain::{parts_have_samples, plain_part};
 pub use read::read_graph;
-pub use sample::{TEXT_MAX, read_samples, samples_of};
+pub use sample::{TEXT_MAX, read_samples, samples_of, samples_with};
 pub use text_fault::SampleFault;
+pub use texts::{OneThread, SampleTexts};
 pub use watched_io;

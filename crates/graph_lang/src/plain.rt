@@ -1,7 +1,9 @@
 //! Samples whose lines are a number each in its one form. A number is read where it stands, and not
 //! by `int` of `phase_base`: most of the time of a long text goes here.
-ghost use Rattle.std.specs.Prelude.{◌≡◌, ◌≤◌, [], length, take, IfOk, IfSome};
+ghost use Rattle.std.specs.Prelude.{◌≡◌, ◌≤◌, ◌++◌, ℕ, ℤ, List, [], length, take, IfOk, IfSome};
 ghost use Rattle.std.specs.Str.Parse.{AllDigits, digits_value};
+ghost use Rattle.graph_base.specs.phase_accum.Sends.{AreSends};
+ghost use Rattle.graph_lang.specs.PlainLines.{ArePlainLines};
 ghost use Rattle.graph_lang.specs.Samples.{AreRecordsOfValues};
 ghost use Rattle.graph_lang.specs.TextInside.{BeginsWithWord, BeginsWithCount, BeginsWithLine};
 
@@ -100,16 +102,26 @@ fn line_in(text: &[u8]) -> Option<Line>
     }
 }
 
-/// The samples of a text whose lines are all plain, or nothing where one is not.
-pub fn plain_samples(alloc: Global, text: &[u8]) -> Result<Option<Vec<i64>>, AllocError>
-    ensures ok { IfOk result (λ found. IfSome found (λ values.
-        AreRecordsOfValues text.now values.items)) }
-    ensures few { IfOk result (λ found. IfSome found (λ values.
-        length values.items ≤ length text.now)) }
+/// The samples of the lines of a text from one place up to another, where all of them are plain,
+/// or nothing where one is not. A line begins at the first place, and the second is the end of a
+/// line, or nothing is answered, too.
+///
+/// So a long text is read by parts, each by a thread of its own; `parts_have_samples` says what the
+/// parts come to.
+pub fn plain_part(
+    alloc: Global,
+    text: &[u8],
+    from: usize,
+    to: usize,
+) -> Result<Option<Vec<i64>>, AllocError>
+    requires order { from ≤ to }
+    requires within { to ≤ length text.now }
+    ensures { IfOk result (λ found. IfSome found (λ values.
+        ArePlainLines text.now from to values.items)) }
 {
     let mut values = Vec::new(alloc);
-    let mut at = 0;
-    while at < text.len() {
+    let mut at = from;
+    while at < to {
         match line_in(&text[at..]) {
             None => return Ok(None),
             Some(line) => {
@@ -118,5 +130,29 @@ pub fn plain_samples(alloc: Global, text: &[u8]) -> Result<Option<Vec<i64>>, All
             }
         }
     }
+    if at != to {
+        return Ok(None);
+    }
     Ok(Some(values))
 }
+
+/// The samples of a text whose lines are all plain, or nothing where one is not.
+pub fn plain_samples(alloc: Global, text: &[u8]) -> Result<Option<Vec<i64>>, AllocError>
+    ensures { IfOk result (λ found. IfSome found (λ values.
+        ArePlainLines text.now 0 (length text.now) values.items)) }
+{
+    plain_part(alloc, text, 0, text.len())
+}
+
+/// No lines have no samples: `none`; two parts that follow one another have those of both: `two`;
+/// and those of the whole text are the values of its records, no more of them than it has bytes:
+/// `whole`.
+pub fn parts_have_samples()
+    ensures none { (text : List ℕ) (at : ℕ) → ArePlainLines text at at [] }
+    ensures two { (text : List ℕ) (from mid to : ℕ) (xs ys : List ℤ) → from ≤ mid → mid ≤ to
+        → ArePlainLines text from mid xs → ArePlainLines text mid to ys
+        → ArePlainLines text from to (xs ++ ys) }
+    ensures whole { (text : List ℕ) (values : List ℤ)
+        → ArePlainLines text 0 (length text) values
+        → AreRecordsOfValues text values × AreSends values × (length values ≤ length text) }
+{}

@@ -3,6 +3,7 @@ ghost use Rattle.std.specs.Prelude.{◌≡◌, ◌≢◌, ◌⊎◌, ◌∷◌, 
 ghost use Rattle.std.specs.Fmt.{signed_decimal};
 ghost use Rattle.csv.specs.Records.{fields_of};
 ghost use Rattle.graph_base.specs.phase_accum.Sends.{IsSend, AreSends};
+ghost use Rattle.graph_lang.specs.PlainLines.{ArePlainLines};
 ghost use Rattle.graph_lang.specs.TextInside.{IsThroughComma};
 ghost use Rattle.graph_lang.specs.Samples.{AreRecordsOfValues, IsBadSample, AreShortSamples, IsBadShortSample, ReadsSamples, ReadsBadSample};
 ghost use Rattle.watched_io.specs.States.{ReadsTooMuch, ReadsWithin, reader_state};
@@ -11,7 +12,7 @@ ghost use Rattle.watched_io.specs.declared.text.TheConstants.{CHUNK_MAX};
 
 use crate::SampleFault;
 use crate::number::value_of;
-use crate::plain::plain_samples;
+use crate::plain::{parts_have_samples, plain_samples};
 use csv::{ByteRecord, ReaderBuilder};
 use memchr::memchr;
 use std::alloc::Global;
@@ -63,8 +64,28 @@ pub fn samples_of(alloc: Global, text: &[u8]) -> Result<Vec<i64>, SampleFault>
 {
     match plain_samples(alloc, text) {
         Err(_) => Err(SampleFault::OutOfMemory),
-        Ok(Some(values)) => Ok(values),
-        Ok(None) => records_of(alloc, through_comma(text)),
+        Ok(plain) => samples_with(alloc, text, plain),
+    }
+}
+
+/// The samples of a text, as `samples_of` answers them, where its plain lines were read: these are
+/// their samples, or some line is not plain.
+pub fn samples_with(
+    alloc: Global,
+    text: &[u8],
+    plain: Option<Vec<i64>>,
+) -> Result<Vec<i64>, SampleFault>
+    requires { IfSome plain (λ values. ArePlainLines text.now 0 (length text.now) values.items) }
+    ensures ok { IfOk result (λ values. AreRecordsOfValues text.now values.items) }
+    ensures values { IfOk result (λ values. AreSends values.items
+        × (length values.items ≤ length text.now)) }
+    ensures bad { (n : ℕ) → IsErrOf result (SampleFault.BadSample n) → IsBadSample text.now n }
+    ensures read { IsErrOf result SampleFault.ReadFault → ⊥ }
+{
+    parts_have_samples();
+    match plain {
+        Some(values) => Ok(values),
+        None => records_of(alloc, through_comma(text)),
     }
 }
 

@@ -17,7 +17,7 @@ use Rattle.graph_runs.proofs.Started.{IsReadyAt}
 use Rattle.graph_runs.proofs.Whole.{composes, stands_all}
 
 -- a task that joins now has an input, as a sink
-has_input : (job : Job) (t : ℕ) → IsGraph job.graph → t < length job.graph.tasks
+pub has_input : (job : Job) (t : ℕ) → IsGraph job.graph → t < length job.graph.tasks
     → (task_at job.graph t).joins_now ≡ true → 0 < length (task_at job.graph t).inputs
 has_input job t is there now =
     let line = is.tasks t there in
@@ -72,20 +72,20 @@ start_within job m t k n ready ran there lt on =
     on.start_is on.waits in
     omega (arith, got.complete, on.at, (composes job m ready ran p pp).within)
 
--- a start is at most the length of its phaser's list, one phase past its last
-pub start_in_time : (job : Job) (m : Moment) (t start : ℕ) → IsReadyAt job m → HasRun job m
-    → IsOver job m → t < length job.graph.tasks → start_in job t ≡ Some start
+-- a start is at most the length of its phaser's list, one phase past its last, once its task is
+-- registered there
+pub start_there : (job : Job) (m : Moment) (t n start : ℕ) → IsReadyAt job m → HasRun job m
+    → t < length job.graph.tasks → m.number (input_at (task_at job.graph t) 0) t ≡ Some n
+    → start_in job t ≡ Some start
     → start ≤ get_or (lengths_of job) (input_at (task_at job.graph t) 0) 0
-start_in_time job m t start ready ran over there is =
-    by (task_at job.graph t).joins_now (span_in job t).live refl refl
+start_there job m t n start ready ran there some is = by (task_at job.graph t).joins_now refl
   where
-    registered : (task_at job.graph t).joins_now ≡ true → (span_in job t).live ≡ true
-        → 0 < length (task_at job.graph t).inputs → (o : Option ℕ)
-        → m.number (input_at (task_at job.graph t) 0) t ≡ o
+    by : (now : Bool) → (task_at job.graph t).joins_now ≡ now
         → start ≤ get_or (lengths_of job) (input_at (task_at job.graph t) 0) 0
-    registered now live lt None none =
-        absurd (came_in job m ready ran over (suc t) t 0 (omega arith) there lt none live)
-    registered now live lt (Some n) some =
+    by false stays =
+        absurd (let no : None ≡ Some start = sym (start_of_others job t stays) ∙ is in cc)
+    by true now =
+        let lt = has_input job t ready.graph there now in
         let on : OnInput job m t 0 (input_at (task_at job.graph t) 0) n =
         rw some at ((ran.tasks t there).inputs 0 lt) in
         let s : Stands job m t =
@@ -94,6 +94,21 @@ start_in_time job m t start ready ran over there is =
         same_Some (m.offset t) start (sym (start_registered job m t now s) ∙ is) in
         omega (arith, start_within job m t 0 n ready ran there lt on)
 
+-- and where the run is over
+pub start_in_time : (job : Job) (m : Moment) (t start : ℕ) → IsReadyAt job m → HasRun job m
+    → IsOver job m → t < length job.graph.tasks → start_in job t ≡ Some start
+    → start ≤ get_or (lengths_of job) (input_at (task_at job.graph t) 0) 0
+start_in_time job m t start ready ran over there is =
+    by (task_at job.graph t).joins_now (span_in job t).live refl refl
+  where
+    registered : (task_at job.graph t).joins_now ≡ true → (span_in job t).live ≡ true
+        → (o : Option ℕ) → m.number (input_at (task_at job.graph t) 0) t ≡ o
+        → start ≤ get_or (lengths_of job) (input_at (task_at job.graph t) 0) 0
+    registered now live None none =
+        absurd (came_in job m ready ran over (suc t) t 0 (omega arith) there
+        (has_input job t ready.graph there now) none live)
+    registered now live (Some n) some = start_there job m t n start ready ran there some is
+
     by : (b c : Bool) → (task_at job.graph t).joins_now ≡ b → (span_in job t).live ≡ c
         → start ≤ get_or (lengths_of job) (input_at (task_at job.graph t) 0) 0
     by false c stays e =
@@ -101,5 +116,4 @@ start_in_time job m t start ready ran over there is =
     by true false now dead =
         absurd (let no : None ≡ Some start = sym (start_of_dead job t dead) ∙ is in cc)
     by true true now live =
-        registered now live (has_input job t ready.graph there now)
-        (m.number (input_at (task_at job.graph t) 0) t) refl
+        registered now live (m.number (input_at (task_at job.graph t) 0) t) refl

@@ -1,6 +1,7 @@
 pub mod Answers
 pub mod Beginnings
 pub mod Feeds
+pub mod InTime
 pub mod Moments
 pub mod Moves
 pub mod NextBlocks

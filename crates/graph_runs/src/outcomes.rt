@@ -1,13 +1,14 @@
 //! What runs by turns come to: whether a value out of range was met, and that a run is over. Each
 //! function here makes no call and has no effect: its contract is the law.
-ghost use Rattle.std.specs.Prelude.{◌≡◌, ◌≢◌, ℕ, Some, None, Ok, false, map};
+ghost use Rattle.std.specs.Prelude.{◌≡◌, ◌≢◌, ◌<◌, ℕ, Some, None, Ok, false, length, map};
 ghost use Rattle.stream_lists.specs.graph_base.TaskLines.{IsGraph};
 ghost use Rattle.stream_lists.specs.Jobs.{Job};
 ghost use Rattle.stream_lists.specs.Lists.{sinks_of};
 ghost use Rattle.stream_lists.specs.Ranges.{Where, answer_of};
-ghost use Rattle.graph_runs.specs.Moments.{Moment, IsOver, HasAnsweredNone, HasAnsweredNoneBefore, started};
+ghost use Rattle.graph_runs.specs.InTime.{BeginsInTime};
+ghost use Rattle.graph_runs.specs.Moments.{Moment, HasRun, IsOver, HasAnsweredNone, HasAnsweredNoneBefore, started};
 ghost use Rattle.graph_runs.specs.Settled.{IsReady, IsFaultAt, IsPlaceThere};
-ghost use Rattle.graph_runs.specs.Nexts.{is_live};
+ghost use Rattle.graph_runs.specs.Nexts.{first_missing, is_live};
 ghost use Rattle.graph_runs.specs.Answers.{TooBig, answer_of_turn, after_answer, turn_tells};
 ghost use Rattle.graph_runs.specs.Beginnings.{opening};
 ghost use Rattle.graph_runs.specs.Reached.{IsReachable};
@@ -56,3 +57,13 @@ pub fn all_gone()
     moments::answers();
     moments::met_none();
 }
+
+/// A sink that joins now begins at most one phase behind the last of its phaser's list, once it is
+/// registered: `came`, and where the run is over: `over`.
+pub fn starts_are_in_time()
+    ensures came { (job : Job) (m : Moment) (t : ℕ) → IsReady job → HasRun job m
+        → t < length job.graph.tasks → first_missing job m t ≡ None
+        → BeginsInTime (started job m) t }
+    ensures over { (job : Job) (m : Moment) (t : ℕ) → IsReady job → HasRun job m → IsOver job m
+        → t < length job.graph.tasks → BeginsInTime (started job m) t }
+{}

@@ -7,6 +7,7 @@ ghost use Rattle.phase_run.specs.Runs.{RunFails, Runs};
 ghost use Rattle.phase_words.specs.RunLine.{run_of};
 ghost use Rattle.stream_workers.specs.graph_commands.watched_io.States.{writer_state};
 
+use crate::texts::ByThreads;
 use phase_words::{Explain, RunCall};
 use std::alloc::Global;
 use std::io::Write;
@@ -37,7 +38,8 @@ pub fn run<'a, H: Threads + Wait + Sync, W: Write, F: Files>(
         W.contents output.old output.new found) }
     ensures same { (other : List ℕ) → F.file files.new other ≡ F.file files.old other }
 {
-    match read_asked(alloc, files, call.graph, call.sink) {
+    let texts = ByThreads::new(rt, alloc, call.workers);
+    match read_asked(alloc, files, &texts, call.graph, call.sink) {
         Ok(asked) => run_asked(rt, alloc, asked, call.workers, call.explain, output),
         Err(failure) => Err(failure),
     }
@@ -72,8 +74,9 @@ fn run_asked<'a, H: Threads + Wait + Sync, W: Write>(
         → RunFails known name sink W.contents output.old output.new found) }
 {
     let AskedJob { job, sink } = asked;
+    let texts = ByThreads::new(rt, alloc, workers);
     match stream_workers::run(rt, alloc, &job, workers, &Open) {
-        Ok(lines) => match write_sinks(output, &job, &lines, sink) {
+        Ok(lines) => match write_sinks(output, &texts, &job, &lines, sink) {
             Ok(()) => Ok(()),
             Err(_) => Err(Failure::Io(IoFault::WriteFault)),
         },

@@ -16,6 +16,7 @@ use Rattle.stream_job.specs.declared.stopped.Stopped.TheVariants as stopped
 use Rattle.stream_job.specs.graph_base.Graphs.{file_at, sources_of}
 use Rattle.stream_job.specs.graph_base.declared.place.Place.{Place}
 use Rattle.stream_job.specs.graph_runs.Feeds.{IsFed}
+use Rattle.stream_job.specs.graph_runs.InTime.{BeginsInTime}
 use Rattle.stream_job.specs.graph_runs.Moments.{Moment, started}
 use Rattle.stream_job.specs.graph_runs.Settled.{IsFaultAt, IsReady}
 use Rattle.stream_job.specs.stream_lists.Jobs.{Job, with_samples}
@@ -150,6 +151,10 @@ pub stop_means : (stream : StreamState) (s : List (List ℤ)) (m : Moment) (give
     → IsReady (with_samples more stream.job)
     → answer_of (started (with_samples more stream.job) m)
     ≡ Ok (map (kept_behind given) stream.machine.lines.items))
+    → (stop ≡ stopped.Done → (more : List (List ℤ)) (t : ℕ)
+    → IsFed (with_samples s stream.job) (ended_at stream) more
+    → IsReady (with_samples more stream.job) → t < length stream.job.graph.tasks
+    → BeginsInTime (started (with_samples more stream.job) m) t)
     → ((place : Place) (n : ℕ) → stop ≡ stopped.TooBig place n → (more : List (List ℤ))
     → IsFed (with_samples s stream.job) (ended_at stream) more
     → IsReady (with_samples more stream.job)
@@ -157,11 +162,13 @@ pub stop_means : (stream : StreamState) (s : List (List ℤ)) (m : Moment) (give
     → ((place : Place) (n : ℕ) → stop ≡ stopped.TooBig place n
     → Meets (with_samples s stream.job) (ended_at stream) m given (place, n))
     → HasStopped stream s m stop
-stop_means stream s m given stopped.Done at stops done big meets =
-    λ more fed ready. done refl more fed ready ∙ ap (λ l. Ok l) at.lines.values
-stop_means stream s m given (stopped.TooBig place n) at stops done big meets =
+stop_means stream s m given stopped.Done at stops done begins big meets = λ more fed ready. (
+  done refl more fed ready ∙ ap (λ l. Ok l) at.lines.values,
+  λ t there. begins refl more t fed ready there,
+)
+stop_means stream s m given (stopped.TooBig place n) at stops done begins big meets =
     (big place n refl, stands_so stream s m given (place, n) (meets place n refl))
-stop_means stream s m given stopped.Stalled at stops done big meets =
+stop_means stream s m given stopped.Stalled at stops done begins big meets =
     let job = with_samples s stream.job in
     let so = stalled_so job (first_full job m given) (first_hungry job (ended_at stream) m)
     (is_some_live job m) stops.1 in (
@@ -169,14 +176,14 @@ stop_means stream s m given stopped.Stalled at stops done big meets =
       still (is_held_up job m) (is_hungry job (ended_at stream) m) (is_full job m given)
           (all_tasks job) stops.0.rest so.1 so.0,
     )
-stop_means stream s m given (stopped.Hungry source) at stops done big meets =
+stop_means stream s m given (stopped.Hungry source) at stops done begins big meets =
     let job = with_samples s stream.job in
     waiting (is_held_up job m) (is_hungry job (ended_at stream) m) (is_full job m given)
     (all_tasks job) stops.0.rest
     (hungry_so job (first_full job m given) (first_hungry job (ended_at stream) m)
     (is_some_live job m) source stops.1)
-stop_means stream s m given (stopped.Full sink) at stops done big meets = tt
-stop_means stream s m given stopped.Paused at stops done big meets = tt
+stop_means stream s m given (stopped.Full sink) at stops done begins big meets = tt
+stop_means stream s m given stopped.Paused at stops done begins big meets = tt
 
 -- four facts of a good answer give a fifth
 pub with_four : {X E : Type 0} (r : Result X E) (A B C D F : X → Type 0)
@@ -195,8 +202,10 @@ pub stopped_same : (old new : StreamState) (s : List (List ℤ)) (m : Moment) (s
     → new.job ≡ old.job → new.inputs ≡ old.inputs → HasStopped old s m stop
     → HasStopped new s m stop
 stopped_same old new s m stopped.Done job inputs is = λ more fed ready.
-    subst (λ (j : Job). answer_of (started (with_samples more j) m)
-    ≡ Ok (map (λ t. (t, kept_by j m t)) (sinks_of j))) (sym job)
+    subst (λ (j : Job). (answer_of (started (with_samples more j) m)
+    ≡ Ok (map (λ t. (t, kept_by j m t)) (sinks_of j)))
+    × ((t : ℕ) → t < length j.graph.tasks → BeginsInTime (started (with_samples more j) m) t))
+    (sym job)
     (is more (fed_same old new s more job inputs fed)
     (subst (λ (j : Job). IsReady (with_samples more j)) job ready))
 stopped_same old new s m (stopped.TooBig place n) job inputs is = (

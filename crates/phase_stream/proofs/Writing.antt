@@ -19,6 +19,7 @@ use Rattle.std.specs.Prelude.{◌⊎◌, string_bytes}
 use Rattle.std.specs.Global.{Global}
 use Rattle.std.proofs.Common.{inl, inr, String}
 use Rattle.phase_stream.proofs.Handing.{whole_part}
+use Rattle.stream_job.proofs.GivenLines.{sink_there}
 use Rattle.phase_stream.specs.declared.source.Lack.{Lack}
 use Rattle.phase_stream.specs.declared.source.Lack.TheVariants as lack
 use Rattle.stream_job.specs.graph_base.declared.place.Place.TheVariants as place
@@ -171,6 +172,10 @@ whole_of remaining held old now session sink st =
       starts = (started stream.job m).starts;
       values = stands.given session.task;
       whole = λ more goes. (by more goes).1 ∙ ap (flat_map value_text) (sym st.whole);
+      in_time = λ more goes.
+          (st.stopped_is more goes.feeds goes.ready).1 session.task
+          (subst (λ t. t < length stream.job.graph.tasks) sink.task
+          (sink_there stream.job session.sink sink.there).1);
       ends = inl (λ more goes. (by more goes).0);
       written = stands.written;
     }
@@ -184,7 +189,7 @@ whole_of remaining held old now session sink st =
     by more goes =
         whole_by (started (with_samples more session.stream.job) st.stands.moment)
         (kept_by session.stream.job st.stands.moment) session.sink session.task sink.there sink.task
-        (st.stopped_is more goes.feeds goes.ready)
+        (st.stopped_is more goes.feeds goes.ready).0
 
 -- where the sink has left, whatever the others do
 pub left_of : {R : Type 0} (remaining : R → Option (List ℕ)) (held : Known)
@@ -210,8 +215,10 @@ left_of remaining held old now session stop sink gone whole st =
       whole = λ more goes.
           text_of_list (started (with_samples more stream.job) m) session.sink session.task
           sink.there sink.task
-          ∙ ap (flat_map value_text) (sym (st.whole ∙ whole stands.samples m stands.given more
-          stands.reaches.at goes.feeds goes.ready));
+          ∙ ap (flat_map value_text) (sym (st.whole ∙ (whole stands.samples m stands.given more
+          stands.reaches.at goes.feeds goes.ready).0));
+      in_time = λ more goes.
+          (whole stands.samples m stands.given more stands.reaches.at goes.feeds goes.ready).1;
       ends = inr (record {
         moment = m;
         reached = machine.reached;

@@ -18,6 +18,7 @@ use Rattle.stream_job.specs.declared.stopped.Stopped.{Stopped}
 use Rattle.stream_job.specs.declared.stopped.Stopped.TheVariants as stopped
 use Rattle.stream_job.specs.graph_base.Graphs.{file_at, source_number, sources_of, task_at}
 use Rattle.stream_job.specs.graph_runs.Feeds.{IsFed}
+use Rattle.stream_job.specs.graph_runs.InTime.{BeginsInTime}
 use Rattle.stream_job.specs.graph_runs.Moments.{Moment, started}
 use Rattle.stream_job.specs.graph_runs.Settled.{IsFaultAt, IsReady}
 use Rattle.stream_job.specs.stream_lists.Jobs.{Job, with_samples}
@@ -48,13 +49,14 @@ IsKeptRight stream t = (s : List (List ℤ)) (m : Moment) (given : ℕ → List 
     → IsPrefix (kept_by stream.job m t)
     (sink_list (started (with_samples more stream.job) m) t)
 
--- it is all of them in every such run
+-- it is all of them in every such run, in which it begins in time
 abbrev pub IsKeptWhole : StreamState → ℕ → Type 0
 IsKeptWhole stream t = (s : List (List ℤ)) (m : Moment) (given : ℕ → List ℤ)
     (more : List (List ℤ)) → IsStreamAt stream s m given
     → IsFed (with_samples s stream.job) (ended_at stream) more
     → IsReady (with_samples more stream.job)
-    → kept_by stream.job m t ≡ sink_list (started (with_samples more stream.job) m) t
+    → (kept_by stream.job m t ≡ sink_list (started (with_samples more stream.job) m) t)
+    × BeginsInTime (started (with_samples more stream.job) m) t
 
 -- a fault of the files with no text
 abbrev pub IsFaultWithoutText : JobFault → Failure → Type 0
@@ -119,16 +121,18 @@ pub record StandsBefore (job : Job) (ended : ℕ → Bool) (s : List (List ℤ))
       (length job.graph.tasks) at
 
 -- what a stop tells of samples and a moment, whatever was handed over: where it is done, what each
--- sink has kept is its whole list in every run whose samples go on so; a value too big is one of
--- every such run, and no task makes an event but those that stand before one; where a source is
--- hungry, no task makes one without more samples; and a stalled run has a live task, and no task
--- can move
+-- sink has kept is its whole list in every run whose samples go on so, in which each begins in time;
+-- a value too big is one of every such run, and no task makes an event but those that stand before
+-- one; where a source is hungry, no task makes one without more samples; and a stalled run has a
+-- live task, and no task can move
 abbrev pub HasStopped : StreamState → List (List ℤ) → Moment → Stopped → Type 0
 HasStopped stream s m stopped.Done = (more : List (List ℤ))
     → IsFed (with_samples s stream.job) (ended_at stream) more
     → IsReady (with_samples more stream.job)
-    → answer_of (started (with_samples more stream.job) m)
-    ≡ Ok (map (λ t. (t, kept_by stream.job m t)) (sinks_of stream.job))
+    → (answer_of (started (with_samples more stream.job) m)
+    ≡ Ok (map (λ t. (t, kept_by stream.job m t)) (sinks_of stream.job)))
+    × ((t : ℕ) → t < length stream.job.graph.tasks
+    → BeginsInTime (started (with_samples more stream.job) m) t)
 HasStopped stream s m (stopped.TooBig place n) =
     ((more : List (List ℤ)) → IsFed (with_samples s stream.job) (ended_at stream) more
     → IsReady (with_samples more stream.job)

@@ -34,6 +34,7 @@ use Rattle.sample_pieces.specs.graph_lang.declared.fault.FaultKind.{FaultKind}
 use Rattle.sample_pieces.specs.graph_lang.declared.fault.FaultKind.TheVariants.{AnyMeets}
 use Rattle.stream_job.specs.phase_accum.Sends.{AreSends}
 use Rattle.stream_job.specs.graph_runs.Feeds.{IsFed}
+use Rattle.stream_job.specs.graph_runs.InTime.{BeginsInTime}
 use Rattle.stream_job.specs.graph_runs.Moments.{Moment, started}
 use Rattle.stream_job.specs.graph_runs.Reached.{IsReachable}
 use Rattle.stream_job.specs.graph_runs.Settled.{IsFaultAt, IsReady}
@@ -98,7 +99,7 @@ pub record WritesKept (held : Known) (job : Job) (t : ℕ) (old now : Option (Li
   pub written : Appends old now (flat_map value_text (kept_by job moment t))
 
 -- what was written is all values of the sink in every run whose samples go on behind those that
--- came: every value of the run is in range, or the sink has left
+-- came, in which it begins in time: every value of the run is in range, or the sink has left
 pub record WritesWhole (held : Known) (job : Job) (t : ℕ) (old now : Option (List ℕ)) : Type 0 where
   pub samples : List (List ℤ)
   pub ended : ℕ → Bool
@@ -109,6 +110,8 @@ pub record WritesWhole (held : Known) (job : Job) (t : ℕ) (old now : Option (L
   pub whole : (more : List (List ℤ)) → GoesOnBehind job ended samples more
       → sinks_text (with_starts starts (with_samples more job)) (Some t)
       ≡ flat_map value_text values
+  pub in_time : (more : List (List ℤ)) → GoesOnBehind job ended samples more
+      → BeginsInTime (with_starts starts (with_samples more job)) t
   pub ends : AllFit job ended samples starts ⊎ LeavesWith job samples starts t values
   pub written : Appends old now (flat_map value_text values)
 

@@ -25,7 +25,7 @@ use graph_commands::{Failure, JobFault, stall_told, write_values};
 use std::alloc::{AllocError, Global};
 use std::io::{Read, Write};
 use stream_job::graph_base::Place;
-use stream_job::{Job, Stopped, Stream};
+use stream_job::{Job, Stopped, Stream, starts_are_in_time};
 
 /// A run of a graph over the files of its sources, of which the values of one sink are written.
 #[derive(Drop)]
@@ -71,6 +71,7 @@ impl<R: Read + Drop> Session<R> {
             → HasStopped self.new.stream s m stop) }
         ensures same { IsSameSession self.old self.new }
     {
+        starts_are_in_time();
         self.stream.run()
     }
 
@@ -168,6 +169,7 @@ impl<R: Read + Drop> Session<R> {
             → has_gone self.now.stream.job m self.now.task ≡ result }
         ensures whole { result ≡ true → IsKeptWhole self.now.stream self.now.task }
     {
+        starts_are_in_time();
         self.stream.has_left(self.sink)
     }
 

@@ -3,7 +3,9 @@ ghost use Rattle.std.specs.Prelude.{◌≡◌, ◌<◌, Some, IsSome, IsSomeAnd,
 ghost use Rattle.stream_job.specs.graph_base.Graphs.{sources_of};
 ghost use Rattle.stream_job.specs.phase_accum.Sends.{AreSends};
 ghost use Rattle.stream_job.specs.stream_lists.Lists.{sinks_of};
-ghost use Rattle.stream_job.specs.Streams.{StreamGoesOn, StreamState};
+ghost use Rattle.stream_job.specs.Streams.{StreamGoesOn, StreamMoves, StreamState};
+ghost use Rattle.stream_job.specs.declared.stopped.Stopped.TheVariants.{Paused};
+ghost use Rattle.stream_job.specs.declared.stream_turns.TheConstants.{ROUNDS};
 ghost use Rattle.stream_handle.specs.Runs.{BeginsAt, Feeds, Finishes, HandsOver, HasCounts, LacksRoom, StopsFor};
 
 use crate::handle::Handle;
@@ -66,6 +68,9 @@ impl Handle {
             → IsSomeAnd self.new.place.stream (StreamGoesOn old) }
         ensures stops { IfOk result (λ stop. IsSomeAnd self.new.place.stream (λ new.
             StopsFor new stop)) }
+        ensures paused { IfOk result (λ stop. stop ≡ Paused → (old : StreamState)
+            → self.old.place.stream ≡ Some old
+            → IsSomeAnd self.new.place.stream (StreamMoves ROUNDS old)) }
     {
         let mut run = self.take(alloc);
         let stop = run.run();

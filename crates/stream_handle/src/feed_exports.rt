@@ -2,10 +2,11 @@
 ghost use Rattle.std.specs.Prelude.{◌≡◌, ◌≢◌, ◌≤◌, ◌<◌, ◌⊎◌, Some, None, IsSome, IsSomeAnd};
 ghost use Rattle.stream_job.specs.graph_base.Graphs.{sources_of};
 ghost use Rattle.stream_job.specs.phase_accum.Sends.{AreSends};
-ghost use Rattle.stream_job.specs.Streams.{StreamGoesOn, StreamState};
+ghost use Rattle.stream_job.specs.Streams.{StreamGoesOn, StreamMoves, StreamState};
+ghost use Rattle.stream_job.specs.declared.stream_turns.TheConstants.{ROUNDS};
 ghost use Rattle.stream_handle.specs.Runs.{Feeds, Finishes};
 ghost use Rattle.stream_handle.specs.Told.{StopsAsTold};
-ghost use Rattle.stream_handle.specs.declared.numbers.TheConstants.{GOOD, SAMPLE, OUT_OF_MEMORY, NO_STREAM, NO_SOURCE};
+ghost use Rattle.stream_handle.specs.declared.numbers.TheConstants.{GOOD, PAUSED, SAMPLE, OUT_OF_MEMORY, NO_STREAM, NO_SOURCE};
 
 use crate::handle::Handle;
 use crate::numbers::*;
@@ -81,6 +82,10 @@ pub extern "C" fn phase_stream_run(alloc: Global, stream: &mut Handle, stop: &mu
         → IsSomeAnd stream.new.place.stream (StreamGoesOn old) }
     ensures stops { result ≡ GOOD
         → IsSomeAnd stream.new.place.stream (λ new. StopsAsTold new stop.new) }
+    // PAUSED is told only behind so many events.
+    ensures paused { result ≡ GOOD → stop.new.kind ≡ PAUSED → (old : StreamState)
+        → stream.old.place.stream ≡ Some old
+        → IsSomeAnd stream.new.place.stream (StreamMoves ROUNDS old) }
 
     ensures answers { IsSome stream.old.place.stream
         → (result ≡ GOOD) ⊎ (result ≡ OUT_OF_MEMORY) }

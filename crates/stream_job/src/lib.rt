@@ -55,6 +55,7 @@ pub use stream_eval::stream_lists::{
     Job, JobRefusal, LENGTH_MAX, Span, input_number, laws, number_of, output_number, taken_count,
 };
 pub use stream_eval::{EvalFault, Lines, eval};
+pub use stream_gone::starts_are_in_time;
 pub use text_jobs::job_of;
 pub use turned::Turned;
 pub use world::World;

@@ -5,14 +5,16 @@ ghost use Rattle.stream_eval.specs.stream_lists.Jobs.{with_samples};
 ghost use Rattle.stream_eval.specs.stream_lists.Lists.{numbers_of, sinks_of, taken_from};
 ghost use Rattle.stream_eval.specs.stream_lists.Spans.{span_in};
 ghost use Rattle.graph_runs.specs.Feeds.{IsFed};
+ghost use Rattle.graph_runs.specs.InTime.{BeginsInTime};
 ghost use Rattle.graph_runs.specs.Moments.{Moment, started};
 ghost use Rattle.graph_runs.specs.Settled.{IsReady};
 ghost use Rattle.stream_job.specs.Gone.{has_gone};
 ghost use Rattle.stream_job.specs.SinkLines.{kept_by};
-ghost use Rattle.stream_job.specs.Streams.{IsStreamAt, ended_at};
+ghost use Rattle.stream_job.specs.Streams.{IsStreamAt, StreamState, StreamStopsAt, ended_at};
+ghost use Rattle.stream_job.specs.declared.stopped.Stopped.TheVariants.{Done};
 
 use crate::stream::Stream;
-use graph_runs::{feeds, moments};
+use graph_runs::{feeds, moments, outcomes};
 
 impl Stream {
     /// Returns whether a sink has left: it came, and gets no more values. It takes no memory.
@@ -41,4 +43,26 @@ impl Stream {
         let state = &self.machine.tasks[task];
         state.is_registered(&self.job, task) && !state.is_live(&self.job, task)
     }
+}
+
+/// A sink that joins now begins at most one phase behind the last of its phaser's list in every run
+/// whose samples go on behind those that came, once it has left: `left`, and where the stream is
+/// done: `done`.
+pub fn starts_are_in_time()
+    ensures left { (stream : StreamState) (s : List (List ℤ)) (m : Moment) (given : ℕ → List ℤ)
+        (more : List (List ℤ)) (t : ℕ) → IsStreamAt stream s m given
+        → IsFed (with_samples s stream.job) (ended_at stream) more
+        → IsReady (with_samples more stream.job) → t < length stream.job.graph.tasks
+        → has_gone stream.job m t ≡ true → BeginsInTime (started (with_samples more stream.job) m) t }
+    ensures done { (stream : StreamState) (s : List (List ℤ)) (m : Moment) (given : ℕ → List ℤ)
+        (more : List (List ℤ)) (t : ℕ) → IsStreamAt stream s m given
+        → IsFed (with_samples s stream.job) (ended_at stream) more
+        → IsReady (with_samples more stream.job) → t < length stream.job.graph.tasks
+        → StreamStopsAt stream s m given Done
+        → BeginsInTime (started (with_samples more stream.job) m) t }
+{
+    feeds::feeds_go_on();
+    feeds::runs_go_on();
+    outcomes::all_gone();
+    outcomes::starts_are_in_time();
 }

@@ -6,8 +6,8 @@ use Rattle.stream_eval.proofs.SinkStarts.{outputs-are}
 use Rattle.graph_commands.proofs.answered.eval_asked.Goals as goal
 
 -- the lines are the job's
-pub write_sinks-requires : goal.write_sinks-requires
-write_sinks-requires g c = (c.args.asked.job.starts, rw c.deref.ensures.value c.in-Ok.ensures.ok)
+pub write_sinks-requires-clause-lines : goal.write_sinks-requires-clause-lines
+write_sinks-requires-clause-lines g c = (c.args.asked.job.starts, rw c.deref.ensures.value c.in-Ok.ensures.ok)
 
 -- there are no lists
 pub returns-clause-failed : goal.returns-clause-failed

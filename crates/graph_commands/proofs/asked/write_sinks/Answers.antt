@@ -3,6 +3,6 @@ use Rattle.graph_commands.proofs.Places.{sinks-within}
 use Rattle.graph_commands.proofs.asked.write_sinks.Goals as goal
 
 -- each sink is a task of the graph
-pub write_lines-requires : goal.write_lines-requires
-write_lines-requires g c =
-    rw c.graph.ensures.graph (sinks-within (with_starts c.requires.0 c.args.job.now) c.args.lines.now c.requires.1)
+pub write_lines-requires-clause-lines : goal.write_lines-requires-clause-lines
+write_lines-requires-clause-lines g c =
+    rw c.graph.ensures.graph (sinks-within (with_starts c.requires.lines.0 c.args.job.now) c.args.lines.now c.requires.lines.1)

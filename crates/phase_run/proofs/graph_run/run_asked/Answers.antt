@@ -9,8 +9,8 @@ use Rattle.phase_run.proofs.Answered.{answer-fits, answer-lines, told-in_time}
 use Rattle.phase_run.proofs.graph_run.run_asked.Goals as goal
 
 -- the lines are those of the job's sinks, which stand where they stood
-pub write_sinks-requires : goal.write_sinks-requires
-write_sinks-requires g c =
+pub write_sinks-requires-clause-lines : goal.write_sinks-requires-clause-lines
+write_sinks-requires-clause-lines g c =
     let told = c.in-Ok.ensures.done in
     (told.starts, rw c.deref.ensures.value (answer-lines (with_starts told.starts c.args.asked.job) _ told.answer))
 

@@ -22,21 +22,21 @@ returns-clause-ok g c =
     let sink = c.args.sink.now in
     let count : c.len.result ≡ length sink.values.items = search rules in
     let values : c.deref.result.now ≡ sink.values.items = search rules in
-    on_ok_weaker c.put_values.result
+    on_ok_weaker c.put_all.result
     (Puts-append _ _ _ c.args.self.now c.put_heading.new.self _
     (heading_text c.args.name.now sink.start (length sink.values.items))
     (flat_map value_text sink.values.items)
     (rw count at c.in_ok-put_heading.ensures.ok))
-    (rw values at c.put_values.ensures.ok)
+    (rw values at c.put_all.ensures.ok)
 
 pub returns-clause-err : goal.returns-clause-err
 returns-clause-err g c =
     let sink = c.args.sink.now in
     let count : c.len.result ≡ length sink.values.items = search rules in
     let values : c.deref.result.now ≡ sink.values.items = search rules in
-    on_err_weaker c.put_values.result
+    on_err_weaker c.put_all.result
     (prefix_behind _ _ _ c.args.self.now c.put_heading.new.self
     (heading_text c.args.name.now sink.start (length sink.values.items))
     (flat_map value_text sink.values.items)
     (rw count at c.in_ok-put_heading.ensures.ok))
-    (rw values at c.put_values.ensures.err)
+    (rw values at c.put_all.ensures.err)

@@ -1,6 +1,6 @@
 -- Turns lead to a later moment, with the same samples and nothing more handed over.
-use Rattle.std.proofs.Common.{refl}
-use Rattle.stream_job.specs.Streams.{after_sized}
+use Rattle.std.proofs.Common.{refl, subst}
+use Rattle.stream_job.specs.Streams.{StreamStopsAt, after_sized}
 use Rattle.stream_job.specs.stream_lists.Jobs.{with_samples}
 use Rattle.phase_stream.proofs.Standing.{came_same, sources_same, stop_means, with_four}
 use Rattle.phase_stream.proofs.session.Session.run.Goals as goal
@@ -28,6 +28,8 @@ returns-clause-stops g c =
     with_four c.run.result _ _ _ _ _
     (λ stop stops done big meets s m given at. stop_means c.run.new.self s m given stop at
     (stops s m given at) (λ e more fed ready. done e s m given more at fed ready)
+    (λ e more t fed ready there. c.starts_are_in_time.ensures.done c.run.new.self s m given more t at
+    fed ready there (subst (StreamStopsAt c.run.new.self s m given) e (stops s m given at)))
     (λ place n e more fed ready. big place n e s m given more at fed ready)
     (λ place n e. meets place n e s m given at))
     c.run.ensures.stops c.run.ensures.done c.run.ensures.too_big c.run.ensures.meets
