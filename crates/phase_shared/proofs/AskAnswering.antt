@@ -1,6 +1,6 @@
 -- Who asked looks at what the lock tells: it was answered, and has then seen the history up to its own wait; what it learns
 -- is what the contract of `next` says, a signal after others' events and a wait after others' events.
-use Rattle.std.proofs.Common.{◌≡◌, ◌≢◌, ℕ, ℤ, ◌+◌, ◌<◌, ◌/◌, ◌%◌, Bool, true, false, cond, eqb, ltb, List, [], ◌∷◌, ◌++◌, ◌⊎◌, Option, Some, None, length, set, refl, sym, ap, subst, ◌∙◌, inl, inr, arith}
+use Rattle.std.proofs.Common.{◌≡◌, ◌≢◌, ℕ, ℤ, ◌+◌, ◌<◌, ◌/◌, ◌%◌, Bool, true, false, cond, eqb, ltb, List, [], ◌∷◌, ◌++◌, ◌⊎◌, Option, None, length, set, refl, sym, ap, subst, ◌∙◌, inl, inr, arith}
 use Rattle.std.specs.Prelude.{Ok}
 use Rattle.std.proofs.lemmas.Bool.{lt-ltb, eq-eqb, eqb-true, ltb-true}
 use mathlib.Core.Option.{some}
@@ -17,7 +17,7 @@ use Rattle.phase_core.proofs.phase_history_lemmas.Steps.{steps, sound_of}
 use Rattle.phase_core.proofs.phase_history_lemmas.Used.{IsLegal-beginning}
 use Rattle.phase_shared.specs.declared.seats.view.Knowledge.{Knowledge}
 use Rattle.phase_shared.specs.Goods.{Allows, Keeps}
-use Rattle.phase_shared.specs.Views.{knowledge, is_turning}
+use Rattle.phase_shared.specs.Views.{Holds, knowledge, is_turning}
 use Rattle.phase_shared.specs.Calls.{Signals, Waits}
 use Rattle.phase_shared.specs.Asks.{Ask, IsUnmade, IsMade, IsAnsweredAsk}
 use Rattle.phase_shared.specs.Lanes.{posted}
@@ -106,20 +106,19 @@ module _ {T : Type 0} (value : List ℤ → Outcome) (limits : Limits) (allows :
         claims = h.claims;
         said = h.said;
         n = h.n;
-        at = stays is_turning views number h.seat (Asking f a) w (Turning h.knows h.claims h.said (Some h.n)) at refl refl h.at;
-        speaks = h.speaks;
+        at = stays is_turning views number h.seat (Asking f a) w (Turning h.knows h.claims h.said (Holds i h.n)) at refl refl h.at;
       }))
     ]
       where
-        asked_lane : AskedAt views i → AskedAt (set views number w) i ⊎ (IsPast k.log i (posted words i) ⊎ HeldAt (set views number w) i)
+        asked_lane : AskedAt views i → AskedAt (set views number w) i ⊎ (IsPast k.log (posted words i) ⊎ HeldAt (set views number w) i)
         asked_lane q = elim (eqb q.seat number) as (λ b. (eqb q.seat number ≡ b)
-            → AskedAt (set views number w) i ⊎ (IsPast k.log i (posted words i) ⊎ HeldAt (set views number w) i)) [
+            → AskedAt (set views number w) i ⊎ (IsPast k.log (posted words i) ⊎ HeldAt (set views number w) i)) [
               | true ↦ λ t.
                   let is : q.ask ≡ a = ap (λ (u : View). ask_in a u) (same_view views q.seat number (Asking q.knows q.ask) (Asking f a) q.at at (eqb-true q.seat number t)) in
-                  let task_is : a.task ≡ i = ap (λ (x : Ask). x.task) (sym is) ∙ q.is in
-                  let p : IsPast k.log a.task (a.phase + 1) = answered_past limits a f.seen k.log k.good.legal n in
-                  let p' : IsPast k.log a.task (posted words a.task) = subst (λ (m : ℕ). IsPast k.log a.task m) (sym its.posts) p in
-                  inr (inl (subst (λ (t' : ℕ). IsPast k.log t' (posted words t')) task_is p'))
+                  let lane_is : a.lane ≡ i = ap (λ (x : Ask). x.lane) (sym is) ∙ q.is in
+                  let p : IsPast k.log (a.phase + 1) = answered_past limits a f.seen k.log n in
+                  let p' : IsPast k.log (posted words a.lane) = subst (λ (m : ℕ). IsPast k.log m) (sym its.posts) p in
+                  inr (inl (subst (λ (l : ℕ). IsPast k.log (posted words l)) lane_is p'))
               | false ↦ λ t. inl record {
                 seat = q.seat;
                 knows = q.knows;

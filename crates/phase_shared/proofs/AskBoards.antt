@@ -1,21 +1,21 @@
 -- The board: who has the turn writes it where its turn completes a phase, and who was answered reads it.
-use Rattle.std.proofs.Common.{◌≡◌, ◌≢◌, ℕ, ℤ, ◌+◌, ◌<◌, true, false, List, [], ◌++◌, ◌⊎◌, Option, Some, None, length, set, slice_index, refl, sym, ap, subst, ◌∙◌, arith, inl, inr}
+use Rattle.std.proofs.Common.{◌≡◌, ◌≢◌, ℕ, ℤ, ◌+◌, ◌<◌, true, false, List, [], ◌++◌, ◌⊎◌, Option, None, length, set, slice_index, refl, sym, ap, subst, ◌∙◌, arith, inl, inr}
 use mathlib.Core.Option.{some}
 use lib.ListN.{get_elem?}
 use Rattle.atomic_table.proofs.Lists.{set_again}
 use Rattle.phase_shared.specs.Phasers.{Limits, is_in, is_distinct, Outcome, History, done_of, value_of_phase, IsLegal, events_of}
 use Rattle.phase_shared.specs.declared.seats.view.Knowledge.{Knowledge}
 use Rattle.phase_shared.specs.Goods.{Allows}
-use Rattle.phase_shared.specs.Views.{speaks_of, is_turning}
+use Rattle.phase_shared.specs.Views.{Lane, speaks_of, is_turning}
 use Rattle.phase_shared.specs.Asks.{Ask, IsAtPhases, IsUnmade, IsMade, IsAnsweredAsk, Batch, IsOneOf, asks_for}
 use Rattle.phase_shared.specs.Lanes.{board, posted, sends_of, KindIs, NumberIs, with_number}
-use Rattle.phase_shared.specs.Desks.{View, Resting, Turning, Joining, Posting, Asking, Reading, Spent, IsSound, AskStands, HasToRead, Posts, HasLane, LaneIs, StandsAsked, IsLane, Kept}
+use Rattle.phase_shared.specs.Desks.{View, Resting, Turning, Joining, Posting, Asking, Reading, Spent, IsSound, AskStands, HasToRead, Owns, LaneIs, StandsAsked, IsLane, Kept}
 use Rattle.phase_shared.proofs.Small.{not_true_is, used_some, apart_phases}
 use Rattle.phase_shared.proofs.Stages.{signal_is, wait_is, done_within}
 use Rattle.phase_shared.proofs.Steadies.{found, none_of, stands_still}
 use Rattle.phase_shared.proofs.Places.{is_asking, ask_in, same_view, stays, asked_stays, lane_stays}
-use Rattle.phase_shared.proofs.LaneWords.{kind_is, number_is, board_number, board_kind, board_posted, board_sent}
-use Rattle.phase_shared.proofs.AskMoves.{this_is_in, moves, lane_still, holds, no_other}
+use Rattle.phase_shared.proofs.LaneWords.{kind_is, number_is, board_number, board_kind, board_posted, board_sent, board_owner, board_lane}
+use Rattle.phase_shared.proofs.AskMoves.{this_is_in, owns_still, send_stay, lane_stay, moves, lane_still, holds, no_other}
 
 -- whatever is on the board, its words say it
 pub kind_of : (words : List ℕ) (o : Outcome) → o ≡ board words → KindIs (slice_index words 1) o
@@ -56,7 +56,7 @@ module _ {T : Type 0} (value : List ℤ → Outcome) (limits : Limits) (allows :
       )
 
   -- who has the turn knows what is on the board
-  pub board_read : (number : ℕ) (f : Knowledge) (claims : List Ask) (said : Outcome) (lane : Option ℕ) (told : ℕ) (words : List ℕ) (views : List View)
+  pub board_read : (number : ℕ) (f : Knowledge) (claims : List Ask) (said : Outcome) (lane : Lane) (told : ℕ) (words : List ℕ) (views : List View)
       → Kept value limits allows StandsFor None told words views → get_elem? views number ≡ some (Turning f claims said lane)
       → (set views number (Turning f claims said lane) ≡ views) × KindIs (slice_index words 1) said × NumberIs (slice_index words 0) said
   board_read number f claims said lane told words views k at =
@@ -66,7 +66,7 @@ module _ {T : Type 0} (value : List ℤ → Outcome) (limits : Limits) (allows :
 -- ---- the board is written, where the turn completes a phase: nobody has still to read it
 
 module _ {T : Type 0} (value : List ℤ → Outcome) (limits : Limits) (allows : Allows) (StandsFor : T → History → Type 0)
-    (number : ℕ) (f : Knowledge) (claims : List Ask) (said : Outcome) (lane : Option ℕ) (later : History)
+    (number : ℕ) (f : Knowledge) (claims : List Ask) (said : Outcome) (lane : Lane) (later : History)
     (batch : Batch (IsOneOf claims) f.speaks later f.seen) (legal : IsLegal limits (later ++ f.seen)) (completes : done_of f.seen < done_of (later ++ f.seen))
     (told : ℕ) (words : List ℕ) (views : List View) (long : length words ≡ 287)
     (k : Kept value limits allows StandsFor None told words views) (at : get_elem? views number ≡ some (Turning f claims said lane)) where
@@ -142,30 +142,30 @@ module _ {T : Type 0} (value : List ℤ → Outcome) (limits : Limits) (allows :
     still j (Resting g) ne e = k.sound j (Resting g) e
     still j (Turning g cs sd l) ne e = absurd (no_other value limits allows StandsFor told words views k number f claims said lane at j g cs sd l ne e)
     still j (Joining g h) ne e = k.sound j (Joining g h) e
-    still j (Posting g m) ne e =
-        let s = k.sound j (Posting g m) e in
-        let p : Posts words g m = s.2 in
-        (s.0, s.1, record { task = p.task; speaks = p.speaks; low = p.low; has = board_sent words place n p.task low ∙ p.has })
+    still j (Posting g i m) ne e =
+        let s = k.sound j (Posting g i m) e in
+        let o : Owns words g i = s.2 in
+        let same = board_lane words place n i low in
+        (s.0, s.1, owns_still words (set words place n) g i o same, send_stay words (set words place n) i m same s.3)
     still j (Asking g a) ne e =
         let s : AskStands value limits allows k.log told words g a = k.sound j (Asking g a) e in
         record {
           speaks = s.speaks;
           low = s.low;
+          owned = board_owner words place n a.lane low ∙ s.owned;
           stage = s.stage;
           waits = s.waits;
           may = s.may;
           has = λ m. absurd (none_answered j g a ne e m);
-          posts = board_posted words place n a.task low ∙ s.posts;
-          sends = λ st. ap (λ (m : ℕ). sends_of m) (board_sent words place n a.task low) ∙ s.sends st;
+          posts = board_posted words place n a.lane low ∙ s.posts;
+          sends = λ st. ap (λ (m : ℕ). sends_of m) (board_sent words place n a.lane low) ∙ s.sends st;
         }
     still j (Reading g a) ne e = absurd (none_reading j g a ne e)
     still j Spent ne e = tt
 
-    lane_same : (l : Option ℕ) → LaneIs words f l → LaneIs (set words place n) f l
-    lane_same None has = tt
-    lane_same (Some m) has =
-        let h : HasLane words f m = has in
-        record { task = h.task; speaks = h.speaks; low = h.low; has = board_posted words place n h.task low ∙ h.has }
+    lane_same : (l : Lane) → LaneIs words f l → LaneIs (set words place n) f l
+    lane_same l has = lane_stay words (set words place n) f l (λ i task few speaks owned. board_lane words place n i low)
+        (λ i few none. board_owner words place n i low ∙ none) has
 
     written : Kept value limits allows StandsFor None told (set words place n) (set views number (Turning f claims (board (set words place n)) lane))
     written =
@@ -176,7 +176,7 @@ module _ {T : Type 0} (value : List ℤ → Outcome) (limits : Limits) (allows :
         refl (lane_same lane s.6) still (λ a one. one) kept_claims
         (λ i few. subst (λ (m : ℕ). IsLane k.log (set views number (Turning f claims (board (set words place n)) lane)) i m) (sym (board_posted words place n i low))
         (lane_still value limits allows StandsFor told words views k number f claims said lane at (set words place n) claims (board (set words place n)) lane
-        refl (lane_same lane s.6) still (λ a one. one) kept_claims refl i (posted words i) (k.lanes i few)))
+        refl (lane_same lane s.6) still (λ a one. one) kept_claims (λ m n' e. e) i (posted words i) (k.lanes i few)))
 
   pub writes_number : (n : ℕ)
       → Kept value limits allows StandsFor None told (set words 0 n) (set views number (Turning f claims (board (set words 0 n)) lane))

@@ -11,17 +11,25 @@ use Rattle.phase_shared.specs.Goods.{Allows}
 use Rattle.phase_shared.specs.Lanes.{KindIs, NumberIs}
 use Rattle.phase_shared.specs.Rule.{IsOneHistory, StandsWithin}
 use Rattle.phase_shared.specs.Servings.{IsAsking, HasAnswer}
-use Rattle.phase_shared.specs.Tells.{TookAsked, Looked, Learnt, TellsAnswer}
-use Rattle.phase_shared.specs.Views.{knowledge, known_of, board_of}
+use Rattle.phase_shared.specs.Tells.{Took, TookAsked, Looked, Learnt, TellsAnswer}
+use Rattle.phase_shared.specs.Views.{knowledge, owning, known_of, board_of}
 use Rattle.phase_shared.specs.WordTells.{IsHolder, IsReading, TookAskedAt, LookedAt, ReadsKind, ReadsNumber, BoardKind, BoardNumber}
 use Rattle.phase_shared.proofs.Places.{ask_in}
-use Rattle.phase_shared.proofs.Taking.{takes_asked}
+use Rattle.phase_shared.proofs.Taking.{takes_own, takes_asked}
 use Rattle.phase_shared.proofs.AskBoards.{reads_kind, reads_number, board_read}
 use Rattle.phase_shared.proofs.AskAnswering.{looks_asked}
 
 module _ {A : Type 0} (op : Operation A) (limits : Limits) (allows : Allows) where
   abbrev StandsFor : CoreState A → History → Type 0
   StandsFor = StandsWithin op limits
+
+  -- ---- a seat that may ask
+
+  pub takes_ready : (number : ℕ) (seen : History) (task lane : ℕ) (v : View) → v ≡ owning seen (task ∷ []) lane
+      → TakesOf (IsOneHistory op limits allows) tt number v (λ v x w. Took limits allows (StandsWithin op limits) v x w)
+  takes_ready number seen task lane v is =
+      subst (λ (u : View). TakesOf (IsOneHistory op limits allows) tt number u (λ v x w. Took limits allows (StandsWithin op limits) v x w)) (sym is)
+      (λ x told words views long k at. takes_own op.value limits allows StandsFor number (knowledge seen (task ∷ [])) lane None x told words views k at)
 
   -- ---- a seat that asks
 

@@ -1,5 +1,6 @@
 -- A step of one seat, at which one word may change: what it has to show that the rule stays.
-use Rattle.std.proofs.Common.{◌≡◌, ◌≢◌, ℕ, ℤ, ◌<◌, true, false, List, [], ◌∷◌, Option, Some, None, set, refl, sym, ap, subst, ◌∙◌, inl, inr}
+use Rattle.std.proofs.Common.{◌≡◌, ◌≢◌, ℕ, ℤ, ◌+◌, ◌<◌, true, false, eqb, List, [], ◌∷◌, Option, Some, None, set, refl, sym, ap, subst, ◌∙◌, inl, inr}
+use Rattle.std.proofs.lemmas.Bool.{eqb-true}
 use mathlib.Core.Option.{some}
 use lib.ListN.{get_elem?}
 use Rattle.atomic_table.proofs.Lists.{at_set, set_here}
@@ -7,13 +8,13 @@ use Rattle.turn_lock.proofs.Keeping.{within}
 use Rattle.phase_shared.specs.Phasers.{Limits, is_in, Outcome, History, IsUsed}
 use Rattle.phase_shared.specs.declared.seats.view.Knowledge.{Knowledge}
 use Rattle.phase_shared.specs.Goods.{Allows}
-use Rattle.phase_shared.specs.Views.{speaks_of, known_of, claims_of, lane_of, is_turning}
+use Rattle.phase_shared.specs.Views.{Lane, Unknown, Free, Own, Holds, speaks_of, claims_of, lane_of, is_turning}
 use Rattle.phase_shared.specs.Asks.{Ask, IsMade, IsOneOf}
-use Rattle.phase_shared.specs.Lanes.{lanes_most, board, posted, sends_of}
-use Rattle.phase_shared.specs.Desks.{View, Resting, Turning, Joining, Posting, Asking, Reading, Spent, IsSound, AskStands, HasToRead, Posts, HasLane, LaneIs, StandsAsked, HeldAt, IsLane, Kept}
+use Rattle.phase_shared.specs.Lanes.{lanes_most, board, posted, owner_word, sends_of}
+use Rattle.phase_shared.specs.Desks.{View, Resting, Turning, Joining, Posting, Asking, Reading, Spent, IsSound, AskStands, HasToRead, Owns, LaneIs, SendIs, StandsAsked, HeldAt, IsLane, Kept}
 use Rattle.phase_shared.proofs.Small.{not_true_is, not_both, none_some, is_in_self}
-use Rattle.phase_shared.proofs.Places.{is_asking, same_view, was, stays, asked_stays}
-use Rattle.phase_shared.proofs.LaneWords.{SameElse}
+use Rattle.phase_shared.proofs.Places.{is_asking, same_view, was, stays, asked_stays, ne_of}
+use Rattle.phase_shared.proofs.LaneWords.{SameLane, SameElse, SameBut, lane_else, lane_but, lanes_apart}
 
 -- the one task of a list that a task is not in is another
 pub not_this : (task t : ℕ) (speaks : List ℕ) → speaks ≡ task ∷ [] → is_in t speaks ≡ false → task ≢ t
@@ -31,43 +32,65 @@ head_or d (x ∷ xs) = x
 pub same_task : (speaks : List ℕ) (s t : ℕ) → speaks ≡ s ∷ [] → speaks ≡ t ∷ [] → s ≡ t
 same_task speaks s t e e' = ap (λ (l : List ℕ). head_or s l) (sym e ∙ e')
 
--- what another seat knows stays while a word of this task's lane changes
-pub words_else : {T : Type 0} (value : List ℤ → Outcome) (limits : Limits) (allows : Allows) (home : Option T) (holder : ℕ) (log : History) (told t : ℕ)
-    (words after : List ℕ) → SameElse t words after → (j : ℕ) (u : View) → is_in t (speaks_of u) ≡ false
+-- ---- what another seat knows while a word changes
+
+-- the words of a lane that is the task's own are the same
+abbrev pub LanesStay : List ℕ → List ℕ → View → Type 0
+LanesStay words after u =
+    (i task : ℕ) → i < lanes_most → speaks_of u ≡ task ∷ [] → owner_word words i ≡ task + 1 → SameLane words after i
+
+-- a lane that is nobody's is so, for who has the turn
+abbrev pub FreeStay : List ℕ → List ℕ → View → Type 0
+FreeStay words after u = is_turning u ≡ true → (i : ℕ) → i < lanes_most → owner_word words i ≡ 0 → owner_word after i ≡ 0
+
+pub owns_still : (words after : List ℕ) (f : Knowledge) (i : ℕ) (o : Owns words f i) → SameLane words after i → Owns after f i
+owns_still words after f i o same = record { task = o.task; speaks = o.speaks; low = o.low; owned = same.same_owner ∙ o.owned }
+
+pub lane_stay : (words after : List ℕ) (g : Knowledge) (lane : Lane)
+    → ((i task : ℕ) → i < lanes_most → g.speaks ≡ task ∷ [] → owner_word words i ≡ task + 1 → SameLane words after i)
+    → ((i : ℕ) → i < lanes_most → owner_word words i ≡ 0 → owner_word after i ≡ 0) → LaneIs words g lane → LaneIs after g lane
+lane_stay words after g Unknown lanes free l = tt
+lane_stay words after g (Free i) lanes free l = (l.0, free i l.0 l.1)
+lane_stay words after g (Own i) lanes free l =
+    let o : Owns words g i = l in owns_still words after g i o (lanes i o.task o.low o.speaks o.owned)
+lane_stay words after g (Holds i n) lanes free l =
+    let o : Owns words g i = l.0 in
+    let same = lanes i o.task o.low o.speaks o.owned in
+    (owns_still words after g i o same, same.same_posted ∙ l.1)
+
+pub send_stay : (words after : List ℕ) (i : ℕ) (n : Option ℕ) → SameLane words after i → SendIs words i n → SendIs after i n
+send_stay words after i None same s = tt
+send_stay words after i (Some n) same s = same.same_sent ∙ s
+
+pub words_stay : {T : Type 0} (value : List ℤ → Outcome) (limits : Limits) (allows : Allows) (home : Option T) (holder : ℕ) (log : History) (told : ℕ)
+    (words after : List ℕ) → board after ≡ board words → (j : ℕ) (u : View) → LanesStay words after u → FreeStay words after u
     → IsSound value limits allows home holder log told words j u → IsSound value limits allows home holder log told after j u
-words_else value limits allows home holder log told t words after same j (Resting g) out s = s
-words_else value limits allows home holder log told t words after same j (Turning g cs said None) out s = (s.0, s.1, s.2, s.3, s.4, s.5 ∙ sym same.same_board, tt)
-words_else value limits allows home holder log told t words after same j (Turning g cs said (Some n)) out s =
-    let l : HasLane words g n = s.6 in (
-      s.0,
-      s.1,
-      s.2,
-      s.3,
-      s.4,
-      s.5 ∙ sym same.same_board,
-      record { task = l.task; speaks = l.speaks; low = l.low; has = same.same_posted l.task (not_this l.task t g.speaks l.speaks out) ∙ l.has },
-    )
-words_else value limits allows home holder log told t words after same j (Joining g h) out s = s
-words_else value limits allows home holder log told t words after same j (Posting g n) out s =
-    let l : Posts words g n = s.2 in
-    (s.0, s.1, record { task = l.task; speaks = l.speaks; low = l.low; has = same.same_sent l.task (not_this l.task t g.speaks l.speaks out) ∙ l.has })
-words_else value limits allows home holder log told t words after same j (Asking g a) out s =
+words_stay value limits allows home holder log told words after same j (Resting g) lanes free s = s
+words_stay value limits allows home holder log told words after same j (Turning g cs said lane) lanes free s =
+    (s.0, s.1, s.2, s.3, s.4, s.5 ∙ sym same, lane_stay words after g lane lanes (free refl) s.6)
+words_stay value limits allows home holder log told words after same j (Joining g h) lanes free s = s
+words_stay value limits allows home holder log told words after same j (Posting g i n) lanes free s =
+    let o : Owns words g i = s.2 in
+    let l = lanes i o.task o.low o.speaks o.owned in
+    (s.0, s.1, owns_still words after g i o l, send_stay words after i n l s.3)
+words_stay value limits allows home holder log told words after same j (Asking g a) lanes free s =
     let q : AskStands value limits allows log told words g a = s in
-    let ne : a.task ≢ t = not_this a.task t g.speaks q.speaks out in
+    let l = lanes a.lane a.task q.low q.speaks q.owned in
     record {
       speaks = q.speaks;
       low = q.low;
+      owned = l.same_owner ∙ q.owned;
       stage = q.stage;
       waits = q.waits;
       may = q.may;
-      has = λ n. same.same_board ∙ q.has n;
-      posts = same.same_posted a.task ne ∙ q.posts;
-      sends = λ st. ap (λ (n : ℕ). sends_of n) (same.same_sent a.task ne) ∙ q.sends st;
+      has = λ n. same ∙ q.has n;
+      posts = l.same_posted ∙ q.posts;
+      sends = λ st. ap (λ (n : ℕ). sends_of n) l.same_sent ∙ q.sends st;
     }
-words_else value limits allows home holder log told t words after same j (Reading g a) out s =
+words_stay value limits allows home holder log told words after same j (Reading g a) lanes free s =
     let q : HasToRead value log words g a = s in
-    record { speaks = q.speaks; fits = q.fits; stands = q.stands; below = q.below; has = same.same_board ∙ q.has }
-words_else value limits allows home holder log told t words after same j Spent out s = tt
+    record { speaks = q.speaks; fits = q.fits; stands = q.stands; below = q.below; has = same ∙ q.has }
+words_stay value limits allows home holder log told words after same j Spent lanes free s = tt
 
 module _ {T : Type 0} (value : List ℤ → Outcome) (limits : Limits) (allows : Allows) (StandsFor : T → History → Type 0)
     (home : Option T) (told : ℕ) (words : List ℕ) (views : List View) (k : Kept value limits allows StandsFor home told words views)
@@ -76,10 +99,34 @@ module _ {T : Type 0} (value : List ℤ → Outcome) (limits : Limits) (allows :
   pub apart : (t : ℕ) → is_in t (speaks_of v) ≡ true → (j : ℕ) (u : View) → j ≢ number → get_elem? views j ≡ some u → is_in t (speaks_of u) ≡ false
   apart t mine j u ne e = not_true_is (is_in t (speaks_of u)) (λ theirs. ne (sym (k.owns j u t e theirs).0 ∙ (k.owns number v t at mine).0))
 
+  -- a lane of another seat is another one than a lane of this one
+  apart_lane : (t i : ℕ) → is_in t (speaks_of v) ≡ true → owner_word words i ≡ t + 1 → (j : ℕ) (u : View) → j ≢ number → get_elem? views j ≡ some u
+      → (l task : ℕ) → speaks_of u ≡ task ∷ [] → owner_word words l ≡ task + 1 → l ≢ i
+  apart_lane t i mine owned j u ne e l task speaks theirs =
+      lanes_apart words i l t task owned theirs (not_this task t (speaks_of u) speaks (apart t mine j u ne e))
+
   -- so it knows no less where a word of this seat's lane changes
-  pub else_sound : (t : ℕ) (after : List ℕ) → is_in t (speaks_of v) ≡ true → SameElse t words after → (j : ℕ) (u : View) → j ≢ number → get_elem? views j ≡ some u
+  pub else_sound : (t i : ℕ) (after : List ℕ) → is_in t (speaks_of v) ≡ true → owner_word words i ≡ t + 1 → SameElse i words after
+      → (j : ℕ) (u : View) → j ≢ number → get_elem? views j ≡ some u
       → IsSound value limits allows home k.holder k.log told after j u
-  else_sound t after mine same j u ne e = words_else value limits allows home k.holder k.log told t words after same j u (apart t mine j u ne e) (k.sound j u e)
+  else_sound t i after mine owned same j u ne e =
+      words_stay value limits allows home k.holder k.log told words after same.same_board j u
+      (λ l task low speaks theirs. lane_else words after i l same (apart_lane t i mine owned j u ne e l task speaks theirs))
+      (λ turns l low none. same.same_owner l ∙ none)
+      (k.sound j u e)
+
+  -- nor where it is said that the lane is nobody's
+  pub left_sound : (t i : ℕ) (after : List ℕ) → is_in t (speaks_of v) ≡ true → owner_word words i ≡ t + 1 → SameBut i words after → owner_word after i ≡ 0
+      → (j : ℕ) (u : View) → j ≢ number → get_elem? views j ≡ some u
+      → IsSound value limits allows home k.holder k.log told after j u
+  left_sound t i after mine owned same none j u ne e =
+      words_stay value limits allows home k.holder k.log told words after same.same_board j u
+      (λ l task low speaks theirs. lane_but words after i l same low (apart_lane t i mine owned j u ne e l task speaks theirs))
+      (λ turns l low none'. elim (eqb l i) as (λ b. (eqb l i ≡ b) → owner_word after l ≡ 0) [
+        | true ↦ λ yes'. ap (λ (m : ℕ). owner_word after m) (eqb-true l i yes') ∙ none
+        | false ↦ λ no'. same.same_owner l (ne_of l i no') ∙ none'
+      ] refl)
+      (k.sound j u e)
 
   module _ (after : List ℕ) (w : View) (speaks : speaks_of w ≡ speaks_of v)
       (here : IsSound value limits allows home k.holder k.log told after number w)
@@ -126,22 +173,31 @@ module _ {T : Type 0} (value : List ℤ → Outcome) (limits : Limits) (allows :
 
 module _ {T : Type 0} (value : List ℤ → Outcome) (limits : Limits) (allows : Allows) (StandsFor : T → History → Type 0)
     (told : ℕ) (words : List ℕ) (views : List View) (k : Kept value limits allows StandsFor None told words views)
-    (number : ℕ) (f : Knowledge) (claims : List Ask) (said : Outcome) (lane : Option ℕ) (at : get_elem? views number ≡ some (Turning f claims said lane)) where
+    (number : ℕ) (f : Knowledge) (claims : List Ask) (said : Outcome) (lane : Lane) (at : get_elem? views number ≡ some (Turning f claims said lane)) where
   -- no other seat has the turn
-  pub no_other : (j : ℕ) (g : Knowledge) (cs : List Ask) (sd : Outcome) (l : Option ℕ) → j ≢ number → get_elem? views j ≡ some (Turning g cs sd l) → ⊥
+  pub no_other : (j : ℕ) (g : Knowledge) (cs : List Ask) (sd : Outcome) (l : Lane) → j ≢ number → get_elem? views j ≡ some (Turning g cs sd l) → ⊥
   no_other j g cs sd l ne e = let s = k.sound j (Turning g cs sd l) e in let m = k.sound number (Turning f claims said lane) at in ne (s.2 ∙ sym m.2)
 
+  pub no_turning : (j : ℕ) (u : View) → j ≢ number → get_elem? views j ≡ some u → is_turning u ≡ true → ⊥
+  no_turning j (Turning g cs sd l) ne e turns = no_other j g cs sd l ne e
+  no_turning j (Resting g) ne e turns = absurd (cc)
+  no_turning j (Joining g h) ne e turns = absurd (cc)
+  no_turning j (Posting g i n) ne e turns = absurd (cc)
+  no_turning j (Asking g a) ne e turns = absurd (cc)
+  no_turning j (Reading g a) ne e turns = absurd (cc)
+  no_turning j Spent ne e turns = absurd (cc)
+
   -- a lane that is the holder's is what its view says
-  pub held_is : (i : ℕ) (h : HeldAt views i) → Turning h.knows h.claims h.said (Some h.n) ≡ Turning f claims said lane
+  pub held_is : (i : ℕ) (h : HeldAt views i) → Turning h.knows h.claims h.said (Holds i h.n) ≡ Turning f claims said lane
   held_is i h =
-      let s = k.sound h.seat (Turning h.knows h.claims h.said (Some h.n)) h.at in
+      let s = k.sound h.seat (Turning h.knows h.claims h.said (Holds i h.n)) h.at in
       let m = k.sound number (Turning f claims said lane) at in
-      same_view views h.seat number (Turning h.knows h.claims h.said (Some h.n)) (Turning f claims said lane) h.at at (s.2 ∙ sym m.2)
+      same_view views h.seat number (Turning h.knows h.claims h.said (Holds i h.n)) (Turning f claims said lane) h.at at (s.2 ∙ sym m.2)
 
-  pub held_speaks : (i : ℕ) → HeldAt views i → f.speaks ≡ i ∷ []
-  held_speaks i h = ap (λ (u : View). (known_of u).speaks) (sym (held_is i h)) ∙ h.speaks
+  pub held_lane : (i : ℕ) (h : HeldAt views i) → lane ≡ Holds i h.n
+  held_lane i h = sym (ap (λ (u : View). lane_of u) (held_is i h))
 
-  module _ (after : List ℕ) (claims' : List Ask) (said' : Outcome) (lane' : Option ℕ)
+  module _ (after : List ℕ) (claims' : List Ask) (said' : Outcome) (lane' : Lane)
       (said_is : said' ≡ board after) (lane_is : LaneIs after f lane')
       (others : (j : ℕ) (u : View) → j ≢ number → get_elem? views j ≡ some u → IsSound {T = T} value limits allows None k.holder k.log told after j u)
       (more : (a : Ask) → IsOneOf claims a → IsOneOf claims' a)
@@ -157,21 +213,20 @@ module _ {T : Type 0} (value : List ℤ → Outcome) (limits : Limits) (allows :
     asking_stays j g a e = stays is_asking views number j (Turning f claims said lane) (Turning f claims' said' lane') (Asking g a) at refl refl e
 
     -- a lane that the holder did not write
-    pub lane_still : lane' ≡ lane → (i n : ℕ) → IsLane k.log views i n → IsLane k.log (set views number (Turning f claims' said' lane')) i n
+    pub lane_still : ((i n : ℕ) → lane ≡ Holds i n → lane' ≡ Holds i n) → (i n : ℕ) → IsLane k.log views i n
+        → IsLane k.log (set views number (Turning f claims' said' lane')) i n
     lane_still same i n (inl z) = inl z
     lane_still same i n (inr (inl q)) =
         inr (inl record { seat = q.seat; knows = q.knows; ask = q.ask; at = asking_stays q.seat q.knows q.ask q.at; is = q.is })
     lane_still same i n (inr (inr (inl p))) = inr (inr (inl p))
     lane_still same i n (inr (inr (inr h))) =
-        inr (inr (let lane_has : lane' ≡ Some h.n = same ∙ sym (ap (λ (u : View). lane_of u) (held_is i h)) in
-        inr record {
+        inr (inr (inr record {
           seat = number;
           knows = f;
           claims = claims';
           said = said';
           n = h.n;
-          at = there ∙ ap (λ (o : Option ℕ). some (Turning f claims' said' o)) lane_has;
-          speaks = held_speaks i h;
+          at = there ∙ ap (λ (o : Lane). some (Turning f claims' said' o)) (same i h.n (held_lane i h));
         }))
 
     pub holds : ((i : ℕ) → i < lanes_most → IsLane k.log (set views number (Turning f claims' said' lane')) i (posted after i))

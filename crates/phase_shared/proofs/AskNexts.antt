@@ -1,8 +1,8 @@
 -- A next phase that others may make: how it begins, and what its answer is, as the contracts of
 -- calls say it.
-use Rattle.std.proofs.Common.{◌≡◌, ℕ, ◌+◌, ◌<◌, Bool, true, false, [], ◌∷◌, Some, None, refl, sym, ap, subst, ◌∙◌, inl, arith}
+use Rattle.std.proofs.Common.{◌≡◌, ℕ, ◌+◌, Bool, true, false, List, [], ◌∷◌, Some, None, refl, sym, ap, subst, ◌∙◌, inl, arith}
 use Rattle.std.specs.Prelude.{Ok, Err, is_some}
-use Rattle.phase_shared.specs.Phasers.{Entry, mode_signals, mode_waits, entry_of, signalled, waited, Operation, Outcome, Event, Got, SignalRefusal, History, IsAlive, members_of, signal_phase, IsLegal, OthersCame, refused_or, CoreState}
+use Rattle.phase_shared.specs.Phasers.{Limits, is_in, Entry, mode_signals, mode_waits, entry_of, signalled, waited, Operation, Outcome, Event, Got, SignalRefusal, History, IsAlive, members_of, signal_phase, IsLegal, OthersCame, refused_or, CoreState}
 use Rattle.phase_core.specs.phase_history.declared.event.Event.TheVariants.{Signalled, Waited}
 use Rattle.phase_core.specs.phase_history.declared.got.Got.TheVariants as got
 use Rattle.phase_core.specs.phase_history.declared.refusal.SignalRefusal.TheVariants as signal
@@ -13,17 +13,17 @@ use Rattle.phase_shared.specs.declared.next.Next.{Next}
 use Rattle.phase_shared.specs.declared.rule.Terms.{Terms}
 use Rattle.phase_shared.specs.declared.seats.request.Request.{Request}
 use Rattle.phase_shared.specs.declared.seats.view.View.{View}
-use Rattle.phase_shared.specs.Asks.{IsAtPhases}
+use Rattle.phase_shared.specs.Asks.{Ask, IsAtPhases}
 use Rattle.phase_shared.specs.Calls.{IsCall, MaySignal, Signals, Waits}
 use Rattle.phase_shared.specs.Desks.{Reading}
 use Rattle.phase_shared.specs.Entries.{entry_after_next}
-use Rattle.phase_shared.specs.Lanes.{lanes_most, sends_of}
+use Rattle.phase_shared.specs.Lanes.{sends_of}
 use Rattle.phase_shared.specs.Nexts.{GoesOrRefuses, RefusesNext}
 use Rattle.phase_shared.specs.Regs.{RegState}
-use Rattle.phase_shared.specs.Rule.{Allows, AfterTake, IsGoodAt, IsSeatOfTask}
-use Rattle.phase_shared.specs.Servings.{ask_of, HasAnswer, IsRefused, IsRequestOf, IsWaiterIn, MayAsk, Starting}
-use Rattle.phase_shared.specs.Tells.{Learnt}
-use Rattle.phase_shared.specs.Views.{knowledge, known_of, resting}
+use Rattle.phase_shared.specs.Rule.{Allows, IsGoodAt, IsSeatOfTask, StandsWithin}
+use Rattle.phase_shared.specs.Servings.{ask_of, HasAnswer, IsRefused, IsRequestOf, IsWaiterIn, MayAsk, MayGoNext, MayGoOn, Starting}
+use Rattle.phase_shared.specs.Tells.{Took, Learnt}
+use Rattle.phase_shared.specs.Views.{Lane, Own, knowledge, known_of, speaks_of, lane_at_rest, resting, owning, turning}
 use Rattle.phase_shared.proofs.AskAnswering.{asked_signals, asked_waits, same_refusal}
 use Rattle.phase_shared.proofs.Giving.{member_after}
 use Rattle.phase_shared.proofs.NextSteps.{made}
@@ -33,45 +33,68 @@ use Rattle.phase_shared.proofs.Stages.{at_entry, wait_is}
 no_event_is_none : (e : Event) (h : History) → e ∷ h ≡ [] → ⊥
 no_event_is_none e h none = cc
 
+-- a seat at rest, in its own words
+pub rests_so : (ask : Ask) (seen : History) (v : View) → v ≡ resting seen (ask.task ∷ []) → v ≡ resting (known_of v).seen (ask.task ∷ [])
+rests_so ask seen v rests = rests ∙ ap (λ (h : History). resting h (ask.task ∷ [])) (sym (ap (λ (u : View). (known_of u).seen) rests))
+
+-- a seat that may go to its next phase may go on, once its lane is its own
+pub goes_on : (limits : Limits) (signals : Allows) (ask : Ask) (seen : History) (v w : View) → MayGoNext limits signals ask seen v
+    → w ≡ owning (known_of v).seen (ask.task ∷ []) ask.lane → MayGoOn limits signals ask seen w
+goes_on limits signals ask seen v w next owns =
+    let here : (known_of v).seen ≡ seen = ap (λ (u : View). (known_of u).seen) next.rests in
+    let is : w ≡ owning seen (ask.task ∷ []) ask.lane = owns ∙ ap (λ (h : History). owning h (ask.task ∷ []) ask.lane) here in
+    subst (λ (u : View). MayGoOn limits signals ask seen u) (sym is)
+    (record {
+      may = record { rests = refl; stands = next.stands; may = next.waits.may };
+      seen_is = refl;
+      waits = next.waits;
+    })
+
 module _ {A K : Type 0} (op : Operation A) (allows : K → Allows) (terms : Terms K) (r : Request) where
   -- a turn begins, of a seat at rest that may ask
-  pub starting : (seen : History) (entry : Entry) (v : View) (x : CoreState A) (w : View)
-      → MayAsk terms.limits (allows terms.rule) (ask_of r) v → seen ≡ (known_of v).seen → IsAlive seen r.task × IsWaiterIn seen r.task
-      → AfterTake op allows terms r.task entry v x w → Starting op terms.limits (allows terms.rule) (ask_of r) seen w x
-  starting seen entry v x w may since waits e =
+  pub starting : (seen : History) (v : View) (x : CoreState A) (w : View)
+      → MayAsk terms.limits (allows terms.rule) (ask_of r) v → seen ≡ (known_of v).seen → IsWaiterIn seen r.task
+      → Took terms.limits (allows terms.rule) (StandsWithin op terms.limits) v x w
+      → Starting op terms.limits (allows terms.rule) (ask_of r) seen w x
+  starting seen v x w may since waits t =
       subst (λ (h : History). Starting op terms.limits (allows terms.rule) (ask_of r) h w x) (sym since)
-      (begun (subst (λ (h : History). IsWaiterIn h r.task) since waits.1))
+      (begun (subst (λ (h : History). IsWaiterIn h r.task) since waits))
     where
       begun : IsWaiterIn (known_of v).seen r.task → Starting op terms.limits (allows terms.rule) (ask_of r) (known_of v).seen w x
       begun waiter =
           let st : IsAtPhases (known_of v).seen r.task r.phase r.phase = may.stands in
-          let there : entry_of (members_of e.now) r.task ≡ Some st.entry =
-          member_after terms.limits r.task st.entry (known_of v).seen e.now e.others e.good.legal st.member in
+          let speaks : speaks_of v ≡ r.task ∷ [] = ap speaks_of may.rests in
+          let lane : lane_at_rest v ≡ Own r.lane = ap lane_at_rest may.rests in
+          let others : OthersCame (r.task ∷ []) (known_of v).seen t.now = subst (λ (l : List ℕ). OthersCame l (known_of v).seen t.now) speaks t.others in
+          let there : entry_of (members_of t.now) r.task ≡ Some st.entry =
+          member_after terms.limits r.task st.entry (known_of v).seen t.now others t.good.legal st.member in
           record {
             turned = record {
               did = record {
-                now = e.now;
-                claims = e.claims;
-                said = e.said;
-                lane = None;
+                now = t.now;
+                claims = t.claims;
+                said = t.said;
+                lane = Own r.lane;
                 later = [];
                 some = λ none.
-                    let gone : None ≡ Some entry = ap (λ (h : History). entry_of (members_of h) r.task) (sym none) ∙ e.member in
+                    let gone : None ≡ Some st.entry = ap (λ (h : History). entry_of (members_of h) r.task) (sym none) ∙ there in
                     cc;
                 batch = tt;
-                theirs = λ a one. (e.read a one).1;
+                theirs = λ a one. subst (λ (l : List ℕ). is_in a.task l ≡ false) speaks (t.read a one).1;
+                apart = λ a one. t.apart a one r.lane lane;
                 own = inl refl;
               };
-              is = e.is;
-              good = e.good;
-              stands = e.stands;
-              quiet = λ none a one st'. apart_phases a.phase (sym (wait_is e.now a.task (a.phase + 1) (a.phase + 1) st')
-                  ∙ wait_is e.now a.task (a.phase + 1) a.phase (e.read a one).0);
+              is = t.is ∙ ap (λ (l : List ℕ). turning t.now l t.claims t.said (lane_at_rest v)) speaks
+                  ∙ ap (λ (l : Lane). turning t.now (r.task ∷ []) t.claims t.said l) lane;
+              good = t.good;
+              stands = t.stands;
+              quiet = λ none a one st'. apart_phases a.phase (sym (wait_is t.now a.task (a.phase + 1) (a.phase + 1) st')
+                  ∙ wait_is t.now a.task (a.phase + 1) a.phase (t.read a one).0);
               complete = λ serves. absurd (cc);
               served = λ a one low at. absurd (omega arith);
             };
             first = refl;
-            unmade = record { others = e.others; stands = at_entry (known_of v).seen e.now r.task r.phase r.phase st there };
+            unmade = record { others = others; stands = at_entry (known_of v).seen t.now r.task r.phase r.phase st there };
             waits = λ other member.
                 ap (λ (f : Entry). mode_waits f.mode) (same_some other st.entry (sym member ∙ there)) ∙ waiter st.entry st.member;
             may = may.may;
@@ -84,18 +107,17 @@ module _ {A K : Type 0} (op : Operation A) (allows : K → Allows) (terms : Term
   asked_member : entry_of (members_of old.seen) r.task ≡ Some old.entry
   asked_member = subst (λ (n : ℕ). entry_of (members_of old.seen) n ≡ Some old.entry) (sym q.task) member
 
-  pub alive : IsAlive old.seen r.task × IsWaiterIn old.seen r.task
+  alive : IsAlive old.seen r.task × IsWaiterIn old.seen r.task
   alive = (
     ap is_some asked_member,
     λ e there. ap (λ (f : Entry). mode_waits f.mode) (same_some e old.entry (sym there ∙ asked_member)) ∙ waits,
   )
 
-  -- its seat may ask
-  pub may_ask : (v : View) → v ≡ resting old.seen (old.number ∷ []) → (known_of v).seen ≡ old.seen → r.task < lanes_most
-      → MaySignal op allows terms old None → MayAsk terms.limits (allows terms.rule) (ask_of r) v
-  may_ask v rests seen low may = record {
+  -- its seat may go on to it
+  pub may_go : (v : View) → v ≡ resting old.seen (old.number ∷ []) → (known_of v).seen ≡ old.seen
+      → MaySignal op allows terms old None → MayGoNext terms.limits (allows terms.rule) (ask_of r) (known_of v).seen v
+  may_go v rests seen may = record {
     rests = rests ∙ ap (λ (n : ℕ). resting old.seen (n ∷ [])) (sym q.task) ∙ ap (λ (h : History). resting h (r.task ∷ [])) (sym seen);
-    low = low;
     stands = record {
       entry = old.entry;
       member = subst (λ (h : History). entry_of (members_of h) r.task ≡ Some old.entry) (sym seen) asked_member;
@@ -103,10 +125,14 @@ module _ {A K : Type 0} (op : Operation A) (allows : K → Allows) (terms : Term
       signal_at = q.signal_at;
       wait_at = q.wait_at;
     };
-    may = λ h good others.
-        let came : OthersCame (old.number ∷ []) old.seen h =
-        subst (λ (n : ℕ). OthersCame (n ∷ []) old.seen h) q.task (subst (λ (g : History). OthersCame (r.task ∷ []) g h) seen others) in
-        subst (λ (n : ℕ). allows terms.rule h n (sends_of r.send ∷ []) None) (sym q.task) (may h (sends_of r.send) good came q.holds);
+    waits = record {
+      alive = subst (λ (h : History). IsAlive h r.task) (sym seen) alive.0;
+      waits = subst (λ (h : History). IsWaiterIn h r.task) (sym seen) alive.1;
+      may = λ h good others.
+          let came : OthersCame (old.number ∷ []) old.seen h =
+          subst (λ (n : ℕ). OthersCame (n ∷ []) old.seen h) q.task (subst (λ (g : History). OthersCame (r.task ∷ []) g h) seen others) in
+          subst (λ (n : ℕ). allows terms.rule h n (sends_of r.send ∷ []) None) (sym q.task) (may h (sends_of r.send) good came q.holds);
+    };
   }
 
   -- where it stands after its next phase

@@ -1,11 +1,11 @@
 -- What a seat that speaks for one task owes at a give.
-use Rattle.std.proofs.Common.{◌≡◌, ℕ, ◌+◌, false, cond, eqb, List, [], ◌∷◌, ◌++◌, Option, Some, None, refl, sym, ap, subst, ◌∙◌, inl}
+use Rattle.std.proofs.Common.{◌≡◌, ℕ, ◌+◌, false, cond, eqb, List, [], ◌∷◌, ◌++◌, Option, Some, refl, sym, ap, subst, ◌∙◌, inl}
 use Rattle.std.specs.Prelude.{is_some}
 use Rattle.turn_lock.specs.WordSteps.{GivesOf}
 use Rattle.phase_shared.specs.Phasers.{Limits, Entry, Operation, Event, entry_of, History, members_of, IsLegal, CoreState, StandsFor, IsUsed, is_by, events_of, OthersCame, is_in, Outcome}
 use Rattle.phase_shared.specs.declared.seats.view.View.{View}
 use Rattle.phase_shared.specs.declared.rule.Terms.{Terms}
-use Rattle.phase_shared.specs.Views.{knowledge, resting, turning, known_of, speaks_of}
+use Rattle.phase_shared.specs.Views.{Unknown, lane_at_rest, knowledge, resting, turning, known_of, speaks_of}
 use Rattle.phase_shared.specs.Rule.{Allows, IsGoodAt, IsOneHistory, HasOneHistory, StandsWithin, TookAt, IsSeatOfTask, AfterTake, Keeps}
 use Rattle.phase_shared.specs.declared.seats.view.Ask.{Ask}
 use Rattle.phase_shared.specs.Steps.{GivesNoAnswer}
@@ -65,7 +65,8 @@ module _ {A K : Type 0} (op : Operation A) (allows : K → Allows) (terms : Term
         good = t.good;
         stands = t.stands;
         read = λ a one. let r = t.read a one in (r.0, subst (λ (l : List ℕ). is_in a.task l ≡ false) speaks r.1);
-        is = t.is ∙ ap (λ l. turning t.now l t.claims t.said None) speaks;
+        is = t.is ∙ ap (λ l. turning t.now l t.claims t.said (lane_at_rest v)) speaks
+            ∙ ap (λ l. turning t.now (me ∷ []) t.claims t.said l) (ap lane_at_rest s.rests);
         member = member;
         used = IsUsed-member t.now me (ap is_some member);
       }
@@ -75,9 +76,9 @@ module _ {A K : Type 0} (op : Operation A) (allows : K → Allows) (terms : Term
 
   -- a give after a call that made events of the task's own, or none
   pub gives_own : (goes : Goes) (number told : ℕ) (y : CoreState A) (w : View) (now new : History) (claims : List Ask) (said : Outcome)
-      → w ≡ turning now (me ∷ []) claims said None → IsUsed now me
+      → w ≡ turning now (me ∷ []) claims said Unknown → IsUsed now me
       → OwnCame me now new → IsGoodAt allows terms new → StandsWithin op terms.limits y new
-      → goes (turning now (me ∷ []) claims said None) (resting new (me ∷ []))
+      → goes (turning now (me ∷ []) claims said Unknown) (resting new (me ∷ []))
       → GivesNoAnswer (HasOneHistory op allows) terms number w y told (λ v z u. goes v u)
   gives_own goes number told y w now new claims said is used own good stands goes_on next same =
       let all : History = own.later ++ now in
@@ -91,7 +92,7 @@ module _ {A K : Type 0} (op : Operation A) (allows : K → Allows) (terms : Term
             told next same
             (λ task none. own.own task (or_false (eqb me task) none)) good' stands' refl
             (λ task has. (subst (λ (n : ℕ). IsUsed all n) (one_of me task has) used', inl has)) words views k at,
-        subst (λ (h : History). goes (turning now (me ∷ []) claims said None) (resting h (me ∷ []))) own.is goes_on,
+        subst (λ (h : History). goes (turning now (me ∷ []) claims said Unknown) (resting h (me ∷ []))) own.is goes_on,
       ))
 
   -- a give after a call that made no event
@@ -104,12 +105,12 @@ module _ {A K : Type 0} (op : Operation A) (allows : K → Allows) (terms : Term
       subst (λ (z : View). GivesOf (HasOneHistory op allows) terms number z y told told then) (sym e.is)
       (λ words views long k at. (
         rests,
-        asks.gives_same op.value terms.limits (allows terms.rule) (StandsWithin op terms.limits) number (knowledge e.now (me ∷ [])) e.claims e.said None y []
+        asks.gives_same op.value terms.limits (allows terms.rule) (StandsWithin op terms.limits) number (knowledge e.now (me ∷ [])) e.claims e.said Unknown y []
             told rests tt e.good stands
             (λ a one low st. absurd (apart_phases a.phase (sym (wait_is e.now a.task (a.phase + 1) (a.phase + 1) st)
             ∙ wait_is e.now a.task (a.phase + 1) a.phase (e.read a one).0)))
             (inl (e.now, refl, OthersCame-refl (me ∷ []) e.now, tt))
-            (λ s. absurd (no_lane (s.ask.phase + 1) s.posts))
+            (λ s. absurd (no_lane s.ask.lane (s.ask.phase + 1) s.posts))
             words views k at,
         refl,
       ))

@@ -1,5 +1,5 @@
 -- A give keeps the rule: with the giver's own events, and with those of a turn for others that asked.
-use Rattle.std.proofs.Common.{◌≡◌, ◌≢◌, ℕ, ℤ, ◌+◌, ◌<◌, ◌≤◌, true, false, cond, List, [], ◌∷◌, ◌++◌, ◌⊎◌, Option, Some, None, set, refl, sym, ap, subst, ◌∙◌, inl, inr, arith}
+use Rattle.std.proofs.Common.{◌≡◌, ◌≢◌, ℕ, ℤ, ◌+◌, ◌<◌, ◌≤◌, true, false, cond, List, [], ◌∷◌, ◌++◌, ◌⊎◌, Some, None, set, refl, sym, ap, subst, ◌∙◌, inl, inr, arith}
 use Rattle.std.specs.Prelude.{◌/◌, ◌%◌}
 use mathlib.Core.Option.{some}
 use lib.ListN.{get_elem?}
@@ -9,20 +9,20 @@ use Rattle.phase_shared.specs.Phasers.{Limits, is_distinct, is_in, Outcome, Hist
 use Rattle.phase_core.proofs.phase_history_lemmas.Used.{IsUsed-longer}
 use Rattle.phase_core.proofs.phase_history_lemmas.OthersEvents.{OthersCame-refl, OthersCame-trans}
 use Rattle.phase_shared.specs.declared.seats.view.Knowledge.{Knowledge}
-use Rattle.phase_shared.specs.Views.{knowledge, speaks_of, is_turning, known_of, lane_of}
+use Rattle.phase_shared.specs.Views.{Lane, Unknown, Holds, knowledge, speaks_of, is_turning, lane_of}
 use Rattle.phase_shared.specs.Goods.{Allows, IsGood}
 use Rattle.phase_shared.specs.Asks.{Ask, IsAtPhases, IsUnmade, IsMade, IsAnsweredAsk, Stage, Batch, IsOneOf, asks_for}
-use Rattle.phase_shared.specs.Lanes.{lanes_most, board, posted}
-use Rattle.phase_shared.specs.Desks.{View, Resting, Turning, Joining, Posting, Asking, Reading, Spent, IsSound, AskStands, HasToRead, HasLane, LaneIs, IsPast, HeldAt, IsLane, Kept}
+use Rattle.phase_shared.specs.Lanes.{lanes_most, board, posted, owner_word}
+use Rattle.phase_shared.specs.Desks.{View, Resting, Turning, Joining, Posting, Asking, Reading, Spent, IsSound, AskStands, HasToRead, Owns, LaneIs, IsPast, HeldAt, IsLane, Kept}
 use Rattle.phase_shared.specs.Tells.{StillAsks, LaneIsPast, EndsTurn, Leaves}
 use Rattle.phase_shared.proofs.Small.{same_some, none_some, not_true_is, not_both, apart_phases, is_in_self, in_left, in_right, used_some}
 use Rattle.phase_shared.proofs.Stages.{stage_goes, signal_is, wait_is, done_within}
 use Rattle.phase_shared.proofs.Steadies.{found, none_of, same_value, stands_still, stage_still, not_made_and_answered}
-use Rattle.phase_shared.proofs.Growing.{past_goes, unmade_before, done_grows, own_batch}
-use Rattle.phase_shared.proofs.Places.{is_asking, ask_in, same_view, was, stays}
+use Rattle.phase_shared.proofs.Growing.{unmade_before, done_grows, own_batch}
+use Rattle.phase_shared.proofs.Places.{is_asking, ask_in, same_view, was, stays, held_same}
 
 module _ {T : Type 0} (value : List ℤ → Outcome) (limits : Limits) (allows : Allows) (StandsFor : T → History → Type 0)
-    (number : ℕ) (f : Knowledge) (claims : List Ask) (said : Outcome) (lane : Option ℕ) (told : ℕ) (words : List ℕ) (views : List View)
+    (number : ℕ) (f : Knowledge) (claims : List Ask) (said : Outcome) (lane : Lane) (told : ℕ) (words : List ℕ) (views : List View)
     (k : Kept value limits allows StandsFor None told words views) (at : get_elem? views number ≡ some (Turning f claims said lane)) where
   some_log : k.log ≡ [] → ⊥
   some_log none =
@@ -54,7 +54,7 @@ module _ {T : Type 0} (value : List ℤ → Outcome) (limits : Limits) (allows :
   one_ask j g a e b one same = let q = seat_is j (Asking g a) a.task e (own_task j g a e) b one same in sym (ap (λ v. ask_in a v) q.1)
 
   -- a turn is the giver's
-  turn_is : (j : ℕ) (g : Knowledge) (cs : List Ask) (sd : Outcome) (ln : Option ℕ) → get_elem? views j ≡ some (Turning g cs sd ln) → j ≡ number
+  turn_is : (j : ℕ) (g : Knowledge) (cs : List Ask) (sd : Outcome) (ln : Lane) → get_elem? views j ≡ some (Turning g cs sd ln) → j ≡ number
   turn_is j g cs sd ln e = let s = k.sound j (Turning g cs sd ln) e in s.2 ∙ sym (k.sound number (Turning f claims said lane) at).2
 
   -- what is told is no phase that an ask which was read has still to wait for
@@ -68,7 +68,7 @@ module _ {T : Type 0} (value : List ℤ → Outcome) (limits : Limits) (allows :
       ]
 
   -- who asked has a lane
-  low_of : (a : Ask) → IsOneOf claims a → a.task < lanes_most
+  low_of : (a : Ask) → IsOneOf claims a → a.lane < lanes_most
   low_of a one =
       let c = k.claimed number f claims said lane at a one in (asks_at c.seat c.knows a c.at).low
 
@@ -80,7 +80,7 @@ module _ {T : Type 0} (value : List ℤ → Outcome) (limits : Limits) (allows :
       (w : View) (rests : is_turning w ≡ false)
       (each : (task : ℕ) → is_in task (speaks_of w) ≡ true → IsUsed (later ++ k.log) task × ((is_in task f.speaks ≡ true) ⊎ (IsUsed k.log task → ⊥)))
       (sound' : IsSound value limits allows (Some y) number (later ++ k.log) next words number w)
-      (lane_new : (i n : ℕ) → lane ≡ Some n → f.speaks ≡ i ∷ [] → IsLane (later ++ k.log) (set views number w) i (posted words i)) where
+      (lane_new : (i n : ℕ) → lane ≡ Holds i n → IsLane (later ++ k.log) (set views number w) i (posted words i)) where
     one_used : (j : ℕ) (g : Knowledge) (a : Ask) → get_elem? views j ≡ some (Asking g a) → (b : Ask) → IsOneOf used b → b.task ≡ a.task → b ≡ a
     one_used j g a e b one same = one_ask j g a e b (inside b one) same
 
@@ -155,13 +155,14 @@ module _ {T : Type 0} (value : List ℤ → Outcome) (limits : Limits) (allows :
           to_new h.speaks j (Joining g h) ne e refl (λ t has'. in_right g.speaks h.speaks t has') h.seen s.1,
           s.2,
         )
-    other_sound j (Posting g n) ne e =
-        let s = k.sound j (Posting g n) e in (to_new g.speaks j (Posting g n) ne e refl (λ t h. h) g.seen s.0, s.1, s.2)
+    other_sound j (Posting g i n) ne e =
+        let s = k.sound j (Posting g i n) e in (to_new g.speaks j (Posting g i n) ne e refl (λ t h. h) g.seen s.0, s.1, s.2, s.3)
     other_sound j (Asking g a) ne e =
         let s = asks_at j g a e in
         record {
           speaks = s.speaks;
           low = s.low;
+          owned = s.owned;
           stage = asks_new j g a ne e;
           waits = λ odd m. waits odd a (made_is_read j g a ne e m) m.stands;
           may = s.may;
@@ -187,7 +188,7 @@ module _ {T : Type 0} (value : List ℤ → Outcome) (limits : Limits) (allows :
     stays_used task u = IsUsed-longer limits k.log (later ++ k.log) task good.legal (record { later = later; is = refl }) u
 
     -- no view has the turn afterwards
-    no_turn : (j : ℕ) (g : Knowledge) (cs : List Ask) (sd : Outcome) (ln : Option ℕ) → get_elem? (set views number w) j ≡ some (Turning g cs sd ln) → ⊥
+    no_turn : (j : ℕ) (g : Knowledge) (cs : List Ask) (sd : Outcome) (ln : Lane) → get_elem? (set views number w) j ≡ some (Turning g cs sd ln) → ⊥
     no_turn j g cs sd ln e =
         let p = was is_turning views number j w (Turning g cs sd ln) rests refl e in p.0 (turn_is j g cs sd ln p.1)
 
@@ -201,9 +202,13 @@ module _ {T : Type 0} (value : List ℤ → Outcome) (limits : Limits) (allows :
     -- the lane of the giver is left as it says
     lane_held : (i : ℕ) (h : HeldAt views i) → IsLane (later ++ k.log) (set views number w) i (posted words i)
     lane_held i h =
-        let here = turn_is h.seat h.knows h.claims h.said (Some h.n) h.at in
-        let same = same_view views h.seat number (Turning h.knows h.claims h.said (Some h.n)) (Turning f claims said lane) h.at at here in
-        lane_new i h.n (sym (ap lane_of same)) (ap (λ v. (known_of v).speaks) (sym same) ∙ h.speaks)
+        let here = turn_is h.seat h.knows h.claims h.said (Holds i h.n) h.at in
+        let same = same_view views h.seat number (Turning h.knows h.claims h.said (Holds i h.n)) (Turning f claims said lane) h.at at here in
+        lane_new i h.n (sym (ap lane_of same))
+
+    -- what is past stays past
+    past_then : (n : ℕ) → IsPast k.log n → IsPast (later ++ k.log) n
+    past_then n p = let more = done_grows limits later k.log some_log good.legal in omega arith
 
     lane_given : (i : ℕ) → IsLane k.log views i (posted words i) → IsLane (later ++ k.log) (set views number w) i (posted words i)
     lane_given i (inl z) = inl z
@@ -214,7 +219,7 @@ module _ {T : Type 0} (value : List ℤ → Outcome) (limits : Limits) (allows :
       at = stays is_asking views number q.seat (Turning f claims said lane) w (Asking q.knows q.ask) at refl refl q.at;
       is = q.is;
     })
-    lane_given i (inr (inr (inl p))) = inr (inr (inl (past_goes limits later k.log i (posted words i) good.legal p)))
+    lane_given i (inr (inr (inl p))) = inr (inr (inl (past_then (posted words i) p)))
     lane_given i (inr (inr (inr h))) = lane_held i h
 
     gave : Kept value limits allows StandsFor (Some y) next words (set views number w)
@@ -245,8 +250,8 @@ module _ {T : Type 0} (value : List ℤ → Outcome) (limits : Limits) (allows :
 single_is : (a b : ℕ) → a ∷ [] ≡ b ∷ [] → a ≡ b
 single_is a b e = cc
 
-pub no_lane : (n : ℕ) → None ≡ Some n → ⊥
-no_lane n e = cc
+pub no_lane : (i n : ℕ) → Unknown ≡ Holds i n → ⊥
+no_lane i n e = cc
 
 module _ {T : Type 0} (value : List ℤ → Outcome) (limits : Limits) (allows : Allows) (StandsFor : T → History → Type 0) where
   -- a give with the giver's own events, that answers no ask
@@ -255,27 +260,27 @@ module _ {T : Type 0} (value : List ℤ → Outcome) (limits : Limits) (allows :
       → IsGood limits allows (own ++ f.seen) → StandsFor y (own ++ f.seen) → is_distinct speaks ≡ true
       → ((task : ℕ) → is_in task speaks ≡ true → IsUsed (own ++ f.seen) task × ((is_in task f.speaks ≡ true) ⊎ (IsUsed f.seen task → ⊥)))
       → (words : List ℕ) (views : List View) → Kept value limits allows StandsFor None told words views
-      → get_elem? views number ≡ some (Turning f claims said None)
+      → get_elem? views number ≡ some (Turning f claims said Unknown)
       → Kept value limits allows StandsFor (Some y) next words (set views number (Resting (knowledge (own ++ f.seen) speaks)))
   gives_own number f claims said y own speaks told next same mine' good stands distinct each words views k at =
-      let s = k.sound number (Turning f claims said None) at in
+      let s = k.sound number (Turning f claims said Unknown) at in
       let more : done_of k.log ≤ done_of (own ++ k.log) = subst (λ (h : History). done_of h ≤ done_of (own ++ h)) s.0
-      (done_grows limits own f.seen (λ none. some_log value limits allows StandsFor number f claims said None told words views k at (sym s.0 ∙ none)) good.legal) in
-      gave value limits allows StandsFor number f claims said None told words views k at y [] (λ a one. absurd one) own next
+      (done_grows limits own f.seen (λ none. some_log value limits allows StandsFor number f claims said Unknown told words views k at (sym s.0 ∙ none)) good.legal) in
+      gave value limits allows StandsFor number f claims said Unknown told words views k at y [] (λ a one. absurd one) own next
       (own_batch (IsOneOf []) f.speaks own k.log mine')
       (subst (λ (h : History). IsGood limits allows (own ++ h)) s.0 good)
       (subst (λ (h : History). StandsFor y (own ++ h)) s.0 stands)
       (λ odd. let is = same odd in let low = k.within (subst (λ (n : ℕ). n % 2 ≡ 1) is odd) in omega arith)
       (λ odd a one st. subst (λ (n : ℕ). n / 2 ≤ a.phase) (sym (same odd))
-      (told_waits value limits allows StandsFor number f claims said None told words views k at a one (subst (λ (n : ℕ). n % 2 ≡ 1) (same odd) odd)))
+      (told_waits value limits allows StandsFor number f claims said Unknown told words views k at a one (subst (λ (n : ℕ). n % 2 ≡ 1) (same odd) odd)))
       (λ a one st. absurd one)
       (Resting (knowledge (own ++ f.seen) speaks)) refl
       (λ task has. let e = each task has in
       (subst (λ (h : History). IsUsed (own ++ h) task) s.0 e.0, subst (λ (h : History). (is_in task f.speaks ≡ true) ⊎ (IsUsed h task → ⊥)) s.0 e.1))
       (subst (λ (h : History). OthersCame speaks (own ++ f.seen) (own ++ h)) s.0 (OthersCame-refl speaks (own ++ f.seen)), distinct)
-      (λ i n e alone. absurd (no_lane n e))
+      (λ i n e. absurd (no_lane i n e))
 
-  module _ (number : ℕ) (f : Knowledge) (claims : List Ask) (said : Outcome) (lane : Option ℕ) (told : ℕ) (words : List ℕ) (views : List View)
+  module _ (number : ℕ) (f : Knowledge) (claims : List Ask) (said : Outcome) (lane : Lane) (told : ℕ) (words : List ℕ) (views : List View)
       (k : Kept value limits allows StandsFor None told words views) (at : get_elem? views number ≡ some (Turning f claims said lane))
       (next : ℕ) (new : History) (w : View) (ends : EndsTurn limits allows next new f lane w) where
     ends_rest : is_turning w ≡ false
@@ -284,15 +289,17 @@ module _ {T : Type 0} (value : List ℤ → Outcome) (limits : Limits) (allows :
     ends_speak : speaks_of w ≡ f.speaks
     ends_speak = elim ends [ inl r ↦ ap speaks_of r.1 | inr s ↦ ap speaks_of s.is ∙ s.speaks ∙ sym s.mine ]
 
-    lane_has : (n : ℕ) → lane ≡ Some n → HasLane words f n
-    lane_has n e = subst (λ (l : Option ℕ). LaneIs words f l) e (k.sound number (Turning f claims said lane) at).6
+    lane_has : (i n : ℕ) → lane ≡ Holds i n → Owns words f i × (posted words i ≡ n)
+    lane_has i n e = subst (λ (l : Lane). LaneIs words f l) e (k.sound number (Turning f claims said lane) at).6
 
     -- what the own lane of who asks still has
-    still_lane : (s : StillAsks limits allows next new f lane w) → (s.ask.task < lanes_most) × (posted words s.ask.task ≡ s.ask.phase + 1)
+    still_lane : (s : StillAsks limits allows next new f lane w)
+        → (s.ask.lane < lanes_most) × (owner_word words s.ask.lane ≡ s.ask.task + 1) × (posted words s.ask.lane ≡ s.ask.phase + 1)
     still_lane s =
-        let l = lane_has (s.ask.phase + 1) s.posts in
-        let task_is : l.task ≡ s.ask.task = single_is l.task s.ask.task (sym l.speaks ∙ s.mine) in
-        (subst (λ (t : ℕ). t < lanes_most) task_is l.low, subst (λ (t : ℕ). posted words t ≡ s.ask.phase + 1) task_is l.has)
+        let l = lane_has s.ask.lane (s.ask.phase + 1) s.posts in
+        let o : Owns words f s.ask.lane = l.0 in
+        let task_is : o.task ≡ s.ask.task = single_is o.task s.ask.task (sym o.speaks ∙ s.mine) in
+        (o.low, subst (λ (t : ℕ). owner_word words s.ask.lane ≡ t + 1) task_is o.owned, l.1)
 
     ends_sound : (y : T) → IsSound value limits allows (Some y) number new next words number w
     ends_sound y = elim ends [
@@ -302,38 +309,36 @@ module _ {T : Type 0} (value : List ℤ → Outcome) (limits : Limits) (allows :
           let asks : AskStands value limits allows new next words s.knows s.ask = record {
             speaks = s.speaks;
             low = l.0;
+            owned = l.1;
             stage = inr (inl s.made);
             waits = λ odd m. s.waits odd;
             may = s.may;
             has = λ n. absurd (not_made_and_answered limits s.ask s.knows.seen new s.made n);
-            posts = l.1;
+            posts = l.2;
             sends = λ st. absurd (apart_phases s.ask.phase (sym (signal_is new s.ask.task (s.ask.phase + 1) s.ask.phase s.made.stands) ∙ signal_is new s.ask.task s.ask.phase s.ask.phase st));
           } in
           subst (λ (u : View). IsSound value limits allows (Some y) number new next words number u) (sym s.is) asks
     ]
 
-    ends_lane : (i n : ℕ) → lane ≡ Some n → f.speaks ≡ i ∷ [] → IsLane new (set views number w) i (posted words i)
-    ends_lane i n e alone = elim ends [
-      | inl r ↦ let l = lane_has n e in
-          let past : LaneIsPast new f (Some n) = subst (λ (o : Option ℕ). LaneIsPast new f o) e r.3 in
-          let task_is : l.task ≡ i = single_is l.task i (sym l.speaks ∙ alone) in
-          let there : past.0 ≡ i = single_is past.0 i (sym past.1 ∙ alone) in
-          let is : n ≡ posted words i = sym l.has ∙ ap (λ t. posted words t) task_is in
-          inr (inr (inl (subst (λ (m : ℕ). IsPast new i m) is (subst (λ (t : ℕ). IsPast new t n) there past.2))))
+    ends_lane : (i n : ℕ) → lane ≡ Holds i n → IsLane new (set views number w) i (posted words i)
+    ends_lane i n e = elim ends [
+      | inl r ↦ let l = lane_has i n e in
+          let past : LaneIsPast new (Holds i n) = subst (λ (o : Lane). LaneIsPast new o) e r.3 in
+          inr (inr (inl (subst (λ (m : ℕ). IsPast new m) (sym l.1) past)))
       | inr s ↦ inr (inl record {
         seat = number;
         knows = s.knows;
         ask = s.ask;
         at = set_here views number w (within views number (Turning f claims said lane) at) ∙ ap some s.is;
-        is = single_is s.ask.task i (sym s.mine ∙ alone);
+        is = held_same s.ask.lane i (s.ask.phase + 1) n (sym s.posts ∙ e);
       })
     ]
 
   -- a give with the events of a turn, that tells phases
-  pub gives_asks : (number : ℕ) (f : Knowledge) (claims : List Ask) (said : Outcome) (lane : Option ℕ) (y : T) (later : History) (told next : ℕ) (w : View)
+  pub gives_asks : (number : ℕ) (f : Knowledge) (claims : List Ask) (said : Outcome) (lane : Lane) (y : T) (later : History) (told next : ℕ) (w : View)
       → Batch (IsOneOf claims) f.speaks later f.seen → IsGood limits allows (later ++ f.seen) → StandsFor y (later ++ f.seen)
       → (next % 2 ≡ 1 → next / 2 ≤ done_of (later ++ f.seen))
-      → ((a : Ask) → IsOneOf claims a → a.task < lanes_most → Leaves value (later ++ f.seen) next said a)
+      → ((a : Ask) → IsOneOf claims a → a.lane < lanes_most → Leaves value (later ++ f.seen) next said a)
       → EndsTurn limits allows next (later ++ f.seen) f lane w
       → (words : List ℕ) (views : List View) → Kept value limits allows StandsFor None told words views
       → get_elem? views number ≡ some (Turning f claims said lane)
@@ -360,9 +365,9 @@ module _ {T : Type 0} (value : List ℤ → Outcome) (limits : Limits) (allows :
       (ends_lane number f claims said lane told words views k at next (later ++ k.log) w ends')
 
   -- a give with the events of a turn, that tells what was told
-  pub gives_same : (number : ℕ) (f : Knowledge) (claims : List Ask) (said : Outcome) (lane : Option ℕ) (y : T) (later : History) (told : ℕ) (w : View)
+  pub gives_same : (number : ℕ) (f : Knowledge) (claims : List Ask) (said : Outcome) (lane : Lane) (y : T) (later : History) (told : ℕ) (w : View)
       → Batch (IsOneOf claims) f.speaks later f.seen → IsGood limits allows (later ++ f.seen) → StandsFor y (later ++ f.seen)
-      → ((a : Ask) → IsOneOf claims a → a.task < lanes_most → IsAtPhases (later ++ f.seen) a.task (a.phase + 1) (a.phase + 1) → said ≡ value_of_phase value (later ++ f.seen) a.phase)
+      → ((a : Ask) → IsOneOf claims a → a.lane < lanes_most → IsAtPhases (later ++ f.seen) a.task (a.phase + 1) (a.phase + 1) → said ≡ value_of_phase value (later ++ f.seen) a.phase)
       → EndsTurn limits allows 0 (later ++ f.seen) f lane w
       → ((s : StillAsks limits allows 0 (later ++ f.seen) f lane w) → done_of f.seen ≤ s.ask.phase)
       → (words : List ℕ) (views : List View) → Kept value limits allows StandsFor None told words views

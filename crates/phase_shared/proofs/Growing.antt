@@ -2,7 +2,7 @@
 use Rattle.std.proofs.Common.{◌≡◌, ℕ, ◌+◌, ◌≤◌, true, false, cond, eqb, List, [], ◌∷◌, ◌++◌, length, Some, refl, sym, ap, ◌∙◌, inl, arith, inr}
 use Rattle.std.proofs.lemmas.Option.{same_Some}
 use Rattle.phase_shared.proofs.Small.{longer_some}
-use Rattle.phase_shared.specs.Phasers.{Limits, is_in, Entry, History, start_of, phases_waited, done_of, IsLegal, HasCounted, events_of}
+use Rattle.phase_shared.specs.Phasers.{Limits, is_in, Entry, History, start_of, done_of, IsLegal, HasCounted, events_of}
 use Rattle.phase_core.specs.phase_history.declared.event.Event.TheVariants.{Made, Registered, RegisteredNow, Signalled, Waited, Dropped}
 use Rattle.phase_core.specs.phase_history.Histories.{phases_signalled}
 use Rattle.phase_core.proofs.phase_history_lemmas.LawProofs.{counted_of}
@@ -11,7 +11,6 @@ use Rattle.phase_core.proofs.phase_history_lemmas.Streams.{legal_rest}
 use Rattle.phase_core.proofs.phase_history_lemmas.Used.{start_of-longer}
 use Rattle.phase_core.proofs.phase_history_lemmas.OthersEvents.{skips}
 use Rattle.phase_shared.specs.Asks.{Ask, IsAtPhases, Stage, Batch}
-use Rattle.phase_shared.specs.Desks.{IsPast}
 
 more_signals : (task : ℕ) (later h : History) → phases_signalled h task ≤ phases_signalled (later ++ h) task
 more_signals task [] h = omega arith
@@ -27,29 +26,6 @@ more_signals task (Signalled signaller lists single ∷ later) h =
     ]
 more_signals task (Waited waiter phases ∷ later) h = more_signals task later h
 more_signals task (Dropped gone ∷ later) h = more_signals task later h
-
-more_waits : (task : ℕ) (later h : History) → phases_waited h task ≤ phases_waited (later ++ h) task
-more_waits task [] h = omega arith
-more_waits task (Made founding ∷ later) h = more_waits task later h
-more_waits task (Registered parent child mode ∷ later) h = more_waits task later h
-more_waits task (RegisteredNow parent child ∷ later) h = more_waits task later h
-more_waits task (Signalled signaller lists single ∷ later) h = more_waits task later h
-more_waits task (Waited waiter phases ∷ later) h =
-    let r = more_waits task later h in
-    elim (eqb waiter task) as (λ b. phases_waited h task
-    ≤ cond b (phases_waited (later ++ h) task + phases) (phases_waited (later ++ h) task)) [
-      | true ↦ omega arith
-      | false ↦ r
-    ]
-more_waits task (Dropped gone ∷ later) h = more_waits task later h
-
--- what is past stays past
-pub past_goes : (limits : Limits) (later h : History) (task n : ℕ) → IsLegal limits (later ++ h) → IsPast h task n → IsPast (later ++ h) task n
-past_goes limits later h task n legal p = record {
-  start = p.start;
-  start_is = start_of-longer limits h (later ++ h) task p.start legal (record { later = later; is = refl }) p.start_is;
-  past = (let low = p.past in let more = more_waits task later h in omega arith);
-}
 
 -- a task's next signal is not for a lower phase later
 pub signals_grow : (limits : Limits) (later h : History) (task s w s' w' : ℕ) → IsLegal limits h → IsLegal limits (later ++ h)

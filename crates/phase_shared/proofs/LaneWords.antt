@@ -4,7 +4,7 @@ use Rattle.std.proofs.lemmas.Bool.{eq-eqb, eqb-true, ne_eqb}
 use Rattle.std.proofs.lemmas.List.{get_or-set_same, get_or-set_other}
 use Rattle.phase_core.specs.phase_accum.declared.outcome.Outcome.{Outcome}
 use Rattle.phase_core.specs.phase_accum.declared.outcome.Outcome.TheVariants.{Value, Empty, TooBig}
-use Rattle.phase_shared.specs.Lanes.{lanes_most, word_for, number_of, no_send, sends_of, outcome_of, board, phase_place, send_place, posted, send_word, KindIs, NumberIs, with_number}
+use Rattle.phase_shared.specs.Lanes.{lanes_most, word_for, number_of, no_send, sends_of, outcome_of, board, phase_place, send_place, owner_place, posted, send_word, owner_word, KindIs, NumberIs, with_number}
 
 -- ---- what two words say
 
@@ -56,10 +56,25 @@ other_number number other kind = elim (eqb kind 0) as (λ b. cond b (Value (numb
 
 -- ---- one word is written
 
+-- the words of a lane are the same
+pub record SameLane (words after : List ℕ) (i : ℕ) : Type 0 where
+  pub same_posted : posted after i ≡ posted words i
+  pub same_sent : send_word after i ≡ send_word words i
+  pub same_owner : owner_word after i ≡ owner_word words i
+
+-- the board and all other lanes are, and whose this one is
 pub record SameElse (t : ℕ) (words after : List ℕ) : Type 0 where
   pub same_board : board after ≡ board words
   pub same_posted : (i : ℕ) → i ≢ t → posted after i ≡ posted words i
   pub same_sent : (i : ℕ) → i ≢ t → send_word after i ≡ send_word words i
+  pub same_owner : (i : ℕ) → owner_word after i ≡ owner_word words i
+
+-- all is the same but whose a lane is
+pub record SameBut (t : ℕ) (words after : List ℕ) : Type 0 where
+  pub same_board : board after ≡ board words
+  pub same_posted : (i : ℕ) → i < lanes_most → posted after i ≡ posted words i
+  pub same_sent : (i : ℕ) → i < lanes_most → send_word after i ≡ send_word words i
+  pub same_owner : (i : ℕ) → i ≢ t → owner_word after i ≡ owner_word words i
 
 pub else : (words : List ℕ) (place n i : ℕ) → i ≢ place → slice_index (set words place n) i ≡ slice_index words i
 else words place n i ne = get_or-set_other words place i n 0 ne
@@ -67,25 +82,49 @@ else words place n i ne = get_or-set_other words place i n 0 ne
 same_board_of : (words after : List ℕ) → slice_index after 0 ≡ slice_index words 0 → slice_index after 1 ≡ slice_index words 1 → board after ≡ board words
 same_board_of words after e e' = ap (λ (n : ℕ). outcome_of n (slice_index after 1)) e ∙ ap (λ (n : ℕ). outcome_of (slice_index words 0) n) e'
 
-pub send_else : (words : List ℕ) (t n : ℕ) → SameElse t words (set words (send_place t) n)
-send_else words t n = record {
+pub send_else : (words : List ℕ) (t n : ℕ) → t < lanes_most → SameElse t words (set words (send_place t) n)
+send_else words t n low = record {
   same_board = same_board_of words (set words (send_place t) n) (else words (send_place t) n 0 (λ e. omega arith)) (else words (send_place t) n 1 (λ e. omega arith));
   same_posted = λ i ne. else words (send_place t) n (phase_place i) (λ e. omega arith);
   same_sent = λ i ne. else words (send_place t) n (send_place i) (λ e. ne (omega arith));
+  same_owner = λ i. else words (send_place t) n (owner_place i) (λ e. let few : t < 16 = low in omega arith);
 }
 
 pub send_posted : (words : List ℕ) (t n i : ℕ) → posted (set words (send_place t) n) i ≡ posted words i
 send_posted words t n i = else words (send_place t) n (phase_place i) (λ e. omega arith)
 
-pub phase_else : (words : List ℕ) (t n : ℕ) → SameElse t words (set words (phase_place t) n)
-phase_else words t n = record {
+pub phase_else : (words : List ℕ) (t n : ℕ) → t < lanes_most → SameElse t words (set words (phase_place t) n)
+phase_else words t n low = record {
   same_board = same_board_of words (set words (phase_place t) n) (else words (phase_place t) n 0 (λ e. omega arith)) (else words (phase_place t) n 1 (λ e. omega arith));
   same_posted = λ i ne. else words (phase_place t) n (phase_place i) (λ e. ne (omega arith));
   same_sent = λ i ne. else words (phase_place t) n (send_place i) (λ e. omega arith);
+  same_owner = λ i. else words (phase_place t) n (owner_place i) (λ e. let few : t < 16 = low in omega arith);
 }
 
 pub phase_sent : (words : List ℕ) (t n i : ℕ) → send_word (set words (phase_place t) n) i ≡ send_word words i
 phase_sent words t n i = else words (phase_place t) n (send_place i) (λ e. omega arith)
+
+pub owner_else : (words : List ℕ) (t n : ℕ) → SameBut t words (set words (owner_place t) n)
+owner_else words t n = record {
+  same_board = same_board_of words (set words (owner_place t) n) (else words (owner_place t) n 0 (λ e. omega arith)) (else words (owner_place t) n 1 (λ e. omega arith));
+  same_posted = λ i low. else words (owner_place t) n (phase_place i) (λ e. let few : i < 16 = low in omega arith);
+  same_sent = λ i low. else words (owner_place t) n (send_place i) (λ e. let few : i < 16 = low in omega arith);
+  same_owner = λ i ne. else words (owner_place t) n (owner_place i) (λ e. ne (omega arith));
+}
+
+-- another lane than the one that was written
+pub lane_else : (words after : List ℕ) (t i : ℕ) → SameElse t words after → i ≢ t → SameLane words after i
+lane_else words after t i same ne = record { same_posted = same.same_posted i ne; same_sent = same.same_sent i ne; same_owner = same.same_owner i }
+
+pub lane_but : (words after : List ℕ) (t i : ℕ) → SameBut t words after → i < lanes_most → i ≢ t → SameLane words after i
+lane_but words after t i same low ne = record { same_posted = same.same_posted i low; same_sent = same.same_sent i low; same_owner = same.same_owner i ne }
+
+-- lanes of two tasks are two, and a free one is nobody's
+pub lanes_apart : (words : List ℕ) (i j t task : ℕ) → owner_word words i ≡ t + 1 → owner_word words j ≡ task + 1 → task ≢ t → j ≢ i
+lanes_apart words i j t task mine theirs ne same = ne (let is : owner_word words j ≡ owner_word words i = ap (λ (l : ℕ). owner_word words l) same in omega arith)
+
+pub free_apart : (words : List ℕ) (i j task : ℕ) → owner_word words i ≡ 0 → owner_word words j ≡ task + 1 → j ≢ i
+free_apart words i j task none theirs same = absurd (let is : owner_word words j ≡ owner_word words i = ap (λ (l : ℕ). owner_word words l) same in omega arith)
 
 -- the word that was written says what was written
 pub here : (words : List ℕ) (place n : ℕ) → length words ≡ 287 → place < 287 → slice_index (set words place n) place ≡ n
@@ -96,6 +135,9 @@ send_here words t n long low = here words (send_place t) n long (let few : t < 1
 
 pub phase_here : (words : List ℕ) (t n : ℕ) → length words ≡ 287 → t < lanes_most → posted (set words (phase_place t) n) t ≡ n
 phase_here words t n long low = here words (phase_place t) n long (let few : t < 16 = low in omega arith)
+
+pub owner_here : (words : List ℕ) (t n : ℕ) → length words ≡ 287 → t < lanes_most → owner_word (set words (owner_place t) n) t ≡ n
+owner_here words t n long low = here words (owner_place t) n long (let few : t < 16 = low in omega arith)
 
 -- ---- the board is written
 
@@ -116,6 +158,13 @@ board_posted words place n i low = else words place n (phase_place i) (λ e. ome
 
 pub board_sent : (words : List ℕ) (place n i : ℕ) → place < 2 → send_word (set words place n) i ≡ send_word words i
 board_sent words place n i low = else words place n (send_place i) (λ e. omega arith)
+
+pub board_owner : (words : List ℕ) (place n i : ℕ) → place < 2 → owner_word (set words place n) i ≡ owner_word words i
+board_owner words place n i low = else words place n (owner_place i) (λ e. omega arith)
+
+pub board_lane : (words : List ℕ) (place n i : ℕ) → place < 2 → SameLane words (set words place n) i
+board_lane words place n i low =
+    record { same_posted = board_posted words place n i low; same_sent = board_sent words place n i low; same_owner = board_owner words place n i low }
 
 -- ---- numbers as words
 

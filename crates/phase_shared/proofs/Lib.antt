@@ -1,5 +1,6 @@
 pub mod CallSteps
 pub mod Later
+pub mod Lodging
 pub mod Opening
 pub mod NextSteps
 pub mod OneValue

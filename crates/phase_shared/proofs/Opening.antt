@@ -1,5 +1,5 @@
 -- A registration is taken apart and put together.
-use Rattle.turn_lock.specs.Seats.{IsSameSeat, seat_view}
+use Rattle.turn_lock.specs.Seats.{IsSameSeat, seat_place, seat_view}
 use Rattle.phase_shared.specs.Phasers.{Parcel, Entry, History, OnlyUsed}
 use Rattle.phase_shared.specs.Views.{known_of}
 use Rattle.phase_shared.specs.Regs.{RegState, reg_state, IsReg, index_in, view_in}
@@ -51,6 +51,11 @@ module _ {T A K : Type 0} (allows : K → Allows) (phaser : LockedPhaser A K) (m
     held = held_is i;
     seen = (known_of (same.2 i)).seen;
   }
+
+  -- a registration whose seat came back at its place, with what it knew
+  pub same_place : (entry : Entry) (held : Parcel A) (s s' : Seat T (Terms K) View) → seat_place s' ≡ seat_place s → seat_view s' ≡ seat_view s
+      → reg_state (Some s') me entry held ≡ reg_state (Some s) me entry held
+  same_place entry held s s' place view = λ i. record { at = place i; number = me; entry = entry; held = held; seen = (known_of (view i)).seen }
 
   -- a step of a registration's seat is a try of the registration, where what stays of the one stays
   -- of the other

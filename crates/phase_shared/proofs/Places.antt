@@ -1,5 +1,5 @@
 -- What is said of the seats that asked or that have the turn stays while these seats stay.
-use Rattle.std.proofs.Common.{◌≡◌, ◌≢◌, ℕ, Bool, true, false, eqb, List, Option, Some, set, sym, ap, ◌∙◌, inl, inr}
+use Rattle.std.proofs.Common.{◌≡◌, ◌≢◌, ℕ, Bool, true, false, eqb, List, set, sym, ap, ◌∙◌, inl, inr}
 use Rattle.std.proofs.lemmas.Bool.{eq-eqb}
 use mathlib.Core.Option.{some, some-injective}
 use lib.ListN.{get_elem?}
@@ -7,6 +7,7 @@ use Rattle.atomic_table.proofs.Lists.{at_set, set_else}
 use Rattle.phase_shared.specs.Phasers.{Limits, Outcome, History}
 use Rattle.phase_shared.specs.declared.seats.view.Knowledge.{Knowledge}
 use Rattle.phase_shared.specs.Asks.{Ask}
+use Rattle.phase_shared.specs.Views.{Lane, Own, Holds}
 use Rattle.phase_shared.specs.Desks.{View, Turning, Asking, StandsAsked, IsLane}
 use Rattle.phase_shared.proofs.Small.{not_both}
 
@@ -44,13 +45,39 @@ pub stays : (kind : View → Bool) (views : List View) (number j : ℕ) (v w u :
     → get_elem? views j ≡ some u → get_elem? (set views number w) j ≡ some u
 stays kind views number j v w u at not is e = set_else views number j w (two_seats kind views j number u v e at is not) ∙ e
 
+-- ---- what is known of a lane
+
+pub own_not_held : (l i m : ℕ) → Own l ≡ Holds i m → ⊥
+own_not_held l i m e = cc
+
+pub own_same : (l i : ℕ) → Own l ≡ Own i → l ≡ i
+own_same l i e = ap (λ (x : Lane). place_of l x) e
+  where
+    place_of : ℕ → Lane → ℕ
+    place_of d (Own j) = j
+    place_of d x = d
+
+pub held_same : (l i n m : ℕ) → Holds l n ≡ Holds i m → l ≡ i
+held_same l i n m e = ap (λ (x : Lane). place_of l x) e
+  where
+    place_of : ℕ → Lane → ℕ
+    place_of d (Holds j k) = j
+    place_of d x = d
+
+pub held_number : (l i n m : ℕ) → Holds l n ≡ Holds i m → n ≡ m
+held_number l i n m e = ap (λ (x : Lane). number_of n x) e
+  where
+    number_of : ℕ → Lane → ℕ
+    number_of d (Holds j k) = k
+    number_of d x = d
+
 -- ---- from some views to others
 
 abbrev pub AskingStay : List View → List View → Type 0
 AskingStay views after = (j : ℕ) (g : Knowledge) (a : Ask) → get_elem? views j ≡ some (Asking g a) → get_elem? after j ≡ some (Asking g a)
 
 abbrev pub TurningStay : List View → List View → Type 0
-TurningStay views after = (j : ℕ) (g : Knowledge) (claims : List Ask) (said : Outcome) (lane : Option ℕ)
+TurningStay views after = (j : ℕ) (g : Knowledge) (claims : List Ask) (said : Outcome) (lane : Lane)
     → get_elem? views j ≡ some (Turning g claims said lane) → get_elem? after j ≡ some (Turning g claims said lane)
 
 pub asked_stays : (limits : Limits) (log : History) (views after : List View) (a : Ask) → AskingStay views after
@@ -69,6 +96,5 @@ lane_stays log views after i n stay stay' (inr (inr (inr h))) = inr (inr (inr re
   claims = h.claims;
   said = h.said;
   n = h.n;
-  at = stay' h.seat h.knows h.claims h.said (Some h.n) h.at;
-  speaks = h.speaks;
+  at = stay' h.seat h.knows h.claims h.said (Holds i h.n) h.at;
 }))

@@ -14,7 +14,7 @@ use Rattle.phase_core.proofs.phase_history_lemmas.Answered.{register_refusal-nev
 use Rattle.phase_shared.specs.declared.seats.view.View.{View}
 use Rattle.phase_shared.specs.declared.rule.Terms.{Terms}
 use Rattle.phase_shared.specs.declared.seats.view.Ask.{Ask}
-use Rattle.phase_shared.specs.Views.{knowledge, resting, turning, known_of, speaks_of, first_part, other_part, SpeaksForTwo}
+use Rattle.phase_shared.specs.Views.{Unknown, knowledge, resting, turning, known_of, speaks_of, first_part, other_part, SpeaksForTwo}
 use Rattle.phase_shared.specs.Rule.{Allows, IsGoodAt, HasOneHistory, StandsWithin, IsSeatOfTask, AfterTake}
 use Rattle.phase_shared.specs.Calls.{Tries, number_after, next_child, RefusesRegister}
 use Rattle.phase_shared.specs.Entries.{entry_stays}
@@ -79,9 +79,9 @@ child_is_next now child greatest is next above = grind (arith, nat_tests)
 module _ {A K : Type 0} (op : Operation A) (allows : K → Allows) (terms : Terms K) (me : ℕ) where
   -- a give after a call that registered a child by this event
   pub gives_child : (number told : ℕ) (y : CoreState A) (w : View) (now : History) (claims : List Ask) (said : Outcome) (event : Event) (child : ℕ) → ((task : ℕ) → is_by task event ≡ eqb me task)
-      → IsUsed (event ∷ now) child → w ≡ turning now (me ∷ []) claims said None → IsUsed now me → NewChild now me child
+      → IsUsed (event ∷ now) child → w ≡ turning now (me ∷ []) claims said Unknown → IsUsed now me → NewChild now me child
       → IsGoodAt allows terms (event ∷ now) → StandsWithin op terms.limits y (event ∷ now)
-      → (goes : View → View → Type 0) → goes (turning now (me ∷ []) claims said None) (resting (event ∷ now) (me ∷ child ∷ []))
+      → (goes : View → View → Type 0) → goes (turning now (me ∷ []) claims said Unknown) (resting (event ∷ now) (me ∷ child ∷ []))
       → GivesNoAnswer (HasOneHistory op allows) terms number w y told (λ v z u. goes v u)
   gives_child number told y w now claims said event child by joined is used new good stands goes goes_on next same =
       let out : eqb child me ≡ false = ne_eqb child me new.apart in
@@ -121,7 +121,7 @@ refuses register.OutOfMemory me mode old new others told memory = (others, memor
 -- the seat of both after the give, and its two parts
 module _ (me : ℕ) (now : History) (event : Event) (child : ℕ) where
   pub for_both : (u w : View) (claims : List Ask) (said : Outcome) → u ≡ resting (event ∷ (known_of w).seen) (me ∷ child ∷ [])
-      → w ≡ turning now (me ∷ []) claims said None → u ≡ resting (event ∷ now) (me ∷ child ∷ [])
+      → w ≡ turning now (me ∷ []) claims said Unknown → u ≡ resting (event ∷ now) (me ∷ child ∷ [])
   for_both u w claims said told is = told ∙ ap (λ (v : View). resting (event ∷ (known_of v).seen) (me ∷ child ∷ [])) is
 
   pub speaks_for_both : (u : View) → u ≡ resting (event ∷ now) (me ∷ child ∷ []) → SpeaksForTwo u
@@ -174,7 +174,7 @@ module _ {A K : Type 0} (op : Operation A) (allows : K → Allows) (terms : Term
     is_there o viewed = viewed ∙ ap (λ ms. entry_of ms child) b.stands.stands.members_are ∙ b.there
 
     -- the give
-    pub gives_new_member : (number told : ℕ) (w : View) (claims : List Ask) (said : Outcome) → w ≡ turning now (me ∷ []) claims said None → IsUsed now me
+    pub gives_new_member : (number told : ℕ) (w : View) (claims : List Ask) (said : Outcome) → w ≡ turning now (me ∷ []) claims said Unknown → IsUsed now me
         → GivesNoAnswer (HasOneHistory op allows) terms number w x told (λ v z u. u ≡ resting (event ∷ (known_of v).seen) (me ∷ child ∷ []))
     gives_new_member number told w claims said is used =
         gives_child op allows terms me number told x w now claims said event child b.own b.joined is used b.new b.good b.stands
@@ -204,7 +204,7 @@ module _ {A K : Type 0} (op : Operation A) (allows : K → Allows) (phaser : Loc
   pub refused_step : {X : Type 0} (now : History) (child greatest : ℕ) (mode : Mode) (refusal : RegisterRefusal) (same : Type 0)
       (call : Result X RegisterRefusal → Type 0) (old u : Seat (CoreState A) (Terms K) View) (w : View) (claims : List Ask) (said : Outcome)
       → RestsOn (locked_place phaser) u (λ v. v ≡ resting (known_of w).seen (speaks_of w))
-      → w ≡ turning now (me ∷ []) claims said None
+      → w ≡ turning now (me ∷ []) claims said Unknown
       → IsGoodAt allows (locked_terms phaser) now → entry_of (members_of now) me ≡ Some entry → OthersCame (me ∷ []) (known_of (seat_view old)).seen now
       → greatest ≡ greatest_used now → child ≡ number_after greatest
       → (refusal ≢ register.OutOfMemory → register_refusal now me child mode ≡ Some refusal)

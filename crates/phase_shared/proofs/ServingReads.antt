@@ -1,6 +1,6 @@
 -- What a turn of a seat that asked reads of others' asks.
-use Rattle.std.proofs.Common.{◌≡◌, ℕ, ◌+◌, ◌≤◌, Bool, true, false, List, [], ◌∷◌, ◌++◌, ◌⊎◌, Some, refl, sym, ap, subst, ◌∙◌, inl, inr, ⊎_elim, arith}
-use Rattle.phase_shared.specs.Phasers.{Limits, entry_of, Entry, Operation, History, members_of, IsLegal, events_of, CoreState}
+use Rattle.std.proofs.Common.{◌≡◌, ◌≢◌, ℕ, ◌+◌, ◌≤◌, Bool, true, false, List, [], ◌∷◌, ◌++◌, ◌⊎◌, refl, sym, subst, ◌∙◌, inl, inr, ⊎_elim, arith}
+use Rattle.phase_shared.specs.Phasers.{Limits, Operation, History, done_of, IsLegal, events_of, CoreState}
 use Rattle.phase_shared.specs.declared.seats.view.View.{View}
 use Rattle.phase_shared.specs.Asks.{Ask, IsAtPhases, IsOwn, SignalsFor, WaitsFor, Batch, IsOneOf, asks_for}
 use Rattle.phase_shared.specs.Desks.{IsPast}
@@ -8,8 +8,7 @@ use Rattle.phase_shared.specs.Goods.{Allows}
 use Rattle.phase_shared.specs.Servings.{Serving}
 use Rattle.phase_shared.specs.Tells.{IsClaim}
 use Rattle.phase_shared.specs.Views.{knowledge}
-use Rattle.phase_shared.specs.WordTells.{LaneReadAt}
-use Rattle.phase_shared.proofs.LaneReading.{not_past}
+use Rattle.phase_shared.specs.WordTells.{LaneReadAt, OwnerReadAt}
 use Rattle.phase_shared.proofs.Small.{apart_phases}
 use Rattle.phase_shared.proofs.Stages.{wait_is}
 use Rattle.phase_shared.proofs.Steadies.{found, none_of, stands_still}
@@ -45,11 +44,11 @@ batch_more C D more speaks (e ∷ later) log batch = (
 
 module _ {A : Type 0} (op : Operation A) (limits : Limits) (allows : Allows) (ask : Ask) (seen : History) where
   -- it has read what was asked in a lane
-  pub record HasRead (serves : Bool) (k task r : ℕ) (w : View) (x : CoreState A) : Type 0 where
+  pub record HasRead (serves : Bool) (k lane r : ℕ) (w : View) (x : CoreState A) : Type 0 where
     pub serving : Serving op limits allows ask seen serves k w x
-    pub read : (a : Ask) → IsOneOf serving.turned.did.claims a → a.task ≡ task → r ≡ a.phase + 1
-    pub found : ((r ≡ 0) ⊎ IsPast serving.turned.did.now task r)
-        ⊎ ((a : Ask) × (a.task ≡ task) × IsClaim limits allows (knowledge serving.turned.did.now (ask.task ∷ [])) serving.turned.did.claims a)
+    pub read : (a : Ask) → IsOneOf serving.turned.did.claims a → a.lane ≡ lane → r ≡ a.phase + 1
+    pub found : ((r ≡ 0) ⊎ IsPast serving.turned.did.now r)
+        ⊎ ((a : Ask) × (a.lane ≡ lane) × IsClaim limits allows (knowledge serving.turned.did.now (ask.task ∷ [])) serving.turned.did.claims a)
 
   -- an ask that was not read before has no events in the turn
   quiet_claim : (now later : History) (claims new : List Ask) → (now ≡ [] → ⊥) → Batch (IsOneOf claims) (ask.task ∷ []) later now
@@ -70,9 +69,9 @@ module _ {A : Type 0} (op : Operation A) (limits : Limits) (allows : Allows) (as
         elim c.stands [ inl u ↦ waits a.phase u.0 | inr m ↦ waits (a.phase + 1) m ]
   ] refl
 
-  pub reads_more : (serves : Bool) (k task r : ℕ) (v w : View) (x : CoreState A) → Serving op limits allows ask seen serves k v x
-      → LaneReadAt limits allows task v r w → k ≤ task → HasRead serves k task r w x
-  reads_more serves k task r v w x s read low =
+  pub reads_more : (serves : Bool) (k lane r : ℕ) (v w : View) (x : CoreState A) → Serving op limits allows ask seen serves k v x
+      → LaneReadAt limits allows lane v r w → k ≤ lane → lane ≢ ask.lane → HasRead serves k lane r w x
+  reads_more serves k lane r v w x s read low else' =
       let t = s.turned in
       let l = read (knowledge t.did.now (ask.task ∷ [])) t.did.claims t.did.said t.did.lane t.is in
       record {
@@ -82,6 +81,10 @@ module _ {A : Type 0} (op : Operation A) (limits : Limits) (allows : Allows) (as
               claims = l.new ++ t.did.claims;
               batch = batch_more (IsOneOf t.did.claims) (IsOneOf (l.new ++ t.did.claims)) (in_more l.new t.did.claims) (ask.task ∷ []) t.did.later t.did.now t.did.batch;
               theirs = λ a one. elim (in_either l.new t.did.claims a one) [ inl here ↦ (l.fresh a here).1.theirs | inr there ↦ t.did.theirs a there ];
+              apart = λ a one. elim (in_either l.new t.did.claims a one) [
+                | inl here ↦ λ same. else' (sym (l.fresh a here).0 ∙ same)
+                | inr there ↦ t.did.apart a there
+              ];
             };
             is = l.is;
             good = t.good;
@@ -92,7 +95,7 @@ module _ {A : Type 0} (op : Operation A) (limits : Limits) (allows : Allows) (as
             ];
             complete = t.complete;
             served = λ a one below same. elim (in_either l.new t.did.claims a one) [
-              | inl here ↦ absurd (let is : a.task ≡ task = (l.fresh a here).0 in omega arith)
+              | inl here ↦ absurd (let is : a.lane ≡ lane = (l.fresh a here).0 in omega arith)
               | inr there ↦ t.served a there below same
             ];
           };
@@ -102,23 +105,23 @@ module _ {A : Type 0} (op : Operation A) (limits : Limits) (allows : Allows) (as
         found = l.found;
       }
 
-  -- the ask that stands in the lane, where the task waits for the phase that was read
-  pub asked_there : (serves : Bool) (k task r : ℕ) (w : View) (x : CoreState A) (h : HasRead serves k task r w x) (entry : Entry)
-      → r ≡ ask.phase + 1 → entry_of x.members task ≡ Some entry → entry.wait_phase ≡ ask.phase
-      → (a : Ask) × (a.task ≡ task) × (a.phase ≡ ask.phase)
+  -- the ask that stands in the lane, where its phase was open
+  pub asked_there : (serves : Bool) (k lane r : ℕ) (w : View) (x : CoreState A) (h : HasRead serves k lane r w x)
+      → r ≡ ask.phase + 1 → done_of h.serving.turned.did.now ≤ ask.phase
+      → (a : Ask) × (a.lane ≡ lane) × (a.phase ≡ ask.phase)
       × IsClaim limits allows (knowledge h.serving.turned.did.now (ask.task ∷ [])) h.serving.turned.did.claims a
-  asked_there serves k task r w x h entry is member waits =
-      let t = h.serving.turned in
-      let there : entry_of (members_of (t.did.later ++ t.did.now)) task ≡ Some entry = ap (λ ms. entry_of ms task) (sym t.stands.stands.members_are) ∙ member in
-      elim h.found [
-        | inl (inl zero') ↦ absurd (apart_zero zero')
-        | inl (inr past) ↦ absurd (apart_past (not_past limits t.did.later t.did.now task r entry past t.good.legal there))
-        | inr a ↦ let read : r ≡ a.0.phase + 1 = h.read a.0 a.2.one a.1 in
-            (a.0, a.1, (omega arith), a.2)
-      ]
+  asked_there serves k lane r w x h is open' = elim h.found [
+    | inl (inl zero') ↦ absurd (omega arith)
+    | inl (inr past) ↦ absurd (apart_past past)
+    | inr a ↦ let read : r ≡ a.0.phase + 1 = h.read a.0 a.2.one a.1 in
+        (a.0, a.1, (omega arith), a.2)
+  ]
     where
-      apart_zero : r ≡ 0 → ⊥
-      apart_zero none = omega arith
+      apart_past : IsPast h.serving.turned.did.now r → ⊥
+      apart_past past = let low : r ≤ done_of h.serving.turned.did.now = past in omega arith
 
-      apart_past : r ≤ entry.wait_phase → ⊥
-      apart_past low = omega arith
+  -- whose it is
+  pub owner_is : (serves : Bool) (k lane owner : ℕ) (v w : View) (x : CoreState A) (s : Serving op limits allows ask seen serves k v x)
+      → OwnerReadAt lane v owner w → (w ≡ v) × ((a : Ask) → IsOneOf s.turned.did.claims a → a.lane ≡ lane → owner ≡ a.task + 1)
+  owner_is serves k lane owner v w x s read =
+      read (knowledge s.turned.did.now (ask.task ∷ [])) s.turned.did.claims s.turned.did.said s.turned.did.lane s.turned.is

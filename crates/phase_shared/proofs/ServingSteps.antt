@@ -1,5 +1,5 @@
 -- The signals and the waits that a turn makes for others.
-use Rattle.std.proofs.Common.{◌≡◌, ℕ, ◌+◌, ◌<◌, true, false, cond, eqb, List, [], ◌∷◌, ◌++◌, ◌⊎◌, None, Some, refl, sym, ap, subst, ◌∙◌, inl, inr, arith}
+use Rattle.std.proofs.Common.{◌≡◌, ℕ, ◌+◌, ◌<◌, ◌≤◌, true, false, cond, eqb, List, [], ◌∷◌, ◌++◌, ◌⊎◌, None, Some, refl, sym, ap, subst, ◌∙◌, inl, inr, arith}
 use Rattle.std.proofs.lemmas.Bool.{eqb-true, eq-eqb, ne_eqb}
 use Rattle.std.proofs.lemmas.Option.{same_Some}
 use Rattle.phase_shared.specs.Phasers.{Limits, is_in, mode_signals, mode_waits, entry_of, signalled, Entry, Operation, Event, History, members_of, done_of, IsLegal, is_by, OthersCame, CoreState, StandsFor}
@@ -13,11 +13,11 @@ use Rattle.phase_shared.specs.Lanes.{sends_of}
 use Rattle.phase_shared.specs.Servings.{OwesWait, Serving, HasToSignal, IsBetween, IsWaiterIn}
 use Rattle.phase_shared.specs.Tells.{MayBeMade}
 use Rattle.phase_shared.specs.Views.{knowledge}
-use Rattle.phase_shared.specs.WordTells.{SendReadAt}
+use Rattle.phase_shared.specs.WordTells.{OwnerReadAt, SendReadAt}
 use Rattle.phase_shared.proofs.Growing.{done_grows, signals_grow}
 use Rattle.phase_shared.proofs.Small.{is_in_self, not_both, apart_phases, longer_some, none_below}
 use Rattle.phase_shared.proofs.Stages.{at_entry, signal_is, wait_is, stage_goes, stands_other, stands_signalled, stands_waited, further}
-use Rattle.phase_shared.proofs.ServingReads.{HasRead, asked_there}
+use Rattle.phase_shared.proofs.ServingReads.{HasRead, asked_there, owner_is}
 
 -- ---- an event of another task
 
@@ -64,19 +64,23 @@ module _ {A : Type 0} (op : Operation A) (limits : Limits) (allows : Allows) (as
 
   -- ---- a signal for another task
 
-  pub signals_more : (task r n : ℕ) (w v : View) (x y : CoreState A) (h : HasRead op limits allows ask seen false 0 task r w x) → r ≡ ask.phase + 1
-      → SendReadAt task w n v → HasToSignal x.members task ask.phase → y.limits ≡ x.limits
+  pub signals_more : (lane task owner r n : ℕ) (w u v : View) (x y : CoreState A) (h : HasRead op limits allows ask seen false 0 lane r w x) → r ≡ ask.phase + 1
+      → done_of h.serving.turned.did.now ≤ ask.phase → OwnerReadAt lane w owner u → ((m : ℕ) → owner ≡ m + 1 → task ≡ m)
+      → SendReadAt lane u n v → HasToSignal x.members task ask.phase → y.limits ≡ x.limits
       → StandsFor op y (Signalled task (sends_of n ∷ []) None ∷ h.serving.turned.did.later ++ h.serving.turned.did.now)
       → Serving op limits allows ask seen false 0 v y
-  signals_more task r n w v x y h is sent before same_limits stands' =
+  signals_more lane task owner r n w u v x y h is open' owned task_of sent' before same_limits stands' =
       let s = h.serving in
+      let own = owner_is op limits allows ask seen false 0 lane owner w u x s owned in
+      let sent : SendReadAt lane w n v = subst (λ (z : View). SendReadAt lane z n v) own.0 sent' in
       let t = s.turned in
       let old : History = t.did.later ++ t.did.now in
       let there : entry_of (members_of old) task ≡ Some before.entry = ap (λ ms. entry_of ms task) (sym t.stands.stands.members_are) ∙ before.member in
-      let q = asked_there op limits allows ask seen false 0 task r w x h before.entry is before.member before.wait_at in
+      let q = asked_there op limits allows ask seen false 0 lane r w x h is open' in
       let a : Ask = q.0 in
       let c = q.3 in
-      let at_old : IsAtPhases old a.task a.phase a.phase = stands_at a before.entry q.1 q.2 there before.signals before.signal_at before.wait_at in
+      let task_is : a.task ≡ task = sym (task_of a.task (own.1 a c.one q.1)) in
+      let at_old : IsAtPhases old a.task a.phase a.phase = stands_at a before.entry task_is q.2 there before.signals before.signal_at before.wait_at in
       let legal_now : IsLegal limits t.did.now = IsLegal-beginning limits t.did.now old t.did.some t.good.legal (record { later = t.did.later; is = refl }) in
       let claim : IsAtPhases t.did.now a.task a.phase a.phase × MayBeMade limits allows t.did.now a = elim c.stands [
         | inl u ↦ u
@@ -84,7 +88,7 @@ module _ {A : Type 0} (op : Operation A) (limits : Limits) (allows : Allows) (as
       ] in
       let sends_are : sends_of n ≡ a.sends = (sent (knowledge t.did.now (ask.task ∷ [])) t.did.claims t.did.said t.did.lane t.is).1 a c.one q.1 claim.0 in
       let e : Event = Signalled a.task (a.sends ∷ []) None in
-      let event_is : Signalled task (sends_of n ∷ []) None ≡ e = λ i. Signalled (sym q.1 i) (sends_are i ∷ []) None in
+      let event_is : Signalled task (sends_of n ∷ []) None ≡ e = λ i. Signalled (sym task_is i) (sends_are i ∷ []) None in
       let stands'' : StandsFor op y (e ∷ old) = subst (λ (z : Event). StandsFor op y (z ∷ old)) event_is stands' in
       let limits_are : y.limits ≡ limits = same_limits ∙ t.stands.limits_are in
       let legal' : IsLegal limits (e ∷ old) = subst (λ (l : Limits). IsLegal l (e ∷ old)) limits_are stands''.legal in
@@ -104,7 +108,7 @@ module _ {A : Type 0} (op : Operation A) (limits : Limits) (allows : Allows) (as
           stands = record { stands = stands''; limits_are = limits_are };
           quiet = λ not b one st. still_quiet t.did.claims old a b at_old c.only one legal' (t.quiet not b one) st;
           complete = λ no'. absurd (not_both false no' refl);
-          served = λ b one below. absurd (none_below b.task below);
+          served = λ b one below. absurd (none_below b.lane below);
         };
         owes = owes_other old e legal' mine s.owes;
       }
@@ -146,28 +150,33 @@ module _ {A : Type 0} (op : Operation A) (limits : Limits) (allows : Allows) (as
   -- ---- a wait for another task
 
   -- where a claim's wait is made
-  pub waits_more : (k task r : ℕ) (w : View) (x y : CoreState A) (h : HasRead op limits allows ask seen true k task r w x) → r ≡ ask.phase + 1
+  pub waits_more : (k lane task owner r : ℕ) (w u : View) (x y : CoreState A) (h : HasRead op limits allows ask seen true k lane r w x) → r ≡ ask.phase + 1
+      → done_of h.serving.turned.did.now ≤ ask.phase → OwnerReadAt lane w owner u → ((m : ℕ) → owner ≡ m + 1 → task ≡ m)
       → IsBetween x.members task ask.phase → y.limits ≡ x.limits
       → StandsFor op y (Waited task 1 ∷ h.serving.turned.did.later ++ h.serving.turned.did.now)
-      → (j : ℕ) → ((b : Ask) → b.task < j → (b.task < k) ⊎ (b.task ≡ task))
-      → Serving op limits allows ask seen true j w y
-  waits_more k task r w x y h is between same_limits stands' j cover =
+      → (j : ℕ) → ((b : Ask) → b.lane < j → (b.lane < k) ⊎ (b.lane ≡ lane))
+      → Serving op limits allows ask seen true j u y
+  waits_more k lane task owner r w u x y h is open' owned task_of between same_limits stands' j cover =
       let s = h.serving in
+      let own = owner_is op limits allows ask seen true k lane owner w u x s owned in
       let t = s.turned in
       let old : History = t.did.later ++ t.did.now in
       let there : entry_of (members_of old) task ≡ Some between.entry = ap (λ ms. entry_of ms task) (sym t.stands.stands.members_are) ∙ between.member in
-      let q = asked_there op limits allows ask seen true k task r w x h between.entry is between.member between.wait_at in
+      let q = asked_there op limits allows ask seen true k lane r w x h is open' in
       let a : Ask = q.0 in
       let c = q.3 in
+      let task_is : a.task ≡ task = sym (task_of a.task (own.1 a c.one q.1)) in
+      let only : (b : Ask) → IsOneOf t.did.claims b → b.lane ≡ lane → b ≡ a =
+      λ b one here. c.only b one (let mine = own.1 a c.one q.1 in let theirs = own.1 b one here in omega arith) in
       let at_old : IsAtPhases old a.task (a.phase + 1) a.phase = record {
         entry = between.entry;
-        member = ap (λ (m : ℕ). entry_of (members_of old) m) q.1 ∙ there;
+        member = ap (λ (m : ℕ). entry_of (members_of old) m) task_is ∙ there;
         signals = between.signals;
         signal_at = between.signal_at ∙ ap (λ (m : ℕ). m + 1) (sym q.2);
         wait_at = between.wait_at ∙ sym q.2;
       } in
       let e : Event = Waited a.task 1 in
-      let event_is : Waited task 1 ≡ e = λ i. Waited (sym q.1 i) 1 in
+      let event_is : Waited task 1 ≡ e = λ i. Waited (sym task_is i) 1 in
       let stands'' : StandsFor op y (e ∷ old) = subst (λ (z : Event). StandsFor op y (z ∷ old)) event_is stands' in
       let limits_are : y.limits ≡ limits = same_limits ∙ t.stands.limits_are in
       let legal' : IsLegal limits (e ∷ old) = subst (λ (l : Limits). IsLegal l (e ∷ old)) limits_are stands''.legal in
@@ -187,22 +196,22 @@ module _ {A : Type 0} (op : Operation A) (limits : Limits) (allows : Allows) (as
               }),
             );
           };
-          is = t.is;
+          is = own.0 ∙ t.is;
           good = record { legal = legal'; keeps = t.good.keeps };
           stands = record { stands = stands''; limits_are = limits_are };
           quiet = λ no'. absurd (not_both true refl no');
           complete = λ yes'. further_done limits ask.phase old e legal' (longer_some t.did.later t.did.now t.did.some) (t.complete refl);
-          served = λ b one below same. served_more t.did.claims old a b at_old c.only one legal' (t.served b one) (cover b below) q.1 same;
+          served = λ b one below same. served_more t.did.claims old a b at_old c.only one legal' (t.served b one) (cover b below) (only b one) same;
         };
         owes = owes_other old e legal' mine s.owes;
       }
     where
       served_more : (claims : List Ask) (old : History) (a b : Ask) → IsAtPhases old a.task (a.phase + 1) a.phase
           → ((d : Ask) → IsOneOf claims d → d.task ≡ a.task → d ≡ a) → IsOneOf claims b → IsLegal limits (Waited a.task 1 ∷ old)
-          → (b.task < k → b.phase ≡ ask.phase → IsAtPhases old b.task (b.phase + 1) (b.phase + 1))
-          → ((b.task < k) ⊎ (b.task ≡ task)) → a.task ≡ task → b.phase ≡ ask.phase
+          → (b.lane < k → b.phase ≡ ask.phase → IsAtPhases old b.task (b.phase + 1) (b.phase + 1))
+          → ((b.lane < k) ⊎ (b.lane ≡ lane)) → (b.lane ≡ lane → b ≡ a) → b.phase ≡ ask.phase
           → IsAtPhases (Waited a.task 1 ∷ old) b.task (b.phase + 1) (b.phase + 1)
-      served_more claims old a b at_old only one legal served where' a_is same = elim (eqb a.task b.task)
+      served_more claims old a b at_old only one legal served where' here_is same = elim (eqb a.task b.task)
           as (λ c. (eqb a.task b.task ≡ c) → IsAtPhases (Waited a.task 1 ∷ old) b.task (b.phase + 1) (b.phase + 1)) [
             | true ↦ λ t.
                 let is_a : b ≡ a = only b one (sym (eqb-true a.task b.task t)) in
@@ -210,6 +219,6 @@ module _ {A : Type 0} (op : Operation A) (limits : Limits) (allows : Allows) (as
                 (stands_waited old a.task (a.phase + 1) a.phase at_old)
             | false ↦ λ n. elim where' [
               | inl below ↦ stands_other limits old (Waited a.task 1) b.task (b.phase + 1) (b.phase + 1) legal n (served below same)
-              | inr here ↦ absurd (not_both (eqb a.task b.task) (eq-eqb a.task b.task (a_is ∙ sym here)) n)
+              | inr here ↦ absurd (not_both (eqb a.task b.task) (eq-eqb a.task b.task (ap (λ (z : Ask). z.task) (sym (here_is here)))) n)
             ]
           ] refl

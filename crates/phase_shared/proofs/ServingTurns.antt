@@ -2,7 +2,7 @@
 -- makes its own wait.
 use Rattle.std.proofs.Common.{◌≡◌, ◌≢◌, ℕ, ◌+◌, ◌<◌, ◌≤◌, Bool, true, false, cond, eqb, ltb, leb, [], ◌∷◌, ◌++◌, ◌⊎◌, None, refl, sym, ap, subst, ◌∙◌, inl, inr, arith}
 use Rattle.std.proofs.lemmas.Bool.{ne_eqb, ltb-true, ltb-false, lt-ltb, le-ltb, leb-true}
-use Rattle.phase_shared.specs.Phasers.{Limits, is_in, mode_signals, waited, Operation, Outcome, Event, History, members_of, done_of, wait_phase, least, signal_phases, positions_of, value_of_phase, refusal_at, wait_rows, wait_refusal, wait_reply, refused_or, got_at, Got, WaitRefusal, IsLegal, is_by, CoreState, StandsFor}
+use Rattle.phase_shared.specs.Phasers.{Limits, mode_signals, waited, Operation, Outcome, Event, History, members_of, done_of, wait_phase, least, signal_phases, positions_of, value_of_phase, refusal_at, wait_rows, wait_refusal, wait_reply, refused_or, got_at, Got, WaitRefusal, IsLegal, is_by, CoreState, StandsFor}
 use Rattle.phase_core.specs.phase_history.declared.event.Event.TheVariants.{Waited}
 use Rattle.std.specs.Prelude.{Ok, Result, is_some, not, ◌&&◌}
 use Rattle.phase_core.specs.phase_history.declared.got.Got.TheVariants as got
@@ -15,8 +15,9 @@ use Rattle.phase_shared.specs.Asks.{Ask, IsAtPhases, IsOneOf}
 use Rattle.phase_shared.specs.Goods.{Allows}
 use Rattle.phase_shared.specs.Servings.{ask_of, Serving, ServingOpen, Finished, IsPhaseDone}
 use Rattle.phase_shared.specs.Views.{knowledge, known_of}
-use Rattle.phase_shared.specs.WordTells.{IsOther, LaneReadAt, SendReadAt}
-use Rattle.phase_shared.proofs.Small.{one_of, is_in_self, not_both, not_true_is, longer_some, or_false}
+use Rattle.phase_shared.specs.WordTells.{IsHolder, IsOther, LaneReadAt, SendReadAt}
+use Rattle.phase_shared.proofs.Places.{own_not_held, held_same}
+use Rattle.phase_shared.proofs.Small.{longer_some, or_false}
 use Rattle.phase_shared.proofs.Stages.{at_entry, wait_is, stands_other}
 use Rattle.phase_shared.proofs.Steadies.{same_value}
 use Rattle.phase_shared.proofs.ServingReads.{HasRead}
@@ -40,9 +41,9 @@ module _ {A : Type 0} (op : Operation A) (limits : Limits) (allows : Allows) (as
       (subst (λ (u : View). Serving op limits allows ask seen serves k u x) (sym same_view) s)
 
   -- what it knows stays where it reads a lane
-  pub reads_knows : (serves : Bool) (k task r : ℕ) (v w : View) (x : CoreState A) → Serving op limits allows ask seen serves k v x
-      → LaneReadAt limits allows task v r w → known_of w ≡ known_of v
-  reads_knows serves k task r v w x s read =
+  pub reads_knows : (serves : Bool) (k lane r : ℕ) (v w : View) (x : CoreState A) → Serving op limits allows ask seen serves k v x
+      → LaneReadAt limits allows lane v r w → known_of w ≡ known_of v
+  reads_knows serves k lane r v w x s read =
       let t = s.turned in
       let l = read (knowledge t.did.now (ask.task ∷ [])) t.did.claims t.did.said t.did.lane t.is in
       ap known_of l.is ∙ sym (ap known_of t.is)
@@ -57,19 +58,31 @@ module _ {A : Type 0} (op : Operation A) (limits : Limits) (allows : Allows) (as
   }
 
   -- another's lane
-  pub is_other : (serves : Bool) (k task : ℕ) (v : View) (x : CoreState A) → task ≢ ask.task → Serving op limits allows ask seen serves k v x → IsOther task v
-  is_other serves k task v x apart s = record {
+  pub is_other : (serves : Bool) (k lane : ℕ) (v : View) (x : CoreState A) → lane ≢ ask.lane → Serving op limits allows ask seen serves k v x → IsOther lane v
+  is_other serves k lane v x apart s = record {
     knows = knowledge s.turned.did.now (ask.task ∷ []);
     claims = s.turned.did.claims;
     said = s.turned.did.said;
     lane = s.turned.did.lane;
     is = s.turned.is;
-    theirs = not_true_is (is_in task (ask.task ∷ [])) (λ yes'. apart (sym (one_of ask.task task yes')));
+    other = λ n held. elim s.turned.did.own [
+      | inl own ↦ own_not_held ask.lane lane n (sym own ∙ held)
+      | inr has ↦ apart (sym (held_same ask.lane lane (ask.phase + 1) n (sym has ∙ held)))
+    ];
   }
 
-  pub is_other_task : (serves : Bool) (r : Request) (task : ℕ) (v : View) (x : CoreState A) → ask ≡ ask_of r → task ≢ r.task
-      → Serving op limits allows ask seen serves 0 v x → IsOther task v
-  is_other_task serves r task v x asks apart s = is_other serves 0 task v x (λ same. apart (same ∙ ap (λ (a : Ask). a.task) asks)) s
+  pub is_else : (r : Request) (lane : ℕ) → ask ≡ ask_of r → lane ≢ r.lane → lane ≢ ask.lane
+  is_else r lane asks apart same = apart (same ∙ ap (λ (a : Ask). a.lane) asks)
+
+  -- whoever it is, its turn is a holder's
+  pub is_holder : (serves : Bool) (k : ℕ) (v : View) (x : CoreState A) → Serving op limits allows ask seen serves k v x → IsHolder v
+  is_holder serves k v x s = record {
+    knows = knowledge s.turned.did.now (ask.task ∷ []);
+    claims = s.turned.did.claims;
+    said = s.turned.did.said;
+    lane = s.turned.did.lane;
+    is = s.turned.is;
+  }
 
   -- where it read what is sent
   pub send_knows : (serves : Bool) (k task n : ℕ) (w v : View) (x : CoreState A) → Serving op limits allows ask seen serves k w x → SendReadAt task w n v → v ≡ w
@@ -92,9 +105,9 @@ module _ {A : Type 0} (op : Operation A) (limits : Limits) (allows : Allows) (as
     owes = s.owes;
   }
 
-  -- it has come as far as task k
+  -- it has come as far as lane k
   pub serves_to : (serves : Bool) (k j : ℕ) (v : View) (x : CoreState A) (s : Serving op limits allows ask seen serves k v x)
-      → ((a : Ask) → IsOneOf s.turned.did.claims a → a.task < j → a.phase ≡ ask.phase
+      → ((a : Ask) → IsOneOf s.turned.did.claims a → a.lane < j → a.phase ≡ ask.phase
       → IsAtPhases (s.turned.did.later ++ s.turned.did.now) a.task (a.phase + 1) (a.phase + 1))
       → Serving op limits allows ask seen serves j v x
   serves_to serves k j v x s served = record {
@@ -112,24 +125,23 @@ module _ {A : Type 0} (op : Operation A) (limits : Limits) (allows : Allows) (as
 
   -- it has served those below j, where it has served those below k
   pub as_far : (k j : ℕ) (v : View) (x : CoreState A) → j ≤ k → Serving op limits allows ask seen true k v x → Serving op limits allows ask seen true j v x
-  as_far k j v x low s = serves_to true k j v x s (λ a one below same. s.turned.served a one (below_all a.task below) same)
+  as_far k j v x low s = serves_to true k j v x s (λ a one below same. s.turned.served a one (below_all a.lane below) same)
     where
       below_all : (m : ℕ) → m < j → m < k
       below_all m here = omega arith
 
-  -- no ask is its own task's
-  pub none_own : (k : ℕ) (v : View) (x : CoreState A) → k ≡ ask.task → Serving op limits allows ask seen true k v x
+  -- no ask is in its own lane
+  pub none_own : (k : ℕ) (v : View) (x : CoreState A) → k ≡ ask.lane → Serving op limits allows ask seen true k v x
       → Serving op limits allows ask seen true (k + 1) v x
-  none_own k v x own s = serves_to true k (k + 1) v x s (λ a one below same. elim (below_or a.task k below) [
+  none_own k v x own s = serves_to true k (k + 1) v x s (λ a one below same. elim (below_or a.lane k below) [
     | inl low ↦ s.turned.served a one low same
-    | inr here ↦ absurd (not_both (is_in a.task (ask.task ∷ []))
-        (subst (λ (m : ℕ). is_in m (ask.task ∷ []) ≡ true) (sym (here ∙ own)) (is_in_self ask.task [])) (s.turned.did.theirs a one))
+    | inr here ↦ absurd (s.turned.did.apart a one (here ∙ own))
   ])
 
   -- where the lane has no ask for the phase
   pub none_asked : (k r : ℕ) (v : View) (x : CoreState A) (h : HasRead op limits allows ask seen true k k r v x) → (r ≡ ask.phase + 1 → ⊥)
       → Serving op limits allows ask seen true (k + 1) v x
-  none_asked k r v x h other = serves_to true k (k + 1) v x h.serving (λ a one below same. elim (below_or a.task k below) [
+  none_asked k r v x h other = serves_to true k (k + 1) v x h.serving (λ a one below same. elim (below_or a.lane k below) [
     | inl low ↦ h.serving.turned.served a one low same
     | inr here ↦ absurd (other (h.read a one here ∙ ap (λ (n : ℕ). n + 1) same))
   ])

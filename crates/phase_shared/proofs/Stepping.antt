@@ -11,7 +11,7 @@ use Rattle.phase_shared.specs.declared.rule.Terms.{Terms}
 use Rattle.phase_shared.specs.declared.tried.Tried.{Tried}
 use Rattle.phase_shared.specs.declared.tried.Tried.TheVariants.{Busy}
 use Rattle.phase_shared.specs.LockedPhasers.{locked_place, locked_terms}
-use Rattle.phase_shared.specs.Views.{resting, turning, known_of}
+use Rattle.phase_shared.specs.Views.{Unknown, resting, turning, known_of}
 use Rattle.phase_shared.specs.Rule.{Allows, IsGoodAt, HasOneHistory, StandsWithin, AfterTake, Keeps}
 use Rattle.phase_shared.specs.Calls.{Tries, tried}
 use Rattle.phase_shared.specs.Steps.{IsStep, IsSeatOn, GivesNoAnswer}
@@ -49,7 +49,7 @@ module _ {A K : Type 0} (op : Operation A) (allows : K → Allows) (terms : Term
   -- the give
   pub gives_called : (goes : View → View → Type 0) (number told : ℕ) (entry : Entry) (v : View) (w : View) (y x : CoreState A) (new : History) (expected : Entry)
       → (e : AfterTake op allows terms me entry v y w) → Called e.now new x expected
-      → goes (turning e.now (me ∷ []) e.claims e.said None) (resting new (me ∷ []))
+      → goes (turning e.now (me ∷ []) e.claims e.said Unknown) (resting new (me ∷ []))
       → GivesNoAnswer (HasOneHistory op allows) terms number w x told (λ p q r. goes p r)
   gives_called goes number told entry v w y x new expected e c goes_on =
       gives_own op allows terms me goes number told x w e.now new e.claims e.said e.is e.used c.own c.good c.stands goes_on

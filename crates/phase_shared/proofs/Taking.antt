@@ -7,15 +7,16 @@ use Rattle.atomic_table.proofs.Lists.{at_set, set_here, set_else}
 use Rattle.turn_lock.proofs.Keeping.{within}
 use Rattle.phase_shared.specs.Phasers.{Limits, is_distinct, is_in, Outcome, History, signal_phase, wait_phase}
 use Rattle.phase_shared.specs.declared.seats.view.Knowledge.{Knowledge}
-use Rattle.phase_shared.specs.Views.{knowledge, speaks_of, claims_of}
+use Rattle.phase_shared.specs.Views.{Lane, Unknown, Own, Holds, knowledge, speaks_of, claims_of}
 use Rattle.phase_shared.specs.Goods.{Allows}
 use Rattle.phase_shared.specs.Asks.{Ask, IsAtPhases, Stage, IsMade, IsOneOf}
-use Rattle.phase_shared.specs.Lanes.{board, posted}
-use Rattle.phase_shared.specs.Desks.{View, Resting, Turning, Joining, Posting, Asking, Reading, Spent, IsSound, AskStands, LaneIs, StandsAsked, AskedAt, HeldAt, IsLane, Kept, is_made, made_asks}
+use Rattle.phase_shared.specs.Lanes.{board, posted, owner_word}
+use Rattle.phase_shared.specs.Desks.{View, Resting, Turning, Joining, Posting, Asking, Reading, Spent, IsSound, AskStands, Owns, LaneIs, StandsAsked, AskedAt, HeldAt, IsLane, Kept, is_made, made_asks}
 use Rattle.phase_shared.specs.Tells.{Took, TookAsked}
-use Rattle.phase_shared.proofs.Small.{none_some, not_true_is, apart_phases, is_in_self}
+use Rattle.phase_shared.proofs.Small.{none_some, not_true_is, not_both, apart_phases, is_in_self}
 use Rattle.phase_shared.proofs.Stages.{signal_is, wait_is}
-use Rattle.phase_shared.proofs.Places.{is_asking, ask_in, same_view, ne_of, was}
+use Rattle.phase_shared.proofs.Places.{is_asking, ask_in, same_view, ne_of, was, own_same}
+use Rattle.phase_shared.proofs.LaneWords.{lanes_apart}
 
 -- what is listed was asked, and is made
 listed : (log : History) (views : List View) (a : Ask) → IsOneOf (made_asks log views) a
@@ -24,7 +25,7 @@ listed log [] a one = absurd one
 listed log (Resting g ∷ views) a one = let r = listed log views a one in (suc r.0, r.1, r.2, r.3)
 listed log (Turning g claims said lane ∷ views) a one = let r = listed log views a one in (suc r.0, r.1, r.2, r.3)
 listed log (Joining g h ∷ views) a one = let r = listed log views a one in (suc r.0, r.1, r.2, r.3)
-listed log (Posting g n ∷ views) a one = let r = listed log views a one in (suc r.0, r.1, r.2, r.3)
+listed log (Posting g i n ∷ views) a one = let r = listed log views a one in (suc r.0, r.1, r.2, r.3)
 listed log (Reading g b ∷ views) a one = let r = listed log views a one in (suc r.0, r.1, r.2, r.3)
 listed log (Spent ∷ views) a one = let r = listed log views a one in (suc r.0, r.1, r.2, r.3)
 listed log (Asking g b ∷ views) a one =
@@ -48,8 +49,8 @@ lists log (Turning h cs said lane ∷ views) zero g a e m = absurd (let no : Tur
 lists log (Turning h cs said lane ∷ views) (suc k) g a e m = lists log views k g a e m
 lists log (Joining h i ∷ views) zero g a e m = absurd (let no : Joining h i ≡ Asking g a = some-injective (Joining h i) (Asking g a) e in cc)
 lists log (Joining h i ∷ views) (suc k) g a e m = lists log views k g a e m
-lists log (Posting h n ∷ views) zero g a e m = absurd (let no : Posting h n ≡ Asking g a = some-injective (Posting h n) (Asking g a) e in cc)
-lists log (Posting h n ∷ views) (suc k) g a e m = lists log views k g a e m
+lists log (Posting h i n ∷ views) zero g a e m = absurd (let no : Posting h i n ≡ Asking g a = some-injective (Posting h i n) (Asking g a) e in cc)
+lists log (Posting h i n ∷ views) (suc k) g a e m = lists log views k g a e m
 lists log (Reading h b ∷ views) zero g a e m = absurd (let no : Reading h b ≡ Asking g a = some-injective (Reading h b) (Asking g a) e in cc)
 lists log (Reading h b ∷ views) (suc k) g a e m = lists log views k g a e m
 lists log (Spent ∷ views) zero g a e m = absurd (let no : Spent ≡ Asking g a = some-injective Spent (Asking g a) e in cc)
@@ -85,8 +86,8 @@ module _ {T : Type 0} (value : List ℤ → Outcome) (limits : Limits) (allows :
     (number : ℕ) (v : View) (x : T) (told : ℕ) (words : List ℕ) (views : List View)
     (k : Kept value limits allows StandsFor (Some x) told words views) (at : get_elem? views number ≡ some v)
     (speaks : List ℕ) (speaks_is : speaks_of v ≡ speaks) (distinct : is_distinct speaks ≡ true) (one : (task : ℕ) × (is_in task speaks ≡ true))
-    (lane : Option ℕ) (lane_is : LaneIs words (knowledge k.log speaks) lane)
-    (held : (g : Knowledge) (a : Ask) → v ≡ Asking g a → (n : ℕ) × (lane ≡ Some n) × (speaks ≡ a.task ∷ [])) where
+    (lane : Lane) (lane_is : LaneIs words (knowledge k.log speaks) lane)
+    (held : (g : Knowledge) (a : Ask) → v ≡ Asking g a → (n : ℕ) × (lane ≡ Holds a.lane n)) where
   abbrev claims : List Ask
   claims = made_asks k.log (set views number Spent)
 
@@ -94,7 +95,7 @@ module _ {T : Type 0} (value : List ℤ → Outcome) (limits : Limits) (allows :
   taken = Turning (knowledge k.log speaks) (made_asks k.log (set views number Spent)) (board words) lane
 
   -- nobody had the turn
-  no_turn : (j : ℕ) (g : Knowledge) (cs : List Ask) (said : Outcome) (l : Option ℕ) → get_elem? views j ≡ some (Turning g cs said l) → ⊥
+  no_turn : (j : ℕ) (g : Knowledge) (cs : List Ask) (said : Outcome) (l : Lane) → get_elem? views j ≡ some (Turning g cs said l) → ⊥
   no_turn j g cs said l e = let s = k.sound j (Turning g cs said l) e in none_some x s.3
 
   -- who asks, beside the taker
@@ -107,7 +108,7 @@ module _ {T : Type 0} (value : List ℤ → Outcome) (limits : Limits) (allows :
   out_now j (Resting g) e s = s
   out_now j (Turning g cs said l) e s = absurd (no_turn j g cs said l e)
   out_now j (Joining g h) e s = s
-  out_now j (Posting g n) e s = s
+  out_now j (Posting g i n) e s = s
   out_now j (Asking g a) e s = s
   out_now j (Reading g a) e s = s
   out_now j Spent e s = tt
@@ -138,6 +139,16 @@ module _ {T : Type 0} (value : List ℤ → Outcome) (limits : Limits) (allows :
             q.0 (sym (k.owns r.0 (Asking r.1 a) a.task q.1 own).0 ∙ mine.0)),
       )
 
+  -- in a lane that is no task's of the taker
+  read_apart : (a : Ask) → IsOneOf (made_asks k.log (set views number Spent)) a → (i task : ℕ) → owner_word words i ≡ task + 1
+      → is_in task speaks ≡ true → a.lane ≢ i
+  read_apart a one' i task owned mine same =
+      let r = listed k.log (set views number Spent) a one' in
+      let q = was is_asking views number r.0 Spent (Asking r.1 a) refl refl r.2 in
+      let s : AskStands value limits allows k.log told words r.1 a = k.sound r.0 (Asking r.1 a) q.1 in
+      lanes_apart words i a.lane task a.task owned s.owned
+      (λ is. not_both (is_in a.task speaks) (subst (λ (t : ℕ). is_in t speaks ≡ true) (sym is) mine) (read_is a one').1) same
+
   made_read : (i : ℕ) (h : Knowledge) (a : Ask) → get_elem? (set views number taken) i ≡ some (Asking h a) → IsMade limits a h.seen k.log
       → IsOneOf (made_asks k.log (set views number Spent)) a
   made_read i h a e m =
@@ -158,8 +169,8 @@ module _ {T : Type 0} (value : List ℤ → Outcome) (limits : Limits) (allows :
           claims = made_asks k.log (set views number Spent);
           said = board words;
           n = h.0;
-          at = here ∙ ap (λ (l : Option ℕ). some (Turning (knowledge k.log speaks) (made_asks k.log (set views number Spent)) (board words) l)) h.1;
-          speaks = h.2 ∙ ap (λ (t' : ℕ). t' ∷ []) q.is;
+          at = here ∙ ap (λ (l : Lane). some (Turning (knowledge k.log speaks) (made_asks k.log (set views number Spent)) (board words) l))
+              (h.1 ∙ ap (λ (m : ℕ). Holds m h.0) q.is);
         }
     | false ↦ λ f. inl record {
       seat = q.seat;
@@ -175,7 +186,7 @@ module _ {T : Type 0} (value : List ℤ → Outcome) (limits : Limits) (allows :
   lane_now i n (inr (inl q)) =
       inr (elim (lane_asked i q) [ inl q' ↦ inl q' | inr h ↦ inr (inr h) ])
   lane_now i n (inr (inr (inl p))) = inr (inr (inl p))
-  lane_now i n (inr (inr (inr h))) = inr (absurd (no_turn h.seat h.knows h.claims h.said (Some h.n) h.at))
+  lane_now i n (inr (inr (inr h))) = inr (absurd (no_turn h.seat h.knows h.claims h.said (Holds i h.n) h.at))
 
   took : Kept value limits allows StandsFor None told words (set views number taken)
   took = record {
@@ -216,8 +227,8 @@ module _ {T : Type 0} (value : List ℤ → Outcome) (limits : Limits) (allows :
   takes number f x told words views k at one =
       let s = k.sound number (Resting f) at in
       let claims : List Ask = made_asks k.log (set views number Spent) in (
-        Turning (knowledge k.log f.speaks) claims (board words) None,
-        took value limits allows StandsFor number (Resting f) x told words views k at f.speaks refl s.1 one None tt
+        Turning (knowledge k.log f.speaks) claims (board words) Unknown,
+        took value limits allows StandsFor number (Resting f) x told words views k at f.speaks refl s.1 one Unknown tt
             (λ g a e. absurd (cc)),
         record {
           now = k.log;
@@ -226,7 +237,36 @@ module _ {T : Type 0} (value : List ℤ → Outcome) (limits : Limits) (allows :
           others = s.0;
           good = k.good;
           stands = k.stands x refl;
-          read = read_is value limits allows StandsFor number (Resting f) x told words views k at f.speaks refl s.1 one None tt (λ g a e. absurd (cc));
+          read = read_is value limits allows StandsFor number (Resting f) x told words views k at f.speaks refl s.1 one Unknown tt (λ g a e. absurd (cc));
+          apart = λ a one' i none. absurd (let no : Unknown ≡ Own i = none in cc);
+          is = refl;
+        },
+      )
+
+  -- a seat at rest takes that has a lane
+  pub takes_own : (number : ℕ) (f : Knowledge) (i : ℕ) (n : Option ℕ) (x : T) (told : ℕ) (words : List ℕ) (views : List View)
+      → Kept value limits allows StandsFor (Some x) told words views → get_elem? views number ≡ some (Posting f i n)
+      → (w : View) × Kept value limits allows StandsFor None told words (set views number w) × Took limits allows StandsFor (Posting f i n) x w
+  takes_own number f i n x told words views k at =
+      let s = k.sound number (Posting f i n) at in
+      let o : Owns words f i = s.2 in
+      let one : (task : ℕ) × (is_in task f.speaks ≡ true) = (o.task, subst (λ (l : List ℕ). is_in o.task l ≡ true) (sym o.speaks) (is_in_self o.task [])) in
+      let mine : Owns words (knowledge k.log f.speaks) i = record { task = o.task; speaks = o.speaks; low = o.low; owned = o.owned } in
+      let claims : List Ask = made_asks k.log (set views number Spent) in (
+        Turning (knowledge k.log f.speaks) claims (board words) (Own i),
+        took value limits allows StandsFor number (Posting f i n) x told words views k at f.speaks refl s.1 one (Own i) mine
+            (λ g a e. absurd (cc)),
+        record {
+          now = k.log;
+          claims = claims;
+          said = board words;
+          others = s.0;
+          good = k.good;
+          stands = k.stands x refl;
+          read = read_is value limits allows StandsFor number (Posting f i n) x told words views k at f.speaks refl s.1 one (Own i) mine (λ g a e. absurd (cc));
+          apart = λ a one' l is. subst (λ (m : ℕ). a.lane ≢ m) (own_same i l is)
+              (read_apart value limits allows StandsFor number (Posting f i n) x told words views k at f.speaks refl s.1 one (Own i) mine (λ g b e. absurd (cc))
+              a one' i o.task o.owned one.1);
           is = refl;
         },
       )
@@ -238,10 +278,10 @@ module _ {T : Type 0} (value : List ℤ → Outcome) (limits : Limits) (allows :
   takes_asked number f a x told words views k at =
       let s : AskStands value limits allows k.log told words f a = k.sound number (Asking f a) at in
       let claims : List Ask = made_asks k.log (set views number Spent) in (
-        Turning (knowledge k.log (a.task ∷ [])) claims (board words) (Some (a.phase + 1)),
+        Turning (knowledge k.log (a.task ∷ [])) claims (board words) (Holds a.lane (a.phase + 1)),
         took value limits allows StandsFor number (Asking f a) x told words views k at (a.task ∷ []) s.speaks refl (a.task, is_in_self a.task [])
-            (Some (a.phase + 1)) (record { task = a.task; speaks = refl; low = s.low; has = s.posts })
-            (λ g b e. (a.phase + 1, refl, ap (λ (v : View). (ask_in a v).task ∷ []) e)),
+            (Holds a.lane (a.phase + 1)) (record { task = a.task; speaks = refl; low = s.low; owned = s.owned }, s.posts)
+            (λ g b e. (a.phase + 1, ap (λ (v : View). Holds (ask_in a v).lane (a.phase + 1)) e)),
         record {
           now = k.log;
           claims = claims;
@@ -251,8 +291,12 @@ module _ {T : Type 0} (value : List ℤ → Outcome) (limits : Limits) (allows :
           good = k.good;
           stands = k.stands x refl;
           read = read_is value limits allows StandsFor number (Asking f a) x told words views k at (a.task ∷ []) s.speaks refl (a.task, is_in_self a.task [])
-              (Some (a.phase + 1)) (record { task = a.task; speaks = refl; low = s.low; has = s.posts })
-              (λ g b e. (a.phase + 1, refl, ap (λ (v : View). (ask_in a v).task ∷ []) e));
+              (Holds a.lane (a.phase + 1)) (record { task = a.task; speaks = refl; low = s.low; owned = s.owned }, s.posts)
+              (λ g b e. (a.phase + 1, ap (λ (v : View). Holds (ask_in a v).lane (a.phase + 1)) e));
+          apart = λ b one'. read_apart value limits allows StandsFor number (Asking f a) x told words views k at (a.task ∷ []) s.speaks refl (a.task, is_in_self a.task [])
+              (Holds a.lane (a.phase + 1)) (record { task = a.task; speaks = refl; low = s.low; owned = s.owned }, s.posts)
+              (λ g b e. (a.phase + 1, ap (λ (v : View). Holds (ask_in a v).lane (a.phase + 1)) e))
+              b one' a.lane a.task s.owned (is_in_self a.task []);
           is = refl;
         },
       )

@@ -1,5 +1,5 @@
 -- What a turn of a seat that asks owes at its give.
-use Rattle.std.proofs.Common.{◌≡◌, ℕ, ◌+◌, ◌*◌, ◌<◌, ◌≤◌, Bool, true, false, [], ◌∷◌, ◌++◌, ◌⊎◌, Option, Some, None, refl, sym, ap, subst, ◌∙◌, inl, inr, arith}
+use Rattle.std.proofs.Common.{◌≡◌, ℕ, ◌+◌, ◌*◌, ◌<◌, ◌≤◌, Bool, true, false, [], ◌∷◌, ◌++◌, ◌⊎◌, Some, None, refl, sym, ap, subst, ◌∙◌, inl, inr, arith}
 use Rattle.std.specs.Prelude.{◌/◌, ◌%◌}
 use Rattle.turn_lock.specs.WordSteps.{GivesOf}
 use Rattle.phase_shared.specs.Phasers.{Limits, Operation, Outcome, SignalRefusal, History, done_of, value_of_phase, IsLegal, signal_refusal, OthersCame, CoreState}
@@ -15,9 +15,10 @@ use Rattle.phase_shared.specs.Lanes.{lanes_most}
 use Rattle.phase_shared.specs.Rule.{IsOneHistory, StandsWithin}
 use Rattle.phase_shared.specs.Servings.{Turned, Starting, Serving, Finished, IsAnsweredIn, HasAnswer, IsRefused, WasOpen}
 use Rattle.phase_shared.specs.Tells.{EndsTurn, StillAsks, LaneIsPast, Leaves}
-use Rattle.phase_shared.specs.Views.{knowledge, known_of, resting, turning, board_of}
+use Rattle.phase_shared.specs.Views.{Lane, Own, Holds, knowledge, known_of, resting, turning, board_of}
 use Rattle.phase_shared.specs.WordTells.{with_lane, with_board}
-use Rattle.phase_shared.proofs.Small.{same_some, apart_phases}
+use Rattle.phase_shared.proofs.Small.{apart_phases}
+use Rattle.phase_shared.proofs.Places.{own_not_held, held_number}
 use Rattle.phase_shared.proofs.Stages.{signal_is, wait_is, done_within, stage_waited}
 use Rattle.phase_shared.proofs.LaneReading.{answered_past}
 use Rattle.phase_shared.proofs.AskAnswering.{keeps_before, later_value}
@@ -28,8 +29,8 @@ use Rattle.phase_shared.proofs.WaitsLow.{waits_low}
 odd_nought : 0 % 2 ≡ 1 → ⊥
 odd_nought e = cc
 
-same_phase : (n m : ℕ) → Some (n + 1) ≡ Some (m + 1) → n ≡ m
-same_phase n m e = let is : n + 1 ≡ m + 1 = same_some (n + 1) (m + 1) e in omega arith
+same_phase : (i j n m : ℕ) → Holds i (n + 1) ≡ Holds j (m + 1) → n ≡ m
+same_phase i j n m e = let is : n + 1 ≡ m + 1 = held_number i j (n + 1) (m + 1) e in omega arith
 
 rests : (f g : Knowledge) (a : Ask) → Resting f ≡ Asking g a → ⊥
 rests f g a e = cc
@@ -42,7 +43,7 @@ module _ {A : Type 0} (op : Operation A) (limits : Limits) (allows : Allows) (as
   mine now = knowledge now (ask.task ∷ [])
 
   -- a give that tells what was told, where no ask that was read was answered
-  gives_same : (then : View → Type 0) (number told k : ℕ) (v u : View) (x y : CoreState A) (lane : Option ℕ) (w : View)
+  gives_same : (then : View → Type 0) (number told k : ℕ) (v u : View) (x y : CoreState A) (lane : Lane) (w : View)
       → (t : Turned op limits allows ask false k v x) → u ≡ turning t.did.now (ask.task ∷ []) t.did.claims t.did.said lane → y ≡ x
       → EndsTurn limits allows 0 (t.did.later ++ t.did.now) (mine t.did.now) lane w
       → ((s : StillAsks limits allows 0 (t.did.later ++ t.did.now) (mine t.did.now) lane w) → done_of t.did.now ≤ s.ask.phase)
@@ -58,24 +59,24 @@ module _ {A : Type 0} (op : Operation A) (limits : Limits) (allows : Allows) (as
       ))
 
   -- what its own lane has is past
-  lane_past : (lane : Option ℕ) (now new : History) → (lane ≡ None) ⊎ (lane ≡ Some (ask.phase + 1)) → IsPast new ask.task (ask.phase + 1)
-      → LaneIsPast new (mine now) lane
-  lane_past lane now new (inl e) past = subst (λ (l : Option ℕ). LaneIsPast new (mine now) l) (sym e) tt
-  lane_past lane now new (inr e) past = subst (λ (l : Option ℕ). LaneIsPast new (mine now) l) (sym e) (ask.task, refl, past)
+  lane_past : (lane : Lane) (new : History) → (lane ≡ Own ask.lane) ⊎ (lane ≡ Holds ask.lane (ask.phase + 1)) → IsPast new (ask.phase + 1)
+      → LaneIsPast new lane
+  lane_past lane new (inl e) past = subst (λ (l : Lane). LaneIsPast new l) (sym e) tt
+  lane_past lane new (inr e) past = subst (λ (l : Lane). LaneIsPast new l) (sym e) past
 
   module _ (seen : History) where
     -- ---- its signal is refused
 
     pub gives_refused : (number told : ℕ) (refusal : SignalRefusal) (v u : View) (x y : CoreState A) → (s : Starting op limits allows ask seen v x)
-        → u ≡ with_lane None v → y ≡ x
+        → u ≡ with_lane (Own ask.lane) v → y ≡ x
         → signal_refusal limits (known_of v).seen ask.task (ask.sends ∷ []) None ≡ Some refusal
         → GivesOf (IsOneHistory op limits allows) tt number u y told told (λ p q r. IsRefused op limits allows ask seen refusal r)
     gives_refused number told refusal v u x y s is same refused =
         let t = s.turned in
-        gives_same (λ r. IsRefused op limits allows ask seen refusal r) number told 0 v u x y None (resting t.did.now (ask.task ∷ [])) t
-        (is ∙ ap (with_lane None) t.is) same
+        gives_same (λ r. IsRefused op limits allows ask seen refusal r) number told 0 v u x y (Own ask.lane) (resting t.did.now (ask.task ∷ [])) t
+        (is ∙ ap (with_lane (Own ask.lane)) t.is) same
         (inl (t.did.now, refl, subst (λ (l : History). OthersCame (ask.task ∷ []) t.did.now (l ++ t.did.now)) (sym s.first) (OthersCame-refl (ask.task ∷ []) t.did.now), tt))
-        (λ q. absurd (asks.no_lane (q.ask.phase + 1) q.posts))
+        (λ q. absurd (own_not_held ask.lane q.ask.lane (q.ask.phase + 1) q.posts))
         (record {
           now = t.did.now;
           others = s.unmade.others;
@@ -87,13 +88,13 @@ module _ {A : Type 0} (op : Operation A) (limits : Limits) (allows : Allows) (as
     -- ---- its phase is open
 
     pub gives_asking : (number told : ℕ) (v u : View) (x y : CoreState A) → (s : Serving op limits allows ask seen false 0 v x)
-        → u ≡ with_lane (Some (ask.phase + 1)) v → y ≡ x → WasOpen v ask.phase
+        → u ≡ with_lane (Holds ask.lane (ask.phase + 1)) v → y ≡ x → WasOpen v ask.phase
         → GivesOf (IsOneHistory op limits allows) tt number u y told told (λ p q r. r ≡ Asking (knowledge seen (ask.task ∷ [])) ask)
     gives_asking number told v u x y s is same open' =
         let t = s.turned in
         let low : done_of t.did.now ≤ ask.phase = subst (λ (h : History). done_of h ≤ ask.phase) (seen_is op limits allows ask false 0 v x t) open' in
-        gives_same (λ r. r ≡ Asking (knowledge seen (ask.task ∷ [])) ask) number told 0 v u x y (Some (ask.phase + 1)) (Asking (knowledge seen (ask.task ∷ [])) ask) t
-        (is ∙ ap (with_lane (Some (ask.phase + 1))) t.is) same
+        gives_same (λ r. r ≡ Asking (knowledge seen (ask.task ∷ [])) ask) number told 0 v u x y (Holds ask.lane (ask.phase + 1)) (Asking (knowledge seen (ask.task ∷ [])) ask) t
+        (is ∙ ap (with_lane (Holds ask.lane (ask.phase + 1))) t.is) same
         (inr record {
           ask = ask;
           knows = knowledge seen (ask.task ∷ []);
@@ -105,7 +106,7 @@ module _ {A : Type 0} (op : Operation A) (limits : Limits) (allows : Allows) (as
           waits = λ odd. absurd (odd_nought odd);
           is = refl;
         })
-        (λ q. subst (λ (n : ℕ). done_of t.did.now ≤ n) (same_phase ask.phase q.ask.phase q.posts) low)
+        (λ q. subst (λ (n : ℕ). done_of t.did.now ≤ n) (same_phase ask.lane q.ask.lane ask.phase q.ask.phase q.posts) low)
         refl
 
     -- ---- its wait is made
@@ -128,8 +129,8 @@ module _ {A : Type 0} (op : Operation A) (limits : Limits) (allows : Allows) (as
             Waited ask.task 1 ∷ f.middle,
             refl,
             OthersCame-refl (ask.task ∷ []) (Waited ask.task 1 ∷ f.middle),
-            lane_past f.turned.did.lane f.turned.did.now (Waited ask.task 1 ∷ f.middle) f.turned.did.own
-                (answered_past limits ask seen (Waited ask.task 1 ∷ f.middle) good_last.legal answered_last),
+            lane_past f.turned.did.lane (Waited ask.task 1 ∷ f.middle) f.turned.did.own
+                (answered_past limits ask seen (Waited ask.task 1 ∷ f.middle) answered_last),
           ))
 
       has_last : HasAnswer op limits allows ask seen outcome (resting (Waited ask.task 1 ∷ f.middle) (ask.task ∷ []))
@@ -162,7 +163,7 @@ module _ {A : Type 0} (op : Operation A) (limits : Limits) (allows : Allows) (as
     -- what it knows of each ask that it read, where those for its phase are answered
     leaves : (k next : ℕ) (outcome : Outcome) (v : View) (x : CoreState A) (f : Finished op limits allows ask seen true k outcome v x)
         → (next % 2 ≡ 1 → (k ≡ 16) × (next / 2 ≡ done_of (f.turned.did.later ++ f.turned.did.now)))
-        → (a : Ask) → IsOneOf f.turned.did.claims a → a.task < lanes_most → Leaves op.value (f.turned.did.later ++ f.turned.did.now) next outcome a
+        → (a : Ask) → IsOneOf f.turned.did.claims a → a.lane < lanes_most → Leaves op.value (f.turned.did.later ++ f.turned.did.now) next outcome a
     leaves k next outcome v x f tells a one low =
         let t = f.turned in
         let new : History = t.did.later ++ t.did.now in
@@ -172,7 +173,7 @@ module _ {A : Type 0} (op : Operation A) (limits : Limits) (allows : Allows) (as
               let p = tells odd in
               let most : done_of (t.did.later ++ t.did.now) ≤ a.phase + 1 = done_within (t.did.later ++ t.did.now) a.task (a.phase + 1) a.phase st in
               let apart : a.phase ≡ ask.phase → ⊥ = λ same.
-              let few : a.task < k = subst (λ (n : ℕ). a.task < n) (sym p.0) low in
+              let few : a.lane < k = subst (λ (n : ℕ). a.lane < n) (sym p.0) low in
               let answered : IsAtPhases (t.did.later ++ t.did.now) a.task (a.phase + 1) (a.phase + 1) = t.served a one few same in
               apart_phases a.phase (sym (wait_is (t.did.later ++ t.did.now) a.task (a.phase + 1) (a.phase + 1) answered) ∙ wait_is (t.did.later ++ t.did.now) a.task (a.phase + 1) a.phase st) in
               let is : next / 2 ≡ done_of (t.did.later ++ t.did.now) = p.1 in
@@ -230,11 +231,11 @@ module _ {A : Type 0} (op : Operation A) (limits : Limits) (allows : Allows) (as
         let good_now : IsGood limits allows t.did.now = subst (λ (l : History). IsGood limits allows (l ++ t.did.now)) n.first t.good in
         let first : IsLegal limits (Waited ask.task 1 ∷ m) = IsLegal-beginning limits (Waited ask.task 1 ∷ m) t.did.now (λ none. cc) good_now.legal
         (record { later = n.answered.since.later; is = n.answered.since.is }) in
-        let past : IsPast t.did.now ask.task (ask.phase + 1) = answered_past limits ask seen t.did.now good_now.legal n.answered in
+        let past : IsPast t.did.now (ask.phase + 1) = answered_past limits ask seen t.did.now n.answered in
         gives_same (λ r. HasAnswer op limits allows ask seen outcome r) number told 0 v u x y t.did.lane (resting (Waited ask.task 1 ∷ m) (ask.task ∷ [])) t
         (is ∙ t.is) same
         (subst (λ (l : History). EndsTurn limits allows 0 (l ++ t.did.now) (mine t.did.now) t.did.lane (resting (Waited ask.task 1 ∷ m) (ask.task ∷ []))) (sym n.first)
-        (inl (Waited ask.task 1 ∷ m, refl, n.answered.since, lane_past t.did.lane t.did.now t.did.now t.did.own past)))
+        (inl (Waited ask.task 1 ∷ m, refl, n.answered.since, lane_past t.did.lane t.did.now t.did.own past)))
         (λ q. absurd (rests (knowledge (Waited ask.task 1 ∷ m) (ask.task ∷ [])) q.knows q.ask q.is))
         (record {
           middle = m;

@@ -11,7 +11,7 @@ use Rattle.phase_shared.specs.Goods.{Allows}
 use Rattle.phase_shared.specs.Rule.{StandsWithin}
 use Rattle.phase_shared.specs.Servings.{Turned, Starting, Serving, IsAnsweredIn, IsWaiterIn, WasOpen}
 use Rattle.phase_shared.specs.Tells.{TookAsked}
-use Rattle.phase_shared.specs.Views.{knowledge, known_of}
+use Rattle.phase_shared.specs.Views.{Holds, knowledge, known_of}
 use Rattle.phase_shared.proofs.Small.{same_some, apart_phases, none_below}
 use Rattle.phase_shared.proofs.Stages.{wait_is}
 use Rattle.phase_shared.proofs.Giving.{member_after}
@@ -107,11 +107,12 @@ module _ {A : Type 0} (op : Operation A) (limits : Limits) (allows : Allows) (as
         now = k.now;
         claims = k.claims;
         said = k.said;
-        lane = Some (ask.phase + 1);
+        lane = Holds ask.lane (ask.phase + 1);
         later = [];
         some = legal_some;
         batch = tt;
         theirs = λ a one. (k.read a one).1;
+        apart = k.apart;
         own = inr refl;
       };
       is = k.is;
@@ -119,7 +120,7 @@ module _ {A : Type 0} (op : Operation A) (limits : Limits) (allows : Allows) (as
       stands = k.stands;
       quiet = λ no a one st. apart_phases a.phase (sym (wait_is k.now a.task (a.phase + 1) (a.phase + 1) st) ∙ wait_is k.now a.task (a.phase + 1) a.phase (k.read a one).0);
       complete = λ yes'. absurd (false_true yes');
-      served = λ a one low at. absurd (none_below a.task low);
+      served = λ a one low at. absurd (none_below a.lane low);
     }
 
     -- the entry that the core told

@@ -1,5 +1,5 @@
 -- The parts of a turn of a seat that asks: how it begins, its own signal, and what it ends with.
-use Rattle.std.proofs.Common.{◌≡◌, ℕ, ◌+◌, ◌≤◌, Bool, true, false, eqb, [], ◌∷◌, ◌++◌, None, Some, refl, sym, ap, subst, ◌∙◌, inl, arith}
+use Rattle.std.proofs.Common.{◌≡◌, ℕ, ◌+◌, ◌≤◌, Bool, true, false, eqb, [], ◌∷◌, ◌++◌, None, Some, refl, sym, ap, subst, ◌∙◌, ◌⊎◌, inl, inr, arith}
 use Rattle.std.specs.Prelude.{Err}
 use Rattle.phase_shared.specs.Phasers.{is_in, mode_waits, signalled, Entry, Limits, Operation, History, members_of, done_of, signal_phase, signal_refusal, signal_reply, SignalRefusal, IsLegal, CoreState, StandsFor}
 use Rattle.phase_core.specs.phase_history.declared.event.Event.TheVariants.{Signalled}
@@ -11,8 +11,8 @@ use Rattle.phase_shared.specs.Lanes.{sends_of}
 use Rattle.phase_shared.specs.Rule.{StandsWithin}
 use Rattle.phase_shared.specs.declared.seats.request.Request.{Request}
 use Rattle.phase_shared.specs.Servings.{ask_of, Turned, Starting, Serving, IsPhaseDone, IsCompleteIn, WasOpen}
-use Rattle.phase_shared.specs.Views.{knowledge, known_of}
-use Rattle.phase_shared.specs.WordTells.{IsOwnLane, IsHolder, Completes}
+use Rattle.phase_shared.specs.Views.{Lane, Own, Holds, knowledge, known_of}
+use Rattle.phase_shared.specs.WordTells.{KnowsOwn, IsOwnLane, IsHolder, Completes}
 use Rattle.phase_shared.proofs.Answering.{refused_is}
 use Rattle.phase_shared.proofs.Small.{same_some, or_false, none_below}
 use Rattle.phase_shared.proofs.Stages.{at_entry, signal_is, done_within, stage_signalled}
@@ -33,8 +33,12 @@ true_false e = cc
 module _ {A : Type 0} (op : Operation A) (limits : Limits) (allows : Allows) (ask : Ask) where
   -- ---- what it knows
 
-  pub own_lane : (serves : Bool) (k : ℕ) (v : View) (x : CoreState A) → Turned op limits allows ask serves k v x → IsOwnLane ask.task v
-  own_lane serves k v x t = record { knows = knowledge t.did.now (ask.task ∷ []); claims = t.did.claims; said = t.did.said; lane = t.did.lane; is = t.is; speaks = refl }
+  its_own : (lane : Lane) → (lane ≡ Own ask.lane) ⊎ (lane ≡ Holds ask.lane (ask.phase + 1)) → KnowsOwn ask.lane lane
+  its_own lane (inl is) = inl is
+  its_own lane (inr is) = inr (ask.phase + 1, is)
+
+  pub own_lane : (serves : Bool) (k : ℕ) (v : View) (x : CoreState A) → Turned op limits allows ask serves k v x → IsOwnLane ask.lane v
+  own_lane serves k v x t = record { knows = knowledge t.did.now (ask.task ∷ []); claims = t.did.claims; said = t.did.said; lane = t.did.lane; is = t.is; own = its_own t.did.lane t.did.own }
 
   pub holder : (serves : Bool) (k : ℕ) (v : View) (x : CoreState A) → Turned op limits allows ask serves k v x → IsHolder v
   holder serves k v x t = record { knows = knowledge t.did.now (ask.task ∷ []); claims = t.did.claims; said = t.did.said; lane = t.did.lane; is = t.is }
@@ -96,7 +100,7 @@ module _ {A : Type 0} (op : Operation A) (limits : Limits) (allows : Allows) (as
               stands = stands';
               quiet = λ no a one st. quiet_first a one (stood now a.task (a.phase + 1) (a.phase + 1) ask (t.did.theirs a one) st);
               complete = λ yes'. absurd (false_true yes');
-              served = λ a one low at. absurd (none_below a.task low);
+              served = λ a one low at. absurd (none_below a.lane low);
             };
             owes = record {
               made = made;

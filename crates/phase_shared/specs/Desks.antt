@@ -5,14 +5,14 @@
 use Rattle.std.specs.Prelude.{◌≡◌, ℕ, ℤ, ◌+◌, ◌<◌, ◌≤◌, ◌/◌, ◌%◌, List, [], ◌∷◌, ◌++◌, ◌⊎◌, Option, None, Some, Bool, true, ◌==◌, ◌&&◌, if◌then◌else◌}
 use mathlib.Core.Option.{some}
 use lib.ListN.{get_elem?}
-use Rattle.phase_shared.specs.Phasers.{Limits, is_distinct, is_in, Entry, Outcome, History, signal_phase, wait_phase, done_of, start_of, phases_waited, value_of_phase, IsUsed, OthersCame}
+use Rattle.phase_shared.specs.Phasers.{Limits, is_distinct, is_in, Outcome, History, signal_phase, wait_phase, done_of, value_of_phase, IsUsed, OthersCame}
 use Rattle.phase_shared.specs.Goods.{Allows, IsGood}
 use Rattle.phase_shared.specs.declared.seats.view.Knowledge.{Knowledge}
-use Rattle.phase_shared.specs.Views.{Fits, speaks_of}
+use Rattle.phase_shared.specs.Views.{Fits, Lane, Unknown, Free, Own, Holds, speaks_of}
 pub use Rattle.phase_shared.specs.declared.seats.view.View.{View}
 pub use Rattle.phase_shared.specs.declared.seats.view.View.TheVariants.{Resting, Turning, Joining, Posting, Asking, Reading, Spent}
 use Rattle.phase_shared.specs.Asks.{Ask, Stage, IsUnmade, IsMade, IsAnsweredAsk, IsAtPhases, IsOneOf}
-use Rattle.phase_shared.specs.Lanes.{lanes_most, board, posted, send_word, sends_of}
+use Rattle.phase_shared.specs.Lanes.{lanes_most, board, posted, send_word, owner_word, sends_of}
 
 -- the rule allows the ask's signal, whatever the others do
 abbrev pub MayMakeAsk : Limits → Allows → History → Ask → Type 0
@@ -25,13 +25,14 @@ MayMakeAsk limits allows seen a =
 pub record AskStands (value : List ℤ → Outcome) (limits : Limits) (allows : Allows) (log : History)
     (told : ℕ) (words : List ℕ) (f : Knowledge) (a : Ask) : Type 0 where
   pub speaks : f.speaks ≡ a.task ∷ []
-  pub low : a.task < lanes_most
+  pub low : a.lane < lanes_most
+  pub owned : owner_word words a.lane ≡ a.task + 1
   pub stage : Stage limits a f.seen log
   pub waits : told % 2 ≡ 1 → IsMade limits a f.seen log → told / 2 ≤ a.phase
   pub may : MayMakeAsk limits allows f.seen a
   pub has : IsAnsweredAsk limits a f.seen log → board words ≡ value_of_phase value log a.phase
-  pub posts : posted words a.task ≡ a.phase + 1
-  pub sends : IsAtPhases log a.task a.phase a.phase → sends_of (send_word words a.task) ≡ a.sends
+  pub posts : posted words a.lane ≡ a.phase + 1
+  pub sends : IsAtPhases log a.task a.phase a.phase → sends_of (send_word words a.lane) ≡ a.sends
 
 -- an ask that was answered, and whose value is still to be read
 pub record HasToRead (value : List ℤ → Outcome) (log : History) (words : List ℕ) (f : Knowledge)
@@ -42,23 +43,24 @@ pub record HasToRead (value : List ℤ → Outcome) (log : History) (words : Lis
   pub below : a.phase < done_of log
   pub has : board words ≡ value_of_phase value f.seen a.phase
 
--- what a holder's own lane has, where the holder speaks for one task
-pub record HasLane (words : List ℕ) (f : Knowledge) (n : ℕ) : Type 0 where
+-- a lane is that of the one task
+pub record Owns (words : List ℕ) (f : Knowledge) (i : ℕ) : Type 0 where
   pub task : ℕ
   pub speaks : f.speaks ≡ task ∷ []
-  pub low : task < lanes_most
-  pub has : posted words task ≡ n
+  pub low : i < lanes_most
+  pub owned : owner_word words i ≡ task + 1
 
-abbrev pub LaneIs : List ℕ → Knowledge → Option ℕ → Type 0
-LaneIs words f None = Unit {0}
-LaneIs words f (Some n) = HasLane words f n
+-- what a holder knows of a lane
+abbrev pub LaneIs : List ℕ → Knowledge → Lane → Type 0
+LaneIs words f Unknown = Unit {0}
+LaneIs words f (Free i) = (i < lanes_most) × (owner_word words i ≡ 0)
+LaneIs words f (Own i) = Owns words f i
+LaneIs words f (Holds i n) = Owns words f i × (posted words i ≡ n)
 
--- a send is in the lane of the one task
-pub record Posts (words : List ℕ) (f : Knowledge) (n : ℕ) : Type 0 where
-  pub task : ℕ
-  pub speaks : f.speaks ≡ task ∷ []
-  pub low : task < lanes_most
-  pub has : send_word words task ≡ n
+-- the word that says what is sent in a lane, where it is known
+abbrev pub SendIs : List ℕ → ℕ → Option ℕ → Type 0
+SendIs words i None = Unit {0}
+SendIs words i (Some n) = send_word words i ≡ n
 
 abbrev pub IsSound : {T : Type 0} → (List ℤ → Outcome) → Limits → Allows → Option T → ℕ → History
     → ℕ → List ℕ → ℕ → View → Type 0
@@ -69,8 +71,8 @@ IsSound value limits allows home holder log told words j (Turning f claims said 
     × ((task : ℕ) × (is_in task f.speaks ≡ true)) × (said ≡ board words) × LaneIs words f lane
 IsSound value limits allows home holder log told words j (Joining f g) =
     Fits f log × Fits g log × (is_distinct (f.speaks ++ g.speaks) ≡ true)
-IsSound value limits allows home holder log told words j (Posting f n) =
-    Fits f log × (is_distinct f.speaks ≡ true) × Posts words f n
+IsSound value limits allows home holder log told words j (Posting f i n) =
+    Fits f log × (is_distinct f.speaks ≡ true) × Owns words f i × SendIs words i n
 IsSound value limits allows home holder log told words j (Asking f a) =
     AskStands value limits allows log told words f a
 IsSound value limits allows home holder log told words j (Reading f a) =
@@ -85,19 +87,17 @@ pub record StandsAsked (limits : Limits) (log : History) (views : List View) (a 
   pub at : get_elem? views seat ≡ some (Asking knows a)
   pub waits_on : IsUnmade a knows.seen log ⊎ IsMade limits a knows.seen log
 
--- the task of a lane has asked
+-- a seat has asked in a lane
 pub record AskedAt (views : List View) (i : ℕ) : Type 0 where
   pub seat : ℕ
   pub knows : Knowledge
   pub ask : Ask
   pub at : get_elem? views seat ≡ some (Asking knows ask)
-  pub is : ask.task ≡ i
+  pub is : ask.lane ≡ i
 
--- the number in a lane is at most the phase that its task waits for: it asks for nothing
-pub record IsPast (log : History) (i n : ℕ) : Type 0 where
-  pub start : Entry
-  pub start_is : start_of log i ≡ Some start
-  pub past : n ≤ start.wait_phase + phases_waited log i
+-- the phase whose number and one more is in a lane is complete: it asks for nothing
+abbrev pub IsPast : History → ℕ → Type 0
+IsPast log n = n ≤ done_of log
 
 -- the lane is that of the holder, who knows what it has
 pub record HeldAt (views : List View) (i : ℕ) : Type 0 where
@@ -106,12 +106,11 @@ pub record HeldAt (views : List View) (i : ℕ) : Type 0 where
   pub claims : List Ask
   pub said : Outcome
   pub n : ℕ
-  pub at : get_elem? views seat ≡ some (Turning knows claims said (Some n))
-  pub speaks : knows.speaks ≡ i ∷ []
+  pub at : get_elem? views seat ≡ some (Turning knows claims said (Holds i n))
 
 -- what a lane has: nothing, what was asked, what is past, or what its holder knows
 abbrev pub IsLane : History → List View → ℕ → ℕ → Type 0
-IsLane log views i n = (n ≡ 0) ⊎ (AskedAt views i ⊎ (IsPast log i n ⊎ HeldAt views i))
+IsLane log views i n = (n ≡ 0) ⊎ (AskedAt views i ⊎ (IsPast log n ⊎ HeldAt views i))
 
 pub record Kept {T : Type 0} (value : List ℤ → Outcome) (limits : Limits) (allows : Allows)
     (Stands : T → History → Type 0) (home : Option T) (told : ℕ) (words : List ℕ)
@@ -122,17 +121,17 @@ pub record Kept {T : Type 0} (value : List ℤ → Outcome) (limits : Limits) (a
   pub within : told % 2 ≡ 1 → told / 2 ≤ done_of log
   pub holder : ℕ
   pub out : home ≡ None → (f : Knowledge) × (claims : List Ask) × (said : Outcome)
-      × (lane : Option ℕ) × (get_elem? views holder ≡ some (Turning f claims said lane))
+      × (lane : Lane) × (get_elem? views holder ≡ some (Turning f claims said lane))
   pub sound : (j : ℕ) (v : View) → get_elem? views j ≡ some v
       → IsSound value limits allows home holder log told words j v
   pub owner : ℕ → ℕ
   pub owns : (j : ℕ) (v : View) (task : ℕ) → get_elem? views j ≡ some v
       → is_in task (speaks_of v) ≡ true → (owner task ≡ j) × IsUsed log task
   -- what the holder read stands asked, and it has read each ask whose signal is made
-  pub claimed : (j : ℕ) (f : Knowledge) (claims : List Ask) (said : Outcome) (lane : Option ℕ)
+  pub claimed : (j : ℕ) (f : Knowledge) (claims : List Ask) (said : Outcome) (lane : Lane)
       → get_elem? views j ≡ some (Turning f claims said lane)
       → (a : Ask) → IsOneOf claims a → StandsAsked limits log views a
-  pub all : (j : ℕ) (f : Knowledge) (claims : List Ask) (said : Outcome) (lane : Option ℕ)
+  pub all : (j : ℕ) (f : Knowledge) (claims : List Ask) (said : Outcome) (lane : Lane)
       → get_elem? views j ≡ some (Turning f claims said lane)
       → (k : ℕ) (g : Knowledge) (a : Ask) → get_elem? views k ≡ some (Asking g a)
       → IsMade limits a g.seen log → IsOneOf claims a

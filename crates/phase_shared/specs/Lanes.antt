@@ -1,10 +1,10 @@
--- The words beside a phaser's lock: a board for the value of the last phase that was told, and for
--- each of the first tasks a lane of two words, in which it posts what it asks for.
+-- The words beside a phaser's lock: a board for the value of the last phase that was told; lanes of
+-- two words, in each of which one task posts what it asks for; and whose each lane is.
 use Rattle.std.specs.Prelude.{◌≡◌, ◌≢◌, ℕ, ℤ, pos, negsuc, ◌+◌, ◌*◌, ◌/◌, ◌%◌, ◌==◌, List, [], ◌∷◌, slice_index, if◌then◌else◌}
 use Rattle.phase_core.specs.phase_accum.declared.outcome.Outcome.{Outcome}
 use Rattle.phase_core.specs.phase_accum.declared.outcome.Outcome.TheVariants.{Value, Empty, TooBig}
 
--- how many words there are, and how many tasks have lanes
+-- how many words there are, and how many lanes
 abbrev pub words_most : ℕ
 words_most = 287
 
@@ -37,18 +37,25 @@ outcome_of number kind =
 abbrev pub board : List ℕ → Outcome
 board words = outcome_of (slice_index words 0) (slice_index words 1)
 
--- where a task's lane is: the phase that it asks for, and one more; and what is sent in it
+-- where a lane is: the phase that is asked for, and one more; and what is sent in it
 abbrev pub phase_place : ℕ → ℕ
-phase_place task = task * 16 + 15
+phase_place lane = lane * 16 + 15
 
 abbrev pub send_place : ℕ → ℕ
-send_place task = task * 16 + 16
+send_place lane = lane * 16 + 16
 
 abbrev pub posted : List ℕ → ℕ → ℕ
-posted words task = slice_index words (phase_place task)
+posted words lane = slice_index words (phase_place lane)
 
 abbrev pub send_word : List ℕ → ℕ → ℕ
-send_word words task = slice_index words (send_place task)
+send_word words lane = slice_index words (send_place lane)
+
+-- where it is said whose a lane is: its task's number and one more, and 0 where it is nobody's
+abbrev pub owner_place : ℕ → ℕ
+owner_place lane = lane + 271
+
+abbrev pub owner_word : List ℕ → ℕ → ℕ
+owner_word words lane = slice_index words (owner_place lane)
 
 -- what a word says of an outcome: its kind, and its number where it has one
 pub record KindIs (kind : ℕ) (outcome : Outcome) : Type 0 where

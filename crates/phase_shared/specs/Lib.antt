@@ -8,6 +8,7 @@ pub mod Goods
 pub mod Joins
 pub mod Lanes
 pub mod LockedPhasers
+pub mod Lodgings
 pub mod Nexts
 pub mod OneSends
 pub mod Parts

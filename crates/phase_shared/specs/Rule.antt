@@ -1,10 +1,10 @@
 -- The rule of a shared phaser: there is one legal history, which keeps the phaser's rule.
-use Rattle.std.specs.Prelude.{◌≡◌, ℕ, ◌+◌, List, [], ◌∷◌, Option, Some, None, true, false}
+use Rattle.std.specs.Prelude.{◌≡◌, ℕ, ◌+◌, List, [], ◌∷◌, Option, Some, true, false}
 use Rattle.phase_shared.specs.Phasers.{Limits, Operation, Entry, entry_of, History, members_of, CoreState, StandsFor, OthersCame, IsUsed, is_distinct, is_in, Outcome}
 use Rattle.phase_core.specs.phase_history.declared.event.Event.TheVariants.{Made}
 use Rattle.phase_shared.specs.declared.seats.view.View.{View}
 use Rattle.phase_shared.specs.declared.rule.Terms.{Terms}
-use Rattle.phase_shared.specs.Views.{resting, turning, speaks_of, known_of, second_of, Fits}
+use Rattle.phase_shared.specs.Views.{Unknown, resting, turning, speaks_of, known_of, second_of, Fits}
 use Rattle.phase_shared.specs.declared.seats.view.Ask.{Ask}
 use Rattle.phase_shared.specs.Asks.{IsAtPhases, IsOneOf}
 pub use Rattle.phase_shared.specs.Goods.{Allows, Keeps, IsGood, IsGoodAt}
@@ -65,7 +65,7 @@ pub record AfterTake {A K : Type 0} (op : Operation A) (allows : K → Allows) (
   pub stands : StandsWithin op terms.limits x now
   pub read : (a : Ask) → IsOneOf claims a → IsAtPhases now a.task (a.phase + 1) a.phase
       × (is_in a.task (me ∷ []) ≡ false)
-  pub is : w ≡ turning now (me ∷ []) claims said None
+  pub is : w ≡ turning now (me ∷ []) claims said Unknown
   pub member : entry_of (members_of now) me ≡ Some entry
   pub used : IsUsed now me
 

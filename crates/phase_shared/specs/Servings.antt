@@ -1,5 +1,5 @@
 -- A turn of a seat that asked: what it read of others' asks, and what it did so far.
-use Rattle.std.specs.Prelude.{◌≡◌, ℕ, ◌+◌, ◌<◌, ◌≤◌, List, [], ◌∷◌, ◌++◌, ◌⊎◌, Bool, true, false, Option, Some, None, Result, Ok, Err}
+use Rattle.std.specs.Prelude.{◌≡◌, ◌≢◌, ℕ, ◌+◌, ◌<◌, ◌≤◌, List, [], ◌∷◌, ◌++◌, ◌⊎◌, Bool, true, false, Option, Some, None, Result, Ok, Err}
 use Rattle.turn_lock.specs.Seats.{Place}
 use Rattle.phase_shared.specs.Phasers.{Limits, mode_signals, mode_waits, entry_of, Entry, Operation, StandsForSends, Outcome, SignalRefusal, History, IsAlive, members_of, done_of, value_of_phase, signal_refusal, wait_refusal, OthersCame, CoreState, StandsFor, is_in}
 use Rattle.phase_core.specs.phase_base.Members.{Members}
@@ -13,14 +13,14 @@ use Rattle.phase_shared.specs.declared.seats.locked.LockedPhaser.{LockedPhaser}
 use Rattle.phase_shared.specs.Asks.{Ask, IsAtPhases, IsUnmade, IsMade, IsAnsweredAsk, Batch, IsOneOf}
 use Rattle.phase_shared.specs.Desks.{MayMakeAsk}
 use Rattle.phase_shared.specs.Goods.{Allows, IsGood}
-use Rattle.phase_shared.specs.Lanes.{lanes_most, sends_of}
+use Rattle.phase_shared.specs.Lanes.{sends_of}
 use Rattle.phase_shared.specs.LockedPhasers.{locked_place, locked_terms, some_terms}
-use Rattle.phase_shared.specs.Rule.{IsSeatOfTask, StandsWithin}
-use Rattle.phase_shared.specs.Views.{knowledge, known_of, resting, turning}
+use Rattle.phase_shared.specs.Rule.{StandsWithin}
+use Rattle.phase_shared.specs.Views.{Lane, Own, Holds, knowledge, known_of, resting, owning, turning}
 
 -- what is asked for
 abbrev pub ask_of : Request → Ask
-ask_of r = record { task = r.task; phase = r.phase; sends = sends_of r.send }
+ask_of r = record { task = r.task; lane = r.lane; phase = r.phase; sends = sends_of r.send }
 
 -- a request for the next phase of a registration, for what it holds
 pub record IsRequestOf {A K : Type 0} (op : Operation A) (r : Request) (reg : RegState A K)
@@ -33,8 +33,7 @@ pub record IsRequestOf {A K : Type 0} (op : Operation A) (r : Request) (reg : Re
 -- a seat at rest of a task that stands before its next phase and has a lane. Whatever the others
 -- do, the phaser's rule allows its signal
 pub record MayAsk (limits : Limits) (allows : Allows) (ask : Ask) (v : View) : Type 0 where
-  pub rests : v ≡ resting (known_of v).seen (ask.task ∷ [])
-  pub low : ask.task < lanes_most
+  pub rests : v ≡ owning (known_of v).seen (ask.task ∷ []) ask.lane
   pub stands : IsAtPhases (known_of v).seen ask.task ask.phase ask.phase
   pub may : MayMakeAsk limits allows (known_of v).seen ask
 
@@ -58,10 +57,15 @@ pub record MayWait (limits : Limits) (allows : Allows) (ask : Ask) (seen : Histo
   pub may : MayMakeAsk limits allows seen ask
 
 -- its seat at rest, where the call begins
-pub record MayGoNext {K : Type 0} (allows : K → Allows) (terms : Terms K) (limits : Limits)
-    (signals : Allows) (request : Request) (entry : Entry) (ask : Ask) (seen : History) (v : View)
+pub record MayGoNext (limits : Limits) (signals : Allows) (ask : Ask) (seen : History) (v : View)
     : Type 0 where
-  pub at : IsSeatOfTask allows terms request.task entry v
+  pub rests : v ≡ resting seen (ask.task ∷ [])
+  pub stands : IsAtPhases seen ask.task ask.phase ask.phase
+  pub waits : MayWait limits signals ask seen
+
+-- the same, once it knows that its lane is its own
+pub record MayGoOn (limits : Limits) (signals : Allows) (ask : Ask) (seen : History) (v : View)
+    : Type 0 where
   pub may : MayAsk limits signals ask v
   pub seen_is : seen ≡ (known_of v).seen
   pub waits : MayWait limits signals ask seen
@@ -92,15 +96,16 @@ module _ {A : Type 0} (op : Operation A) (limits : Limits) (allows : Allows) (as
     pub now : History
     pub claims : List Ask
     pub said : Outcome
-    pub lane : Option ℕ
+    pub lane : Lane
     pub later : History
     pub some : now ≡ [] → ⊥
     pub batch : Batch (IsOneOf claims) (ask.task ∷ []) later now
     pub theirs : (a : Ask) → IsOneOf claims a → is_in a.task (ask.task ∷ []) ≡ false
-    pub own : (lane ≡ None) ⊎ (lane ≡ Some (ask.phase + 1))
+    pub apart : (a : Ask) → IsOneOf claims a → a.lane ≢ ask.lane
+    pub own : (lane ≡ Own ask.lane) ⊎ (lane ≡ Holds ask.lane (ask.phase + 1))
 
   -- a turn. Where it has not begun to serve, none of the asks that it read is answered; else its
-  -- phase is complete, and those for it, of tasks below k, are
+  -- phase is complete, and those for it, in lanes below k, are
   pub record Turned (serves : Bool) (k : ℕ) (v : View) (x : CoreState A) : Type 0 where
     pub did : Did
     pub is : v ≡ turning did.now (ask.task ∷ []) did.claims did.said did.lane
@@ -109,7 +114,7 @@ module _ {A : Type 0} (op : Operation A) (limits : Limits) (allows : Allows) (as
     pub quiet : serves ≡ false → (a : Ask) → IsOneOf did.claims a
         → IsAtPhases (did.later ++ did.now) a.task (a.phase + 1) (a.phase + 1) → ⊥
     pub complete : serves ≡ true → ask.phase < done_of (did.later ++ did.now)
-    pub served : (a : Ask) → IsOneOf did.claims a → a.task < k → a.phase ≡ ask.phase
+    pub served : (a : Ask) → IsOneOf did.claims a → a.lane < k → a.phase ≡ ask.phase
         → IsAtPhases (did.later ++ did.now) a.task (a.phase + 1) (a.phase + 1)
 
 module _ {A : Type 0} (op : Operation A) (limits : Limits) (allows : Allows) (ask : Ask)
@@ -153,7 +158,7 @@ module _ {A : Type 0} (op : Operation A) (limits : Limits) (allows : Allows) (as
   pub record IsAnsweredIn (v : View) (x : CoreState A) : Type 0 where
     pub turned : Turned op limits allows ask false 0 v x
     pub first : turned.did.later ≡ []
-    pub lane_is : turned.did.lane ≡ Some (ask.phase + 1)
+    pub lane_is : turned.did.lane ≡ Holds ask.lane (ask.phase + 1)
     pub answered : IsAnsweredAsk limits ask seen turned.did.now
     pub has : turned.did.said ≡ value_of_phase op.value turned.did.now ask.phase
 

@@ -1,10 +1,10 @@
 -- What the steps of a seat tell it.
-use Rattle.std.specs.Prelude.{◌≡◌, ℕ, ℤ, ◌+◌, ◌<◌, ◌≤◌, ◌/◌, ◌%◌, List, [], ◌∷◌, ◌++◌, ◌⊎◌, Option, None, Some, false}
+use Rattle.std.specs.Prelude.{◌≡◌, ◌≢◌, ℕ, ℤ, ◌+◌, ◌<◌, ◌≤◌, ◌/◌, ◌%◌, List, [], ◌∷◌, ◌++◌, ◌⊎◌, None, false}
 use Rattle.phase_shared.specs.Phasers.{Limits, is_in, Outcome, History, done_of, value_of_phase, wait_refusal, OthersCame}
 use Rattle.phase_core.specs.phase_history.declared.event.Event.TheVariants.{Waited}
 use Rattle.phase_shared.specs.Goods.{Allows, IsGood}
 use Rattle.phase_shared.specs.declared.seats.view.Knowledge.{Knowledge}
-use Rattle.phase_shared.specs.Views.{knowledge, speaks_of, known_of}
+use Rattle.phase_shared.specs.Views.{Lane, Own, Holds, knowledge, speaks_of, known_of, lane_at_rest}
 use Rattle.phase_shared.specs.Asks.{Ask, Stage, IsMade, IsAnsweredAsk, IsAtPhases, IsOneOf}
 use Rattle.phase_shared.specs.Lanes.{sends_of}
 use Rattle.phase_shared.specs.Desks.{View, Resting, Turning, Asking, Reading, MayMakeAsk, IsPast}
@@ -21,7 +21,8 @@ pub record Took {T : Type 0} (limits : Limits) (allows : Allows) (Stands : T →
   pub stands : Stands x now
   pub read : (a : Ask) → IsOneOf claims a → IsAtPhases now a.task (a.phase + 1) a.phase
       × (is_in a.task (speaks_of v) ≡ false)
-  pub is : w ≡ Turning (knowledge now (speaks_of v)) claims said None
+  pub apart : (a : Ask) → IsOneOf claims a → (i : ℕ) → lane_at_rest v ≡ Own i → a.lane ≢ i
+  pub is : w ≡ Turning (knowledge now (speaks_of v)) claims said (lane_at_rest v)
 
 -- a take of a seat that asked
 pub record TookAsked {T : Type 0} (value : List ℤ → Outcome) (limits : Limits) (allows : Allows)
@@ -35,7 +36,8 @@ pub record TookAsked {T : Type 0} (value : List ℤ → Outcome) (limits : Limit
   pub stands : Stands x now
   pub read : (b : Ask) → IsOneOf claims b → IsAtPhases now b.task (b.phase + 1) b.phase
       × (is_in b.task (a.task ∷ []) ≡ false)
-  pub is : w ≡ Turning (knowledge now (a.task ∷ [])) claims said (Some (a.phase + 1))
+  pub apart : (b : Ask) → IsOneOf claims b → b.lane ≢ a.lane
+  pub is : w ≡ Turning (knowledge now (a.task ∷ [])) claims said (Holds a.lane (a.phase + 1))
 
 -- what who asked learns: the history up to its own wait
 pub record Learnt (limits : Limits) (allows : Allows) (a : Ask) (f : Knowledge) (w : View)
@@ -73,47 +75,52 @@ pub record IsClaim (limits : Limits) (allows : Allows) (f : Knowledge) (claims :
   pub stands : (IsAtPhases f.seen a.task a.phase a.phase × MayBeMade limits allows f.seen a)
       ⊎ IsAtPhases f.seen a.task (a.phase + 1) a.phase
 
--- the holder read r in the lane of task i: what was asked there it has read, and each ask that was
+-- the holder read r in lane i: what was asked there it has read, and each ask that was
 -- newly read is a claim
 pub record LaneRead (limits : Limits) (allows : Allows) (i : ℕ) (f : Knowledge) (claims : List Ask)
-    (said : Outcome) (lane : Option ℕ) (r : ℕ) (w : View) : Type 0 where
+    (said : Outcome) (lane : Lane) (r : ℕ) (w : View) : Type 0 where
   pub new : List Ask
   pub is : w ≡ Turning f (new ++ claims) said lane
-  pub fresh : (a : Ask) → IsOneOf new a → (a.task ≡ i) × IsClaim limits allows f (new ++ claims) a
-  pub read : (a : Ask) → IsOneOf (new ++ claims) a → a.task ≡ i → r ≡ a.phase + 1
-  pub found : ((r ≡ 0) ⊎ IsPast f.seen i r)
-      ⊎ ((a : Ask) × (a.task ≡ i) × IsClaim limits allows f (new ++ claims) a)
+  pub fresh : (a : Ask) → IsOneOf new a → (a.lane ≡ i) × IsClaim limits allows f (new ++ claims) a
+  pub read : (a : Ask) → IsOneOf (new ++ claims) a → a.lane ≡ i → r ≡ a.phase + 1
+  pub found : ((r ≡ 0) ⊎ IsPast f.seen r)
+      ⊎ ((a : Ask) × (a.lane ≡ i) × IsClaim limits allows f (new ++ claims) a)
 
--- the holder read r in the second word of the lane of task i
+-- the holder read r where it is said whose lane i is
+abbrev pub OwnerRead : ℕ → List Ask → View → ℕ → View → Type 0
+OwnerRead i claims v r w =
+    (w ≡ v) × ((a : Ask) → IsOneOf claims a → a.lane ≡ i → r ≡ a.task + 1)
+
+-- the holder read r in the second word of lane i
 abbrev pub SendRead : ℕ → Knowledge → List Ask → View → ℕ → View → Type 0
 SendRead i f claims v r w =
-    (w ≡ v) × ((a : Ask) → IsOneOf claims a → a.task ≡ i
+    (w ≡ v) × ((a : Ask) → IsOneOf claims a → a.lane ≡ i
     → IsAtPhases f.seen a.task a.phase a.phase → sends_of r ≡ a.sends)
 
 -- what a giver knows of its own lane, and of its own ask where it is not answered
 pub record StillAsks (limits : Limits) (allows : Allows) (told : ℕ) (new : History) (f : Knowledge)
-    (lane : Option ℕ) (w : View) : Type 0 where
+    (lane : Lane) (w : View) : Type 0 where
   pub ask : Ask
   pub knows : Knowledge
   pub mine : f.speaks ≡ ask.task ∷ []
   pub speaks : knows.speaks ≡ ask.task ∷ []
   pub made : IsMade limits ask knows.seen new
   pub may : MayMakeAsk limits allows knows.seen ask
-  pub posts : lane ≡ Some (ask.phase + 1)
+  pub posts : lane ≡ Holds ask.lane (ask.phase + 1)
   pub waits : told % 2 ≡ 1 → told / 2 ≤ ask.phase
   pub is : w ≡ Asking knows ask
 
 -- what the holder's own lane has is past
-abbrev pub LaneIsPast : History → Knowledge → Option ℕ → Type 0
-LaneIsPast new f None = Unit {0}
-LaneIsPast new f (Some n) = (task : ℕ) × (f.speaks ≡ task ∷ []) × IsPast new task n
+abbrev pub LaneIsPast : History → Lane → Type 0
+LaneIsPast new (Holds i n) = IsPast new n
+LaneIsPast new lane = Unit {0}
 
 -- the view that a turn ends with: at rest, at this history or an earlier one that has all of the
 -- giver's own events, or asking still
-abbrev pub EndsTurn : Limits → Allows → ℕ → History → Knowledge → Option ℕ → View → Type 0
+abbrev pub EndsTurn : Limits → Allows → ℕ → History → Knowledge → Lane → View → Type 0
 EndsTurn limits allows told new f lane w =
     ((h : History) × (w ≡ Resting (knowledge h f.speaks)) × OthersCame f.speaks h new
-    × LaneIsPast new f lane)
+    × LaneIsPast new lane)
     ⊎ StillAsks limits allows told new f lane w
 
 -- what the giver knows of each ask that it read, after its turn: where its wait is still to be

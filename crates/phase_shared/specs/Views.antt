@@ -1,9 +1,11 @@
 -- What a seat knows: the history that it has seen, and the tasks that it speaks for.
-use Rattle.std.specs.Prelude.{◌≡◌, ℕ, List, [], ◌∷◌, ◌++◌, Bool, true, false, Option, None, take, drop}
+use Rattle.std.specs.Prelude.{◌≡◌, ℕ, List, [], ◌∷◌, ◌++◌, Bool, true, false, None, take, drop}
 use Rattle.phase_shared.specs.Phasers.{History, OthersCame, Outcome}
 use Rattle.phase_core.specs.phase_accum.declared.outcome.Outcome.TheVariants.{Empty}
 use Rattle.phase_shared.specs.declared.seats.view.Ask.{Ask}
 use Rattle.phase_shared.specs.declared.seats.view.Knowledge.{Knowledge}
+pub use Rattle.phase_shared.specs.declared.seats.view.Lane.{Lane}
+pub use Rattle.phase_shared.specs.declared.seats.view.Lane.TheVariants.{Unknown, Free, Own, Holds}
 use Rattle.phase_shared.specs.declared.seats.view.View.{View}
 use Rattle.phase_shared.specs.declared.seats.view.View.TheVariants.{Resting, Turning, Joining, Posting, Asking, Reading, Spent}
 
@@ -15,8 +17,12 @@ knowledge seen speaks = record { seen = seen; speaks = speaks }
 abbrev pub resting : History → List ℕ → View
 resting seen speaks = Resting (knowledge seen speaks)
 
--- the same, with the turn: it has read these asks, and knows what the board and its own lane have
-abbrev pub turning : History → List ℕ → List Ask → Outcome → Option ℕ → View
+-- the same, where a lane is its own
+abbrev pub owning : History → List ℕ → ℕ → View
+owning seen speaks lane = Posting (knowledge seen speaks) lane None
+
+-- the same, with the turn: it has read these asks, and knows what the board has, and this of a lane
+abbrev pub turning : History → List ℕ → List Ask → Outcome → Lane → View
 turning seen speaks claims said lane = Turning (knowledge seen speaks) claims said lane
 
 -- the numbers that a view speaks for
@@ -24,7 +30,7 @@ abbrev pub speaks_of : View → List ℕ
 speaks_of (Resting f) = f.speaks
 speaks_of (Turning f claims said lane) = f.speaks
 speaks_of (Joining f g) = f.speaks ++ g.speaks
-speaks_of (Posting f n) = f.speaks
+speaks_of (Posting f i n) = f.speaks
 speaks_of (Asking f a) = f.speaks
 speaks_of (Reading f a) = f.speaks
 speaks_of Spent = []
@@ -34,7 +40,7 @@ abbrev pub known_of : View → Knowledge
 known_of (Resting f) = f
 known_of (Turning f claims said lane) = f
 known_of (Joining f g) = f
-known_of (Posting f n) = f
+known_of (Posting f i n) = f
 known_of (Asking f a) = f
 known_of (Reading f a) = f
 known_of Spent = knowledge [] []
@@ -80,7 +86,7 @@ pub record SpeaksForTwo (v : View) : Type 0 where
   pub other : ℕ
   pub rests : v ≡ resting (known_of v).seen (one ∷ other ∷ [])
 
--- what a holder knows of the board, what it read, and what its own lane has
+-- what a holder knows of the board, what it read, and what it knows of a lane
 abbrev pub board_of : View → Outcome
 board_of (Turning f claims said lane) = said
 board_of v = Empty
@@ -89,6 +95,11 @@ abbrev pub claims_of : View → List Ask
 claims_of (Turning f claims said lane) = claims
 claims_of v = []
 
-abbrev pub lane_of : View → Option ℕ
+abbrev pub lane_of : View → Lane
 lane_of (Turning f claims said lane) = lane
-lane_of v = None
+lane_of v = Unknown
+
+-- the lane that a seat without a turn knows to be its own
+abbrev pub lane_at_rest : View → Lane
+lane_at_rest (Posting f i n) = Own i
+lane_at_rest v = Unknown

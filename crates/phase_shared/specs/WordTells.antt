@@ -1,6 +1,6 @@
 -- What steps on words tell, over views.
-use Rattle.std.specs.Prelude.{◌≡◌, ℕ, ◌<◌, List, [], ◌∷◌, ◌++◌, false, Option}
-use Rattle.phase_shared.specs.Phasers.{Limits, is_in, Operation, Outcome, History, done_of, signal_phase, IsLegal, value_of_phase, CoreState}
+use Rattle.std.specs.Prelude.{◌≡◌, ◌≢◌, ℕ, ◌+◌, ◌<◌, ◌⊎◌, List, [], ◌∷◌, ◌++◌, None, Some}
+use Rattle.phase_shared.specs.Phasers.{Limits, Operation, Outcome, History, done_of, signal_phase, IsLegal, value_of_phase, CoreState}
 use Rattle.phase_shared.specs.declared.seats.view.Knowledge.{Knowledge}
 use Rattle.phase_shared.specs.declared.seats.view.View.{View}
 use Rattle.phase_shared.specs.declared.seats.view.View.TheVariants.{Resting, Turning, Posting, Asking, Reading}
@@ -8,15 +8,15 @@ use Rattle.phase_shared.specs.Asks.{Ask, Batch, IsOneOf}
 use Rattle.phase_shared.specs.Goods.{Allows}
 use Rattle.phase_shared.specs.Lanes.{sends_of, KindIs, NumberIs, with_number}
 use Rattle.phase_shared.specs.Rule.{StandsWithin}
-use Rattle.phase_shared.specs.Tells.{TookAsked, Looked, LaneRead, SendRead}
-use Rattle.phase_shared.specs.Views.{turning, board_of}
+use Rattle.phase_shared.specs.Tells.{TookAsked, Looked, LaneRead, OwnerRead, SendRead}
+use Rattle.phase_shared.specs.Views.{Lane, Unknown, Free, Own, Holds, turning, known_of, board_of}
 
 -- a view that has the turn, and one that has still to read its value
 pub record IsHolder (v : View) : Type 0 where
   pub knows : Knowledge
   pub claims : List Ask
   pub said : Outcome
-  pub lane : Option ℕ
+  pub lane : Lane
   pub is : v ≡ Turning knows claims said lane
 
 pub record IsReading (v : View) : Type 0 where
@@ -24,30 +24,46 @@ pub record IsReading (v : View) : Type 0 where
   pub ask : Ask
   pub is : v ≡ Reading knows ask
 
--- a holder that does not speak for the task
-pub record IsOther (task : ℕ) (v : View) : Type 0 where
+-- a holder that does not know what the lane has
+pub record IsOther (i : ℕ) (v : View) : Type 0 where
   pub knows : Knowledge
   pub claims : List Ask
   pub said : Outcome
-  pub lane : Option ℕ
+  pub lane : Lane
   pub is : v ≡ Turning knows claims said lane
-  pub theirs : is_in task knows.speaks ≡ false
+  pub other : (n : ℕ) → lane ≢ Holds i n
 
--- a holder that speaks for the task alone
-pub record IsOwnLane (task : ℕ) (v : View) : Type 0 where
+-- the holder's lane is its own, whatever that has
+abbrev pub KnowsOwn : ℕ → Lane → Type 0
+KnowsOwn i lane = (lane ≡ Own i) ⊎ ((n : ℕ) × (lane ≡ Holds i n))
+
+pub record IsOwnLane (i : ℕ) (v : View) : Type 0 where
   pub knows : Knowledge
   pub claims : List Ask
   pub said : Outcome
-  pub lane : Option ℕ
+  pub lane : Lane
   pub is : v ≡ Turning knows claims said lane
-  pub speaks : knows.speaks ≡ task ∷ []
+  pub own : KnowsOwn i lane
 
--- a view with another board, and with another own lane
+-- a holder that knows of no lane, and one that knows of one that is nobody's
+pub record KnowsNoLane (v : View) : Type 0 where
+  pub knows : Knowledge
+  pub claims : List Ask
+  pub said : Outcome
+  pub is : v ≡ Turning knows claims said Unknown
+
+pub record KnowsFree (i : ℕ) (v : View) : Type 0 where
+  pub knows : Knowledge
+  pub claims : List Ask
+  pub said : Outcome
+  pub is : v ≡ Turning knows claims said (Free i)
+
+-- a view with another board, and one that knows something else of a lane
 abbrev pub with_board : Outcome → View → View
 with_board outcome (Turning f claims said lane) = Turning f claims outcome lane
 with_board outcome v = v
 
-abbrev pub with_lane : Option ℕ → View → View
+abbrev pub with_lane : Lane → View → View
 with_lane n (Turning f claims said lane) = Turning f claims said n
 with_lane n v = v
 
@@ -57,7 +73,7 @@ pub record Completes (limits : Limits) (v : View) : Type 0 where
   pub speaks : List ℕ
   pub claims : List Ask
   pub said : Outcome
-  pub lane : Option ℕ
+  pub lane : Lane
   pub later : History
   pub is : v ≡ turning now speaks claims said lane
   pub batch : Batch (IsOneOf claims) speaks later now
@@ -76,7 +92,7 @@ module _ (limits : Limits) (allows : Allows) where
   -- a lane is read
   abbrev pub LaneReadAt : ℕ → View → ℕ → View → Type 0
   LaneReadAt i v r w =
-      (f : Knowledge) (claims : List Ask) (said : Outcome) (lane : Option ℕ)
+      (f : Knowledge) (claims : List Ask) (said : Outcome) (lane : Lane)
       → v ≡ Turning f claims said lane
       → LaneRead limits allows i f claims said lane r w
 
@@ -92,21 +108,41 @@ module _ (limits : Limits) (allows : Allows) where
       (f : Knowledge) (a : Ask) → v ≡ Asking f a
       → TookAsked op.value limits allows (StandsWithin op limits) f a x w
 
+-- it is read whose a lane is
+abbrev pub OwnerReadAt : ℕ → View → ℕ → View → Type 0
+OwnerReadAt i v r w =
+    (f : Knowledge) (claims : List Ask) (said : Outcome) (lane : Lane)
+    → v ≡ Turning f claims said lane → OwnerRead i claims v r w
+
+-- the same, by a holder that looks for a lane which is nobody's
+abbrev pub FreeRead : ℕ → View → ℕ → View → Type 0
+FreeRead i v r w = (r ≡ 0 → w ≡ with_lane (Free i) v) × (r ≢ 0 → w ≡ v)
+
+-- the same, by a seat at rest that looks whether it is its own
+abbrev pub OwnRead : ℕ → ℕ → View → ℕ → View → Type 0
+OwnRead i task v r w =
+    (r ≡ task + 1 → w ≡ Posting (known_of v) i None) × (r ≢ task + 1 → w ≡ v)
+
 -- the second word of a lane is read
 abbrev pub SendReadAt : ℕ → View → ℕ → View → Type 0
 SendReadAt i v r w =
-    (f : Knowledge) (claims : List Ask) (said : Outcome) (lane : Option ℕ)
+    (f : Knowledge) (claims : List Ask) (said : Outcome) (lane : Lane)
     → v ≡ Turning f claims said lane → SendRead i f claims v r w
 
--- the next phase of the one task, with what the word says
-abbrev pub next_ask : History → List ℕ → ℕ → Ask
-next_ask seen (task ∷ others) n =
-    record { task = task; phase = signal_phase seen task; sends = sends_of n }
-next_ask seen [] n = record { task = 0; phase = 0; sends = [] }
+-- the next phase of the one task, in this lane, with what the word says
+abbrev pub next_ask : History → List ℕ → ℕ → ℕ → Ask
+next_ask seen (task ∷ others) i n =
+    record { task = task; lane = i; phase = signal_phase seen task; sends = sends_of n }
+next_ask seen [] i n = record { task = 0; lane = i; phase = 0; sends = [] }
+
+-- the lane that it posts in
+abbrev pub lane_in : ℕ → View → ℕ
+lane_in none (Posting f i n) = i
+lane_in none v = none
 
 -- it asks for it
 abbrev pub asking_of : View → View
-asking_of (Posting f n) = Asking f (next_ask f.seen f.speaks n)
+asking_of (Posting f i (Some n)) = Asking f (next_ask f.seen f.speaks i n)
 asking_of v = v
 
 -- who was answered reads the kind of the value, and then its number

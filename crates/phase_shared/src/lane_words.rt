@@ -5,7 +5,7 @@ ghost use Rattle.phase_shared.specs.Lanes as lanes;
 
 use phase_core::phase_accum::{Accumulate, Outcome, Pending};
 
-/// How many tasks have lanes: those with the least numbers.
+/// How many lanes there are.
 pub const LANES: u64 = 16;
 
 /// The word of a lane that says that nothing is sent.
@@ -23,22 +23,31 @@ pub const IS_EMPTY: u64 = 1;
 
 pub const IS_TOO_BIG: u64 = 2;
 
-/// Where a task's lane says which phase it asks for, and one more.
-pub fn phase_place(task: u64) -> usize
-    requires { task < LANES }
-    ensures value { result ≡ lanes.phase_place task }
+/// Where a lane says which phase is asked for, and one more.
+pub fn phase_place(lane: u64) -> usize
+    requires { lane < LANES }
+    ensures value { result ≡ lanes.phase_place lane }
     ensures small { result < 287 }
 {
-    (task * 16 + 15) as usize
+    (lane * 16 + 15) as usize
 }
 
 /// Where it says what is sent.
-pub fn send_place(task: u64) -> usize
-    requires { task < LANES }
-    ensures value { result ≡ lanes.send_place task }
+pub fn send_place(lane: u64) -> usize
+    requires { lane < LANES }
+    ensures value { result ≡ lanes.send_place lane }
     ensures small { result < 287 }
 {
-    (task * 16 + 16) as usize
+    (lane * 16 + 16) as usize
+}
+
+/// Where it is said whose it is: its task's number and one more, and 0 where it is nobody's.
+pub fn owner_place(lane: u64) -> usize
+    requires { lane < LANES }
+    ensures value { result ≡ lanes.owner_place lane }
+    ensures small { result < 287 }
+{
+    (lane + 271) as usize
 }
 
 /// A number as a word. Those that are not negative are the even words.

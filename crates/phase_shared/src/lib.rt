@@ -26,11 +26,13 @@
 //! complete or there is room for theirs. A signal that is ahead spins and yields for room for half
 //! the bound, and sleeps for its own.
 //!
-//! **Asking.** A registration below number 16 whose `next` names no single, and that holds one send
+//! **Asking.** A registration that has a lane, whose `next` names no single, and that holds one send
 //! or none, may ask others to do both: it writes what it sends in its **lane**, two words beside
 //! the lock. Who has the turn makes the signals that others ask for; and where that completes its
 //! phase, their waits too, writes the value on the **board**, and gives the turn back, which tells
 //! them all. Who is not answered soon takes the turn itself. No answer tells who made its events.
+//! There are 16 lanes. A registration that signals and waits gets a free one when it is made, and
+//! gives it back when it leaves; the founder gets its own when it first registers another.
 //!
 //! **A registration in a thread.** No closure can hold one, as it cannot be thrown away. Lend it to
 //! the thread, or lend an `Option` that the thread takes it from. Each call asks that the
@@ -115,7 +117,8 @@
 //! A **step** takes the turn, calls the phaser of one thread, and gives the turn back; or it finds
 //! the turn taken, and then nothing changed. The rule also says of each lane that its registration
 //! may signal with what stands there, so a turn that read it may; and of the board that it has the
-//! value of the phase that was told, until each whose events were made so has read it.
+//! value of the phase that was told, until each whose events were made so has read it. A word says
+//! whose a lane is: who asks reads it first, and who has the turn alone gives a free one away.
 //!
 //! A call of `next` goes from `nexts` to `turns`, to `serving` and to `lanes`, and its answers come
 //! back as results. Its seat and its turns are the types of `desk`: each has its phaser with it,

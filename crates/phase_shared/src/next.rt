@@ -1,5 +1,5 @@
 //! A registration's next phase, by one call.
-ghost use Rattle.std.specs.Prelude.{◌≡◌, ◌≢◌, true, Some, None, Ok, Err, IfSome, is_ok, ◌&&◌};
+ghost use Rattle.std.specs.Prelude.{◌≡◌, ◌≢◌, true, Some, None, Ok, Err, IfSome, IfNone, is_ok, ◌&&◌};
 ghost use Rattle.phase_core.specs.phase_base.Modes.{mode_signals, mode_waits};
 ghost use Rattle.phase_shared.specs.Rule.{IsGoodAt};
 ghost use Rattle.phase_shared.specs.Regs.{phaser_lock, phaser_terms, phaser_limits};
@@ -71,6 +71,26 @@ impl<A: Accumulate, K: SignalRule> Reg<A, K> {
         if let Some(request) = self.request(phaser, single) {
             return self.ask_next(rt, phaser, request);
         }
+        self.next_by_turns(rt, phaser, single)
+    }
+
+    // The same by its own turns, where its mode signals.
+    fn next_by_turns<W: Wait>(
+        &mut self,
+        rt: &W,
+        phaser: &Phaser<A, K>,
+        single: Option<Single>,
+    ) -> Result<Next, SignalRefusal>
+        requires at { self.old.at ≡ phaser_lock phaser.now }
+        requires signals { mode_signals self.old.entry.mode ≡ true }
+        requires rule { MaySignal A.operation K.allows (phaser_terms phaser.now) self.old single }
+        ensures call { let old = self.old in
+            IsCall K.allows (phaser_terms phaser.now) SignalRefusal.NoTask entry_after_next
+            (GoesOrRefuses A.operation (phaser_limits phaser.now) single old self.new.seen result)
+            old self.new result }
+        ensures waited { result ≢ Err SignalRefusal.Ahead }
+        ensures held { HeldAfter A.operation (is_ok result) self.old.held self.new.held }
+    {
         let waits = self.mode().waits();
         let (phase, got) = match self.signal_and_wait(rt, phaser, single, waits) {
             Ok(answer) => answer,
@@ -90,9 +110,9 @@ impl<A: Accumulate, K: SignalRule> Reg<A, K> {
         })
     }
 
-    // What it asks others for, where it can: it waits too, and names no single; it has a lane, and
-    // stands before its next phase; and a word says what it holds. Where it is alone, it asks
-    // nobody.
+    // What it asks others for, where it may be able to: it waits too, and names no single; it got a
+    // lane, and stands before its next phase; and a word says what it holds. Where it is alone, it
+    // asks nobody.
     fn request(&self, phaser: &Phaser<A, K>, single: Option<Single>) -> Option<Request>
         ensures request { IfSome result (λ r. IsRequestOf A.operation r self.now) }
         ensures waits { IfSome result (λ r. mode_waits self.now.entry.mode ≡ true) }
@@ -103,20 +123,23 @@ impl<A: Accumulate, K: SignalRule> Reg<A, K> {
         }
         let phase = self.entry.signal_phase;
         let send = self.pending.word()?;
-        if phaser.locked.hints.is_alone() || self.number >= LANES || phase == u64::MAX {
+        let lane = self.spins.lane();
+        if phaser.locked.hints.is_alone() || lane >= LANES || phase == u64::MAX {
             return None;
         }
-        if self.entry.wait_phase != phase {
+        if self.entry.wait_phase != phase || self.number == u64::MAX {
             return None;
         }
         Some(Request {
             task: self.number,
+            lane,
             phase,
             send,
         })
     }
 
-    // Goes to its next phase, where it can ask others. It tries again where it is ahead.
+    // Goes to its next phase, where it can ask others, and else by its own turns. It tries again
+    // where it is ahead.
     fn ask_next<W: Wait>(
         &mut self,
         rt: &W,
@@ -138,8 +161,9 @@ impl<A: Accumulate, K: SignalRule> Reg<A, K> {
         let patience = Patience::new();
         for _ in rt.forever() {
             let refusal = match self.ask_once(rt, phaser, request) {
-                Ok(next) => return Ok(next),
-                Err(refusal) => refusal,
+                Some(Ok(next)) => return Ok(next),
+                Some(Err(refusal)) => refusal,
+                None => return self.next_by_turns(rt, phaser, None),
             };
             let SignalRefusal::Ahead = refusal else {
                 return Err(refusal);
@@ -150,46 +174,52 @@ impl<A: Accumulate, K: SignalRule> Reg<A, K> {
         unreachable!()
     }
 
-    // Goes to its next phase, where it can ask others, or is refused as a signal is.
+    // Goes to its next phase, or is refused as a signal is. It does nothing where its lane is not
+    // its own, and knows that it has none then.
     fn ask_once<W: Wait>(
         &mut self,
         rt: &W,
         phaser: &Phaser<A, K>,
         request: Request,
-    ) -> Result<Next, SignalRefusal>
+    ) -> Option<Result<Next, SignalRefusal>>
         requires at { self.old.at ≡ phaser_lock phaser.now }
         requires both { (mode_signals self.old.entry.mode ≡ true)
             × (mode_waits self.old.entry.mode ≡ true) }
         requires request { IsRequestOf A.operation request self.old }
         requires rule { MaySignal A.operation K.allows (phaser_terms phaser.now) self.old None }
-        ensures call { let old = self.old in
+        ensures call { let old = self.old in IfSome result (λ answer.
             IsCall K.allows (phaser_terms phaser.now) SignalRefusal.NoTask entry_after_next
-            (GoesOrRefuses A.operation (phaser_limits phaser.now) None old self.new.seen result)
-            old self.new result }
-        ensures held { HeldAfter A.operation (is_ok result) self.old.held self.new.held }
+            (GoesOrRefuses A.operation (phaser_limits phaser.now) None old self.new.seen answer)
+            old self.new answer) }
+        ensures held { IfSome result (λ answer.
+            HeldAfter A.operation (is_ok answer) self.old.held self.new.held) }
+        ensures none { IfNone result (self.new ≡ self.old) }
     {
         let seat = taken(&mut self.seat);
         let (seat, answer) = nexts::next::<A, K, Brand, W>(
             rt,
             &phaser.locked,
             seat,
-            self.entry,
             request,
             &mut self.spins,
         );
         self.seat = Some(seat);
+        let Some(answer) = answer else {
+            self.spins.lodged(LANES);
+            return None;
+        };
         let outcome = match answer {
             Ok(outcome) => outcome,
-            Err(refused) => return Err(refused),
+            Err(refused) => return Some(Err(refused)),
         };
         let phase = request.phase;
         self.entry.signal_phase = phase + 1;
         self.entry.wait_phase = phase + 1;
         self.pending = Held::new();
-        Ok(Next {
+        Some(Ok(Next {
             signalled: Some(phase),
             got: Some(Got::Value { phase, outcome }),
-        })
+        }))
     }
 
     // Waits where nothing but time can be in the way.

@@ -23,8 +23,8 @@ use std::alloc::{AllocError, Global};
 /// **Cost.** A call is a look and one atomic step that takes the turn, the call on the phaser of
 /// one thread, which stays where it lies, and one step that gives the turn back. There is no mutex.
 /// A `next` may be made in another's turn: then it writes two words, and reads two once it is told.
-/// Those words, of 16 registrations, take 2,296 bytes. `make` and registrations take memory, and
-/// nothing else does.
+/// Those words, of 16 registrations at a time, take 2,296 bytes. `make` and registrations take
+/// memory, and nothing else does.
 ///
 /// **Limits.** Those of its `Spec`, and as many registrations at a time as a phaser of one thread
 /// can have. Where threads meet at a barrier, each of which signals a phase and waits for it, the

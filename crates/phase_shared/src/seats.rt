@@ -10,6 +10,7 @@ pub mod lanes;
 pub mod locked;
 pub mod nexts;
 pub mod pauses;
+pub mod places;
 pub mod request;
 pub mod serving;
 pub mod spins;

@@ -10,10 +10,12 @@ ghost use Rattle.phase_shared.specs.Entries.{entry_stays, entry_after_signal, en
 ghost use Rattle.phase_shared.specs.Nexts.{SignalsAndMayWait};
 
 use crate::held::Held;
+use crate::lane_words::LANES;
 use crate::past::Past;
 use crate::phaser::Phaser;
 use crate::reg::{Reg, taken};
 use crate::rule::SignalRule;
+use crate::seats::places::{Lodgings, give_back};
 use crate::seats::spins::Spins;
 use crate::seats::steps;
 use crate::tried::Tried;
@@ -122,8 +124,20 @@ impl<A: Accumulate, K: SignalRule> Reg<A, K> {
         ensures held { self.new.held ≡ self.old.held }
     {
         let seat = taken(&mut self.seat);
-        let (seat, answer) = steps::register(&phaser.locked, seat, self.number, self.entry, mode);
+        let mut lanes = Lodgings {
+            own: self.spins.lane(),
+            child: LANES,
+        };
+        let (seat, answer) = steps::register(
+            &phaser.locked,
+            seat,
+            self.number,
+            self.entry,
+            mode,
+            &mut lanes,
+        );
         self.seat = Some(seat);
+        self.spins.lodged(lanes.own);
         let made = match answer {
             Ok(made) => made,
             Err(tried) => return Err(tried),
@@ -134,7 +148,7 @@ impl<A: Accumulate, K: SignalRule> Reg<A, K> {
             number: made.0,
             entry: made.2,
             pending: Held::new(),
-            spins: Spins::new(),
+            spins: Spins::with_lane(lanes.child),
         })
     }
 
@@ -163,6 +177,7 @@ impl<A: Accumulate, K: SignalRule> Reg<A, K> {
         let Some(seat) = seat else { unreachable!() };
         match steps::leave(&phaser.locked, seat, number, entry) {
             Ok(seat) => {
+                let seat = give_back(&phaser.locked, seat, number, spins.lane());
                 phaser.locked.hints.left();
                 Ok(Past { seat })
             }

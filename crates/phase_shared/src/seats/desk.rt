@@ -12,7 +12,6 @@ use crate::seats::request::Request;
 use crate::seats::view::{PhaserSeat, PhaserTurn};
 use phase_core::SignalRefusal;
 use phase_core::phase_accum::{Accumulate, Outcome};
-use phase_core::phase_base::Entry;
 use std::marker::{Model, PhantomData};
 
 /// A call, on its phaser.
@@ -34,25 +33,22 @@ pub struct Desk<'a, A: Accumulate, K: SignalRule, S: Since<K>> {
     ghost here: { IsSeatAt S.place seat },
 }
 
-/// A seat at rest, whose task may ask others.
+/// A seat at rest, whose task has a lane and may ask others.
 #[derive(Drop)]
 pub struct ReadyDesk<'a, A: Accumulate, K: SignalRule, S: Since<K>> {
     pub desk: Desk<'a, A, K, S>,
-    pub entry: Entry,
 }
 
 impl<'a, A: Accumulate, K: SignalRule, S: Since<K>> Model for ReadyDesk<'a, A, K, S> {
     ghost use Rattle.turn_lock.specs.Seats.{seat_view};
     ghost use Rattle.phase_shared.specs.Goods.{allows_or};
-    ghost use Rattle.phase_shared.specs.LockedPhasers.{locked_terms};
-    ghost use Rattle.phase_shared.specs.Servings.{MayGoNext};
+    ghost use Rattle.phase_shared.specs.Servings.{MayGoOn};
 
     ghost Value = { Unit {0} };
 
     ghost view = { λ d. tt };
 
-    ghost invariant = { λ d. MayGoNext K.allows (locked_terms d.desk.of.phaser.now) S.terms.limits
-        (allows_or K.allows S.terms.rule) d.desk.of.request d.entry S.ask S.seen
+    ghost invariant = { λ d. MayGoOn S.terms.limits (allows_or K.allows S.terms.rule) S.ask S.seen
         (seat_view d.desk.seat) };
 }
 

@@ -202,7 +202,7 @@ impl<K> Since<K> for Brand {
 
     ghost terms = { no_terms };
 
-    ghost ask = { record { task = 0; phase = 0; sends = [] } };
+    ghost ask = { record { task = 0; lane = 0; phase = 0; sends = [] } };
 
     ghost seen = { [] };
 }

@@ -119,7 +119,7 @@ pub struct Hints {
     // How many phases every waiter has to have got before that is told. A signal that was ahead
     // writes it under the turn.
     wanted: CachePadded<AtomicU64>,
-    // How many tasks are registered, and how many were.
+    // How many tasks are registered, and a bit for each lane that is taken.
     tasks: CachePadded<(AtomicU64, AtomicU64)>,
     bound: u64,
 }
@@ -131,7 +131,7 @@ impl Hints {
             phases: CachePadded::new(Bell::new()),
             room: CachePadded::new(Bell::new()),
             wanted: CachePadded::new(AtomicU64::new(wanted)),
-            tasks: CachePadded::new((AtomicU64::new(1), AtomicU64::new(1))),
+            tasks: CachePadded::new((AtomicU64::new(1), AtomicU64::new(0))),
             bound,
         }
     }
@@ -143,7 +143,6 @@ impl Hints {
     // A task was registered.
     pub fn came(&self) {
         let _ = self.tasks.0.fetch_add(1, SeqCst);
-        let _ = self.tasks.1.fetch_add(1, SeqCst);
     }
 
     // A task has left.
@@ -151,11 +150,26 @@ impl Hints {
         let _ = self.tasks.0.fetch_sub(1, SeqCst);
     }
 
-    // How many lanes may be in use.
+    // A lane was taken.
+    pub fn lane_taken(&self, lane: u64)
+        requires { lane < LANES }
+    {
+        let _ = self.tasks.1.fetch_or(1 << lane, SeqCst);
+    }
+
+    // A lane is to be given back.
+    pub fn lane_left(&self, lane: u64)
+        requires { lane < LANES }
+    {
+        let _ = self.tasks.1.fetch_and(!(1 << lane), SeqCst);
+    }
+
+    // The lanes that are taken are below it.
     pub fn lanes(&self) -> u64
         ensures { result ≤ LANES }
     {
-        self.tasks.1.load(SeqCst).min(LANES)
+        let free = self.tasks.1.load(SeqCst).leading_zeros() as u64;
+        64u64.saturating_sub(free).min(LANES)
     }
 
     // Whether one task is registered, or none.

@@ -1,19 +1,21 @@
 //! Steps on the words beside a phaser's lock, by seats that ask and by turns.
-ghost use Rattle.std.specs.Prelude.{◌≡◌, ◌<◌, ◌+◌, Some, None};
+ghost use Rattle.std.specs.Prelude.{◌≡◌, ◌<◌, ◌+◌, IfErr};
 ghost use Rattle.turn_lock.specs.Seats.{seat_view, turn_number, turn_view, turn_value, turn_told, seat_number};
 ghost use Rattle.turn_lock.specs.WordSteps.{WritesOf, ReadsIn, WritesIn};
 ghost use Rattle.phase_shared.specs.Goods.{allows_or};
 ghost use Rattle.phase_shared.specs.Rule.{HasOneHistory};
-ghost use Rattle.phase_shared.specs.Servings.{MayAsk, MayWait};
-ghost use Rattle.phase_shared.specs.Views.{known_of};
-ghost use Rattle.phase_shared.specs.WordTells.{IsOther, LaneReadAt, SendReadAt, IsOwnLane, with_board, with_lane, Completes, HasKind, HasNumber};
+ghost use Rattle.phase_shared.specs.Servings.{MayAsk, MayWait, MayGoNext};
+ghost use Rattle.phase_shared.specs.Views.{Own, Holds, known_of};
+ghost use Rattle.phase_shared.specs.WordTells.{IsHolder, IsOther, LaneReadAt, OwnerReadAt, SendReadAt, IsOwnLane, with_board, with_lane, Completes, HasKind, HasNumber};
 
 use crate::lane_words::{
-    IS_EMPTY, IS_TOO_BIG, IS_VALUE, KIND, LANES, NUMBER, phase_place, send_place, word_of,
+    IS_EMPTY, IS_TOO_BIG, IS_VALUE, KIND, LANES, NUMBER, owner_place, phase_place, send_place,
+    word_of,
 };
 use crate::rule::SignalRule;
-use crate::seats::desk::{AskingDesk, Desk, OnTurn};
+use crate::seats::desk::{AskingDesk, Desk, OnTurn, ReadyDesk};
 use crate::seats::ghost_steps::{OnBoardKind, OnReport, OnStep, Plan, Report, Since};
+use crate::seats::places::is_own;
 use phase_core::phase_accum::{Accumulate, Outcome};
 use std::marker::Brand;
 
@@ -31,6 +33,24 @@ impl<'a, A: Accumulate, K: SignalRule, S: Since<K>> Desk<'a, A, K, S> {
         Desk { of, seat }
     }
 
+    /// The same seat, ready to ask, where its lane is its own.
+    pub fn ready(self) -> Result<ReadyDesk<'a, A, K, S>, Desk<'a, A, K, S>>
+        requires next { MayGoNext S.terms.limits (allows_or K.allows S.terms.rule) S.ask S.seen
+            (seat_view self.seat) }
+        ensures other { IfErr result (λ desk.
+            seat_view desk.seat ≡ seat_view self.entry.seat) }
+    {
+        let Desk { of, seat } = self;
+        let request = of.request;
+        let (seat, is_own) = is_own(of.phaser, seat, request.task, request.lane);
+        let desk = Desk { of, seat };
+        if is_own {
+            Ok(ReadyDesk { desk })
+        } else {
+            Err(desk)
+        }
+    }
+
     /// Posts what it asks for, the send first.
     pub fn post(self) -> AskingDesk<'a, A, K, S>
         requires may { MayAsk S.terms.limits (allows_or K.allows S.terms.rule) S.ask
@@ -39,8 +59,8 @@ impl<'a, A: Accumulate, K: SignalRule, S: Since<K>> Desk<'a, A, K, S> {
         requires waits { MayWait S.terms.limits (allows_or K.allows S.terms.rule) S.ask S.seen }
     {
         let request = self.of.request;
-        let desk = self.post_as::<Brand, u64>(send_place(request.task), request.send, request.send);
-        let desk = desk.post_as::<Brand, ()>(phase_place(request.task), request.phase + 1, ());
+        let desk = self.post_as::<Brand, u64>(send_place(request.lane), request.send, request.send);
+        let desk = desk.post_as::<Brand, ()>(phase_place(request.lane), request.phase + 1, ());
         let is_made = false;
         AskingDesk { desk, is_made }
     }
@@ -77,48 +97,59 @@ impl<'a, A: Accumulate, K: SignalRule, S: Since<K>> OnTurn<'a, A, K, S> {
         OnTurn { of, turn }
     }
 
-    /// Returns what is posted in the lane of another's task, as the phase that is asked for and one
-    /// more.
-    pub fn read_lane(self, task: u64) -> (OnTurn<'a, A, K, S>, u64)
-        requires low { task < LANES }
-        requires other { IsOther task (turn_view self.turn) }
+    /// Returns what is posted in another's lane, as the phase that is asked for and one more.
+    pub fn read_lane(self, lane: u64) -> (OnTurn<'a, A, K, S>, u64)
+        requires low { lane < LANES }
+        requires other { IsOther lane (turn_view self.turn) }
         ensures value { turn_value result.0.turn ≡ turn_value self.entry.turn }
-        ensures lane { LaneReadAt S.terms.limits (allows_or K.allows S.terms.rule) task
+        ensures lane { LaneReadAt S.terms.limits (allows_or K.allows S.terms.rule) lane
             (turn_view self.entry.turn) result.1 (turn_view result.0.turn) }
     {
-        self.read_as::<Brand, _>(phase_place(task), task)
+        self.read_as::<Brand, _>(phase_place(lane), lane)
+    }
+
+    /// Returns the number of the task whose it is, and one more.
+    pub fn read_owner(self, lane: u64) -> (OnTurn<'a, A, K, S>, u64)
+        requires low { lane < LANES }
+        requires holds { IsHolder (turn_view self.turn) }
+        ensures value { turn_value result.0.turn ≡ turn_value self.entry.turn }
+        ensures owner { OwnerReadAt lane (turn_view self.entry.turn) result.1
+            (turn_view result.0.turn) }
+    {
+        self.read_as::<Brand, _>(owner_place(lane), lane)
     }
 
     /// Returns the word for what is sent there.
-    pub fn read_send(self, task: u64) -> (OnTurn<'a, A, K, S>, u64)
-        requires low { task < LANES }
-        requires other { IsOther task (turn_view self.turn) }
+    pub fn read_send(self, lane: u64) -> (OnTurn<'a, A, K, S>, u64)
+        requires low { lane < LANES }
+        requires holds { IsHolder (turn_view self.turn) }
         ensures value { turn_value result.0.turn ≡ turn_value self.entry.turn }
-        ensures send { SendReadAt task (turn_view self.entry.turn) result.1
+        ensures send { SendReadAt lane (turn_view self.entry.turn) result.1
             (turn_view result.0.turn) }
     {
-        self.read_as::<Brand, _>(send_place(task), task)
+        self.read_as::<Brand, _>(send_place(lane), lane)
     }
 
     /// Posts its phase in its own lane.
     pub fn post_in(self) -> OnTurn<'a, A, K, S>
-        requires own { IsOwnLane S.ask.task (turn_view self.turn) }
+        requires own { IsOwnLane S.ask.lane (turn_view self.turn) }
         ensures value { turn_value result.turn ≡ turn_value self.entry.turn }
         ensures lane { turn_view result.turn
-            ≡ with_lane (Some (S.ask.phase + 1)) (turn_view self.entry.turn) }
+            ≡ with_lane (Holds S.ask.lane (S.ask.phase + 1)) (turn_view self.entry.turn) }
     {
         let request = self.of.request;
-        let place = phase_place(request.task);
+        let place = phase_place(request.lane);
         self.write_as::<Brand, _>(place, request.phase + 1, ())
     }
 
     /// Takes out what is posted in its own lane.
     pub fn clear_in(self) -> OnTurn<'a, A, K, S>
-        requires own { IsOwnLane S.ask.task (turn_view self.turn) }
+        requires own { IsOwnLane S.ask.lane (turn_view self.turn) }
         ensures value { turn_value result.turn ≡ turn_value self.entry.turn }
-        ensures lane { turn_view result.turn ≡ with_lane None (turn_view self.entry.turn) }
+        ensures lane { turn_view result.turn
+            ≡ with_lane (Own S.ask.lane) (turn_view self.entry.turn) }
     {
-        let place = phase_place(self.of.request.task);
+        let place = phase_place(self.of.request.lane);
         self.write_as::<Brand, _>(place, 0, ())
     }
 

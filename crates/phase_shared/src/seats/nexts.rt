@@ -1,20 +1,18 @@
 //! A next phase of a task, which others may take it to.
+ghost use Rattle.std.specs.Prelude.{◌≡◌, IfSome, IfNone};
 ghost use Rattle.turn_lock.specs.Seats.{IsSeatAt, seat_view};
 ghost use Rattle.phase_shared.specs.Goods.{allows_or};
-ghost use Rattle.phase_shared.specs.LockedPhasers.{locked_terms};
 ghost use Rattle.phase_shared.specs.Servings.{IsCallAt, MayGoNext, HasEnded};
 
 use crate::rule::SignalRule;
 use crate::seats::desk::{AskingDesk, Call, Came, Desk, EndedDesk, FirstTurn, OnTurn, ReadyDesk};
-use crate::seats::ghost_steps::Since;
+use crate::seats::ghost_steps::{OnTake, Since};
 use crate::seats::locked::LockedPhaser;
 use crate::seats::request::Request;
 use crate::seats::spins::Spins;
-use crate::seats::steps::enter;
 use crate::seats::view::PhaserSeat;
 use phase_core::SignalRefusal;
 use phase_core::phase_accum::{Accumulate, Outcome};
-use phase_core::phase_base::Entry;
 use std::marker::PhantomData;
 use std::sync::Wait;
 use std::{hint, thread};
@@ -155,23 +153,23 @@ impl<'a, A: Accumulate, K: SignalRule, S: Since<K>> Came<'a, A, K, S> {
 impl<'a, A: Accumulate, K: SignalRule, S: Since<K>> ReadyDesk<'a, A, K, S> {
     // Takes the turn, where it is free.
     fn take(self) -> Result<FirstTurn<'a, A, K, S>, ReadyDesk<'a, A, K, S>> {
-        let ReadyDesk { desk, entry } = self;
+        let ReadyDesk { desk } = self;
         let Desk { of, seat } = desk;
-        match enter(of.phaser, seat, of.request.task, entry) {
+        match of.phaser.lock.try_take::<OnTake<A, K>>(seat) {
             Ok(turn) => {
                 let on = OnTurn { of, turn };
                 Ok(FirstTurn { on })
             }
             Err(seat) => {
                 let desk = Desk { of, seat };
-                Err(ReadyDesk { desk, entry })
+                Err(ReadyDesk { desk })
             }
         }
     }
 
     // Posts what it asks for, looks for its answer, and else for the turn.
     fn ask<W: Wait>(self, rt: &W, spins: &mut Spins) -> EndedDesk<'a, A, K, S> {
-        let ReadyDesk { desk, .. } = self;
+        let ReadyDesk { desk } = self;
         let asking = desk.post();
         if spins.first() != 0 {
             pause(HOLD);
@@ -202,22 +200,23 @@ impl<'a, A: Accumulate, K: SignalRule, S: Since<K>> ReadyDesk<'a, A, K, S> {
     }
 }
 
-/// Goes to its next phase, or is refused, as a signal is.
+/// Goes to its next phase, or is refused, as a signal is. It does nothing where its lane is not its
+/// own.
 pub fn next<A: Accumulate, K: SignalRule, S: Since<K>, W: Wait>(
     rt: &W,
     phaser: &LockedPhaser<A, K>,
     seat: PhaserSeat<A, K>,
-    entry: Entry,
     request: Request,
     spins: &mut Spins,
-) -> (PhaserSeat<A, K>, Result<Outcome, SignalRefusal>)
+) -> (PhaserSeat<A, K>, Option<Result<Outcome, SignalRefusal>>)
     requires seat { IsSeatAt S.place seat }
     requires call { IsCallAt phaser.now request S.place S.terms S.ask }
-    requires ready { MayGoNext K.allows (locked_terms phaser.now) S.terms.limits
-        (allows_or K.allows S.terms.rule) request entry S.ask S.seen (seat_view seat) }
+    requires next { MayGoNext S.terms.limits (allows_or K.allows S.terms.rule) S.ask S.seen
+        (seat_view seat) }
     ensures seat { IsSeatAt S.place result.0 }
-    ensures ended { HasEnded A.operation S.terms.limits (allows_or K.allows S.terms.rule) S.ask
-        S.seen result.1 (seat_view result.0) }
+    ensures ended { IfSome result.1 (λ answer. HasEnded A.operation S.terms.limits
+        (allows_or K.allows S.terms.rule) S.ask S.seen answer (seat_view result.0)) }
+    ensures none { IfNone result.1 (seat_view result.0 ≡ seat_view seat) }
 {
     let since = PhantomData::<S>;
     let of = Call {
@@ -226,9 +225,12 @@ pub fn next<A: Accumulate, K: SignalRule, S: Since<K>, W: Wait>(
         since,
     };
     let desk = Desk { of, seat };
-    let ready = ReadyDesk { desk, entry };
+    let ready = match desk.ready() {
+        Ok(ready) => ready,
+        Err(Desk { seat, .. }) => return (seat, None),
+    };
     let ended = ready.go(rt, spins);
     let EndedDesk { desk, answer, .. } = ended;
     let Desk { seat, .. } = desk;
-    (seat, answer)
+    (seat, Some(answer))
 }

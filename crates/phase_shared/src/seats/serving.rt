@@ -40,21 +40,23 @@ fn is_between<A: Accumulate>(core: &PhaserCore<A>, task: u64, phase: u64) -> boo
 }
 
 impl<'a, A: Accumulate, K: SignalRule, S: Since<K>> OpenTurn<'a, A, K, S> {
-    // Makes the signal that another task asks for in this phase, where it does, and tells whether
-    // it made one.
-    fn signal_for(self, task: u64) -> (OpenTurn<'a, A, K, S>, bool)
-        requires low { task < LANES }
+    // Makes the signal that another task asks for in a lane, in this phase, where it does, and tells
+    // whether it made one.
+    fn signal_for(self, lane: u64) -> (OpenTurn<'a, A, K, S>, bool)
+        requires low { lane < LANES }
     {
         let OpenTurn { on } = self;
         let request = on.of.request;
-        if task == request.task {
+        if lane == request.lane {
             return (OpenTurn { on }, false);
         }
-        let (on, found) = on.read_lane(task);
+        let (on, found) = on.read_lane(lane);
         if found != request.phase + 1 {
             return (OpenTurn { on }, false);
         }
-        let (on, send) = on.read_send(task);
+        let (on, owner) = on.read_owner(lane);
+        let task = owner.saturating_sub(1);
+        let (on, send) = on.read_send(lane);
         let OnTurn { of, mut turn } = on;
         let core = turn.value_in(&of.phaser.lock);
         if !is_before(core, task, request.phase) {
@@ -78,8 +80,8 @@ impl<'a, A: Accumulate, K: SignalRule, S: Since<K>> OpenTurn<'a, A, K, S> {
         let lanes = self.on.of.phaser.hints.lanes();
         let mut open = self;
         let mut has_made = false;
-        for task in 0..lanes {
-            let (next, is_made) = open.signal_for(task);
+        for lane in 0..lanes {
+            let (next, is_made) = open.signal_for(lane);
             open = next;
             has_made |= is_made;
         }
@@ -120,10 +122,10 @@ impl<'a, A: Accumulate, K: SignalRule, S: Since<K>> OpenTurn<'a, A, K, S> {
 }
 
 impl<'a, A: Accumulate, K: SignalRule, S: Since<K>> OnTurn<'a, A, K, S> {
-    // Makes the wait of another task that asked for this phase, where its signal was made. It tells
-    // whether no ask of this task for the phase is left.
-    fn wait_for(self, task: u64) -> (OnTurn<'a, A, K, S>, bool)
-        requires low { task < LANES }
+    // Makes the wait of another task that asked for this phase in a lane, where its signal was made.
+    // It tells whether no ask for the phase is left there.
+    fn wait_for(self, lane: u64) -> (OnTurn<'a, A, K, S>, bool)
+        requires low { lane < LANES }
         requires serving { ServingOpen A.operation S.terms.limits
             (allows_or K.allows S.terms.rule) S.ask S.seen true (turn_view self.turn)
             (turn_value self.turn) }
@@ -131,18 +133,20 @@ impl<'a, A: Accumulate, K: SignalRule, S: Since<K>> OnTurn<'a, A, K, S> {
             S.ask S.seen true (turn_view result.0.turn) (turn_value result.0.turn) }
         ensures served { result.1 ≡ true
             → Serving A.operation S.terms.limits (allows_or K.allows S.terms.rule) S.ask S.seen
-            true task (turn_view self.entry.turn) (turn_value self.entry.turn)
+            true lane (turn_view self.entry.turn) (turn_value self.entry.turn)
             → Serving A.operation S.terms.limits (allows_or K.allows S.terms.rule) S.ask S.seen
-            true (task + 1) (turn_view result.0.turn) (turn_value result.0.turn) }
+            true (lane + 1) (turn_view result.0.turn) (turn_value result.0.turn) }
     {
         let request = self.of.request;
-        if task == request.task {
+        if lane == request.lane {
             return (self, true);
         }
-        let (on, found) = self.read_lane(task);
+        let (on, found) = self.read_lane(lane);
         if found != request.phase + 1 {
             return (on, true);
         }
+        let (on, owner) = on.read_owner(lane);
+        let task = owner.saturating_sub(1);
         let OnTurn { of, mut turn } = on;
         let core = turn.value_in(&of.phaser.lock);
         if !is_between(core, task, request.phase) {
@@ -169,8 +173,8 @@ impl<'a, A: Accumulate, K: SignalRule, S: Since<K>> OnTurn<'a, A, K, S> {
     {
         let mut on = self;
         let mut is_all = true;
-        for task in 0..LANES {
-            let (next, is_made) = on.wait_for(task);
+        for lane in 0..LANES {
+            let (next, is_made) = on.wait_for(lane);
             on = next;
             is_all &= is_made;
         }

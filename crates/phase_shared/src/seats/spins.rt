@@ -1,5 +1,7 @@
-//! How long a registration looks for its answer. No contract speaks of it: a wrong number costs
-//! time alone.
+//! How long a registration looks for its answer, and its lane. No contract speaks of it: a wrong
+//! number costs time alone.
+
+use crate::lane_words::LANES;
 
 // How often to look, at most: for an answer after a post, and for others' posts under the turn.
 // From one phase in so many on, who does not look tries to again.
@@ -11,7 +13,7 @@ const FEW: u32 = 8;
 
 const PROBE: u64 = 128;
 
-/// What a registration learned of how soon others come.
+/// What a registration learned of how soon others come, and where it asks.
 #[derive(Clone, Copy, Debug, PartialEq, Eq)]
 pub struct Spins {
     // Whether it had the turn when its last phase was complete, and served others then.
@@ -23,6 +25,8 @@ pub struct Spins {
     // How many phases others' turns answered, and how many of these before it tried to take a turn.
     answers: u64,
     asks: u64,
+    // Its lane, or `LANES`.
+    lane: u64,
 }
 
 fn doubled(number: u32, most: u32) -> u32 {
@@ -42,7 +46,25 @@ impl Spins {
             first: FIRST,
             answers: 0,
             asks: 0,
+            lane: LANES,
         }
+    }
+
+    // With this lane.
+    pub fn with_lane(lane: u64) -> Spins {
+        let mut spins = Spins::new();
+        spins.lane = lane;
+        spins
+    }
+
+    // Its lane, or `LANES` where it has none.
+    pub fn lane(&self) -> u64 {
+        self.lane
+    }
+
+    // It got a lane.
+    pub fn lodged(&mut self, lane: u64) {
+        self.lane = lane;
     }
 
     // How many phases others' turns answered, and how many of these before it tried to take a turn.

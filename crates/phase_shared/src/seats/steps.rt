@@ -20,6 +20,7 @@ use crate::rule::SignalRule;
 use crate::seats::ghost_steps::{OnGive, OnJoin, OnLook, OnSplit, OnTake, Plan, Same};
 use crate::seats::hints::{Hints, Reached};
 use crate::seats::locked::LockedPhaser;
+use crate::seats::places::{Lodgings, lodge_both};
 use crate::seats::view::{PhaserSeat, PhaserTurn};
 use crate::tried::Tried;
 use phase_core::phase_accum::{Accumulate, Pending, Single};
@@ -241,13 +242,15 @@ pub(crate) fn child_of<A: Accumulate>(core: &PhaserCore<A>) -> u64
     core.next_number().unwrap_or(u64::MAX)
 }
 
-/// Registers a child. The answer is the child's number, seat and entry.
+/// Registers a child. The answer is the child's number, seat and entry. Both get lanes, where some
+/// are free.
 pub fn register<A: Accumulate, K: SignalRule>(
     phaser: &LockedPhaser<A, K>,
     seat: PhaserSeat<A, K>,
     me: u64,
     entry: Entry,
     mode: Mode,
+    lanes: &mut Lodgings,
 ) -> (
     PhaserSeat<A, K>,
     Result<(u64, PhaserSeat<A, K>, Entry), Tried<RegisterRefusal>>,
@@ -271,6 +274,7 @@ pub fn register<A: Accumulate, K: SignalRule>(
         return (give_same(phaser, turn), Err(Tried::Refused(refusal)));
     }
     let Some(start) = found else { unreachable!() };
+    let turn = lodge_both(phaser, turn, (me, entry.mode), (child, mode), lanes);
     let both = put_back::<A, K, Brand, _>(phaser, turn, reached, (me, child, mode));
     let (seat, other) = split(phaser, both);
     (seat, Ok((child, other, start)))

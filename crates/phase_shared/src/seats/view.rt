@@ -12,25 +12,39 @@ pub struct Knowledge {
     pub speaks: LinkedList<u64>,
 }
 
-// What a task asks for: its signal of this phase, with these sends, and its wait for it. No value
-// of it is made.
+// What a task asks for in a lane: its signal of this phase, with these sends, and its wait for it.
+// No value of it is made.
 pub struct Ask {
     pub task: u64,
+    pub lane: u64,
     pub phase: u64,
     pub sends: LinkedList<i64>,
+}
+
+// What who has the turn knows of a lane. No value of it is made.
+pub enum Lane {
+    // Nothing.
+    Unknown,
+    // That it is nobody's.
+    Free(u64),
+    // That it is its own.
+    Own(u64),
+    // The same, and what it has.
+    Holds(u64, u64),
 }
 
 // What a seat knows. No value of it is made.
 pub enum View {
     // At rest: others may have gone on.
     Resting(Knowledge),
-    // With the turn: it has seen all, read these asks, and knows what the board says and, where
-    // that is not past, what its own lane has.
-    Turning(Knowledge, LinkedList<Ask>, Outcome, Option<u64>),
+    // With the turn: it has seen all, read these asks, and knows what the board says and something
+    // of a lane.
+    Turning(Knowledge, LinkedList<Ask>, Outcome, Lane),
     // From a join to its look: what both had seen.
     Joining(Knowledge, Knowledge),
-    // At rest, and this is the word of its lane that says what is sent.
-    Posting(Knowledge, u64),
+    // At rest, and it knows that this lane is its own, and maybe the word of it that says what is
+    // sent.
+    Posting(Knowledge, u64, Option<u64>),
     // It asked: others may have made its signal, and its wait.
     Asking(Knowledge, Ask),
     // It was answered, and has still to read the value.

@@ -17,13 +17,23 @@ leave-requires g c =
     (opened g.K.SignalRule.allows c.args.phaser.now.locked c.self.inside.number c.self.inside.entry c.self.inside.pending c.self.inside.seat c.in-Some.seat c.args.self
     c.in-Some.is c.self.invariant c.self.view_is c.requires.at).seat
 
+-- it rests, and speaks for the one number still
+pub give_back-seat-requires : goal.give_back-seat-requires
+give_back-seat-requires g c = record {
+  seat = record {
+    here = c.in-Ok.ensures.ok.here;
+    knows = c.in-Ok.ensures.ok.knows.rests
+        ∙ ap (λ (h : History). resting h (c.self.inside.number ∷ [])) (sym (ap (λ (v : View). (known_of v).seen) c.in-Ok.ensures.ok.knows.rests));
+  };
+}
+
 pub invariant_of-result : goal.invariant_of-result
 invariant_of-result g c =
     let left = c.in-Ok.ensures.ok.knows in
-    let is = left.rests in
+    let is = c.give_back-seat.ensures.view ∙ left.rests in
     record {
       terms = phaser_terms c.args.phaser.now;
-      named = ap (λ p. p.1) c.in-Ok.ensures.ok.here;
+      named = ap (λ p. p.1) c.give_back-seat.ensures.here;
       rests = is ∙ sym (ap (λ (v : View). resting (known_of v).seen (known_of v).speaks) is);
       distinct = ap (λ (v : View). is_distinct (known_of v).speaks) is;
       good = subst (λ (h : History). IsGoodAt g.K.SignalRule.allows (phaser_terms c.args.phaser.now) h) (sym (ap (λ (v : View). (known_of v).seen) is)) left.good;

@@ -1,4 +1,4 @@
-use Rattle.std.proofs.Common.{◌≡◌, [], ◌∷◌, None, length, false, true, refl, sym, ap, ◌∙◌}
+use Rattle.std.proofs.Common.{◌≡◌, [], ◌∷◌, length, false, true, refl, sym, ap, ◌∙◌}
 use Rattle.std.specs.Prelude.{Result, is_some}
 use Rattle.std.specs.Result.{result_ok}
 use Rattle.turn_lock.specs.Seats.{seat_view, turn_view, turn_value, turn_number, turn_told, IsSameSeat}
@@ -7,7 +7,7 @@ use Rattle.phase_core.specs.phase_history.declared.refusal.WaitRefusal.TheVarian
 use Rattle.phase_core.specs.phase_history.Replies.{got_block_at}
 use Rattle.phase_core.proofs.phase_history_lemmas.Answered.{wait_refusal-never}
 use Rattle.phase_shared.specs.LockedPhasers.{locked_terms}
-use Rattle.phase_shared.specs.Views.{resting, turning, known_of, speaks_of}
+use Rattle.phase_shared.specs.Views.{Unknown, resting, turning, known_of, speaks_of}
 use Rattle.phase_shared.specs.Rule.{StandsWithin}
 use Rattle.phase_shared.specs.Blocks.{WaitsBlock, entry_after_values}
 use Rattle.phase_shared.specs.declared.seats.view.View.{View}
@@ -71,7 +71,7 @@ returns g c =
     let n = length c.args.out.now in
     let new = after_wait_block answer me e.now in
     let rests : seat_view seat ≡ resting new (me ∷ []) =
-    told_at (λ v. resting (after_wait_block answer me (known_of v).seen) (speaks_of v)) (seat_view seat) (turn_view c.in-Ok.turn) (turning e.now (me ∷ []) e.claims e.said None)
+    told_at (λ v. resting (after_wait_block answer me (known_of v).seen) (speaks_of v)) (seat_view seat) (turn_view c.in-Ok.turn) (turning e.now (me ∷ []) e.claims e.said Unknown)
     c.put_back-seat.ensures.knows e.is in
     let reply = c.wait_block-answer.ensures.reply e.now before.stands in
     let call : Result GotBlock WaitRefusal → Type 0 =

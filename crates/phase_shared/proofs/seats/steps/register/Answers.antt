@@ -4,7 +4,8 @@ use Rattle.phase_shared.specs.Phasers.{Entry, Event, History, entry_at, register
 use Rattle.phase_core.specs.phase_history.declared.event.Event.TheVariants.{Registered}
 use Rattle.phase_core.specs.phase_history.declared.refusal.RegisterRefusal.TheVariants as register
 use Rattle.phase_shared.specs.LockedPhasers.{locked_terms}
-use Rattle.phase_shared.specs.Views.{resting, known_of}
+use Rattle.phase_shared.specs.Views.{knowledge, resting, known_of}
+use Rattle.phase_shared.proofs.Lodging.{as_before}
 use Rattle.phase_shared.specs.Rule.{StandsWithin}
 use Rattle.phase_shared.specs.Entries.{entry_stays}
 use Rattle.phase_shared.specs.Steps.{RegistersSeat}
@@ -55,13 +56,23 @@ unreachable-requires g c =
     c.child_of-child.result (begins g at) c.register-answer.new.self (made g at c.in_default.ensures.ok c.in_default.ensures.limits c.in_default.ensures.after)
     c.view-found.result c.view-found.ensures)
 
+-- it knows of no lane
+pub lodge_both-turn-requires-clause-knows : goal.lodge_both-turn-requires-clause-knows
+lodge_both-turn-requires-clause-knows g c =
+    let e = c.in-Ok.ensures.turn.knows in
+    record { knows = knowledge e.now (c.args.me ∷ []); claims = e.claims; said = e.said; is = e.is }
+
 pub put_back-both-requires-clause-rule : goal.put_back-both-requires-clause-rule
 put_back-both-requires-clause-rule g c =
     let at = (goal.at.put_back-both-requires-clause-rule g c).After-view-found in
     let e = c.in-Ok.ensures.turn.knows in
-    gives_new_member g.A.Accumulate.operation g.K.SignalRule.allows (locked_terms c.args.phaser.now) c.args.me c.args.entry e.now (event g at)
+    let lodged = c.lodge_both-turn.result in
+    let same = c.lodge_both-turn.ensures.same in
+    as_before g.A.Accumulate.operation g.K.SignalRule.allows (locked_terms c.args.phaser.now)
+    (λ v w. w ≡ resting (event g at ∷ (known_of v).seen) (c.args.me ∷ c.child_of-child.result ∷ [])) _ lodged same
+    (gives_new_member g.A.Accumulate.operation g.K.SignalRule.allows (locked_terms c.args.phaser.now) c.args.me c.args.entry e.now (event g at)
     c.child_of-child.result (begins g at) c.register-answer.new.self (made g at c.in_default.ensures.ok c.in_default.ensures.limits c.in_default.ensures.after)
-    (turn_number c.in-Ok.turn) (turn_told c.in-Ok.turn) (turn_view c.in-Ok.turn) e.claims e.said e.is e.used
+    (turn_number c.in-Ok.turn) (turn_told c.in-Ok.turn) (turn_view c.in-Ok.turn) e.claims e.said e.is e.used)
 
 pub give_same-requires-clause-rule : goal.give_same-requires-clause-rule
 give_same-requires-clause-rule g c =
@@ -78,7 +89,8 @@ split-seat-requires g c =
     record {
       here = c.put_back-both.ensures.here;
       knows = speaks_for_both c.args.me e.now (event g at) child (seat_view c.put_back-both.result)
-          (for_both c.args.me e.now (event g at) child (seat_view c.put_back-both.result) (turn_view c.in-Ok.turn) e.claims e.said c.put_back-both.ensures.knows e.is);
+          (for_both c.args.me e.now (event g at) child (seat_view c.put_back-both.result) (turn_view c.lodge_both-turn.result) e.claims e.said c.put_back-both.ensures.knows
+          (c.lodge_both-turn.ensures.same.knows ∙ e.is));
     }
 
 pub returns : goal.returns
@@ -94,7 +106,8 @@ returns g c =
     let x = c.register-answer.new.self in
     let b : IsMade g at = made g at c.in_default.ensures.ok c.in_default.ensures.limits c.in_default.ensures.after in
     let both : seat_view c.put_back-both.result ≡ resting (event g at ∷ e.now) (me ∷ child ∷ []) =
-    for_both me e.now (event g at) child (seat_view c.put_back-both.result) (turn_view c.in-Ok.turn) e.claims e.said c.put_back-both.ensures.knows e.is in
+    for_both me e.now (event g at) child (seat_view c.put_back-both.result) (turn_view c.lodge_both-turn.result) e.claims e.said c.put_back-both.ensures.knows
+    (c.lodge_both-turn.ensures.same.knows ∙ e.is) in
     let left : seat_view c.split-seat.result.0 ≡ resting (event g at ∷ e.now) (me ∷ []) =
     parent_rests me e.now (event g at) child (seat_view c.put_back-both.result) (seat_view c.split-seat.result.0) c.split-seat.ensures.left.knows both in
     let right : seat_view c.split-seat.result.1 ≡ resting (event g at ∷ e.now) (child ∷ []) =

@@ -1,4 +1,4 @@
-use Rattle.std.proofs.Common.{◌≡◌, [], ◌∷◌, None, true, false, refl, sym, ap, ◌∙◌}
+use Rattle.std.proofs.Common.{◌≡◌, [], ◌∷◌, true, false, refl, sym, ap, ◌∙◌}
 use Rattle.std.specs.Prelude.{Result, is_some}
 use Rattle.std.specs.Result.{result_ok}
 use Rattle.turn_lock.specs.Seats.{seat_view, turn_view, turn_value, turn_number, turn_told, IsSameSeat}
@@ -6,7 +6,7 @@ use Rattle.phase_shared.specs.Phasers.{Got, WaitRefusal, wait_phase, wait_refusa
 use Rattle.phase_core.specs.phase_history.declared.refusal.WaitRefusal.TheVariants as wait
 use Rattle.phase_core.proofs.phase_history_lemmas.Answered.{wait_refusal-never}
 use Rattle.phase_shared.specs.LockedPhasers.{locked_terms}
-use Rattle.phase_shared.specs.Views.{resting, turning, known_of, speaks_of}
+use Rattle.phase_shared.specs.Views.{Unknown, resting, turning, known_of, speaks_of}
 use Rattle.phase_shared.specs.Rule.{StandsWithin}
 use Rattle.phase_shared.specs.Calls.{Waits}
 use Rattle.phase_shared.specs.Entries.{entry_after_wait}
@@ -69,7 +69,7 @@ returns g c =
     let seat = c.put_back-seat.result in
     let new = after_wait answer me e.now in
     let rests : seat_view seat ≡ resting new (me ∷ []) =
-    told_at (λ v. resting (after_wait answer me (known_of v).seen) (speaks_of v)) (seat_view seat) (turn_view c.in-Ok.turn) (turning e.now (me ∷ []) e.claims e.said None)
+    told_at (λ v. resting (after_wait answer me (known_of v).seen) (speaks_of v)) (seat_view seat) (turn_view c.in-Ok.turn) (turning e.now (me ∷ []) e.claims e.said Unknown)
     c.put_back-seat.ensures.knows e.is in
     let reply = c.wait-answer.ensures.reply e.now before.stands in
     let call : Result Got WaitRefusal → Type 0 = Waits op.value terms.limits me (known_of (seat_view c.args.seat)).seen (known_of (seat_view seat)).seen in
