@@ -53,69 +53,69 @@ none_in Waiter (Some slot) none = (none slot refl).1
 module _ {A : Type 0} (op : Operation A) (bound base : ℕ) (values : List ℤ) (r : Ring A)
     (is : r ≡ ring_of_ones op (bound + 1) base values) (near : length values ≤ bound)
   where
-  slots_are : r.slots ≡ (ring_of_ones op (bound + 1) base values).slots
-  slots_are = ap (λ x. x.slots) is
+    slots_are : r.slots ≡ (ring_of_ones op (bound + 1) base values).slots
+    slots_are = ap (λ x. x.slots) is
 
-  base_is : r.base ≡ base
-  base_is = ap (λ x. x.base) is
+    base_is : r.base ≡ base
+    base_is = ap (λ x. x.base) is
 
-  long : length r.slots ≡ bound + 1
-  long =
-      ap length slots_are
-      ∙ (length-append (map (one_slot op) values)
-      (replicate (bound + 1 - length values) (empty_slot op))
-      ∙ (let a = length-map values (one_slot op) in
-      let b = length-replicate (bound + 1 - length values) (empty_slot op) in omega arith))
+    long : length r.slots ≡ bound + 1
+    long =
+        ap length slots_are
+        ∙ (length-append (map (one_slot op) values)
+        (replicate (bound + 1 - length values) (empty_slot op))
+        ∙ (let a = length-map values (one_slot op) in
+        let b = length-replicate (bound + 1 - length values) (empty_slot op) in omega arith))
 
-  found_in : (p : ℕ) (slot : Slot A) → slot_at r p ≡ Some slot
-      → slice_get (ring_of_ones op (bound + 1) base values).slots (p - base) ≡ Some slot
-  found_in p slot found =
-      sym (ap (λ xs. slice_get xs (p - base)) slots_are)
-      ∙ (ap (λ b. slice_get r.slots (p - b)) (sym base_is) ∙ found)
+    found_in : (p : ℕ) (slot : Slot A) → slot_at r p ≡ Some slot
+        → slice_get (ring_of_ones op (bound + 1) base values).slots (p - base) ≡ Some slot
+    found_in p slot found =
+        sym (ap (λ xs. slice_get xs (p - base)) slots_are)
+        ∙ (ap (λ b. slice_get r.slots (p - b)) (sym base_is) ∙ found)
 
-  pub ones_standing : (role : Role) (p : ℕ) → standing r role p ≡ 0
-  ones_standing role p =
-      ⊎_elim (λ low. standing-out r role p low)
-      (λ high. standing-in r role p high ∙ none_in role (slot_at r p) (λ slot found.
-      let at = found_in p slot found in
-      ⊎_elim
-      (λ below. let e = slot_of_value op values (bound + 1 - length values) (p - base) slot below at in
-      (ap (λ s. s.signallers) e, ap (λ s. s.waiters) e))
-      (λ past. let e = slot_behind op values (bound + 1 - length values) (p - base) slot past at in
-      (ap (λ s. s.signallers) e, ap (λ s. s.waiters) e))
-      (cases_lt (p - base) (length values))))
-      (cases_lt p r.base)
-
-  pub ones_kept : (done top : ℕ) → top ≡ base + length values → done ≡ top → top ≤ PHASES_MAX
-      → IsRingAt op r bound done top
-  ones_kept done top top_is done_is far = record {
-    long = long;
-    base_done = omega (arith, base_is);
-    done_top = omega arith;
-    top_bound = omega (arith, base_is);
-    top_far = far;
-    signals_low = λ p low. ones_standing Signaller p;
-    signals_high = λ p high. ones_standing Signaller p;
-    waits_high = λ p high. ones_standing Waiter p;
-    sealed_below = λ p slot low found.
+    pub ones_standing : (role : Role) (p : ℕ) → standing r role p ≡ 0
+    ones_standing role p =
+        ⊎_elim (λ low. standing-out r role p low)
+        (λ high. standing-in r role p high ∙ none_in role (slot_at r p) (λ slot found.
+        let at = found_in p slot found in
         ⊎_elim
-        (λ below. let place : p - base < length values = omega (arith, base_is) in
-        ap (λ s. s.sealed) (slot_of_value op values (bound + 1 - length values) (p - base) slot
-        place (found_in p slot found)) ∙ sym (lt-ltb p done below))
-        (λ past. let place : length values ≤ p - base = omega (arith, base_is) in
-        ap (λ s. s.sealed) (slot_behind op values (bound + 1 - length values) (p - base) slot
-        place (found_in p slot found)) ∙ sym (le-ltb p done past))
-        (cases_lt p done);
-    unused = λ p slot low found above.
-        let place : length values ≤ p - base = omega (arith, base_is) in
-        let e = slot_behind op values (bound + 1 - length values) (p - base) slot place
-        (found_in p slot found) in
-        record {
-          part_is = ap (λ s. s.part) e;
-          count_is = ap (λ s. s.count) e;
-          named_is = ap (λ s. s.named) e;
-        };
-  }
+        (λ below. let e = slot_of_value op values (bound + 1 - length values) (p - base) slot below at in
+        (ap (λ s. s.signallers) e, ap (λ s. s.waiters) e))
+        (λ past. let e = slot_behind op values (bound + 1 - length values) (p - base) slot past at in
+        (ap (λ s. s.signallers) e, ap (λ s. s.waiters) e))
+        (cases_lt (p - base) (length values))))
+        (cases_lt p r.base)
+
+    pub ones_kept : (done top : ℕ) → top ≡ base + length values → done ≡ top → top ≤ PHASES_MAX
+        → IsRingAt op r bound done top
+    ones_kept done top top_is done_is far = record {
+      long = long;
+      base_done = omega (arith, base_is);
+      done_top = omega arith;
+      top_bound = omega (arith, base_is);
+      top_far = far;
+      signals_low = λ p low. ones_standing Signaller p;
+      signals_high = λ p high. ones_standing Signaller p;
+      waits_high = λ p high. ones_standing Waiter p;
+      sealed_below = λ p slot low found.
+          ⊎_elim
+          (λ below. let place : p - base < length values = omega (arith, base_is) in
+          ap (λ s. s.sealed) (slot_of_value op values (bound + 1 - length values) (p - base) slot
+          place (found_in p slot found)) ∙ sym (lt-ltb p done below))
+          (λ past. let place : length values ≤ p - base = omega (arith, base_is) in
+          ap (λ s. s.sealed) (slot_behind op values (bound + 1 - length values) (p - base) slot
+          place (found_in p slot found)) ∙ sym (le-ltb p done past))
+          (cases_lt p done);
+      unused = λ p slot low found above.
+          let place : length values ≤ p - base = omega (arith, base_is) in
+          let e = slot_behind op values (bound + 1 - length values) (p - base) slot place
+          (found_in p slot found) in
+          record {
+            part_is = ap (λ s. s.part) e;
+            count_is = ap (λ s. s.count) e;
+            named_is = ap (λ s. s.named) e;
+          };
+    }
 
 -- ---- where somebody may stand
 

@@ -1,2 +1,3 @@
 mod Asking
 mod Answered
+mod TextLemmas
