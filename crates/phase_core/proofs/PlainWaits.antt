@@ -34,7 +34,7 @@ use Rattle.phase_registry.specs.Rosters.{Roster, roster}
 use Rattle.phase_ring.specs.Standings.{count_of, one_if_same}
 use Rattle.phase_core.specs.Cores.{StandsFor}
 use Rattle.phase_core.specs.declared.plain.Plain.{Plain}
-use Rattle.phase_core.specs.PlainCores.{HasGoneOn, KeepsValues, MayGoOn, MayTake, values_core}
+use Rattle.phase_core.specs.PlainCores.{HasGoneOn, KeepsValues, MayPassValues, MayGetValues, values_core}
 use Rattle.phase_core.specs.Plain.{IsPlain, plain_core, plain_value}
 use Rattle.phase_core.proofs.LeastCounts.{least_by_counts, low_by_counts, one-other, waiter-counted, waiters-waited}
 use Rattle.phase_core.proofs.Parked.{All-of_each, Each-of_all, high_by_counts, least_counted}
@@ -173,7 +173,7 @@ not_false false e = absurd (cc)
 pub may_take : {A : Type 0} (op : Operation A) (limits : Limits) (plain : Plain) (task n : ℕ)
     (e : Entry) → KeepsValues op limits plain → entry_of plain.registry.members task ≡ Some e
     → first_row (wait_rows_at limits (plain.base + length plain.values.items) true n e) ≡ None
-    → MayTake op limits plain task n e
+    → MayGetValues op limits plain task n e
 may_take op limits plain task n e keeps found none =
     let top = plain.base + length plain.values.items in
     let rows = no_row (wait_rows_at limits top true n e) none in
@@ -244,7 +244,7 @@ AreSends-drop n xs sends =
     AreSends-append_right (take n xs) (drop n xs) (subst AreSends (sym (take-append-drop n xs)) sends)
 
 module _ {A : Type 0} (op : Operation A) (limits : Limits) (old new : Plain) (task n : ℕ) (e : Entry)
-    (keeps : KeepsValues op limits old) (may : MayGoOn old task n e)
+    (keeps : KeepsValues op limits old) (may : MayPassValues old task n e)
     (went : HasGoneOn old new task n)
   where
     abbrev k : ℕ
@@ -302,7 +302,7 @@ pub record StandsWithin (plain : Plain) (slowest : ℕ) : Type 0 where
   pub low : plain.base ≤ slowest
   pub high : slowest ≤ plain.base + length plain.values.items
 
-module _ (old : Plain) (task n : ℕ) (e : Entry) (may : MayGoOn old task n e) (r : Roster)
+module _ (old : Plain) (task n : ℕ) (e : Entry) (may : MayPassValues old task n e) (r : Roster)
     (r_is : r ≡ roster (changed_at task (waited n) old.registry.members) old.registry.greatest)
   where
     there : SlowestAfter old.registry.members old.base task n e may.found may.waits may.slowest
@@ -330,13 +330,13 @@ module _ (old : Plain) (task n : ℕ) (e : Entry) (may : MayGoOn old task n e) (
 -- ---- what the waits answer
 
 module _ {A : Type 0} {op : Operation A} {limits : Limits} {plain : Plain} {task n : ℕ} {e : Entry}
-    (keeps : KeepsValues op limits plain) (m : MayTake op limits plain task n e)
+    (keeps : KeepsValues op limits plain) (m : MayGetValues op limits plain task n e)
   where
     pub waits_above : plain.base ≤ e.wait_phase
     waits_above = not_lower plain.registry.members plain.base task n e m.found m.waits keeps.slowest
 
     pub goes_on : (k : ℕ) → e.wait_phase + k ≤ plain.base + length plain.values.items
-        → MayGoOn plain task k e
+        → MayPassValues plain task k e
     goes_on k complete = record {
       found = m.found;
       waits = m.waits;

@@ -44,8 +44,8 @@ pub record IsPhaser {A : Type 0} (op : Operation A) (slots : CoreState A) (plain
 -- ---- waits
 
 -- a wait of the task for at most n phases is not refused: so it is after every history
-pub record MayTake {A : Type 0} (op : Operation A) (limits : Limits) (plain : Plain) (task n : ℕ)
-    (e : Entry) : Type 0 where
+pub record MayGetValues {A : Type 0} (op : Operation A) (limits : Limits) (plain : Plain)
+    (task n : ℕ) (e : Entry) : Type 0 where
   pub found : entry_of plain.registry.members task ≡ Some e
   pub waits : mode_waits e.mode ≡ true
   pub asked : 0 < n
@@ -54,7 +54,7 @@ pub record MayTake {A : Type 0} (op : Operation A) (limits : Limits) (plain : Pl
       → wait_refusal limits h task n ≡ None
 
 -- the task waits, and so many phases from its own on have values
-pub record MayGoOn (plain : Plain) (task phases : ℕ) (e : Entry) : Type 0 where
+pub record MayPassValues (plain : Plain) (task phases : ℕ) (e : Entry) : Type 0 where
   pub found : entry_of plain.registry.members task ≡ Some e
   pub waits : mode_waits e.mode ≡ true
   pub slowest : least (wait_phases plain.registry.members) ≡ Some plain.base

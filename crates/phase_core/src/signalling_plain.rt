@@ -99,8 +99,8 @@ impl<A: Accumulate> PhaserCore<A> {
         self.signal_plain(task, values)
     }
 
-    // Why the same signal is refused that `signal_plain` did not do, where the values are kept alone
-    // and the phases alone refuse it: the first of them that is past the last or too far ahead.
+    // Why the same signal is refused that `signal_plain` did not do, where the values are kept
+    // alone and its phases refuse it: the first of them that is past the last, or too far ahead.
     fn refusal_plain(&self, task: u64, values: &[i64]) -> Option<SignalRefusal>
         ensures { IfSome result (λ refusal. (h : History) → StandsFor A.operation self.now h
             → signal_reply self.now.limits h task (one_each values.now) None ≡ Err refusal) }

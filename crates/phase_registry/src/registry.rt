@@ -85,8 +85,8 @@ impl Registry {
         &self.members
     }
 
-    /// Where a task is, or where it would be. While no number between is missing, each stands as far
-    /// behind the first as its number is above that one's, so this place is looked at first.
+    /// Where a task is, or where it would be. While no number between is missing, each stands as
+    /// far behind the first as its number is above that one's, so this place is looked at first.
     fn search(&self, number: u64) -> Result<usize, usize>
         ensures found { IfOk result (IsAt self.now.members number) }
         ensures absent { IfErr result (IsGapFor self.now.members number) }

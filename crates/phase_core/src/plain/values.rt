@@ -2,7 +2,7 @@
 ghost use Rattle.std.specs.Prelude.{◌≡◌, ◌+◌, ◌-◌, ◌≤◌, ◌++◌, length, map, take, drop};
 ghost use Rattle.phase_history.specs.phase_accum.Sends.{AreSends};
 ghost use Rattle.phase_core.specs.Plain.{plain_value};
-ghost use Rattle.phase_core.specs.PlainCores.{MayGoOn, HasGoneOn};
+ghost use Rattle.phase_core.specs.PlainCores.{MayPassValues, HasGoneOn};
 
 use crate::plain::Plain;
 use phase_history::phase_accum::{Accumulate, Outcome};
@@ -43,7 +43,7 @@ impl Plain {
     /// Lets a task with this entry go on over so many phases, and gives up the values that no
     /// waiter has still to get.
     pub fn go_on(&mut self, task: u64, entry: Entry, phases: u64)
-        requires { MayGoOn self.old task phases entry }
+        requires { MayPassValues self.old task phases entry }
         ensures { HasGoneOn self.old self.new task phases }
     {
         let top = self.top();

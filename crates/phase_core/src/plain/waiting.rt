@@ -9,7 +9,7 @@ ghost use Rattle.phase_history.specs.Refusals.{wait_refusal};
 ghost use Rattle.phase_history.specs.Replies.{wait_reply, after_wait, wait_block_reply, after_wait_block};
 ghost use Rattle.phase_core.specs.Cores.{StandsFor};
 ghost use Rattle.phase_core.specs.Blocks.{written};
-ghost use Rattle.phase_core.specs.PlainCores.{values_core, KeepsValues, MayTake};
+ghost use Rattle.phase_core.specs.PlainCores.{values_core, KeepsValues, MayGetValues};
 
 use crate::plain::Plain;
 use crate::refusal_rows;
@@ -26,7 +26,7 @@ impl Plain {
         phases: u64,
     ) -> Result<Entry, WaitRefusal>
         requires { KeepsValues A.operation limits self.now }
-        ensures ok { IfOk result (MayTake A.operation limits self.now task phases) }
+        ensures ok { IfOk result (MayGetValues A.operation limits self.now task phases) }
         ensures refused { IfErr result (λ refusal. (h : History)
             → StandsFor A.operation (values_core A.operation limits self.now) h
             → wait_refusal limits h task phases ≡ Some refusal) }

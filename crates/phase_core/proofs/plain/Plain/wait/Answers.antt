@@ -3,17 +3,17 @@ use Rattle.std.proofs.Common.{◌-◌, Ok, refl, sym, ap, ◌∙◌, arith}
 use Rattle.phase_history.specs.declared.got.Got.TheVariants as got
 use Rattle.phase_history.proofs.InRange.{wait_reply-in_range}
 use Rattle.phase_core.specs.Plain.{plain_value}
-use Rattle.phase_core.specs.PlainCores.{MayGoOn, MayTake}
+use Rattle.phase_core.specs.PlainCores.{MayPassValues, MayGetValues}
 use Rattle.phase_core.proofs.PlainWaits.{goes_on, keeps_gone_on, one_answered, one_written, stands_gone_on, waits_above}
 use Rattle.phase_core.proofs.plain.Plain.wait.Given.{Over}
 use Rattle.phase_core.proofs.plain.Plain.wait.Goals.{In_ok-entry}
 use Rattle.phase_core.proofs.plain.Plain.wait.Goals as goal
 
-takes : (g : Over) (c : In_ok-entry g) → MayTake g.A.Accumulate.operation c.args.limits
+takes : (g : Over) (c : In_ok-entry g) → MayGetValues g.A.Accumulate.operation c.args.limits
     c.args.self.now c.args.task 1 c.in_ok-entry.entry
 takes g c = c.in_ok-entry.ensures.ok
 
-on : (g : Over) (c : In_ok-entry g) → MayGoOn c.args.self.now c.args.task 1 c.in_ok-entry.entry
+on : (g : Over) (c : In_ok-entry g) → MayPassValues c.args.self.now c.args.task 1 c.in_ok-entry.entry
 on g c = goes_on c.requires (takes g c) 1 (let m = takes g c in omega (arith, m.before))
 
 pub write-requires-clause-low : goal.write-requires-clause-low

@@ -4,14 +4,14 @@ use Rattle.phase_history.specs.Histories.{History}
 use Rattle.phase_history.specs.Refusals.{wait_refusal}
 use Rattle.phase_history.proofs.BlockAnswers.{wait_refusal-fewer}
 use Rattle.phase_core.specs.Cores.{StandsFor}
-use Rattle.phase_core.specs.PlainCores.{MayGoOn, MayTake, values_core}
+use Rattle.phase_core.specs.PlainCores.{MayPassValues, MayGetValues, values_core}
 use Rattle.phase_core.proofs.PlainWaits.{block_answered, goes_on, keeps_gone_on, stands_gone_on, values_taken, waits_above}
 use Rattle.phase_core.proofs.WaitCore.{block_in_range}
 use Rattle.phase_core.proofs.plain.Plain.wait_block.Given.{Over}
 use Rattle.phase_core.proofs.plain.Plain.wait_block.Goals.{After-min-count}
 use Rattle.phase_core.proofs.plain.Plain.wait_block.Goals as goal
 
-takes : (g : Over) (c : After-min-count g) → MayTake g.A.Accumulate.operation c.args.limits
+takes : (g : Over) (c : After-min-count g) → MayGetValues g.A.Accumulate.operation c.args.limits
     c.args.self.now c.args.task (length c.args.out.now) c.in_ok-entry.entry
 takes g c = c.in_ok-entry.ensures.ok
 
@@ -39,7 +39,7 @@ counted g c =
     }
 
 on : (g : Over) (c : After-min-count g)
-    → MayGoOn c.args.self.now c.args.task c.min-count.result c.in_ok-entry.entry
+    → MayPassValues c.args.self.now c.args.task c.min-count.result c.in_ok-entry.entry
 on g c = goes_on c.requires (takes g c) c.min-count.result (counted g c).complete
 
 -- a wait of so many phases is not refused

@@ -12,14 +12,14 @@ use Rattle.phase_history.proofs.BlockAnswers.{wait_refusal-fewer}
 use Rattle.phase_core.specs.Blocks.{before_too_big, is_not_too_big}
 use Rattle.phase_core.specs.Cores.{StandsFor}
 use Rattle.phase_core.specs.Plain.{plain_value}
-use Rattle.phase_core.specs.PlainCores.{MayGoOn, MayTake, values_core}
+use Rattle.phase_core.specs.PlainCores.{MayPassValues, MayGetValues, values_core}
 use Rattle.phase_core.proofs.InRangeBlocks.{after_in_range-some, in_places_of, in_range-few}
 use Rattle.phase_core.proofs.PlainWaits.{block_answered, first_written, goes_on, keeps_gone_on, stands_gone_on, values_taken, waits_above}
 use Rattle.phase_core.proofs.plain.Plain.wait_in_range.Given.{Over}
 use Rattle.phase_core.proofs.plain.Plain.wait_in_range.Goals.{After-min-complete, After-count_in_range-count}
 use Rattle.phase_core.proofs.plain.Plain.wait_in_range.Goals as goal
 
-takes : (g : Over) (c : After-min-complete g) → MayTake g.A.Accumulate.operation c.args.limits
+takes : (g : Over) (c : After-min-complete g) → MayGetValues g.A.Accumulate.operation c.args.limits
     c.args.self.now c.args.task (length c.args.out.now) c.in_ok-entry.entry
 takes g c = c.in_ok-entry.ensures.ok
 
@@ -83,7 +83,7 @@ few g c =
       length-take c.min-complete.result c.write.new.out,
     )
 
-replied : (g : Over) (c : After-count_in_range-count g) → MayTake g.A.Accumulate.operation
+replied : (g : Over) (c : After-count_in_range-count g) → MayGetValues g.A.Accumulate.operation
     c.args.limits c.args.self.now c.args.task (length c.args.out.now) c.in_ok-entry.entry
     → Counted (length c.args.out.now) c.args.self.now.base (length c.args.self.now.values.items)
     c.in_ok-entry.entry.wait_phase c.min-complete.result → (h : History)
@@ -101,15 +101,15 @@ replied g c m n h stands =
     (sym (taken g c n complete (omega arith) h stands))
     ∙ ap (λ k. Ok (got.Values phase k)) (sym c.count_in_range-count.ensures)
 
-on : (g : Over) (c : After-count_in_range-count g) → MayTake g.A.Accumulate.operation
+on : (g : Over) (c : After-count_in_range-count g) → MayGetValues g.A.Accumulate.operation
     c.args.limits c.args.self.now c.args.task (length c.args.out.now) c.in_ok-entry.entry
     → Counted (length c.args.out.now) c.args.self.now.base (length c.args.self.now.values.items)
     c.in_ok-entry.entry.wait_phase c.min-complete.result
-    → MayGoOn c.args.self.now c.args.task c.count_in_range-count.result c.in_ok-entry.entry
+    → MayPassValues c.args.self.now c.args.task c.count_in_range-count.result c.in_ok-entry.entry
 on g c m n = goes_on c.requires m c.count_in_range-count.result (omega (arith, few g c, n.within))
 
 -- a wait of so many phases is not refused
-allowed : (g : Over) (c : After-count_in_range-count g) → MayTake g.A.Accumulate.operation
+allowed : (g : Over) (c : After-count_in_range-count g) → MayGetValues g.A.Accumulate.operation
     c.args.limits c.args.self.now c.args.task (length c.args.out.now) c.in_ok-entry.entry
     → Counted (length c.args.out.now) c.args.self.now.base (length c.args.self.now.values.items)
     c.in_ok-entry.entry.wait_phase c.min-complete.result → 0 < c.count_in_range-count.result
