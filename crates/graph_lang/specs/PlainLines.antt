@@ -7,11 +7,12 @@ use Rattle.graph_lang.specs.Samples.{row_of}
 
 -- with these values in front, the values of the rest are those of the text
 abbrev pub Leads : List ℕ → List ℤ → List ℕ → Type 0
-Leads text values rest = (more : List ℤ) → AreRecords default_config st.StartRecord rest (map row_of more)
+Leads text values rest = (more : List ℤ)
+    → AreRecords default_config st.StartRecord rest (map row_of more)
     → AreRecords default_config st.StartRecord text (map row_of (values ++ more))
 
--- these are the values of the lines of a text from one place up to another, each of a byte at least,
--- with whatever values in front: where they are the first, the text has no byte order mark
+-- these are the values of the lines of a text from one place up to another, each of a byte at
+-- least, with whatever values in front: where they are the first, it has no byte order mark
 pub record ArePlainLines (text : List ℕ) (from to : ℕ) (values : List ℤ) : Type 0 where
   pub sends : AreSends values
   pub few : length values ≤ to - from

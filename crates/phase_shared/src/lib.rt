@@ -26,8 +26,8 @@
 //! complete or there is room for theirs. A signal that is ahead spins and yields for room for half
 //! the bound, and sleeps for its own.
 //!
-//! **Asking.** A registration that has a lane, whose `next` names no single, and that holds one send
-//! or none, may ask others to do both: it writes what it sends in its **lane**, two words beside
+//! **Asking.** A registration that has a lane, whose `next` names no single, and that holds one
+//! send or none, may ask others to do both: it writes what it sends in its **lane**, two words beside
 //! the lock. Who has the turn makes the signals that others ask for; and where that completes its
 //! phase, their waits too, writes the value on the **board**, and gives the turn back, which tells
 //! them all. Who is not answered soon takes the turn itself. No answer tells who made its events.

@@ -121,10 +121,10 @@ pub record StandsBefore (job : Job) (ended : ℕ → Bool) (s : List (List ℤ))
       (length job.graph.tasks) at
 
 -- what a stop tells of samples and a moment, whatever was handed over: where it is done, what each
--- sink has kept is its whole list in every run whose samples go on so, in which each begins in time;
--- a value too big is one of every such run, and no task makes an event but those that stand before
--- one; where a source is hungry, no task makes one without more samples; and a stalled run has a
--- live task, and no task can move
+-- sink has kept is its whole list in every run whose samples go on so, in which each begins in
+-- time; a value too big is one of every such run, and no task makes an event but those that stand
+-- before one; where a source is hungry, no task makes one without more samples; and a stalled run
+-- has a live task, and no task can move
 abbrev pub HasStopped : StreamState → List (List ℤ) → Moment → Stopped → Type 0
 HasStopped stream s m stopped.Done = (more : List (List ℤ))
     → IsFed (with_samples s stream.job) (ended_at stream) more

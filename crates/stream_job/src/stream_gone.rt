@@ -53,7 +53,8 @@ pub fn starts_are_in_time()
         (more : List (List ℤ)) (t : ℕ) → IsStreamAt stream s m given
         → IsFed (with_samples s stream.job) (ended_at stream) more
         → IsReady (with_samples more stream.job) → t < length stream.job.graph.tasks
-        → has_gone stream.job m t ≡ true → BeginsInTime (started (with_samples more stream.job) m) t }
+        → has_gone stream.job m t ≡ true
+        → BeginsInTime (started (with_samples more stream.job) m) t }
     ensures done { (stream : StreamState) (s : List (List ℤ)) (m : Moment) (given : ℕ → List ℤ)
         (more : List (List ℤ)) (t : ℕ) → IsStreamAt stream s m given
         → IsFed (with_samples s stream.job) (ended_at stream) more

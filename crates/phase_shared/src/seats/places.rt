@@ -173,8 +173,8 @@ fn take_lane<A: Accumulate, K: SignalRule>(
     (turn, true)
 }
 
-/// Takes the least lane that is nobody's for a task, and answers it, or `LANES` where there is none.
-/// The turn stays as it is.
+/// Takes the least lane that is nobody's for a task, and answers it, or `LANES` where there is
+/// none. The turn stays as it is.
 pub fn lodge<A: Accumulate, K: SignalRule>(
     phaser: &LockedPhaser<A, K>,
     turn: PhaserTurn<A, K>,
@@ -215,8 +215,8 @@ fn lodge_in<A: Accumulate, K: SignalRule>(
     lodge(phaser, turn, task.0)
 }
 
-/// Takes lanes for a child and for its parent, where they have none and their modes signal and wait.
-/// The turn stays as it is.
+/// Takes lanes for a child and for its parent, where they have none and their modes signal and
+/// wait. The turn stays as it is.
 pub fn lodge_both<A: Accumulate, K: SignalRule>(
     phaser: &LockedPhaser<A, K>,
     turn: PhaserTurn<A, K>,

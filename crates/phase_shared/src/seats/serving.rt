@@ -40,8 +40,8 @@ fn is_between<A: Accumulate>(core: &PhaserCore<A>, task: u64, phase: u64) -> boo
 }
 
 impl<'a, A: Accumulate, K: SignalRule, S: Since<K>> OpenTurn<'a, A, K, S> {
-    // Makes the signal that another task asks for in a lane, in this phase, where it does, and tells
-    // whether it made one.
+    // Makes the signal that another task asks for in a lane, in this phase, where it does, and
+    // tells whether it made one.
     fn signal_for(self, lane: u64) -> (OpenTurn<'a, A, K, S>, bool)
         requires low { lane < LANES }
     {
@@ -122,8 +122,8 @@ impl<'a, A: Accumulate, K: SignalRule, S: Since<K>> OpenTurn<'a, A, K, S> {
 }
 
 impl<'a, A: Accumulate, K: SignalRule, S: Since<K>> OnTurn<'a, A, K, S> {
-    // Makes the wait of another task that asked for this phase in a lane, where its signal was made.
-    // It tells whether no ask for the phase is left there.
+    // Makes the wait of another task that asked for this phase in a lane, where its signal was
+    // made. It tells whether no ask for the phase is left there.
     fn wait_for(self, lane: u64) -> (OnTurn<'a, A, K, S>, bool)
         requires low { lane < LANES }
         requires serving { ServingOpen A.operation S.terms.limits
