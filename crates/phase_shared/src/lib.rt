@@ -27,12 +27,13 @@
 //! the bound, and sleeps for its own.
 //!
 //! **Asking.** A registration that has a lane, whose `next` names no single, and that holds one
-//! send or none, may ask others to do both: it writes what it sends in its **lane**, two words beside
-//! the lock. Who has the turn makes the signals that others ask for; and where that completes its
-//! phase, their waits too, writes the value on the **board**, and gives the turn back, which tells
-//! them all. Who is not answered soon takes the turn itself. No answer tells who made its events.
-//! There are 16 lanes. A registration that signals and waits gets a free one when it is made, and
-//! gives it back when it leaves; the founder gets its own when it first registers another.
+//! send or none, may ask others to do both: it writes what it sends in its **lane**, two words
+//! beside the lock. Who has the turn makes the signals that others ask for; and where that
+//! completes its phase, their waits too, writes the value on the **board**, and gives the turn
+//! back, which tells them all. Who is not answered soon takes the turn itself. No answer tells who
+//! made its events. There are 16 lanes. A registration that signals and waits gets a free one when
+//! it is made, and gives it back when it leaves; the founder gets its own when it first registers
+//! another.
 //!
 //! **A registration in a thread.** No closure can hold one, as it cannot be thrown away. Lend it to
 //! the thread, or lend an `Option` that the thread takes it from. Each call asks that the
