@@ -12,9 +12,7 @@ use crate::left::Left;
 use crate::refusal::PutRefusal;
 use phase_shared::phase_accum::{Accumulate, Outcome, Pending, Single};
 use phase_shared::phase_base::{Entry, Mode};
-use phase_shared::phase_core::{
-    GotBlock, RegisterRefusal, SignalRefusal, WaitRefusal, are_sends, hold_each,
-};
+use phase_shared::phase_core::{GotBlock, RegisterRefusal, SignalRefusal, WaitRefusal, are_sends};
 use phase_shared::{NoRule, Phaser, Reg, Tried};
 use std::marker::Model;
 use std::sync::Wait;
@@ -118,9 +116,8 @@ impl<'a, A: Accumulate> Member<'a, A> {
         if !are_sends(values) {
             return Err(PutRefusal::BadValue);
         }
-        hold_each(places, values);
-        let parcels = &places[..values.len()];
-        put_answer(self.reg.try_signal_lists(self.phaser, parcels, single))
+        let phaser = self.phaser;
+        put_answer(self.reg.try_signal_values(phaser, values, single, places))
     }
 
     /// Waits for its phase, and answers it with the number of phases that are complete from there
