@@ -1,5 +1,6 @@
 //! Phases that others' turns make.
 ghost use Rattle.std.specs.Prelude.{◌≡◌, None, IfSome};
+ghost use denote.Param.Send.{IsSync};
 ghost use Rattle.phase_received.specs.phase_shared.Regs.{phaser_lock};
 
 use crate::calls::{SumPhaser, SumReg};
@@ -67,6 +68,86 @@ fn asks_are_served(rt: HostRuntime) -> Result<(), Fail> {
     assert!(rt; child.is_some());
     let (one, other) = meet(&rt, &phaser, Some(founder), child, 400_000);
     assert!(rt; one > 0 || other > 0);
+    Ok(())
+}
+
+// So many children that signal and wait, each of which leaves before the next comes.
+fn come_and_go<R: Wait>(rt: &R, phaser: &SumPhaser, founder: &mut SumReg, children: u64)
+    requires { founder.old.at ≡ phaser_lock phaser.now }
+    ensures { founder.new.at ≡ founder.old.at }
+{
+    for _ in 0..children {
+        if let Ok(child) = founder.register(rt, phaser, Mode::SigWait) {
+            let _past = child.leave(rt, phaser);
+        }
+    }
+}
+
+// The same as `meet`, of two that are lent.
+fn meet_lent<R: Threads + Wait + Sync>(
+    rt: &R,
+    phaser: &SumPhaser,
+    one: &mut Option<SumReg>,
+    other: &mut Option<SumReg>,
+    count: u64,
+) -> (u64, u64)
+    requires one { IfSome one.old (λ reg. reg.at ≡ phaser_lock phaser.now) }
+    requires other { IfSome other.old (λ reg. reg.at ≡ phaser_lock phaser.now) }
+    ensures { (one.new ≡ None) × (other.new ≡ None) }
+{
+    meet(rt, phaser, one.take(), other.take(), count)
+}
+
+// Four threads go to so many phases.
+fn meet_four<R: Threads + Wait + Sync>(
+    rt: &R,
+    phaser: &SumPhaser,
+    first: (Option<SumReg>, Option<SumReg>),
+    second: (Option<SumReg>, Option<SumReg>),
+    count: u64,
+) -> ((u64, u64), (u64, u64))
+    requires first { IfSome first.0 (λ reg. reg.at ≡ phaser_lock phaser.now)
+        × IfSome first.1 (λ reg. reg.at ≡ phaser_lock phaser.now) }
+    requires second { IfSome second.0 (λ reg. reg.at ≡ phaser_lock phaser.now)
+        × IfSome second.1 (λ reg. reg.at ≡ phaser_lock phaser.now) }
+{
+    let (mut one, mut other) = first;
+    let (mut third, mut fourth) = second;
+    let both = join_mut(
+        rt,
+        &mut || -> (u64, u64)
+            requires { IsSync R.row × IfSome one (λ reg. reg.at ≡ phaser_lock phaser.now)
+                × IfSome other (λ reg. reg.at ≡ phaser_lock phaser.now) }
+            ensures { (one.exit ≡ None) × (other.exit ≡ None) }
+        { meet_lent(rt, phaser, &mut one, &mut other, count) },
+        &mut || -> (u64, u64)
+            requires { IsSync R.row × IfSome third (λ reg. reg.at ≡ phaser_lock phaser.now)
+                × IfSome fourth (λ reg. reg.at ≡ phaser_lock phaser.now) }
+            ensures { (third.exit ≡ None) × (fourth.exit ≡ None) }
+        { meet_lent(rt, phaser, &mut third, &mut fourth, count) },
+    );
+    let None = one else { unreachable!() };
+    let None = other else { unreachable!() };
+    let None = third else { unreachable!() };
+    let None = fourth else { unreachable!() };
+    both
+}
+
+// Sixteen have left when four come: they have the lanes of those, and the founder, who leaves too,
+// is in nobody's way.
+#[test]
+fn who_comes_late_asks_too(rt: HostRuntime) -> Result<(), Fail> {
+    let limits = Spec::new(2, 1_000_000)?;
+    let (phaser, mut founder) = SumPhaser::make(rt.alloc(), limits, NoRule)?;
+    come_and_go(&rt, &phaser, &mut founder, 16);
+    let one = founder.register(&rt, &phaser, Mode::SigWait).ok();
+    let other = founder.register(&rt, &phaser, Mode::SigWait).ok();
+    let third = founder.register(&rt, &phaser, Mode::SigWait).ok();
+    let fourth = founder.register(&rt, &phaser, Mode::SigWait).ok();
+    let _past = founder.leave(&rt, &phaser);
+    assert!(rt; one.is_some() && other.is_some() && third.is_some() && fourth.is_some());
+    let (first, second) = meet_four(&rt, &phaser, (one, other), (third, fourth), 100_000);
+    assert!(rt; first.0 > 0 || first.1 > 0 || second.0 > 0 || second.1 > 0);
     Ok(())
 }
 
