@@ -46,7 +46,7 @@ pub use failure::Failure;
 pub use fault::JobFault;
 pub use folders::{LooksBeside, look_by, path_beside};
 pub use graph_file::{GRAPH_MAX, read_graph_file};
-pub use graph_show::watched_io;
+pub use graph_show::{graph_lang, watched_io};
 pub use job_file::read_job;
 pub use lines::{write_lines, write_values};
 pub use refused::{FileRefusal, Refuses, TellingFiles};

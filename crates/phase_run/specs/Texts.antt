@@ -2,7 +2,7 @@
 use Rattle.std.specs.Prelude.{◌≡◌, ◌≤◌, ◌-◌, ℕ, ℤ, List, length, take, drop}
 use Rattle.std.specs.List.{flat_map}
 use Rattle.stream_workers.specs.graph_commands.OutputTexts.{value_text}
-use Rattle.graph_lang.specs.PlainLines.{ArePlainLines}
+use Rattle.stream_workers.specs.graph_commands.graph_lang.PlainLines.{ArePlainLines}
 use Rattle.phase_run.specs.declared.texts.ReadPart.{ReadPart}
 use Rattle.phase_run.specs.declared.texts.TextPart.{TextPart}
 

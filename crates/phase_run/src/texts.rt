@@ -2,17 +2,17 @@
 ghost use Rattle.std.specs.Prelude.{◌≡◌, ◌≤◌, ◌<◌, ℕ, length, take, drop, IfSome, IfOk};
 ghost use Rattle.std.specs.List.{All, flat_map};
 ghost use denote.Param.Send.{IsSync};
-ghost use Rattle.graph_lang.specs.PlainLines.{ArePlainLines};
+ghost use Rattle.stream_workers.specs.graph_commands.graph_lang.PlainLines.{ArePlainLines};
 ghost use Rattle.stream_workers.specs.graph_commands.OutputTexts.{value_text};
 ghost use Rattle.stream_workers.specs.graph_commands.Puts.{bytes_of};
 ghost use Rattle.phase_run.specs.Texts.{IsReadPart, IsTextPart};
 
-use graph_lang::{
-    SampleFault, SampleTexts, parts_have_samples, plain_part, samples_of, samples_with,
-};
 use memchr::memchr;
 use std::alloc::Global;
 use std::thread::{self, Threads};
+use stream_workers::graph_commands::graph_lang::{
+    SampleFault, SampleTexts, parts_have_samples, plain_part, samples_of, samples_with,
+};
 use stream_workers::graph_commands::watched_io::Watched;
 use stream_workers::graph_commands::{ValueTexts, write_values};
 

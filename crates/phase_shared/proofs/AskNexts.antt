@@ -21,7 +21,7 @@ use Rattle.phase_shared.specs.Lanes.{sends_of}
 use Rattle.phase_shared.specs.Nexts.{GoesOrRefuses, RefusesNext}
 use Rattle.phase_shared.specs.Regs.{RegState}
 use Rattle.phase_shared.specs.Rule.{Allows, IsGoodAt, IsSeatOfTask, StandsWithin}
-use Rattle.phase_shared.specs.Servings.{ask_of, HasAnswer, IsRefused, IsRequestOf, IsWaiterIn, MayAsk, MayGoNext, MayGoOn, Starting}
+use Rattle.phase_shared.specs.Servings.{ask_of, HasAnswer, IsRefused, IsRequestOf, IsWaiterIn, MayAsk, MayGoNext, MayAskOn, Starting}
 use Rattle.phase_shared.specs.Tells.{Took, Learnt}
 use Rattle.phase_shared.specs.Views.{Lane, Own, knowledge, known_of, speaks_of, lane_at_rest, resting, owning, turning}
 use Rattle.phase_shared.proofs.AskAnswering.{asked_signals, asked_waits, same_refusal}
@@ -39,11 +39,11 @@ rests_so ask seen v rests = rests ∙ ap (λ (h : History). resting h (ask.task 
 
 -- a seat that may go to its next phase may go on, once its lane is its own
 pub goes_on : (limits : Limits) (signals : Allows) (ask : Ask) (seen : History) (v w : View) → MayGoNext limits signals ask seen v
-    → w ≡ owning (known_of v).seen (ask.task ∷ []) ask.lane → MayGoOn limits signals ask seen w
+    → w ≡ owning (known_of v).seen (ask.task ∷ []) ask.lane → MayAskOn limits signals ask seen w
 goes_on limits signals ask seen v w next owns =
     let here : (known_of v).seen ≡ seen = ap (λ (u : View). (known_of u).seen) next.rests in
     let is : w ≡ owning seen (ask.task ∷ []) ask.lane = owns ∙ ap (λ (h : History). owning h (ask.task ∷ []) ask.lane) here in
-    subst (λ (u : View). MayGoOn limits signals ask seen u) (sym is)
+    subst (λ (u : View). MayAskOn limits signals ask seen u) (sym is)
     (record {
       may = record { rests = refl; stands = next.stands; may = next.waits.may };
       seen_is = refl;

@@ -64,7 +64,7 @@ pub record MayGoNext (limits : Limits) (signals : Allows) (ask : Ask) (seen : Hi
   pub waits : MayWait limits signals ask seen
 
 -- the same, once it knows that its lane is its own
-pub record MayGoOn (limits : Limits) (signals : Allows) (ask : Ask) (seen : History) (v : View)
+pub record MayAskOn (limits : Limits) (signals : Allows) (ask : Ask) (seen : History) (v : View)
     : Type 0 where
   pub may : MayAsk limits signals ask v
   pub seen_is : seen ≡ (known_of v).seen

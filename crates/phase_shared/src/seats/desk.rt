@@ -42,13 +42,13 @@ pub struct ReadyDesk<'a, A: Accumulate, K: SignalRule, S: Since<K>> {
 impl<'a, A: Accumulate, K: SignalRule, S: Since<K>> Model for ReadyDesk<'a, A, K, S> {
     ghost use Rattle.turn_lock.specs.Seats.{seat_view};
     ghost use Rattle.phase_shared.specs.Goods.{allows_or};
-    ghost use Rattle.phase_shared.specs.Servings.{MayGoOn};
+    ghost use Rattle.phase_shared.specs.Servings.{MayAskOn};
 
     ghost Value = { Unit {0} };
 
     ghost view = { λ d. tt };
 
-    ghost invariant = { λ d. MayGoOn S.terms.limits (allows_or K.allows S.terms.rule) S.ask S.seen
+    ghost invariant = { λ d. MayAskOn S.terms.limits (allows_or K.allows S.terms.rule) S.ask S.seen
         (seat_view d.desk.seat) };
 }
 

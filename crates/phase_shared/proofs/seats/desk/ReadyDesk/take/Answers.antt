@@ -2,7 +2,7 @@ use Rattle.std.proofs.Common.{sym, subst}
 use Rattle.turn_lock.specs.Seats.{seat_number, seat_view, turn_value, turn_view}
 use Rattle.phase_shared.specs.Asks.{Ask}
 use Rattle.phase_shared.specs.LockedPhasers.{locked_terms}
-use Rattle.phase_shared.specs.Servings.{ask_of, MayGoOn, MayAsk, MayWait, Starting}
+use Rattle.phase_shared.specs.Servings.{ask_of, MayAskOn, MayAsk, MayWait, Starting}
 use Rattle.phase_shared.specs.Views.{known_of}
 use Rattle.phase_shared.specs.declared.seats.view.View.{View}
 use Rattle.phase_shared.proofs.AskCalls.{takes_ready}
@@ -38,5 +38,5 @@ invariant_of-result g c =
 -- the seat came back as it was
 pub invariant_of-result-in-Err : goal.invariant_of-result-in-Err
 invariant_of-result-in-Err g c =
-    subst (λ (v : View). MayGoOn g.S.Since.terms.limits (allows_or g.K.SignalRule.allows g.S.Since.terms.rule) g.S.Since.ask g.S.Since.seen v)
+    subst (λ (v : View). MayAskOn g.S.Since.terms.limits (allows_or g.K.SignalRule.allows g.S.Since.terms.rule) g.S.Since.ask g.S.Since.seen v)
     (sym c.in-Err.ensures.err.2) c.self.invariant
