@@ -1,4 +1,4 @@
-use Rattle.std.proofs.Common.{◌≡◌, ℕ, ℤ, List, [], ◌∷◌, None, length, true, false, refl, sym, ap, ◌∙◌}
+use Rattle.std.proofs.Common.{◌≡◌, ℕ, ℤ, List, [], ◌∷◌, length, true, false, refl, sym, ap, ◌∙◌}
 use Rattle.std.specs.Prelude.{is_some, Result}
 use Rattle.std.specs.Result.{result_ok}
 use Rattle.std.proofs.lemmas.List.{length-map}
@@ -7,7 +7,7 @@ use Rattle.phase_shared.specs.Phasers.{SignalRefusal, signal_phase, signal_refus
 use Rattle.phase_core.specs.phase_history.declared.refusal.SignalRefusal.TheVariants as signal
 use Rattle.phase_core.proofs.phase_history_lemmas.Answered.{signal_refusal-never}
 use Rattle.phase_shared.specs.LockedPhasers.{locked_terms}
-use Rattle.phase_shared.specs.Views.{resting, turning, known_of, speaks_of}
+use Rattle.phase_shared.specs.Views.{Unknown, resting, turning, known_of, speaks_of}
 use Rattle.phase_shared.specs.Rule.{StandsWithin}
 use Rattle.phase_shared.specs.Blocks.{SignalsValues, entry_after_block}
 use Rattle.phase_shared.specs.declared.seats.view.View.{View}
@@ -83,7 +83,7 @@ returns-clause-step g c =
     let reply = c.signal_values-answer.ensures.reply e.now before.stands in
     let rests : seat_view seat ≡ resting new (me ∷ []) =
     told_at (λ v. resting (after_signal answer me (one_each values) single (known_of v).seen) (speaks_of v)) (seat_view seat) (turn_view c.in-Ok.turn)
-    (turning e.now (me ∷ []) e.claims e.said None) told e.is in
+    (turning e.now (me ∷ []) e.claims e.said Unknown) told e.is in
     let call : Result ℕ SignalRefusal → Type 0 =
     SignalsValues terms.limits me values single (known_of (seat_view c.args.seat)).seen (known_of (seat_view seat)).seen in
     stepped op g.K.SignalRule.allows c.args.phaser.now me signal.NoTask (entry_after_block (length values))
