@@ -19,7 +19,7 @@ struct Case {
     taken: u64,
 }
 
-const CASES: [Case; 16] = [
+const CASES: [Case; 18] = [
     Case {
         name: "a chain of bound 1 is done",
         number: 7,
@@ -105,6 +105,28 @@ const CASES: [Case; 16] = [
         bound: 1,
         tasks: &[Task::Late(Spot::At), Task::Tried, Task::Tells(Spot::Other)],
         workers: &[2, 16],
+        end: None,
+        taken: 0,
+    },
+    // The third is held until the first goes on, which meets it on one phaser. The second could be
+    // taken all the while.
+    Case {
+        name: "two that meet are taken beside each other, though there is a third",
+        number: 9,
+        bound: 2,
+        tasks: &[Task::Meets(2), Task::Until(2), Task::Meets(2)],
+        workers: &[2],
+        end: None,
+        taken: 0,
+    },
+    // The second is held as soon as it has made the event that the first waits for: what it made is
+    // told before it is put back. The third could be taken all the while.
+    Case {
+        name: "what one makes for which another waits is told at once",
+        number: 9,
+        bound: 4,
+        tasks: &[Task::Asks, Task::Until(2), Task::Answers],
+        workers: &[2],
         end: None,
         taken: 0,
     },

@@ -52,6 +52,10 @@ pub enum Task {
     /// Puts at a place, and then at `go`.
     Tells(Spot),
     Tried,
+    Asks,
+    Answers,
+    /// Goes on until so many were put at the first place.
+    Until(u64),
     Parent(usize, u64),
     Child(u64),
     Endless,
@@ -81,6 +85,9 @@ fn toy<'a>(places: &'a Places, task: Task) -> Toy<'a> {
             turns: 0,
         },
         Task::Tried => Toy::Tried { at, go, turns: 0 },
+        Task::Asks => Toy::Asks { at, go, turns: 0 },
+        Task::Answers => Toy::Answers { at, go, turns: 0 },
+        Task::Until(until) => Toy::Until { at, until },
         Task::Parent(child, left) => Toy::Parent { child, left },
         Task::Child(left) => Toy::Child { at, left },
         Task::Endless => Toy::Endless,

@@ -4,6 +4,9 @@ use std::sync::atomic::Ordering::SeqCst;
 use std::thread;
 use stream_workers::worker_pool::{Fault, Progress, Work};
 
+// So many turns are no short take.
+const LONG: u64 = 2000;
+
 // How often a task that is held looks whether it may go on.
 const LOOKS: u32 = 100_000;
 
@@ -119,6 +122,25 @@ pub enum Toy<'a> {
         go: &'a Place,
         turns: u64,
     },
+    /// Waits until one was put at the second place, and then at the first, as one that looked there
+    /// before another put one and went on. It is done when it is taken again.
+    Asks {
+        at: &'a Place,
+        go: &'a Place,
+        turns: u64,
+    },
+    /// Goes on for long, and puts one at the second place. Once the other asks, it puts one at the
+    /// first, and is held until the other is taken again.
+    Answers {
+        at: &'a Place,
+        go: &'a Place,
+        turns: u64,
+    },
+    /// Goes on until so many were put at its place, and meets no other.
+    Until {
+        at: &'a Place,
+        until: u64,
+    },
     /// Goes on for so many turns, and then its child of this number comes.
     Parent {
         child: usize,
@@ -228,6 +250,60 @@ impl<'a> Toy<'a> {
         }
     }
 
+    // Asks at one place: the first time once the other has begun, and then until it has answered
+    // and gone on.
+    fn asks(&mut self, at: &'a Place, go: &'a Place, turns: u64) -> Progress {
+        *self = Toy::Asks {
+            at,
+            go,
+            turns: turns.wrapping_add(1),
+        };
+        let seen = match turns {
+            0 => seen_by(go, 1),
+            1 => {
+                go.put.fetch_add(1, SeqCst);
+                seen_by(go, 3)
+            }
+            _ => {
+                *self = Toy::Done;
+                at.put.fetch_add(1, SeqCst);
+                return Progress::Ready;
+            }
+        };
+        match seen {
+            Progress::Ready => Progress::Blocked(at.number),
+            turned => turned,
+        }
+    }
+
+    // Answers at one place what was asked, and is then held until the other is taken again.
+    fn answers(&mut self, at: &'a Place, go: &'a Place, turns: u64) -> Progress {
+        *self = Toy::Answers {
+            at,
+            go,
+            turns: turns.wrapping_add(1),
+        };
+        match turns {
+            0..LONG => Progress::Ready,
+            LONG => {
+                go.put.fetch_add(1, SeqCst);
+                answered(at, seen_by(go, 2))
+            }
+            _ => {
+                *self = Toy::Done;
+                go.put.fetch_add(1, SeqCst);
+                seen_by(at, 2)
+            }
+        }
+    }
+
+    fn until(&mut self, at: &'a Place, until: u64) -> Progress {
+        if at.put.load(SeqCst) >= until {
+            *self = Toy::Done;
+        }
+        Progress::Ready
+    }
+
     fn parent(&mut self, child: usize, left: u64) -> Progress {
         if left == 0 {
             *self = Toy::Done;
@@ -252,6 +328,14 @@ impl<'a> Toy<'a> {
     }
 }
 
+// Puts one, where it has seen what it waited for.
+fn answered(at: &Place, seen: Progress) -> Progress {
+    match seen {
+        Progress::Ready => at.put(),
+        turned => turned,
+    }
+}
+
 // Fails as a value too big would, where it has waited for too long.
 fn seen_by(at: &Place, until: u64) -> Progress {
     if at.sees_put(until) {
@@ -269,6 +353,8 @@ impl<'a> Work for Toy<'a> {
             | Toy::Held { at, .. }
             | Toy::Meets { at, .. }
             | Toy::Late { at, .. }
+            | Toy::Asks { at, .. }
+            | Toy::Answers { at, .. }
             | Toy::Tells { go: at, .. }
             | Toy::Tried { go: at, .. }
             | Toy::Child { at, .. } => 1u64.wrapping_shl((at.number & 63) as u32),
@@ -286,6 +372,9 @@ impl<'a> Work for Toy<'a> {
             Toy::Late { at, go, has_looked } => self.late(at, go, has_looked),
             Toy::Tells { at, go, turns } => self.tells(at, go, turns),
             Toy::Tried { at, go, turns } => self.tried(at, go, turns),
+            Toy::Asks { at, go, turns } => self.asks(at, go, turns),
+            Toy::Answers { at, go, turns } => self.answers(at, go, turns),
+            Toy::Until { at, until } => self.until(at, until),
             Toy::Parent { child, left } => self.parent(child, left),
             Toy::Child { .. } => Progress::Failed(Fault::OutOfMemory),
             Toy::Endless => Progress::Ready,

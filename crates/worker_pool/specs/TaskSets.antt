@@ -1,6 +1,7 @@
 -- What the workers of a pool know of its tasks under their lock.
 use Rattle.std.specs.Prelude.{◌≡◌, ℕ, ◌%◌, ◌<◌, ◌≢◌, ◌⊎◌, Option, Some, None, if◌then◌else◌}
 use Rattle.worker_pool.specs.declared.event_counts.EventCounts.{EventCounts}
+use Rattle.worker_pool.specs.declared.number_set.NumberSet.{NumberSet}
 use Rattle.worker_pool.specs.declared.places.Place.{Place}
 use Rattle.worker_pool.specs.declared.places.Place.TheVariants.{Ready, Waiting, Working}
 use Rattle.worker_pool.specs.declared.task_sets.TaskSets.{TaskSets}
@@ -51,10 +52,10 @@ pub record HasPutAt (task : ℕ) (place : Option Place) (old new : TaskSets) : T
 
 -- ---- a take
 
--- a worker may take a task that is at this place: one that may go on, or where it may go on beside
--- others, also one that waits
+-- a worker may take a task that is at this place: one that may go on, or where it looks beside
+-- workers that may be held, also one that waits
 abbrev pub MayTake : Choice → Option Place → Type 0
-MayTake choice.Apart place = place ≡ Some Ready
+MayTake choice.Ready place = place ≡ Some Ready
 MayTake (choice.Beside takes) place =
     (place ≡ Some Ready) ⊎ ((phaser : ℕ) × (place ≡ Some (Waiting phaser)))
 
@@ -77,6 +78,12 @@ pub record TellsStalled (old new : TaskSets) : Type 0 where
   pub only : fault_in old ≡ None → fault_in new ≢ None → StandsStill (tasks_in old)
 
 -- ---- putting back
+
+-- events on these phasers were told: those that waited for one may go on
+pub record HasToldOf (events : NumberSet) (old new : TaskSets) : Type 0 where
+  pub places : (t : ℕ) → t < 64 → place_in new t ≡ freed events (place_in old t)
+  pub told : HasTold events (events_in old) (events_in new)
+  pub fault : fault_in new ≡ fault_in old
 
 -- where a task is that was put back: where it was refused, it waits if the phaser had no event
 -- since it was taken

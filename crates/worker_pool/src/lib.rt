@@ -1,9 +1,12 @@
 //! Worker threads that go on with tasks by turns. A task is a value with a lock of its own; which
 //! worker goes on with which task is decided under one lock beside them.
 //!
-//! A worker goes on with a task as far as it comes, and then takes another, best one that meets no
-//! other task with which a worker is at work. A task that waits on a phaser is not taken again
-//! before something happens there. A worker with nothing to do sleeps, for a millisecond at most.
+//! A worker goes on with a task as far as it comes, and then takes another: tasks that meet on a
+//! phaser may be with two workers at the same time. A task that waits on a phaser is not taken
+//! again before something happens there. Who makes an event for which a task waits tells of it at
+//! once, where another worker may go on with that task, and else when it puts its own back. A
+//! worker whose task waits, while there is no other, looks for some microseconds whether it may go
+//! on. A worker with nothing to do sleeps, for a millisecond at most.
 //! Tasks that do little at a time, as in a chain of bound 1, are left to one worker while it is at
 //! work with one of them, since a change of workers would cost more than they do.
 //!
@@ -30,6 +33,7 @@ mod number_set;
 mod places;
 mod pool;
 mod task_sets;
+mod wanted;
 mod work;
 mod workers;
 mod worths;

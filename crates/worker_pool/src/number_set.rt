@@ -26,6 +26,13 @@ impl NumberSet {
         NumberSet { bits }
     }
 
+    /// Returns its numbers, as bits.
+    pub fn bits(self) -> u64
+        ensures { (n : ℕ) → has self n ≡ (bit_at result n == 1) }
+    {
+        self.bits
+    }
+
     /// Makes the set of one number.
     pub fn of(number: usize) -> NumberSet
         ensures { (n : ℕ) → has result n ≡ (n == number % 64) }
@@ -56,6 +63,13 @@ impl NumberSet {
         ensures less { has self.old (number % 64) ≡ true → IsLess self.new self.old }
     {
         self.bits &= !NumberSet::of(number).bits;
+    }
+
+    /// Takes out the numbers of another.
+    pub fn remove_all(&mut self, other: NumberSet)
+        ensures { (n : ℕ) → n < 64 → has self.new n ≡ (has self.old n && not (has other n)) }
+    {
+        self.bits &= !other.bits;
     }
 
     /// Returns whether it has a number.

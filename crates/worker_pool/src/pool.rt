@@ -4,6 +4,7 @@ ghost use Rattle.std.specs.Prelude.{◌≡◌, ◌+◌, ◌↔◌, None, OnOk, O
 use crate::bell::Bell;
 use crate::number_set::NumberSet;
 use crate::task_sets::{Choice, Next, Taken, TaskSets, Went};
+use crate::wanted::Wanted;
 use crate::work::{Fault, Progress, Work};
 use crate::workers::work_all;
 use crossbeam_utils::CachePadded;
@@ -22,6 +23,9 @@ const TURN_EFFORT: u64 = 128;
 // How often it tries again where another is in the middle of a call.
 const TRIES_MAX: u32 = 300;
 
+// How often a worker looks whether its task may go on, where there is no other.
+const LOOKS: u32 = 200;
+
 // How often a worker with nothing to do yields before it sleeps.
 const YIELDS: u32 = 20;
 
@@ -38,6 +42,7 @@ pub struct Pool<T: Work> {
     tasks: Vec<Mutex<T>>,
     sets: Mutex<TaskSets>,
     bell: CachePadded<Bell>,
+    wanted: CachePadded<Wanted>,
 }
 
 impl<T: Work> Model for Pool<T> {
@@ -59,6 +64,7 @@ impl<T: Work> Pool<T> {
             tasks: Vec::with_capacity(alloc, tasks)?,
             sets: Mutex::new(TaskSets::new()),
             bell: CachePadded::new(Bell::new()),
+            wanted: CachePadded::new(Wanted::new()),
         })
     }
 
@@ -116,6 +122,7 @@ impl<T: Work> Pool<T> {
             tasks,
             sets: _,
             bell: _,
+            wanted: _,
         } = self;
         tasks.destroy_empty();
     }
@@ -135,7 +142,7 @@ impl<T: Work> Pool<T> {
     fn watch<W: Wait>(&self, rt: &W) -> Next {
         for _ in 0..YIELDS {
             if self.bell.has_work() {
-                match self.take(rt, Choice::Apart) {
+                match self.take(rt, Choice::Ready) {
                     Next::Wait => {}
                     next => return next,
                 }
@@ -147,8 +154,8 @@ impl<T: Work> Pool<T> {
 
     // Tells those who look whether there is a task to take.
     fn show(&self, sets: &TaskSets) {
-        if self.bell.is_watched() {
-            self.bell.show(sets.has_apart());
+        if self.bell.is_watched() || !self.wanted.is_alone() {
+            self.bell.show(sets.has_ready());
         }
     }
 
@@ -167,6 +174,7 @@ impl<T: Work> Pool<T> {
     pub(crate) fn take<W: Wait>(&self, rt: &W, choice: Choice) -> Next {
         let mut sets = self.sets.lock(rt);
         let next = sets.take(choice);
+        self.begins(next);
         self.show(&sets);
         next
     }
@@ -183,7 +191,7 @@ impl<T: Work> Pool<T> {
         let choice = if self.bell.rings() == rings {
             Choice::Beside(takes)
         } else {
-            Choice::Apart
+            Choice::Ready
         };
         self.sets.lock(rt).woke(choice);
         self.take(rt, choice)
@@ -193,9 +201,12 @@ impl<T: Work> Pool<T> {
     // taken.
     fn take_or_sleep<W: Wait>(&self, rt: &W) -> (Next, u64) {
         let mut sets = self.sets.lock(rt);
-        match sets.take(Choice::Apart) {
+        match sets.take(Choice::Ready) {
             Next::Wait => (Next::Wait, sets.sleeps()),
-            next => (next, 0),
+            next => {
+                self.begins(next);
+                (next, 0)
+            }
         }
     }
 
@@ -203,7 +214,12 @@ impl<T: Work> Pool<T> {
     pub(crate) fn put_back<W: Wait>(&self, rt: &W, taken: Taken, went: Went) -> Next {
         let mut sets = self.sets.lock(rt);
         sets.put_back(taken, went);
-        let next = sets.take(Choice::Apart);
+        self.wanted.told(went.events);
+        let next = sets.take(Choice::Ready);
+        match next {
+            Next::Take(_) => {}
+            Next::Wait | Next::Over => self.wanted.end_work(),
+        }
         let calls = sets.calls();
         self.show(&sets);
         drop(sets);
@@ -215,23 +231,117 @@ impl<T: Work> Pool<T> {
         next
     }
 
+    // Notes that a worker begins with a task, where it took one.
+    fn begins(&self, next: Next) {
+        if let Next::Take(_) = next {
+            self.wanted.begin_work();
+        }
+    }
+
     /// Goes on with a task as far as it comes.
-    pub(crate) fn go_on<W: Wait>(&self, rt: &W, number: usize) -> Went {
-        let Some(task) = self.tasks.get(number) else {
-            return stuck();
+    pub(crate) fn go_on<W: Wait>(&self, rt: &W, taken: Taken) -> (Taken, Went) {
+        let Some(task) = self.tasks.get(taken.task) else {
+            return (taken, stuck());
         };
         let mut task = task.lock(rt);
         let before = task.effort();
-        let mut went = go_on(&mut *task);
+        let (taken, mut went) = self.make_turns(rt, &mut *task, taken);
         let effort = task.effort().saturating_sub(before);
         went.effort = went.effort.saturating_add(effort);
         if let Progress::Child(child) = went.turned {
-            if child == number || !self.bring(rt, &mut *task, child) {
-                return stuck();
+            if child == taken.task || !self.bring(rt, &mut *task, child) {
+                return (taken, stuck());
             }
             went.events.insert_all(NumberSet::from_bits(task.phasers()));
         }
-        went
+        (taken, went)
+    }
+
+    // Makes turns with a task.
+    fn make_turns<W: Wait>(&self, rt: &W, task: &mut T, taken: Taken) -> (Taken, Went) {
+        let mut taken = taken;
+        let mut events = NumberSet::new();
+        let (mut tries, mut has_asked) = (0, false);
+        for turns in 0..TURNS_MAX {
+            match task.turn() {
+                Progress::Moved(phaser) => {
+                    events.insert(phaser);
+                    has_asked = false;
+                    if self.tells(events) {
+                        taken = self.tell(rt, taken, events);
+                        events = NumberSet::new();
+                    }
+                }
+                Progress::Ready => {}
+                Progress::Busy if tries < TRIES_MAX => {
+                    tries += 1;
+                    hint::spin_loop();
+                }
+                Progress::Blocked(phaser) if self.tries_again(task, phaser, &mut has_asked) => {}
+                turned => {
+                    let effort = u64::from(turns) * TURN_EFFORT;
+                    return (
+                        taken,
+                        Went {
+                            turned,
+                            events,
+                            effort,
+                        },
+                    );
+                }
+            }
+        }
+        let effort = u64::from(TURNS_MAX) * TURN_EFFORT;
+        (
+            taken,
+            Went {
+                turned: Progress::Ready,
+                events,
+                effort,
+            },
+        )
+    }
+
+    // Whether events are told at once: where a task waits for one, and a worker may go on with it.
+    fn tells(&self, events: NumberSet) -> bool {
+        self.wanted.meets(events) && (self.bell.is_watched() || !self.wanted.is_alone())
+    }
+
+    // Tells of events of a task before it is put back.
+    fn tell<W: Wait>(&self, rt: &W, taken: Taken, events: NumberSet) -> Taken {
+        let mut sets = self.sets.lock(rt);
+        let taken = sets.tell(taken, events);
+        self.wanted.told(events);
+        self.show(&sets);
+        taken
+    }
+
+    // Whether a task that was refused on a phaser tries again: where the hints say so after a
+    // while, or else where others may have made an event there before they were asked to tell.
+    fn tries_again(&self, task: &T, phaser: usize, has_asked: &mut bool) -> bool {
+        if *has_asked {
+            return false;
+        }
+        if self.comes(task, phaser) {
+            return true;
+        }
+        *has_asked = true;
+        self.wanted.want(phaser);
+        !self.wanted.is_alone()
+    }
+
+    // Looks for a while whether a task may go on on a phaser, where there is no other task.
+    fn comes(&self, task: &T, phaser: usize) -> bool {
+        for _ in 0..LOOKS {
+            if self.wanted.is_alone() || self.bell.has_work() {
+                return false;
+            }
+            if task.may_go_on(phaser) {
+                return true;
+            }
+            hint::spin_loop();
+        }
+        false
     }
 
     // Makes a task of the child that comes.
@@ -255,33 +365,5 @@ fn stuck() -> Went {
         turned: Progress::Failed(Fault::Stalled),
         events: NumberSet::new(),
         effort: 0,
-    }
-}
-
-// Goes on with a task as far as it comes.
-fn go_on<T: Work>(task: &mut T) -> Went {
-    let mut events = NumberSet::new();
-    let mut tries = 0;
-    for turns in 0..TURNS_MAX {
-        match task.turn() {
-            Progress::Moved(phaser) => events.insert(phaser),
-            Progress::Ready => {}
-            Progress::Busy if tries < TRIES_MAX => {
-                tries += 1;
-                hint::spin_loop();
-            }
-            turned => {
-                return Went {
-                    turned,
-                    events,
-                    effort: u64::from(turns) * TURN_EFFORT,
-                };
-            }
-        }
-    }
-    Went {
-        turned: Progress::Ready,
-        events,
-        effort: u64::from(TURNS_MAX) * TURN_EFFORT,
     }
 }

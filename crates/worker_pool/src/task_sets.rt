@@ -5,7 +5,7 @@ ghost use Rattle.std.specs.Prelude.{◌≡◌, ◌↔◌, ℕ, ◌<◌, Some, No
 ghost use Rattle.worker_pool.specs.declared.places.Place.TheVariants as place;
 ghost use Rattle.worker_pool.specs.NumberSets.{has};
 ghost use Rattle.worker_pool.specs.EventCounts.{next_number};
-ghost use Rattle.worker_pool.specs.TaskSets.{tasks_in, place_in, events_in, fault_in, IsNew, IsSame, HasPutAt, MayTake, WorkerHasTaken, IsRunOver, TellsStalled, place_after, fault_after, HasPutBack};
+ghost use Rattle.worker_pool.specs.TaskSets.{tasks_in, place_in, events_in, fault_in, IsNew, IsSame, HasPutAt, MayTake, WorkerHasTaken, IsRunOver, TellsStalled, HasToldOf, place_after, fault_after, HasPutBack};
 
 use crate::event_counts::EventCounts;
 use crate::number_set::NumberSet;
@@ -38,13 +38,12 @@ pub struct Taken {
 /// Which of the tasks a worker takes.
 #[derive(Clone, Copy, Debug, PartialEq, Eq)]
 pub enum Choice {
-    /// One that may go on, none of whose phasers is in use by another worker. Of those whose takes
-    /// are short one worker at a time takes, so that the others sleep and do not get in its way.
-    Apart,
-    /// Where there is none, one, short or not, whose phasers are in use by workers alone that have
-    /// had their tasks since before so many takes: they may be held. Where there is none either,
-    /// such a one that waits for an event, while a worker is held that may have made one: it tells
-    /// of its events only when it puts its task back.
+    /// One that may go on. Of those whose takes are short one worker at a time takes, so that the
+    /// others sleep and do not get in its way.
+    Ready,
+    /// Where there is none, a short one, too. Where there is none either, one that waits for an
+    /// event, while a worker has had its task since before so many takes: it may be held, and have
+    /// made an event that it has not told.
     Beside(u64),
 }
 
@@ -183,11 +182,11 @@ impl TaskSets {
         ensures { IfSome result (λ t. (t < 64) × MayTake choice (place_in self.now t)) }
     {
         let ready = self.places.ready();
-        let apart = self.first_apart(ready, 0, self.left_to_one());
+        let first = self.first_of(ready, self.left_to_one());
         match choice {
-            Choice::Apart => apart,
-            Choice::Beside(takes) => apart
-                .or(self.first_apart(ready, takes, NumberSet::new()))
+            Choice::Ready => first,
+            Choice::Beside(takes) => first
+                .or(self.first_of(ready, NumberSet::new()))
                 .or(self.first_to_try(takes)),
         }
     }
@@ -198,7 +197,7 @@ impl TaskSets {
         ensures { IfSome result (λ t. (t < 64) × (has (tasks_in self.now).waiting t ≡ true)) }
     {
         if self.has_held(takes) {
-            self.first_apart(self.places.waiting(), takes, NumberSet::new())
+            self.first_of(self.places.waiting(), NumberSet::new())
         } else {
             None
         }
@@ -230,33 +229,28 @@ impl TaskSets {
         NumberSet::new()
     }
 
-    // The first of these that is not left to another, none of whose phasers is in use since so many
-    // takes.
-    fn first_apart(&self, tasks: NumberSet, takes: u64, left: NumberSet) -> Option<usize>
+    // The first of these that is not left to another.
+    fn first_of(&self, tasks: NumberSet, left: NumberSet) -> Option<usize>
         ensures { IfSome result (λ t. (t < 64) × (has tasks t ≡ true)) }
     {
-        let in_use = self.in_use(takes);
         let mut rest = tasks;
-        while let Some(task) = rest.first_from(self.from) {
-            if !self.phasers[task].meets(in_use) && !left.contains(task) {
-                return Some(task);
-            }
-            rest.remove(task);
-        }
-        None
+        rest.remove_all(left);
+        rest.first_from(self.from)
     }
 
-    // The phasers of the tasks that workers took after so many takes.
-    fn in_use(&self, takes: u64) -> NumberSet {
-        let mut phasers = NumberSet::new();
-        let mut rest = self.places.working();
-        while let Some(task) = rest.first_from(0) {
-            if self.last_taken[task] > takes {
-                phasers.insert_all(self.phasers[task]);
-            }
-            rest.remove(task);
+    /// Tells of events that a worker made with a task that it goes on with: those that waited for
+    /// one may go on.
+    pub fn tell(&mut self, taken: Taken, events: NumberSet) -> Taken
+        ensures told { HasToldOf events self.old self.new }
+        ensures task { result.task ≡ taken.task }
+        ensures since { result.since ≡ next_number (events_in self.new) }
+    {
+        self.events.tell(events);
+        self.places.free(events);
+        Taken {
+            task: taken.task,
+            since: self.events.next(),
         }
-        phasers
     }
 
     /// Puts a task back.
@@ -276,8 +270,8 @@ impl TaskSets {
     }
 
     /// Returns whether there is a task to take beside those that are with workers.
-    pub fn has_apart(&self) -> bool {
-        self.first_apart(self.places.ready(), 0, self.left_to_one())
+    pub fn has_ready(&self) -> bool {
+        self.first_of(self.places.ready(), self.left_to_one())
             .is_some()
     }
 
@@ -303,7 +297,7 @@ impl TaskSets {
     pub fn calls(&mut self) -> bool
         ensures { IsSame self.old self.new }
     {
-        if self.asleep == 0 || self.effort < EFFORT_BETWEEN_CALLS || !self.has_apart() {
+        if self.asleep == 0 || self.effort < EFFORT_BETWEEN_CALLS || !self.has_ready() {
             return false;
         }
         self.effort = 0;

@@ -11,6 +11,12 @@ pub trait Work {
     /// Goes on by one turn.
     fn turn(&mut self) -> Progress;
 
+    /// Whether its next turn may do something on this phaser, where it was blocked, as far as is
+    /// known without a turn. It is a hint, and false where there is none.
+    fn may_go_on(&self, _phaser: usize) -> bool {
+        false
+    }
+
     /// How much its turns did so far, beside being turns: what takes some half a nanosecond, such
     /// as a multiplication, counts 1. It tells which tasks are worth another worker's while, and
     /// nothing else.

@@ -8,11 +8,11 @@ use std::thread::{self, Threads};
 impl<T: Work> Pool<T> {
     // Takes tasks and goes on with them until the run is over.
     fn work<W: Wait>(&self, rt: &W) {
-        let mut next = self.take(rt, Choice::Apart);
+        let mut next = self.take(rt, Choice::Ready);
         for _ in rt.forever() {
             next = match next {
                 Next::Take(taken) => {
-                    let went = self.go_on(rt, taken.task);
+                    let (taken, went) = self.go_on(rt, taken);
                     self.put_back(rt, taken, went)
                 }
                 Next::Wait => self.wait(rt),

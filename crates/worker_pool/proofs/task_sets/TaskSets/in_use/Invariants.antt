@@ -1,5 +1,0 @@
-use Rattle.worker_pool.proofs.task_sets.TaskSets.in_use.Given as goal
-
--- fewer are left each time
-abbrev pub decreases-loop-task : goal.decreases-loop-task
-decreases-loop-task l = l.rest.bits
