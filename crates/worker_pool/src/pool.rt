@@ -74,9 +74,8 @@ impl<T: Work> Pool<T> {
         ensures err { OnErr result (self.new ≡ self.old) }
     {
         let number = self.tasks.len();
-        let phasers = NumberSet::from_bits(task.phasers());
         self.push_child(task)?;
-        self.sets.get_mut().admit(number, phasers);
+        self.sets.get_mut().admit(number);
         Ok(())
     }
 
@@ -353,8 +352,7 @@ impl<T: Work> Pool<T> {
         if !parent.bring(&mut *task) {
             return false;
         }
-        let phasers = NumberSet::from_bits(task.phasers());
-        self.sets.lock(rt).admit(child, phasers);
+        self.sets.lock(rt).admit(child);
         true
     }
 }

@@ -62,8 +62,6 @@ pub struct Went {
 pub struct TaskSets {
     places: Places,
     events: EventCounts,
-    // the phasers of each task
-    phasers: [NumberSet; 64],
     // how often tasks were taken, and for each task the last time
     takes: u64,
     last_taken: [u64; 64],
@@ -100,7 +98,6 @@ impl TaskSets {
         TaskSets {
             places: Places::new(),
             events: EventCounts::new(),
-            phasers: [NumberSet::new(); 64],
             takes: 0,
             last_taken: [0; 64],
             held: 0,
@@ -112,12 +109,11 @@ impl TaskSets {
         }
     }
 
-    /// Puts in a task that may go on, with the phasers of its line.
-    pub fn admit(&mut self, task: usize, phasers: NumberSet)
+    /// Puts in a task that may go on.
+    pub fn admit(&mut self, task: usize)
         ensures { HasPutAt task (Some place.Ready) self.old self.new }
     {
         self.places.put(task, Some(Place::Ready));
-        self.phasers[task % 64] = phasers;
     }
 
     /// Tells why the run has no lines, where it has none.
