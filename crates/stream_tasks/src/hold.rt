@@ -39,6 +39,19 @@ impl<'a> Hold<'a> {
         }
     }
 
+    /// Whether so many phases may be signalled, where it signals, and a phase is complete, where it
+    /// waits, as far as is known without a turn. It is a hint.
+    pub fn may_go_on(&self, signals: u64) -> bool {
+        match self {
+            Hold::On(member) => {
+                let mode = member.entry().mode;
+                let has_room = !mode.signals() || member.room() >= signals;
+                has_room && (!mode.waits() || member.complete() > 0)
+            }
+            Hold::Gone => false,
+        }
+    }
+
     /// The mode and the phases of the registration, until it leaves.
     pub fn entry(&self) -> Option<Entry>
         ensures { result ≡ entry_held self.now }

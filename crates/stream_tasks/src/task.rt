@@ -87,6 +87,22 @@ impl<'a, J: Run> Task<'a, J> {
         set
     }
 
+    /// Whether its next turn may make an event on this phaser, as far as is known without a turn.
+    /// It is a hint.
+    pub fn may_go_on(&self, phaser: usize) -> bool {
+        let signals = (self.state.made.len() as u64).max(1);
+        for k in 0..self.job.graph().registrations(self.state.number) {
+            let at = self.job.graph().registration(self.state.number, k).phaser;
+            if at == phaser {
+                return match self.state.holds.get(k) {
+                    Some(hold) => hold.may_go_on(signals),
+                    None => false,
+                };
+            }
+        }
+        false
+    }
+
     /// How much its steps did so far, where a multiplication of a filter counts 1.
     pub fn effort(&self) -> u64 {
         let taps = self.job.graph().task(self.state.number).taps.len() as u64;

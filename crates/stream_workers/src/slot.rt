@@ -128,6 +128,13 @@ impl<'a, J: Run, G: Gate> Work for Slot<'a, J, G> {
         }
     }
 
+    fn may_go_on(&self, phaser: usize) -> bool {
+        match &self.place {
+            TaskSlot::Task(task) => task.may_go_on(phaser),
+            _ => false,
+        }
+    }
+
     fn effort(&self) -> u64 {
         match &self.place {
             TaskSlot::Task(task) => task.effort(),
