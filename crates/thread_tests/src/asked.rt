@@ -146,7 +146,7 @@ fn who_comes_late_asks_too(rt: HostRuntime) -> Result<(), Fail> {
     let fourth = founder.register(&rt, &phaser, Mode::SigWait).ok();
     let _past = founder.leave(&rt, &phaser);
     assert!(rt; one.is_some() && other.is_some() && third.is_some() && fourth.is_some());
-    let (first, second) = meet_four(&rt, &phaser, (one, other), (third, fourth), 100_000);
+    let (first, second) = meet_four(&rt, &phaser, (one, other), (third, fourth), 20_000);
     assert!(rt; first.0 > 0 || first.1 > 0 || second.0 > 0 || second.1 > 0);
     Ok(())
 }
