@@ -1,6 +1,6 @@
 //! Samples in files that are held in memory.
 
-use graph_show::graph_lang::{SampleFault, read_sample_file};
+use graph_show::graph_lang::{OneThread, SampleFault, read_sample_file};
 use graph_show::watched_io::{DiskFiles, FileFault, Files, IoFault};
 use std::alloc::Global;
 use std::fs;
@@ -38,7 +38,7 @@ fn has_samples<F: Files>(
     name: &str,
     wanted: Result<&[i64], SampleFault>,
 ) -> bool {
-    match (read_sample_file(alloc, files, name), wanted) {
+    match (read_sample_file(alloc, files, &OneThread, name), wanted) {
         (Ok(found), Ok(samples)) => found.as_slice() == samples,
         (Err(found), Err(fault)) => found == fault,
         _ => false,

@@ -7,8 +7,8 @@
 //! the sinks are the answer.
 //!
 //! ```text
-//! let lines = run(&rt, alloc, &job, 4, &Open)?;      // the lists of the sinks
-//! write_lines(&mut writer, job.graph(), &lines)?;    // as text
+//! let lines = run(&rt, alloc, &job, 4, &Open)?;                  // the lists of the sinks
+//! write_lines(&mut writer, &OneThread, job.graph(), &lines)?;    // as text
 //! ```
 //!
 //! Proved: that an answer `Ok` is the answer of the job, for the starts that it tells of sinks that
