@@ -47,7 +47,7 @@ pub(crate) fn mark_of<'a>(
         FaultKind::OutBeforeIn => order_mark(found, above),
         FaultKind::BadParent => parent_mark(found, parent_wanted(above.version())),
         FaultKind::NotHeld => held_mark(found, above),
-        FaultKind::OverBound => block_mark(found),
+        FaultKind::OverBound => block_mark(found, above),
         FaultKind::AnyMeets => meeting_mark(found, above, meeting),
     };
     Ok(mark)
@@ -316,15 +316,35 @@ fn parent_wanted(version: Version) -> &'static str {
     }
 }
 
-/// The block that is above a bound.
-fn block_mark<'a>(found: &[Known<'a>]) -> Mark<'a> {
+/// What is wanted of a block, with the least bound of the phasers of its line, and whose it is.
+fn block_wanted<'a>(found: &[Known<'a>], above: &Above<'_>) -> Wanted<'a> {
     let wanted = "at most as many steps as the bound of each phaser of the line";
-    for word in 0..found.len() {
-        if let (Part::Block, _) = found[word] {
-            return Mark::text(word, wanted);
+    let mut least = None;
+    for (part, name) in found {
+        if part.is_input() || part.is_output() {
+            if let Some(bound) = above.bound_of(*name) {
+                least = match least {
+                    Some((other, _)) if other <= bound => least,
+                    _ => Some((bound, *name)),
+                };
+            }
         }
     }
-    Mark::text(1, wanted)
+    match least {
+        Some((bound, name)) => Wanted::with_number(wanted, ": ", name, " has bound ", bound.into()),
+        None => Wanted::text(wanted),
+    }
+}
+
+/// The block that is above a bound.
+fn block_mark<'a>(found: &[Known<'a>], above: &Above<'_>) -> Mark<'a> {
+    let wanted = block_wanted(found, above);
+    for word in 0..found.len() {
+        if let (Part::Block, _) = found[word] {
+            return Mark { word, wanted };
+        }
+    }
+    Mark { word: 1, wanted }
 }
 
 /// The output with a single, or the parent that lacks what its child needs.
