@@ -63,14 +63,14 @@ fn takes_any(line: &[Known<'_>]) -> bool {
     false
 }
 
-/// The bound on a line of these words.
-fn bound_on(line: &[Known<'_>]) -> Option<u64> {
+/// The bound on a line of these words, or the highest one where it has none.
+fn bound_on(line: &[Known<'_>]) -> u64 {
     for (part, word) in line {
         if matches!(part, Part::Bound) {
-            return nat(*word, BOUND_MAX);
+            return nat(word, BOUND_MAX).unwrap_or(BOUND_MAX);
         }
     }
-    None
+    BOUND_MAX
 }
 
 /// Whether the task of a line of these words signals that phaser.
@@ -187,11 +187,11 @@ impl<'a> Above<'a> {
         }
     }
 
-    /// The bound of a phaser of this name, where one is declared.
-    pub(crate) fn bound_of(&self, name: &[u8]) -> Option<u64> {
+    /// The bound of a phaser of this name, or the highest one where none is declared.
+    pub(crate) fn bound_of(&self, name: &[u8]) -> u64 {
         match self.place_of(name) {
             Some(i) if i < self.lines.len() => bound_on(&self.lines[i]),
-            _ => None,
+            _ => BOUND_MAX,
         }
     }
 

@@ -4,7 +4,7 @@ use crate::above::{Above, declares};
 use crate::below::Below;
 use crate::explain_parts::Part;
 use crate::grammar::{Known, Reading};
-use crate::limits::{count_passed, limit_passed};
+use crate::limits::{count_passed, limit_passed, steps_of};
 use crate::meeting_place::MeetingPlace;
 use crate::wanted::Wanted;
 use graph_lang::FaultKind;
@@ -316,35 +316,30 @@ fn parent_wanted(version: Version) -> &'static str {
     }
 }
 
-/// What is wanted of a block, with the least bound of the phasers of its line, and whose it is.
-fn block_wanted<'a>(found: &[Known<'a>], above: &Above<'_>) -> Wanted<'a> {
+/// What is wanted of a block of so many steps, and the first phaser of its line with a lower bound.
+fn block_wanted<'a>(found: &[Known<'a>], above: &Above<'_>, steps: u64) -> Wanted<'a> {
     let wanted = "at most as many steps as the bound of each phaser of the line";
-    let mut least = None;
     for (part, name) in found {
-        if part.is_input() || part.is_output() {
-            if let Some(bound) = above.bound_of(*name) {
-                least = match least {
-                    Some((other, _)) if other <= bound => least,
-                    _ => Some((bound, *name)),
-                };
-            }
+        let bound = above.bound_of(name);
+        if (part.is_input() || part.is_output()) && bound < steps {
+            return Wanted::with_number(wanted, ": ", name, " has bound ", bound.into());
         }
     }
-    match least {
-        Some((bound, name)) => Wanted::with_number(wanted, ": ", name, " has bound ", bound.into()),
-        None => Wanted::text(wanted),
-    }
+    Wanted::text(wanted)
 }
 
 /// The block that is above a bound.
 fn block_mark<'a>(found: &[Known<'a>], above: &Above<'_>) -> Mark<'a> {
-    let wanted = block_wanted(found, above);
     for word in 0..found.len() {
-        if let (Part::Block, _) = found[word] {
+        if let (Part::Block, block) = found[word] {
+            let wanted = block_wanted(found, above, steps_of(block));
             return Mark { word, wanted };
         }
     }
-    Mark { word: 1, wanted }
+    Mark::text(
+        1,
+        "at most as many steps as the bound of each phaser of the line",
+    )
 }
 
 /// The output with a single, or the parent that lacks what its child needs.
