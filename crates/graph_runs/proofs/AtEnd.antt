@@ -25,7 +25,7 @@ use Rattle.graph_runs.specs.Nexts.{registrations_at}
 use Rattle.graph_runs.specs.TaskPlaces.{registration_at}
 use Rattle.graph_runs.specs.TaskEnds.{TaskEnd, HasLeftAt, FounderEnd}
 use Rattle.graph_runs.specs.RunEnds.{Ends, IsRegisteredOn, HasWholeRun, IsRunEnd, HasAnswer, lines_in, start_in_end}
-use Rattle.graph_runs.specs.Stops.{StandsAt, HasRunSoFar, IsStop}
+use Rattle.graph_runs.specs.Stops.{HasStoppedAt, HasRunSoFar, IsStop}
 use Rattle.graph_runs.proofs.Joined.{Status, absent, came, number_by, offset_by, status, whole_has, whole_history, whole, IsNumbered, is_numbered, registered_there}
 use Rattle.graph_runs.proofs.OnPhasers.{case_of, only_used, part_of}
 use Rattle.graph_runs.proofs.Wholes.{part, has_run, sink_lines}
@@ -40,7 +40,7 @@ saw_at job m end is i lt =
     let long : length end.seen ≡ length (registrations_at job end.task) = is.long in
     slice_get-get_or end.seen i [] (omega arith) ∙ ap (λ h. Some h) (sym (is.seen i lt))
 
-stands_of : (job : Job) (m : Moment) (end : TaskEnd) → HasLeftAt job m end → StandsAt job m end
+stands_of : (job : Job) (m : Moment) (end : TaskEnd) → HasLeftAt job m end → HasStoppedAt job m end
 stands_of job m end is = record {
   part = is.part;
   own = is.own;

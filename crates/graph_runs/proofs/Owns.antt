@@ -17,7 +17,7 @@ use Rattle.graph_runs.specs.Nexts.{registrations_at}
 use Rattle.graph_runs.specs.TaskPlaces.{registration_at}
 use Rattle.graph_runs.proofs.PlacesLemmas.{on_ends}
 use Rattle.graph_runs.specs.TaskEnds.{TaskEnd, IsChildOf, HasOwnCalls, HasNumbers}
-use Rattle.graph_runs.specs.Stops.{StandsAt}
+use Rattle.graph_runs.specs.Stops.{HasStoppedAt}
 
 -- ---- registrations
 
@@ -84,7 +84,7 @@ pub record HasOwn (job : Job) (m : Moment) (end : TaskEnd) (t : ℕ) : Type 0 wh
   pub lines : (task_at job.graph t).kind ≡ Sink → m.taken t 0 ≡ end.lines
   pub given : (c : ℕ) → IsChildOf job c t → HasNumbers job m c (end.given c)
 
-pub owns : (job : Job) (m : Moment) (end : TaskEnd) → StandsAt job m end
+pub owns : (job : Job) (m : Moment) (end : TaskEnd) → HasStoppedAt job m end
     → HasOwn job m end end.task
 owns job m end is = record {
   part = is.part;
@@ -99,7 +99,7 @@ owns job m end is = record {
 }
 
 pub owns_as : (job : Job) (m : Moment) (end : TaskEnd) (t : ℕ) → end.task ≡ t
-    → StandsAt job m end → HasOwn job m end t
+    → HasStoppedAt job m end → HasOwn job m end t
 owns_as job m end t same is =
     rw (← same) (owns job m end is)
 

@@ -10,7 +10,7 @@ use Rattle.stream_lists.specs.Spans.{signalled_by}
 use Rattle.stream_lists.specs.Lists.{output_list}
 use Rattle.graph_runs.specs.Moments.{Moment, TaskRan, HasEnded, HasSamples, MayStop, OnOutput, OnInput, OnPhaser, PutOn, TakenOn, input_at, made_now, taken_now}
 use Rattle.graph_runs.specs.TaskEnds.{TaskEnd, IsChildOf, HasGiven, HasOwnCalls, HasNumbers}
-use Rattle.graph_runs.specs.Stops.{StandsAt}
+use Rattle.graph_runs.specs.Stops.{HasStoppedAt}
 
 made_fed : (job : Job) (m : Moment) (samples : List (List ℤ)) (t j : ℕ)
     → (samples_at (with_samples samples job) t ≡ samples_at job t)
@@ -146,7 +146,7 @@ numbers_fed job m samples c numbers h = record {
 pub stands_fed : (job : Job) (m : Moment) (samples : List (List ℤ)) (end : TaskEnd)
     → IsGraph job.graph → end.task < length job.graph.tasks
     → samples_at (with_samples samples job) end.task ≡ samples_at job end.task
-    → StandsAt job m end → StandsAt (with_samples samples job) m end
+    → HasStoppedAt job m end → HasStoppedAt (with_samples samples job) m end
 stands_fed job m samples end is there same s = record {
   part = record {
     ran = task_fed job m samples end.task is there same s.part.ran;

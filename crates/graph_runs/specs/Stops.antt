@@ -20,7 +20,7 @@ use Rattle.graph_runs.specs.RunEnds.{Ends, HasCome, IsRegisteredOn, lines_in}
 
 -- at this moment of its own a task stands somewhere, and knows this. It has left all of its
 -- phasers, some, or none
-pub record StandsAt (job : Job) (m : Moment) (end : TaskEnd) : Type 0 where
+pub record HasStoppedAt (job : Job) (m : Moment) (end : TaskEnd) : Type 0 where
   pub part : HasPart job m end.task
   pub own : HasOwnCalls job m end.task
   pub begun : m.begun end.task ≡ end.begun
@@ -68,7 +68,7 @@ pub record Agree (job : Job) (ends : Ends) : Type 0 where
 -- a run that is stopped: what each task that came knows of itself, and that it agrees
 pub record IsStop (job : Job) (ends : Ends) : Type 0 where
   pub tasks : (t : ℕ) (end : TaskEnd) → HasCome ends t end
-      → (end.task ≡ t) × (t < length job.graph.tasks) × ((m : Moment) × StandsAt job m end)
+      → (end.task ≡ t) × (t < length job.graph.tasks) × ((m : Moment) × HasStoppedAt job m end)
   pub agree : Agree job ends
 
 -- ---- samples that each source has for itself
@@ -78,7 +78,7 @@ pub record StandsFed (job : Job) (samples : List (List ℤ)) (end : TaskEnd) : T
   pub own : List (List ℤ)
   pub same : samples_in job own end.task ≡ samples_in job samples end.task
   pub moment : Moment
-  pub stands : StandsAt (with_samples own job) moment end
+  pub stands : HasStoppedAt (with_samples own job) moment end
 
 -- a source that may still get samples has left a phaser only at its `until`
 abbrev pub IsStillOpen : Job → (ℕ → Bool) → Ends → Type 0

@@ -1,4 +1,4 @@
-//! What holds of a run whose tasks are stopped wherever they stand. The contract of each function is
+//! What holds of a run whose tasks are stopped wherever they stand: the contract of each function is
 //! the law. `specs/Stops.antt` has what each task knows then; the end of a run (`ends`) is a stop
 //! whose tasks have left.
 ghost use Rattle.std.specs.Prelude.{◌≡◌, ◌<◌, ℕ, ℤ, List, Bool, length};
