@@ -150,13 +150,24 @@ fn read_part(alloc: Global, text: &[u8], count: usize, k: usize) -> Option<ReadP
     }
 }
 
+/// How many samples the parts have that are there.
+fn samples_in(parts: &[Option<ReadPart>]) -> usize {
+    let mut count = 0usize;
+    for part in parts.iter().flatten() {
+        count = count.saturating_add(part.values.len());
+    }
+    count
+}
+
 /// The samples of parts that follow one another and are the whole text.
 fn joined(alloc: Global, text: &[u8], parts: &[Option<ReadPart>]) -> Option<Vec<i64>>
     requires { All (λ part. IfSome part (IsReadPart text.now)) parts.now }
     ensures { IfSome result (λ values. ArePlainLines text.now 0 (length text.now) values.items) }
 {
     parts_have_samples();
-    let mut values = Vec::new(alloc);
+    let Ok(mut values) = Vec::with_capacity(alloc, samples_in(parts)) else {
+        return None;
+    };
     let mut at = 0;
     for part in parts {
         let Some(part) = part else {

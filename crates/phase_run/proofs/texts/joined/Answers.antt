@@ -6,7 +6,7 @@ use Rattle.phase_run.proofs.texts.joined.Goals as goal
 
 pub loop-part-init : goal.loop-part-init
 loop-part-init c =
-    let none : c.new-values.result.items ≡ [] = search rules in
+    let none : c.in-Ok.values.items ≡ [] = search rules in
     record {
       within = omega arith;
       lines = subst (ArePlainLines c.args.text.now 0 0) (sym none)

@@ -7,11 +7,11 @@ use Rattle.stream_lists.specs.Spans.{schedule_of}
 use Rattle.stream_eval.specs.Results.{sink_values}
 use Rattle.stream_eval.specs.declared.fault.EvalFault.TheVariants as fault
 use Rattle.stream_eval.proofs.Agreeing.{kept-agree, sinks-same}
-use Rattle.stream_eval.proofs.whole.eval.Goals as goal
+use Rattle.stream_eval.proofs.whole.eval_by.Goals as goal
 
 -- the sinks take what they would of the definition's lists
 pub returns-clause-ok : goal.returns-clause-ok
-returns-clause-ok c =
+returns-clause-ok g c =
     let job = c.args.job.now in
     let end = length job.graph.phasers in
     let lent = ap items_of c.deref.ensures.value in
@@ -25,7 +25,7 @@ returns-clause-ok c =
     (numbers_of job) agree) c.all_lines.ensures.ok
 
 pub returns-clause-fits : goal.returns-clause-fits
-returns-clause-fits c =
+returns-clause-fits g c =
     IfOk-weaker c.all_lines.result
     (λ lines. map sink_values lines.items
     ≡ map (sink_over c.args.job.now (schedule_of c.args.job.now) (items_of c.deref.result.now))
@@ -34,10 +34,10 @@ returns-clause-fits c =
 
 -- the lines have no fault of their own
 pub returns-clause-too_big : goal.returns-clause-too_big
-returns-clause-too_big c place n e = absurd (c.all_lines.ensures.no_place place n e)
+returns-clause-too_big g c place n e = absurd (c.all_lines.ensures.no_place place n e)
 
 -- the fault is that of the lists
 pub returns-in-Err-clause-too_big : goal.returns-in-Err-clause-too_big
-returns-in-Err-clause-too_big c place n e =
+returns-in-Err-clause-too_big g c place n e =
     let same : c.in-Err.fault ≡ fault.TooBig place n = search rules in
     c.phaser_lists.ensures.too_big place n (c.in-Err.is ∙ ap Err same)
