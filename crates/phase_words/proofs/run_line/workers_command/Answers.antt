@@ -3,7 +3,7 @@ use Rattle.std.proofs.Common.{◌∙◌, ap₂}
 use Rattle.std.proofs.lemmas.Result.{IfOk-weaker}
 use Rattle.clap.specs.Words.{with_rule}
 use Rattle.phase_words.specs.RunLine.{run_app}
-use Rattle.phase_words.proofs.run_line.run_command.Goals as goal
+use Rattle.phase_words.proofs.run_line.workers_command.Goals as goal
 
 pub returns : goal.returns
 unfolding run_app

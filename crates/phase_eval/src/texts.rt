@@ -2,31 +2,31 @@
 ghost use Rattle.std.specs.Prelude.{◌≡◌, ◌≤◌, ◌<◌, ℕ, length, take, drop, IfSome, IfOk};
 ghost use Rattle.std.specs.List.{All, flat_map};
 ghost use denote.Param.Send.{IsSync};
-ghost use Rattle.stream_workers.specs.graph_commands.graph_lang.PlainLines.{ArePlainLines};
-ghost use Rattle.stream_workers.specs.graph_commands.OutputTexts.{value_text};
-ghost use Rattle.stream_workers.specs.graph_commands.Puts.{bytes_of};
-ghost use Rattle.phase_run.specs.Texts.{IsReadPart, IsTextPart};
+ghost use Rattle.graph_commands.specs.graph_lang.PlainLines.{ArePlainLines};
+ghost use Rattle.graph_commands.specs.OutputTexts.{value_text};
+ghost use Rattle.graph_commands.specs.Puts.{bytes_of};
+ghost use Rattle.phase_eval.specs.Texts.{IsReadPart, IsTextPart};
 
+use graph_commands::graph_lang::{
+    SampleFault, SampleTexts, parts_have_samples, plain_part, samples_of, samples_with,
+};
+use graph_commands::watched_io::Watched;
+use graph_commands::{ValueTexts, write_values};
 use memchr::memchr;
 use std::alloc::Global;
 use std::thread::{self, Threads};
-use stream_workers::graph_commands::graph_lang::{
-    SampleFault, SampleTexts, parts_have_samples, plain_part, samples_of, samples_with,
-};
-use stream_workers::graph_commands::watched_io::Watched;
-use stream_workers::graph_commands::{ValueTexts, write_values};
 
 /// The shortest part of a text that a thread reads, in bytes.
 const BYTES_MIN: usize = 262_144;
 /// The fewest values of which a thread makes the text.
-const VALUES_MIN: usize = 32_768;
+pub(crate) const VALUES_MIN: usize = 32_768;
 
-/// So many threads, at most, read and write a long text, a part each. Where there is no memory for
-/// that, or no thread can be made, one thread does it.
+/// So many threads, at most, read and write a long text and make the list of a filter, a part each.
+/// Where there is no memory for that, or no thread can be made, one thread does it.
 #[derive(Drop)]
 pub struct ByThreads<'a, H: Threads> {
-    rt: &'a H,
-    alloc: Global,
+    pub(crate) rt: &'a H,
+    pub(crate) alloc: Global,
     threads: usize,
 }
 
@@ -53,7 +53,7 @@ impl<'a, H: Threads + Sync> ByThreads<'a, H> {
     }
 
     /// Into how many parts so much is cut, of which a part has `least` at least.
-    fn parts(&self, size: usize, least: usize) -> usize
+    pub(crate) fn parts(&self, size: usize, least: usize) -> usize
         requires { 0 < least }
     {
         (size / least).min(self.threads).min(16)

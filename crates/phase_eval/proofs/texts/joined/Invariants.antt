@@ -1,6 +1,6 @@
 use Rattle.std.proofs.Common.{◌≤◌, length}
-use Rattle.stream_workers.specs.graph_commands.graph_lang.PlainLines.{ArePlainLines}
-use Rattle.phase_run.proofs.texts.joined.Given as goal
+use Rattle.graph_commands.specs.graph_lang.PlainLines.{ArePlainLines}
+use Rattle.phase_eval.proofs.texts.joined.Given as goal
 
 -- the samples so far are those of the lines up to this place
 abbrev pub invariant-loop-part : goal.invariant-loop-part

@@ -1,9 +1,9 @@
 use Rattle.std.proofs.Common.{◌≡◌, ◌≤◌, All, IfSome, length, take}
 use Rattle.std.specs.List.{flat_map}
-use Rattle.phase_run.specs.Texts.{IsTextPart}
-use Rattle.stream_workers.specs.graph_commands.OutputTexts.{value_text}
-use Rattle.stream_workers.specs.graph_commands.Puts.{bytes_of}
-use Rattle.phase_run.proofs.texts.in_order.Given as goal
+use Rattle.phase_eval.specs.Texts.{IsTextPart}
+use Rattle.graph_commands.specs.OutputTexts.{value_text}
+use Rattle.graph_commands.specs.Puts.{bytes_of}
+use Rattle.phase_eval.proofs.texts.in_order.Given as goal
 
 -- the texts so far are those of the values up to this place
 abbrev pub invariant-loop-part : goal.invariant-loop-part

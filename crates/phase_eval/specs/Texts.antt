@@ -1,10 +1,10 @@
 -- Parts of long texts.
 use Rattle.std.specs.Prelude.{◌≡◌, ◌≤◌, ◌-◌, ℕ, ℤ, List, length, take, drop}
 use Rattle.std.specs.List.{flat_map}
-use Rattle.stream_workers.specs.graph_commands.OutputTexts.{value_text}
-use Rattle.stream_workers.specs.graph_commands.graph_lang.PlainLines.{ArePlainLines}
-use Rattle.phase_run.specs.declared.texts.ReadPart.{ReadPart}
-use Rattle.phase_run.specs.declared.texts.TextPart.{TextPart}
+use Rattle.graph_commands.specs.OutputTexts.{value_text}
+use Rattle.graph_commands.specs.graph_lang.PlainLines.{ArePlainLines}
+use Rattle.phase_eval.specs.declared.texts.ReadPart.{ReadPart}
+use Rattle.phase_eval.specs.declared.texts.TextPart.{TextPart}
 
 -- the samples of a part of a text
 pub record IsReadPart (text : List ℕ) (part : ReadPart) : Type 0 where

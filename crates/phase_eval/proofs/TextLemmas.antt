@@ -6,10 +6,10 @@ use Rattle.std.specs.declared.vec.Vec.{Vec}
 use Rattle.std.proofs.lemmas.Grind.{flat_map-append}
 use Rattle.std.proofs.lemmas.List.{drop-take, take-take}
 use Rattle.std.proofs.lemmas.List.Concat.{flat_map-cons}
-use Rattle.stream_workers.specs.graph_commands.OutputTexts.{value_text}
-use Rattle.stream_workers.specs.graph_commands.Puts.{bytes_of}
-use Rattle.phase_run.specs.Texts.{IsTextPart}
-use Rattle.phase_run.specs.declared.texts.TextPart.{TextPart}
+use Rattle.graph_commands.specs.OutputTexts.{value_text}
+use Rattle.graph_commands.specs.Puts.{bytes_of}
+use Rattle.phase_eval.specs.Texts.{IsTextPart}
+use Rattle.phase_eval.specs.declared.texts.TextPart.{TextPart}
 
 take_on : (n k : ℕ) (xs : List ℤ) → take (n + k) xs ≡ take n xs ++ take k (drop n xs)
 take_on n k xs =

@@ -1,11 +1,11 @@
 -- One more part behind those before it.
 use Rattle.std.proofs.Common.{◌≡◌, ◌<◌, ◌++◌, ◌∷◌, ◌∙◌, ℕ, suc, List, [], All, IfSome, Option, Some, None, length, ap, subst, arith, rules}
 use Rattle.std.specs.List.{flat_map}
-use Rattle.stream_workers.specs.graph_commands.Puts.{bytes_of}
-use Rattle.phase_run.specs.Texts.{IsTextPart}
-use Rattle.phase_run.specs.declared.texts.TextPart.{TextPart}
-use Rattle.phase_run.proofs.TextLemmas.{one_more}
-use Rattle.phase_run.proofs.texts.in_order.Goals as goal
+use Rattle.graph_commands.specs.Puts.{bytes_of}
+use Rattle.phase_eval.specs.Texts.{IsTextPart}
+use Rattle.phase_eval.specs.declared.texts.TextPart.{TextPart}
+use Rattle.phase_eval.proofs.TextLemmas.{one_more}
+use Rattle.phase_eval.proofs.texts.in_order.Goals as goal
 
 pub loop-part-preserved : goal.loop-part-preserved
 loop-part-preserved c =

@@ -1,8 +1,8 @@
 -- One more part behind those before it.
 use Rattle.std.proofs.Common.{◌≡◌, ◌≤◌, ◌++◌, ℕ, ℤ, List, [], length, sym, subst, rules, arith}
-use Rattle.stream_workers.specs.graph_commands.graph_lang.PlainLines.{ArePlainLines}
-use Rattle.phase_run.specs.Texts.{IsReadPart}
-use Rattle.phase_run.proofs.texts.joined.Goals as goal
+use Rattle.graph_commands.specs.graph_lang.PlainLines.{ArePlainLines}
+use Rattle.phase_eval.specs.Texts.{IsReadPart}
+use Rattle.phase_eval.proofs.texts.joined.Goals as goal
 
 pub loop-part-init : goal.loop-part-init
 loop-part-init c =
