@@ -1,6 +1,7 @@
 // Phases a second of Java's Phaser with a sum: what scripts/bench/shared sync sum is measured
 // beside. The same is run for a second before it is measured, so that the machine code is there.
-// usage: java scripts/bench/PlainPhaser.java THREADS COUNT
+// usage: java scripts/bench/PlainPhaser.java THREADS COUNT, where a COUNT of 0 is as many phases as
+// take a second, after as many that take as long
 
 import java.util.concurrent.Phaser;
 import java.util.concurrent.atomic.AtomicLong;
@@ -46,15 +47,28 @@ public class PlainPhaser {
             all[thread].join();
             check += sums[thread];
         }
+        long allPhases = warm + count;
+        long wanted = threads * (threads * (allPhases * (allPhases - 1) / 2)
+            + allPhases * (threads * (threads - 1) / 2));
+        if (check != wanted) {
+            throw new IllegalStateException("the sums are " + check + ", and not " + wanted);
+        }
         return new Run(nanos[0] / 1e9, check);
     }
 
     public static void main(String[] words) throws Exception {
         int threads = Integer.parseInt(words[0]);
         int count = Integer.parseInt(words[1]);
-        long start = System.nanoTime();
-        while (System.nanoTime() - start < 1_000_000_000) {
-            run(threads, count);
+        if (count == 0) {
+            count = 1000;
+            while (run(threads, count).seconds() < 1) {
+                count *= 2;
+            }
+        } else {
+            long start = System.nanoTime();
+            while (System.nanoTime() - start < 1_000_000_000) {
+                run(threads, count);
+            }
         }
         Run run = run(threads, count);
         System.out.printf("{\"rows\": [{\"name\": \"java sync sum %d\", \"count\": %d, "

@@ -6,7 +6,7 @@ use Rattle.std.proofs.lemmas.Bool.{lt-ltb, eq-eqb, eqb-true, ltb-true}
 use mathlib.Core.Option.{some}
 use lib.ListN.{get_elem?}
 use Rattle.atomic_table.proofs.Lists.{set_again, set_else}
-use Rattle.phase_shared.specs.Phasers.{Limits, entry_of, least, Operation, Parcel, StandsForSends, Outcome, SignalRefusal, History, members_of, signal_phase, wait_phase, done_of, value_of_phase, IsLegal, signal_refusal, refusal_at, refused_or, got_at}
+use Rattle.phase_shared.specs.Phasers.{Limits, entry_of, least, Operation, Parcel, StandsForSends, Outcome, SignalRefusal, History, members_of, signal_phase, wait_phase, done_of, value_of_phase, IsLegal, OthersCame, signal_refusal, refusal_at, refused_or, got_at}
 use Rattle.phase_core.specs.phase_base.Members.{wait_phases}
 use Rattle.phase_core.specs.phase_history.declared.event.Event.TheVariants.{Made, Registered, RegisteredNow, Signalled, Waited, Dropped}
 use Rattle.phase_core.specs.phase_history.declared.got.Got.TheVariants as got
@@ -181,20 +181,26 @@ same_refusal limits h task xs ys e = ap (λ (n : ℕ). refusal_by n) e
         (λ entry. signal_rows_before limits 1 None entry
         (phase_rows limits (least (wait_phases (members_of h))) (length (sends_of_phase h entry.signal_phase)) (named_in_phase h entry.signal_phase) n None entry ++ []))
 
+-- a signal that was made
+pub made_signals : {A : Type 0} (op : Operation A) (limits : Limits) (a : Ask) (seen before : History) → OthersCame (a.task ∷ []) seen before
+    → signal_refusal limits before a.task (a.sends ∷ []) None ≡ None → signal_phase before a.task ≡ a.phase
+    → (held : Parcel A) → StandsForSends op held a.sends
+    → Signals op limits a.task held None seen (Signalled a.task (a.sends ∷ []) None ∷ before) (Ok a.phase)
+made_signals op limits a seen before others accepted at held stands = record {
+  before = before;
+  sends = a.sends;
+  others = others;
+  stands = stands;
+  seen = refl;
+  reply = λ xs holds.
+      let same : length xs ≡ length a.sends = sym holds.count_is ∙ stands.count_is in
+      ap (λ o. refused_or o (signal_phase before a.task)) (same_refusal limits before a.task xs a.sends same ∙ accepted) ∙ ap Ok at;
+}
+
 module _ {A : Type 0} (op : Operation A) (limits : Limits) (allows : Allows) (a : Ask) (f : Knowledge) (w : View) (n : Learnt limits allows a f w) where
   pub asked_signals : (held : Parcel A) → StandsForSends op held a.sends
       → Signals op limits a.task held None f.seen (Signalled a.task (a.sends ∷ []) None ∷ n.made.before) (Ok a.phase)
-  asked_signals held stands = record {
-    before = n.made.before;
-    sends = a.sends;
-    others = n.made.others;
-    stands = stands;
-    seen = refl;
-    reply = λ xs holds.
-        let same : length xs ≡ length a.sends = sym holds.count_is ∙ stands.count_is in
-        ap (λ o. refused_or o (signal_phase n.made.before a.task)) (same_refusal limits n.made.before a.task xs a.sends same ∙ n.made.accepted)
-        ∙ ap Ok n.made.signalled_in;
-  }
+  asked_signals held stands = made_signals op limits a f.seen n.made.before n.made.others n.made.accepted n.made.signalled_in held stands
 
   pub asked_waits : (outcome : Outcome) → outcome ≡ value_of_phase op.value (Waited a.task 1 ∷ n.middle) a.phase
       → Waits op.value limits a.task (Signalled a.task (a.sends ∷ []) None ∷ n.made.before) (Waited a.task 1 ∷ n.middle) (Ok (got.Value a.phase outcome))

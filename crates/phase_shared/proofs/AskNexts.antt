@@ -1,19 +1,23 @@
 -- A next phase that others may make: how it begins, and what its answer is, as the contracts of
 -- calls say it.
-use Rattle.std.proofs.Common.{◌≡◌, ℕ, ◌+◌, Bool, true, false, List, [], ◌∷◌, Some, None, refl, sym, ap, subst, ◌∙◌, inl, arith}
-use Rattle.std.specs.Prelude.{Ok, Err, is_some}
-use Rattle.phase_shared.specs.Phasers.{Limits, is_in, Entry, mode_signals, mode_waits, entry_of, signalled, waited, Operation, Outcome, Event, Got, SignalRefusal, History, IsAlive, members_of, signal_phase, IsLegal, OthersCame, refused_or, CoreState}
+use Rattle.std.proofs.Common.{◌≡◌, ℕ, ◌+◌, ◌≤◌, ℤ, Bool, true, false, cond, ltb, List, [], ◌∷◌, Some, None, refl, sym, ap, subst, ◌∙◌, inl, arith}
+use Rattle.std.proofs.lemmas.Bool.{le-ltb}
+use Rattle.std.specs.Prelude.{Result, Ok, Err, IsErr, is_some}
+use Rattle.phase_shared.specs.Phasers.{Limits, is_in, Entry, mode_signals, mode_waits, entry_of, signalled, waited, Operation, Outcome, Event, Got, SignalRefusal, History, HasNoSignaller, IsAlive, members_of, signal_phase, wait_phase, done_of, value_of_phase, wait_refusal, wait_reply, got_at, IsLegal, OthersCame, refused_or, CoreState}
 use Rattle.phase_core.specs.phase_history.declared.event.Event.TheVariants.{Signalled, Waited}
 use Rattle.phase_core.specs.phase_history.declared.got.Got.TheVariants as got
 use Rattle.phase_core.specs.phase_history.declared.refusal.SignalRefusal.TheVariants as signal
-use Rattle.phase_core.proofs.phase_history_lemmas.Answered.{signal_refusal-never}
-use Rattle.phase_core.proofs.phase_history_lemmas.MemberLemmas.{entry_of-changed_same}
+use Rattle.phase_core.specs.phase_base.declared.member.Member.{Member}
+use Rattle.phase_core.proofs.phase_history_lemmas.Each.{Each, Each-of_picked}
+use Rattle.phase_core.proofs.phase_history_lemmas.Answered.{ended_tells, signal_refusal-never}
+use Rattle.phase_core.proofs.phase_history_lemmas.MemberLemmas.{Each-entry, entry_of-changed_same}
 use Rattle.phase_core.proofs.phase_history_lemmas.Used.{IsLegal-beginning}
 use Rattle.phase_shared.specs.declared.next.Next.{Next}
 use Rattle.phase_shared.specs.declared.rule.Terms.{Terms}
 use Rattle.phase_shared.specs.declared.seats.request.Request.{Request}
 use Rattle.phase_shared.specs.declared.seats.view.View.{View}
 use Rattle.phase_shared.specs.Asks.{Ask, IsAtPhases}
+use Rattle.phase_shared.specs.Asked.{IsTakenBack}
 use Rattle.phase_shared.specs.Calls.{IsCall, MaySignal, Signals, Waits}
 use Rattle.phase_shared.specs.Desks.{Reading}
 use Rattle.phase_shared.specs.Entries.{entry_after_next}
@@ -21,10 +25,10 @@ use Rattle.phase_shared.specs.Lanes.{sends_of}
 use Rattle.phase_shared.specs.Nexts.{GoesOrRefuses, RefusesNext}
 use Rattle.phase_shared.specs.Regs.{RegState}
 use Rattle.phase_shared.specs.Rule.{Allows, IsGoodAt, IsSeatOfTask, StandsWithin}
-use Rattle.phase_shared.specs.Servings.{ask_of, HasAnswer, IsRefused, IsRequestOf, IsWaiterIn, MayAsk, MayGoNext, MayAskOn, Starting}
+use Rattle.phase_shared.specs.Servings.{ask_of, HasAnswer, HasSignalled, IsRefused, IsRequestOf, IsWaiterIn, MayAsk, MayGoNext, MayAskOn, Starting}
 use Rattle.phase_shared.specs.Tells.{Took, Learnt}
 use Rattle.phase_shared.specs.Views.{Lane, Own, knowledge, known_of, speaks_of, lane_at_rest, resting, owning, turning}
-use Rattle.phase_shared.proofs.AskAnswering.{asked_signals, asked_waits, same_refusal}
+use Rattle.phase_shared.proofs.AskAnswering.{asked_signals, asked_waits, made_signals, same_refusal}
 use Rattle.phase_shared.proofs.Giving.{member_after}
 use Rattle.phase_shared.proofs.NextSteps.{made}
 use Rattle.phase_shared.proofs.Small.{apart_phases, same_some}
@@ -32,6 +36,31 @@ use Rattle.phase_shared.proofs.Stages.{at_entry, wait_is}
 
 no_event_is_none : (e : Event) (h : History) → e ∷ h ≡ [] → ⊥
 no_event_is_none e h none = cc
+
+same_error : {X : Type 0} (x y : SignalRefusal) → ◌≡◌ {A = Result X SignalRefusal} (Err x) (Err y) → x ≡ y
+same_error x y e = cc
+
+-- where no task signals, none is registered that does
+no_signaller : (h : History) (task s w : ℕ) → IsAtPhases h task s w → HasNoSignaller h → ⊥
+no_signaller h task s w st none =
+    let quiet = Each-of_picked (λ x. ⊥) (λ (m : Member). m.entry.signal_phase) (λ (m : Member). mode_signals m.entry.mode) (members_of h)
+    (subst (λ xs. Each (λ x. ⊥) xs) (sym none) tt) in
+    Each-entry _ (members_of h) task st.entry st.member quiet st.signals
+
+-- a wait for a phase that is not complete is refused
+not_yet : (value : List ℤ → Outcome) (limits : Limits) (h : History) (task s w : ℕ) → IsAtPhases h task s w → done_of h ≤ w
+    → IsErr (wait_reply value limits h task)
+not_yet value limits h task s w st low =
+    elim (wait_refusal limits h task 1) as (λ o. (wait_refusal limits h task 1 ≡ o) → IsErr (refused_or o (got_at value h (wait_phase h task)))) [
+      | Some refusal ↦ λ is. refl
+      | None ↦ λ none.
+          let at = wait_is h task s w st in
+          let over : ltb (wait_phase h task) (done_of h) ≡ false = le-ltb (wait_phase h task) (done_of h) (omega arith) in
+          let reply : wait_reply value limits h task ≡ Ok got.Ended =
+          ap (λ o. refused_or o (got_at value h (wait_phase h task))) none
+          ∙ ap (λ (b : Bool). Ok (cond b (got.Value (wait_phase h task) (value_of_phase value h (wait_phase h task))) got.Ended)) over in
+          absurd (no_signaller h task s w st (ended_tells value limits h task reply).0)
+    ] refl
 
 -- a seat at rest, in its own words
 pub rests_so : (ask : Ask) (seen : History) (v : View) → v ≡ resting seen (ask.task ∷ []) → v ≡ resting (known_of v).seen (ask.task ∷ [])
@@ -179,36 +208,110 @@ module _ {A K : Type 0} (op : Operation A) (allows : K → Allows) (terms : Term
     abbrev goes : Next
     goes = record { signalled = Some r.phase; got = Some (got.Value r.phase outcome) }
 
+    -- its signal and its wait, up to what it has then seen
+    abbrev goes_to : History → Type 0
+    goes_to last =
+        Signals op terms.limits old.number old.held None old.seen signalled_then (Ok r.phase)
+        × Waits op.value terms.limits old.number signalled_then last (Ok (got.Value r.phase outcome))
+
+    answered_parts : (last : History) → last ≡ (known_of w).seen → goes_to last
+    answered_parts last seen =
+        let is : last ≡ Waited r.task 1 ∷ a.middle = seen ∙ ap (λ (u : View). (known_of u).seen) a.is in
+        subst (λ (h : History). goes_to h) (sym is)
+        (subst (λ (n : ℕ). Signals op terms.limits n old.held None old.seen signalled_then (Ok r.phase)
+        × Waits op.value terms.limits n signalled_then (Waited r.task 1 ∷ a.middle) (Ok (got.Value r.phase outcome))) q.task (
+          asked_signals op terms.limits (allows terms.rule) (ask_of r) (knowledge old.seen (r.task ∷ []))
+              (Reading (knowledge (Waited r.task 1 ∷ a.middle) (r.task ∷ [])) (ask_of r)) learnt old.held q.holds,
+          asked_waits op terms.limits (allows terms.rule) (ask_of r) (knowledge old.seen (r.task ∷ []))
+              (Reading (knowledge (Waited r.task 1 ∷ a.middle) (r.task ∷ [])) (ask_of r)) learnt outcome a.has,
+        ))
+
+    good_then : (last : History) → last ≡ (known_of w).seen → IsGoodAt allows terms last
+    good_then last seen = subst (λ (h : History). IsGoodAt allows terms h) (sym (seen ∙ ap (λ (u : View). (known_of u).seen) a.is)) a.good
+
     -- the answer of the call
     pub answered_call : (new : RegState A K) → new.at ≡ old.at → new.number ≡ old.number → new.entry ≡ entry_then
         → new.seen ≡ (known_of w).seen
         → IsCall allows terms signal.NoTask entry_after_next (GoesOrRefuses op terms.limits None old new.seen (Ok goes)) old new (Ok goes)
     answered_call new at number entry seen =
-        let last : new.seen ≡ Waited r.task 1 ∷ a.middle = seen ∙ ap (λ (u : View). (known_of u).seen) a.is in
-        let signal : Signals op terms.limits old.number old.held None old.seen signalled_then (Ok r.phase) =
-        subst (λ (n : ℕ). Signals op terms.limits n old.held None old.seen signalled_then (Ok r.phase)) q.task
-        (asked_signals op terms.limits (allows terms.rule) (ask_of r) (knowledge old.seen (r.task ∷ []))
-        (Reading (knowledge (Waited r.task 1 ∷ a.middle) (r.task ∷ [])) (ask_of r)) learnt old.held q.holds) in
-        let wait : Waits op.value terms.limits old.number signalled_then new.seen (Ok (got.Value r.phase outcome)) =
-        subst (λ (n : ℕ). Waits op.value terms.limits n signalled_then new.seen (Ok (got.Value r.phase outcome))) q.task
-        (subst (λ (h : History). Waits op.value terms.limits r.task signalled_then h (Ok (got.Value r.phase outcome))) (sym last)
-        (asked_waits op terms.limits (allows terms.rule) (ask_of r) (knowledge old.seen (r.task ∷ []))
-        (Reading (knowledge (Waited r.task 1 ∷ a.middle) (r.task ∷ [])) (ask_of r)) learnt outcome a.has)) in
+        let parts = answered_parts new.seen seen in
         record {
           call = record {
             middle = signalled_then;
             signals = made (mode_signals old.entry.mode)
                 (λ (phase : ℕ). Signals op terms.limits old.number old.held None old.seen signalled_then (Ok phase))
-                (signalled_then ≡ old.seen) r.phase signals signal;
+                (signalled_then ≡ old.seen) r.phase signals parts.0;
             waits = made (mode_waits old.entry.mode)
                 (λ (got : Got). Waits op.value terms.limits old.number signalled_then new.seen (Ok got))
-                (new.seen ≡ signalled_then) (got.Value r.phase outcome) waits wait;
+                (new.seen ≡ signalled_then) (got.Value r.phase outcome) waits parts.1;
             named = λ none. absurd (let z : true ≡ false = sym signals ∙ none in cc);
           };
           entry = entry ∙ sym entry_then_is;
           mode = ap (λ (e : Entry). e.mode) entry;
           at = (at, number);
-          good = subst (λ (h : History). IsGoodAt allows terms h) (sym last) a.good;
+          good = good_then new.seen seen;
+          known = λ none. cc;
+        }
+
+    -- the same, where it was taken back
+    pub answered_back : (new : RegState A K) → new.at ≡ old.at → new.number ≡ old.number → new.entry ≡ entry_then
+        → new.seen ≡ (known_of w).seen → IsTakenBack op allows terms old new (Ok (r.phase, Some (got.Value r.phase outcome)))
+    answered_back new at number entry seen =
+        let parts = answered_parts new.seen seen in
+        record {
+          call = record { middle = signalled_then; signals = parts.0; waits = parts.1 };
+          entry = entry ∙ sym entry_then_is;
+          mode = ap (λ (e : Entry). e.mode) entry;
+          at = (at, number);
+          good = good_then new.seen seen;
+          known = λ none. cc;
+        }
+
+  -- where it stands after its signal alone
+  abbrev pub entry_between : Entry
+  entry_between = record old.entry { signal_phase = r.phase + 1 }
+
+  entry_between_is : signalled 1 old.entry ≡ entry_between
+  entry_between_is = λ i. record old.entry { signal_phase = q.signal_at i + 1 }
+
+  module _ (w : View) (s : HasSignalled op terms.limits (allows terms.rule) (ask_of r) old.seen w) where
+    abbrev signalled_last : History
+    signalled_last = Signalled r.task (sends_of r.send ∷ []) None ∷ s.before
+
+    member_between : entry_of (members_of signalled_last) r.task ≡ Some entry_between
+    member_between =
+        let before = member_after terms.limits r.task old.entry old.seen s.before s.others s.good.legal.0 asked_member in
+        entry_of-changed_same r.task (signalled 1) old.entry (members_of s.before) before ∙ ap Some entry_between_is
+
+    -- its seat then
+    pub back_seat : IsSeatOfTask allows terms old.number entry_between w
+    back_seat =
+        subst (λ (n : ℕ). IsSeatOfTask allows terms n entry_between w) q.task
+        (subst (λ (u : View). IsSeatOfTask allows terms r.task entry_between u) (sym s.is)
+        (record { rests = refl; member = member_between; good = s.good }))
+
+    -- and the call
+    pub back_call : (new : RegState A K) → new.at ≡ old.at → new.number ≡ old.number → new.entry ≡ entry_between
+        → new.seen ≡ (known_of w).seen → IsTakenBack op allows terms old new (Ok (r.phase, None))
+    back_call new at number entry seen =
+        let is : new.seen ≡ signalled_last = seen ∙ ap (λ (u : View). (known_of u).seen) s.is in
+        let stands : IsAtPhases signalled_last r.task (r.phase + 1) r.phase =
+        record { entry = entry_between; member = member_between; signals = signals; signal_at = refl; wait_at = q.wait_at } in
+        record {
+          call = record {
+            middle = signalled_last;
+            signals = subst (λ (n : ℕ). Signals op terms.limits n old.held None old.seen signalled_last (Ok r.phase)) q.task
+                (made_signals op terms.limits (ask_of r) old.seen s.before s.others s.accepted s.signalled_in old.held q.holds);
+            waits = (
+              is,
+              subst (λ (n : ℕ). IsErr (wait_reply op.value terms.limits signalled_last n)) q.task
+                  (not_yet op.value terms.limits signalled_last r.task (r.phase + 1) r.phase stands s.is_open),
+            );
+          };
+          entry = entry ∙ sym entry_between_is;
+          mode = ap (λ (e : Entry). e.mode) entry;
+          at = (at, number);
+          good = subst (λ (h : History). IsGoodAt allows terms h) (sym is) s.good;
           known = λ none. cc;
         }
 
@@ -223,37 +326,58 @@ module _ {A K : Type 0} (op : Operation A) (allows : K → Allows) (terms : Term
         member_now : entry_of (members_of f.now) r.task ≡ Some old.entry
         member_now = member_after terms.limits r.task old.entry old.seen f.now f.others f.good.legal asked_member
 
-    -- the refusal of the call
-    pub refused_call : (new : RegState A K) → new.at ≡ old.at → new.number ≡ old.number → new.entry ≡ old.entry
-        → new.seen ≡ (known_of w).seen
-        → IsCall allows terms signal.NoTask entry_after_next (GoesOrRefuses op terms.limits None old new.seen (Err refusal)) old new (Err refusal)
-    refused_call new at number entry seen =
-        let last : new.seen ≡ f.now = seen ∙ ap (λ (u : View). (known_of u).seen) f.is in
-        let there : entry_of (members_of f.now) r.task ≡ Some old.entry =
-        member_after terms.limits r.task old.entry old.seen f.now f.others f.good.legal asked_member in
-        let said : Signals op terms.limits r.task old.held None old.seen new.seen (Err refusal) = record {
+    -- its signal, refused
+    refused_signal : (last : History) → last ≡ (known_of w).seen
+        → Signals op terms.limits old.number old.held None old.seen last (Err refusal)
+    refused_signal last seen =
+        subst (λ (n : ℕ). Signals op terms.limits n old.held None old.seen last (Err refusal)) q.task
+        (record {
           before = f.now;
           sends = sends_of r.send;
           others = f.others;
           stands = q.holds;
-          seen = last;
+          seen = seen ∙ ap (λ (u : View). (known_of u).seen) f.is;
           reply = λ xs holds.
               ap (λ o. refused_or o (signal_phase f.now r.task))
               (same_refusal terms.limits f.now r.task xs (sends_of r.send) (sym holds.count_is ∙ q.holds.count_is) ∙ f.refused);
-        } in
-        record {
-          call = refuses (mode_signals old.entry.mode) signals
-              (subst (λ (n : ℕ). Signals op terms.limits n old.held None old.seen new.seen (Err refusal)) q.task said);
-          entry = entry;
-          mode = ap (λ (e : Entry). e.mode) entry;
-          at = (at, number);
-          good = subst (λ (h : History). IsGoodAt allows terms h) (sym last) f.good;
-          known = λ none.
-              let is : refusal ≡ signal.NoTask = cc in
-              signal_refusal-never terms.limits f.now r.task (sends_of r.send ∷ []) None (ap is_some there) (f.refused ∙ ap Some is);
-        }
+        })
+
+    -- it is registered
+    refused_known : refusal ≡ signal.NoTask → ⊥
+    refused_known is =
+        let there : entry_of (members_of f.now) r.task ≡ Some old.entry =
+        member_after terms.limits r.task old.entry old.seen f.now f.others f.good.legal asked_member in
+        signal_refusal-never terms.limits f.now r.task (sends_of r.send ∷ []) None (ap is_some there) (f.refused ∙ ap Some is)
+
+    good_now : (last : History) → last ≡ (known_of w).seen → IsGoodAt allows terms last
+    good_now last seen = subst (λ (h : History). IsGoodAt allows terms h) (sym (seen ∙ ap (λ (u : View). (known_of u).seen) f.is)) f.good
+
+    -- the refusal of the call
+    pub refused_call : (new : RegState A K) → new.at ≡ old.at → new.number ≡ old.number → new.entry ≡ old.entry
+        → new.seen ≡ (known_of w).seen
+        → IsCall allows terms signal.NoTask entry_after_next (GoesOrRefuses op terms.limits None old new.seen (Err refusal)) old new (Err refusal)
+    refused_call new at number entry seen = record {
+      call = refuses (mode_signals old.entry.mode) signals (refused_signal new.seen seen);
+      entry = entry;
+      mode = ap (λ (e : Entry). e.mode) entry;
+      at = (at, number);
+      good = good_now new.seen seen;
+      known = λ none. refused_known (same_error refusal signal.NoTask none);
+    }
       where
         refuses : (can : Bool) → can ≡ true → Signals op terms.limits old.number old.held None old.seen new.seen (Err refusal)
             → RefusesNext op terms.limits None old new.seen can refusal
         refuses true yes' s = s
         refuses false yes' s = absurd (cc)
+
+    -- the same, where it was taken back
+    pub refused_back : (new : RegState A K) → new.at ≡ old.at → new.number ≡ old.number → new.entry ≡ old.entry
+        → new.seen ≡ (known_of w).seen → IsTakenBack op allows terms old new (Err refusal)
+    refused_back new at number entry seen = record {
+      call = refused_signal new.seen seen;
+      entry = entry;
+      mode = ap (λ (e : Entry). e.mode) entry;
+      at = (at, number);
+      good = good_now new.seen seen;
+      known = λ none. refused_known (same_error refusal signal.NoTask none);
+    }

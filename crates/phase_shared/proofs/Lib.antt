@@ -26,6 +26,7 @@ pub mod WordCalls
 pub mod AskCalls
 pub mod WaitsLow
 pub mod AskNexts
+pub mod AskedOpening
 pub mod LaterNexts
 pub mod Giving
 pub mod Answering

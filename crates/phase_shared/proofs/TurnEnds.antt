@@ -3,7 +3,7 @@ use Rattle.std.proofs.Common.{◌≡◌, ℕ, ◌+◌, ◌*◌, ◌<◌, ◌≤�
 use Rattle.std.specs.Prelude.{◌/◌, ◌%◌}
 use Rattle.turn_lock.specs.WordSteps.{GivesOf}
 use Rattle.phase_shared.specs.Phasers.{Limits, Operation, Outcome, SignalRefusal, History, done_of, value_of_phase, IsLegal, signal_refusal, OthersCame, CoreState}
-use Rattle.phase_core.specs.phase_history.declared.event.Event.TheVariants.{Waited}
+use Rattle.phase_core.specs.phase_history.declared.event.Event.TheVariants.{Signalled, Waited}
 use Rattle.phase_core.specs.Cores as core
 use Rattle.phase_core.proofs.phase_history_lemmas.OthersEvents.{OthersCame-refl}
 use Rattle.phase_core.proofs.phase_history_lemmas.Used.{IsLegal-beginning}
@@ -13,10 +13,11 @@ use Rattle.phase_shared.specs.Desks.{View, Resting, Asking, IsPast}
 use Rattle.phase_shared.specs.Goods.{Allows, IsGood, Keeps}
 use Rattle.phase_shared.specs.Lanes.{lanes_most}
 use Rattle.phase_shared.specs.Rule.{IsOneHistory, StandsWithin}
-use Rattle.phase_shared.specs.Servings.{Turned, Starting, Serving, Finished, IsAnsweredIn, HasAnswer, IsRefused, WasOpen}
+use Rattle.phase_shared.specs.Servings.{Turned, Starting, Serving, Finished, IsAnsweredIn, HasAnswer, HasSignalled, IsRefused, IsOpenIn, WasOpen}
 use Rattle.phase_shared.specs.Tells.{EndsTurn, StillAsks, LaneIsPast, Leaves}
 use Rattle.phase_shared.specs.Views.{Lane, Own, Holds, knowledge, known_of, resting, turning, board_of}
 use Rattle.phase_shared.specs.WordTells.{with_lane, with_board}
+use Rattle.phase_shared.proofs.Growing.{done_grows}
 use Rattle.phase_shared.proofs.Small.{apart_phases}
 use Rattle.phase_shared.proofs.Places.{own_not_held, held_number}
 use Rattle.phase_shared.proofs.Stages.{signal_is, wait_is, done_within, stage_waited}
@@ -108,6 +109,35 @@ module _ {A : Type 0} (op : Operation A) (limits : Limits) (allows : Allows) (as
         })
         (λ q. subst (λ (n : ℕ). done_of t.did.now ≤ n) (same_phase ask.lane q.ask.lane ask.phase q.ask.phase q.posts) low)
         refl
+
+    -- ---- its phase is open, and it asks no more
+
+    pub gives_rest : (number told : ℕ) (v u : View) (x y : CoreState A) → (s : Serving op limits allows ask seen false 0 v x)
+        → u ≡ with_lane (Own ask.lane) v → y ≡ x → IsOpenIn op x ask.phase
+        → GivesOf (IsOneHistory op limits allows) tt number u y told told (λ p q r. HasSignalled op limits allows ask seen r)
+    gives_rest number told v u x y s is same low =
+        let t = s.turned in
+        let m = s.owes.made in
+        let log : History = t.did.later ++ t.did.now in
+        let last : History = Signalled ask.task (ask.sends ∷ []) None ∷ m.before in
+        let whole : log ≡ m.since.later ++ last = m.since.is in
+        let good_log : IsGood limits allows (m.since.later ++ last) = subst (λ (h : History). IsGood limits allows h) whole t.good in
+        let legal : IsLegal limits last = IsLegal-beginning limits last log (λ none. cc) t.good.legal (record { later = m.since.later; is = whole }) in
+        let grown : done_of last ≤ done_of (m.since.later ++ last) = done_grows limits m.since.later last (λ none. cc) good_log.legal in
+        let most : done_of (m.since.later ++ last) ≤ ask.phase = subst (λ (h : History). done_of h ≤ ask.phase) whole (low log t.stands.stands) in
+        gives_same (λ r. HasSignalled op limits allows ask seen r) number told 0 v u x y (Own ask.lane) (resting last (ask.task ∷ [])) t
+        (is ∙ ap (with_lane (Own ask.lane)) t.is) same
+        (inl (last, refl, m.since, tt))
+        (λ q. absurd (own_not_held ask.lane q.ask.lane (q.ask.phase + 1) q.posts))
+        (record {
+          before = m.before;
+          others = m.others;
+          accepted = m.accepted;
+          signalled_in = m.signalled_in;
+          is_open = omega (arith, grown, most);
+          is = refl;
+          good = record { legal = legal; keeps = keeps_before allows m.since.later last good_log.keeps };
+        })
 
     -- ---- its wait is made
 

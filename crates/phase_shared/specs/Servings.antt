@@ -1,10 +1,10 @@
 -- A turn of a seat that asked: what it read of others' asks, and what it did so far.
 use Rattle.std.specs.Prelude.{◌≡◌, ◌≢◌, ℕ, ◌+◌, ◌<◌, ◌≤◌, List, [], ◌∷◌, ◌++◌, ◌⊎◌, Bool, true, false, Option, Some, None, Result, Ok, Err}
 use Rattle.turn_lock.specs.Seats.{Place}
-use Rattle.phase_shared.specs.Phasers.{Limits, mode_signals, mode_waits, entry_of, Entry, Operation, StandsForSends, Outcome, SignalRefusal, History, IsAlive, members_of, done_of, value_of_phase, signal_refusal, wait_refusal, OthersCame, CoreState, StandsFor, is_in}
+use Rattle.phase_shared.specs.Phasers.{Limits, mode_signals, mode_waits, entry_of, Entry, Operation, StandsForSends, Outcome, SignalRefusal, History, IsAlive, members_of, done_of, value_of_phase, signal_phase, signal_refusal, wait_refusal, OthersCame, CoreState, StandsFor, is_in}
 use Rattle.phase_core.specs.phase_base.Members.{Members}
 use Rattle.phase_shared.specs.Regs.{RegState}
-use Rattle.phase_core.specs.phase_history.declared.event.Event.TheVariants.{Waited}
+use Rattle.phase_core.specs.phase_history.declared.event.Event.TheVariants.{Signalled, Waited}
 use Rattle.phase_shared.specs.declared.seats.view.View.{View}
 use Rattle.phase_shared.specs.declared.seats.view.View.TheVariants.{Asking}
 use Rattle.phase_shared.specs.declared.seats.request.Request.{Request}
@@ -73,6 +73,12 @@ pub record MayAskOn (limits : Limits) (signals : Allows) (ask : Ask) (seen : His
 -- a seat that asks
 abbrev pub IsAsking : Ask → History → View → Type 0
 IsAsking ask seen v = v ≡ Asking (knowledge seen (ask.task ∷ [])) ask
+
+-- a seat that asks, between two calls
+pub record AsksAt (limits : Limits) (signals : Allows) (ask : Ask) (seen : History) (v : View)
+    : Type 0 where
+  pub asks : IsAsking ask seen v
+  pub waits : MayWait limits signals ask seen
 
 -- the task is registered as one that signals, and stands before the phase
 pub record HasToSignal (members : Members) (task phase : ℕ) : Type 0 where
@@ -172,6 +178,16 @@ module _ {A : Type 0} (op : Operation A) (limits : Limits) (allows : Allows) (as
     pub has : outcome ≡ value_of_phase op.value (Waited ask.task 1 ∷ middle) ask.phase
     pub good : IsGood limits allows (Waited ask.task 1 ∷ middle)
 
+  -- its signal alone, in a phase that is not complete
+  pub record HasSignalled (w : View) : Type 0 where
+    pub before : History
+    pub others : OthersCame (ask.task ∷ []) seen before
+    pub accepted : signal_refusal limits before ask.task (ask.sends ∷ []) None ≡ None
+    pub signalled_in : signal_phase before ask.task ≡ ask.phase
+    pub is_open : done_of (Signalled ask.task (ask.sends ∷ []) None ∷ before) ≤ ask.phase
+    pub is : w ≡ resting (Signalled ask.task (ask.sends ∷ []) None ∷ before) (ask.task ∷ [])
+    pub good : IsGood limits allows (Signalled ask.task (ask.sends ∷ []) None ∷ before)
+
   -- its signal is refused
   pub record IsRefused (refusal : SignalRefusal) (w : View) : Type 0 where
     pub now : History
@@ -185,6 +201,12 @@ module _ {A : Type 0} (op : Operation A) (limits : Limits) (allows : Allows) (as
   HasEnded (Ok outcome) w = HasAnswer outcome w
   HasEnded (Err refusal) w = IsRefused refusal w
 
+  -- what was asked for is taken back: its signal is made, or it has ended
+  abbrev pub HasRested : Result (Option Outcome) SignalRefusal → View → Type 0
+  HasRested (Ok None) w = HasSignalled w
+  HasRested (Ok (Some outcome)) w = HasAnswer outcome w
+  HasRested (Err refusal) w = IsRefused refusal w
+
 -- its phase is complete
 abbrev pub IsPhaseDone : {A : Type 0} {op : Operation A} {limits : Limits} {allows : Allows}
     {ask : Ask} {seen : History} {serves : Bool} {k : ℕ} {v : View} {x : CoreState A}
@@ -194,6 +216,10 @@ IsPhaseDone {ask = ask} s = ask.phase < done_of (s.turned.did.later ++ s.turned.
 -- the phase is complete in whatever the core stands for
 abbrev pub IsCompleteIn : {A : Type 0} → Operation A → CoreState A → ℕ → Type 0
 IsCompleteIn op x phase = (h : History) → StandsFor op x h → phase < done_of h
+
+-- or it is not
+abbrev pub IsOpenIn : {A : Type 0} → Operation A → CoreState A → ℕ → Type 0
+IsOpenIn op x phase = (h : History) → StandsFor op x h → done_of h ≤ phase
 
 -- it was not, when the turn was taken
 abbrev pub WasOpen : View → ℕ → Type 0

@@ -126,6 +126,7 @@
 //! and says how far the call is.
 #![tactic(auto)]
 
+mod asked;
 mod blocks;
 mod held;
 mod lane_words;
@@ -146,7 +147,8 @@ mod trying;
 mod waiting;
 mod waiting_blocks;
 
-pub use loose::Loose;
+pub use asked::Asked;
+pub use loose::{Loose, LooseAsked};
 pub use next::Next;
 pub use past::Past;
 pub use phase_core;

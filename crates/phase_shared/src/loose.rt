@@ -1,6 +1,7 @@
-//! A registration that may be thrown away.
+//! Registrations that may be thrown away.
 ghost use Rattle.std.specs.Prelude.{◌≡◌};
 
+use crate::asked::Asked;
 use crate::reg::Reg;
 use crate::rule::SignalRule;
 use phase_core::phase_accum::Accumulate;
@@ -34,6 +35,36 @@ impl<A: Accumulate, K: SignalRule> Drop for Loose<A, K> {
             pending: _,
             spins: _,
         } = reg;
+        drop(seat);
+    }
+}
+
+/// A registration that asks and may be thrown away. It then stays registered for ever, as a `Loose`
+/// does; the signal that it asked for may still be made.
+pub struct LooseAsked<A: Accumulate, K: SignalRule> {
+    pub asked: Asked<A, K>,
+}
+
+impl<A: Accumulate, K: SignalRule> LooseAsked<A, K> {
+    /// Returns the registration that asks, which cannot be thrown away.
+    pub fn into_asked(self) -> Asked<A, K>
+        ensures { result ≡ self.asked }
+    {
+        let LooseAsked { asked } = self;
+        asked
+    }
+}
+
+impl<A: Accumulate, K: SignalRule> Drop for LooseAsked<A, K> {
+    fn drop(self) {
+        let LooseAsked { asked } = self;
+        let Asked {
+            seat,
+            entry: _,
+            pending: _,
+            request: _,
+            spins: _,
+        } = asked;
         drop(seat);
     }
 }

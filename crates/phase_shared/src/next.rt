@@ -113,7 +113,7 @@ impl<A: Accumulate, K: SignalRule> Reg<A, K> {
     // What it asks others for, where it may be able to: it waits too, and names no single; it got a
     // lane, and stands before its next phase; and a word says what it holds. Where it is alone, it
     // asks nobody.
-    fn request(&self, phaser: &Phaser<A, K>, single: Option<Single>) -> Option<Request>
+    pub(crate) fn request(&self, phaser: &Phaser<A, K>, single: Option<Single>) -> Option<Request>
         ensures request { IfSome result (λ r. IsRequestOf A.operation r self.now) }
         ensures waits { IfSome result (λ r. mode_waits self.now.entry.mode ≡ true) }
         ensures single { IfSome result (λ r. single ≡ None) }

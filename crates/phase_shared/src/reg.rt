@@ -104,6 +104,16 @@ impl<A: Accumulate, K: SignalRule> Reg<A, K> {
         self.pending = Held::these(sends);
     }
 
+    /// Holds no sends. It takes no turn and no memory.
+    pub fn hold_none(&mut self)
+        ensures none_held { StandsForSends A.operation self.new.held []
+            × (self.new.held.count ≡ 0) }
+        ensures same { (self.new.at ≡ self.old.at) × (self.new.number ≡ self.old.number)
+            × (self.new.entry ≡ self.old.entry) × (self.new.seen ≡ self.old.seen) }
+    {
+        self.pending = Held::new();
+    }
+
     /// Returns how many sends it holds.
     pub fn pending(&self) -> u64
         ensures value { result ≡ self.now.held.count }

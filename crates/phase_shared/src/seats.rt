@@ -1,5 +1,6 @@
 //! A phaser under a lock: what the seats of its lock know, and each call as a step of a seat.
 
+pub mod asked;
 pub mod asking;
 pub mod block_steps;
 pub mod desk;

@@ -1,7 +1,9 @@
 //! The steps of a seat that asks, and of its turn, that make no event.
-ghost use Rattle.std.specs.Prelude.{◌≡◌};
+ghost use Rattle.std.specs.Prelude.{◌≡◌, IfOk};
 ghost use Rattle.turn_lock.specs.Seats.{seat_view, turn_view, turn_value};
 ghost use Rattle.phase_core.specs.phase_history.Phases.{value_of_phase};
+ghost use Rattle.phase_shared.specs.Goods.{allows_or};
+ghost use Rattle.phase_shared.specs.Servings.{HasAnswer};
 ghost use Rattle.phase_shared.specs.declared.seats.view.Ask.{Ask};
 ghost use Rattle.phase_shared.specs.declared.seats.view.Knowledge.{Knowledge};
 ghost use Rattle.phase_shared.specs.declared.seats.view.View.TheVariants.{Resting, Reading};
@@ -34,22 +36,35 @@ impl<'a, A: Accumulate, K: SignalRule, S: Since<K>> AskingDesk<'a, A, K, S> {
     }
 
     /// Looks whether what it asked for is answered, and reads its value then.
-    pub fn look(self) -> Came<'a, A, K, S> {
+    pub fn read(self) -> Result<(Desk<'a, A, K, S>, Outcome), AskingDesk<'a, A, K, S>>
+        ensures ok { IfOk result (λ told. HasAnswer A.operation S.terms.limits
+            (allows_or K.allows S.terms.rule) S.ask S.seen told.1 (seat_view told.0.seat)) }
+    {
         let AskingDesk { desk, is_made } = self;
         let Desk { of, seat } = desk;
         let (seat, told) = of.phaser.lock.look::<OnAsked<K>>(seat);
         let phase = of.request.phase;
         let desk = Desk { of, seat };
         if told % 2 == 0 || told / 2 <= phase {
-            return Came::Asked(AskingDesk { desk, is_made });
+            return Err(AskingDesk { desk, is_made });
         }
         let (desk, outcome) = desk.read_answer();
-        let answer = Ok(outcome);
-        Came::Ended(EndedDesk {
-            desk,
-            answer,
-            is_told: true,
-        })
+        Ok((desk, outcome))
+    }
+
+    /// The same, as what came of it.
+    pub fn look(self) -> Came<'a, A, K, S> {
+        match self.read() {
+            Ok((desk, outcome)) => {
+                let answer = Ok(outcome);
+                Came::Ended(EndedDesk {
+                    desk,
+                    answer,
+                    is_told: true,
+                })
+            }
+            Err(asking) => Came::Asked(asking),
+        }
     }
 }
 

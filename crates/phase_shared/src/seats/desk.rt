@@ -215,3 +215,13 @@ impl<'a, A: Accumulate, K: SignalRule, S: Since<K>> Model for FullTurn<'a, A, K,
         (allows_or K.allows S.terms.rule) S.ask S.seen true (turn_view t.on.turn)
         (turn_value t.on.turn) };
 }
+
+/// How far others have brought a turn's call.
+pub enum Stage<'a, A: Accumulate, K: SignalRule, S: Since<K>> {
+    /// It has ended.
+    Ended(EndedDesk<'a, A, K, S>),
+    /// Nothing of it is made.
+    First(FirstTurn<'a, A, K, S>),
+    /// Its signal is, in a phase that is not complete.
+    Open(OpenTurn<'a, A, K, S>),
+}

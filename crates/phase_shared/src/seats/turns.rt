@@ -1,15 +1,15 @@
 //! The turns of a seat that asks, from the take to the give.
-ghost use Rattle.std.specs.Prelude.{◌<◌, ◌^◌, false};
+ghost use Rattle.std.specs.Prelude.{◌<◌, ◌^◌, false, IfErr};
 ghost use Rattle.turn_lock.specs.Seats.{seat_view, turn_number, turn_view, turn_value, turn_told};
 ghost use Rattle.turn_lock.specs.WordSteps.{GivesOf};
 ghost use Rattle.phase_shared.specs.Goods.{allows_or};
 ghost use Rattle.phase_shared.specs.Rule.{HasOneHistory};
-ghost use Rattle.phase_shared.specs.Servings.{Serving, IsAnsweredIn, IsCompleteIn};
+ghost use Rattle.phase_shared.specs.Servings.{Serving, IsAnsweredIn, IsCompleteIn, IsOpenIn, HasSignalled};
 
 use crate::lane_words::sends_of;
 use crate::rule::SignalRule;
 use crate::seats::desk::{
-    AskingDesk, Came, Desk, EndedDesk, FirstTurn, FullTurn, OnTurn, OpenTurn, RefusedTurn,
+    AskingDesk, Came, Desk, EndedDesk, FirstTurn, FullTurn, OnTurn, OpenTurn, RefusedTurn, Stage,
     TakenTurn,
 };
 use crate::seats::ghost_steps::{OnGive, Plan, Since};
@@ -64,6 +64,18 @@ impl<'a, A: Accumulate, K: SignalRule, S: Since<K>> OnTurn<'a, A, K, S> {
             answer,
             is_told: false,
         }
+    }
+
+    // Gives the turn back where its signal alone is made, and its phase is not complete. It asks no
+    // more.
+    fn rest(self) -> Desk<'a, A, K, S>
+        requires serving { Serving A.operation S.terms.limits (allows_or K.allows S.terms.rule)
+            S.ask S.seen false 0 (turn_view self.turn) (turn_value self.turn) }
+        requires low { IsOpenIn A.operation (turn_value self.turn) S.ask.phase }
+        ensures back { HasSignalled A.operation S.terms.limits (allows_or K.allows S.terms.rule)
+            S.ask S.seen (seat_view result.seat) }
+    {
+        self.clear_in().give_same::<Brand, _>(())
     }
 
     // Waits for its phase, which is complete, and gives the turn back: others go on by themselves.
@@ -144,6 +156,23 @@ impl<'a, A: Accumulate, K: SignalRule, S: Since<K>> OpenTurn<'a, A, K, S> {
         }
     }
 
+    // Gives the turn back while its phase is not complete, and asks no more; else goes on to it.
+    fn rest(self) -> Result<EndedDesk<'a, A, K, S>, Desk<'a, A, K, S>>
+        ensures back { IfErr result (λ desk. HasSignalled A.operation S.terms.limits
+            (allows_or K.allows S.terms.rule) S.ask S.seen (seat_view desk.seat)) }
+    {
+        let OpenTurn { on } = self;
+        let OnTurn { of, mut turn } = on;
+        let phase = of.request.phase;
+        let done = turn.value_in(&of.phaser.lock).done();
+        let on = OnTurn { of, turn };
+        if done <= phase {
+            return Err(on.rest());
+        }
+        let full = FullTurn { on };
+        Ok(full.finish())
+    }
+
     // Gives the turn back while its phase is not complete: it asks that others go on.
     fn give_up(self) -> AskingDesk<'a, A, K, S> {
         let OpenTurn { on } = self;
@@ -183,8 +212,8 @@ impl<'a, A: Accumulate, K: SignalRule, S: Since<K>> FullTurn<'a, A, K, S> {
 }
 
 impl<'a, A: Accumulate, K: SignalRule, S: Since<K>> TakenTurn<'a, A, K, S> {
-    /// Goes on with what others left to do, for so many looks.
-    pub fn go_on(self, looks: u32) -> Came<'a, A, K, S> {
+    // What others left to do.
+    fn stage(self) -> Stage<'a, A, K, S> {
         let TakenTurn { on } = self;
         let OnTurn { of, mut turn } = on;
         let request = of.request;
@@ -195,14 +224,42 @@ impl<'a, A: Accumulate, K: SignalRule, S: Since<K>> TakenTurn<'a, A, K, S> {
         };
         let on = OnTurn { of, turn };
         if entry.wait_phase > request.phase {
-            return Came::Ended(on.take_answer());
+            return Stage::Ended(on.take_answer());
         }
         if entry.signal_phase == request.phase {
-            return FirstTurn { on }.start(looks);
+            let first = FirstTurn { on };
+            return Stage::First(first);
         }
         if is_done {
-            return Came::Ended(on.wait_late());
+            return Stage::Ended(on.wait_late());
         }
-        OpenTurn { on }.serve(looks)
+        let going = OpenTurn { on };
+        Stage::Open(going)
+    }
+
+    /// Goes on with what others left to do, for so many looks.
+    pub fn go_on(self, looks: u32) -> Came<'a, A, K, S> {
+        match self.stage() {
+            Stage::Ended(ended) => Came::Ended(ended),
+            Stage::First(first) => first.start(looks),
+            Stage::Open(open) => open.serve(looks),
+        }
+    }
+
+    /// Takes back what it asked for: its signal is made, or refused, and it asks no more. Where its
+    /// phase is complete it goes on to it.
+    pub fn take_back(self) -> Result<EndedDesk<'a, A, K, S>, Desk<'a, A, K, S>>
+        ensures back { IfErr result (λ desk. HasSignalled A.operation S.terms.limits
+            (allows_or K.allows S.terms.rule) S.ask S.seen (seat_view desk.seat)) }
+    {
+        let open = match self.stage() {
+            Stage::Ended(ended) => return Ok(ended),
+            Stage::First(first) => match first.signal_own() {
+                Ok(open) => open,
+                Err(refused) => return Ok(refused.refuse()),
+            },
+            Stage::Open(open) => open,
+        };
+        open.rest()
     }
 }

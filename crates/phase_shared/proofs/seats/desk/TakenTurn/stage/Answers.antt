@@ -5,10 +5,10 @@ use Rattle.phase_shared.specs.Rule.{StandsWithin}
 use Rattle.phase_shared.specs.Tells.{TookAsked}
 use Rattle.phase_shared.specs.Views.{knowledge}
 use Rattle.phase_shared.proofs.TurnGoes.{took_still, told_member, stage_found, open_now, answered_in, starting, serving}
-use Rattle.phase_shared.proofs.seats.desk.TakenTurn.go_on.Given.{Over}
-use Rattle.phase_shared.proofs.seats.desk.TakenTurn.go_on.Goals.{After-view, In-Some}
+use Rattle.phase_shared.proofs.seats.desk.TakenTurn.stage.Given.{Over}
+use Rattle.phase_shared.proofs.seats.desk.TakenTurn.stage.Goals.{After-view, In-Some}
 use Rattle.phase_shared.specs.Goods.{allows_or}
-use Rattle.phase_shared.proofs.seats.desk.TakenTurn.go_on.Goals as goal
+use Rattle.phase_shared.proofs.seats.desk.TakenTurn.stage.Goals as goal
 
 -- what the take told, of the core as it was lent
 took : (g : Over) (c : After-view g) → TookAsked (g.A.Accumulate.operation).value g.S.Since.terms.limits (allows_or g.K.SignalRule.allows g.S.Since.terms.rule) (StandsWithin g.A.Accumulate.operation g.S.Since.terms.limits) (knowledge g.S.Since.seen (g.S.Since.ask.task ∷ [])) g.S.Since.ask c.value_in-core.result.now
@@ -44,9 +44,9 @@ take_answer-requires g c =
           (let more = c.if-entry-request.true in omega arith);
     }
 
-pub invariant_of-start : goal.invariant_of-start
-invariant_of-start g c =
-    let at = goal.at.invariant_of-start g c in
+pub invariant_of-first : goal.invariant_of-first
+invariant_of-first g c =
+    let at = goal.at.invariant_of-first g c in
     let k = took g at.After-view in
     let w = c.self.invariant.1 in
     let e : g.S.Since.ask.phase ≡ c.self.inside.on.of.request.phase = phase g at.In-Some k (viewed g at.After-view) in (
@@ -69,9 +69,9 @@ wait_late-requires-clause-complete g c h stands =
     subst (λ (n : ℕ). n < done_of h) (ap (λ a. a.phase) (sym c.self.inside.on.of.ask_is))
     (subst (λ (n : ℕ). c.self.inside.on.of.request.phase < n) (c.done.ensures h stands) c.if-is_done.true)
 
-pub invariant_of-serve : goal.invariant_of-serve
-invariant_of-serve g c =
-    let at = goal.at.invariant_of-serve g c in
+pub invariant_of-going : goal.invariant_of-going
+invariant_of-going g c =
+    let at = goal.at.invariant_of-going g c in
     let k = took g at.After-view in
     let w = c.self.invariant.1 in
     let e : g.S.Since.ask.phase ≡ c.self.inside.on.of.request.phase = phase g at.In-Some k (viewed g at.After-view) in

@@ -5,8 +5,8 @@ use Rattle.phase_shared.specs.Servings.{HasAnswer}
 use Rattle.phase_shared.specs.Views.{knowledge}
 use Rattle.phase_shared.proofs.AskCalls.{looks_ask, asks_still, was_answered, is_read, has_answer}
 use Rattle.phase_shared.proofs.CallSteps.{at_call}
-use Rattle.phase_shared.proofs.seats.desk.AskingDesk.look.Goals.{then-told-eq0-via-then-told-eq0, then-told-eq0-via-else-told-eq0+then-told-phase}
-use Rattle.phase_shared.proofs.seats.desk.AskingDesk.look.Goals as goal
+use Rattle.phase_shared.proofs.seats.desk.AskingDesk.read.Goals.{then-told-eq0-via-then-told-eq0, then-told-eq0-via-else-told-eq0+then-told-phase}
+use Rattle.phase_shared.proofs.seats.desk.AskingDesk.read.Goals as goal
 
 pub look-seat-requires-clause-rule : goal.look-seat-requires-clause-rule
 look-seat-requires-clause-rule g c =
@@ -43,17 +43,19 @@ read_answer-desk-requires g c =
           c.self.invariant.0 c.look-seat.ensures.rule (omega (arith, c.if-told-eq0.false), omega (arith, phase, c.if-told-phase.false)));
     }
 
-pub invariant_of-result-2 : goal.invariant_of-result-2
-invariant_of-result-2 g c =
+pub returns : goal.returns
+returns g c =
     let old = c.self.inside.desk.seat in
     let at = locked_terms c.self.inside.desk.of.phaser.now in
     let told = c.look-seat.result.1 in
     let w = seat_view c.look-seat.result.0 in
     let phase : g.S.Since.ask.phase ≡ c.self.inside.desk.of.request.phase = ap (λ a. a.phase) c.self.inside.desk.of.ask_is in
     let x = seat_view c.read_answer-desk.result.0.seat in
-    at_call g.K.SignalRule.allows at g.S.Since.terms c.self.inside.desk.of.terms_is
-    (λ limits allows. HasAnswer g.A.Accumulate.operation limits allows g.S.Since.ask g.S.Since.seen c.read_answer-desk.result.1 x)
-    (has_answer g.A.Accumulate.operation at.limits (g.K.SignalRule.allows at.rule) g.S.Since.ask g.S.Since.seen w x c.read_answer-desk.result.1
-    (was_answered g.A.Accumulate.operation at.limits (g.K.SignalRule.allows at.rule) g.S.Since.ask g.S.Since.seen (seat_view old) told w
-    c.self.invariant.0 c.look-seat.ensures.rule (omega (arith, c.if-told-eq0.false), omega (arith, phase, c.if-told-phase.false)))
-    c.read_answer-desk.ensures.answer)
+    record {
+      ok = at_call g.K.SignalRule.allows at g.S.Since.terms c.self.inside.desk.of.terms_is
+          (λ limits allows. HasAnswer g.A.Accumulate.operation limits allows g.S.Since.ask g.S.Since.seen c.read_answer-desk.result.1 x)
+          (has_answer g.A.Accumulate.operation at.limits (g.K.SignalRule.allows at.rule) g.S.Since.ask g.S.Since.seen w x c.read_answer-desk.result.1
+          (was_answered g.A.Accumulate.operation at.limits (g.K.SignalRule.allows at.rule) g.S.Since.ask g.S.Since.seen (seat_view old) told w
+          c.self.invariant.0 c.look-seat.ensures.rule (omega (arith, c.if-told-eq0.false), omega (arith, phase, c.if-told-phase.false)))
+          c.read_answer-desk.ensures.answer);
+    }

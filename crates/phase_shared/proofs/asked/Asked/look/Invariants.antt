@@ -1,0 +1,14 @@
+use Rattle.turn_lock.specs.Seats.{seat_view}
+use Rattle.phase_shared.specs.LockedPhasers.{locked_place, locked_terms, some_terms}
+use Rattle.phase_shared.specs.Servings.{ask_of}
+use Rattle.phase_shared.specs.Views.{known_of}
+use Rattle.phase_shared.proofs.asked.Asked.look.Given as goal
+
+-- its phaser, what it asked for, and what it had seen then
+abbrev pub ghosts-look : goal.ghosts-look
+ghosts-look g a = record {
+  place = locked_place a.phaser.now;
+  terms = some_terms (locked_terms a.phaser.now);
+  ask = ask_of a.request;
+  seen = (known_of (seat_view a.seat)).seen;
+}
