@@ -151,7 +151,7 @@ impl Machine {
             return Went::Before { place, phase };
         }
         let got = &out[..count as usize];
-        self.tasks[t].take(job, t, got);
+        self.tasks[t].take(job, t, got, &mut buffers.values);
         self.keep(sink, got);
         Went::On
     }

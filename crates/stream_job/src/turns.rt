@@ -234,7 +234,7 @@ impl Machine {
         match self.wait_block_on(job, phaser, number, out) {
             Ok(GotBlock::Values { phase, count }) => {
                 let got = &out[..count as usize];
-                self.tasks[t].take(job, t, got);
+                self.tasks[t].take(job, t, got, &mut buffers.values);
                 self.keep(sink, got);
                 Made::Event {
                     phaser,

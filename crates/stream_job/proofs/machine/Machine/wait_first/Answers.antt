@@ -1,6 +1,7 @@
 -- A task waits as the number that stands at the registration of its input, for the steps of its next
 -- block.
-use Rattle.std.proofs.Common.{◌≡◌, ◌<◌, ◌≤◌, ◌+◌, ◌*◌, ◌∷◌, length, get_or, map, set, take, sym, ap, subst, ◌∙◌, arith, List, ℤ}
+use Rattle.std.proofs.Common.{rules, ◌≡◌, ◌<◌, ◌≤◌, ◌+◌, ◌*◌, ◌∷◌, length, get_or, map, set, take, sym, ap, subst, ◌∙◌, arith, List, ℤ}
+use Rattle.std.proofs.lemmas.List.{length-take}
 use Rattle.std.specs.Prelude.{Ok, Err, IfSome}
 use Rattle.std.specs.List.{All}
 use Rattle.phase_any.specs.phase_base.declared.limits.TheConstants.{PHASES_MAX}
@@ -18,14 +19,13 @@ use Rattle.stream_eval.specs.stream_lists.Jobs.{with_samples}
 use Rattle.stream_job.specs.Stepping.{with_more, HasRoomIn, IsNextIn}
 use Rattle.stream_job.specs.Places.{StateHasTaken}
 use Rattle.stream_job.specs.SinkLines.{kept_of}
-use Rattle.stream_job.specs.Turning.{HadTurn}
 use Rattle.stream_job.specs.Machines.{HasCores, HasRoom, IsMachineAt, kept_behind}
 use Rattle.stream_job.proofs.Lively.{state_read, state_there}
 use Rattle.stream_job.proofs.Setting.{read_same, bare_cores, full_cores}
 use Rattle.stream_job.proofs.Rooms.{room_of}
 use Rattle.stream_job.proofs.Waits.{AsksFirst, asks_places, GotAll, got_answered, done_few, first_waits_at, first_few}
-use Rattle.stream_job.proofs.FirstTurns.{MayTake, may_take, had_as, first_answer, first_turn, blocked_first, first_never_ended, sink_there}
-use Rattle.stream_job.proofs.machine.Machine.wait_first.Goals.{After-wait_block_on, In-Ok-Values, After-index_mut, in-Ok-Values, in-Err}
+use Rattle.stream_job.proofs.FirstTurns.{MayTake, may_take, first_answer, first_turn, blocked_first, first_never_ended, sink_there}
+use Rattle.stream_job.proofs.machine.Machine.wait_first.Goals.{After-wait_block_on, In-Ok-Values, After-index_mut}
 use Rattle.stream_job.proofs.machine.Machine.wait_first.Goals as goal
 
 -- ---- what the answers share
@@ -172,9 +172,12 @@ take-requires-clause-block c =
     let s = c.requires.next.0 in
     let next = c.requires.next.1 in
     let job = with_samples s c.args.job.now in
-    let a = goal.at.take-requires-clause-block c in
-    (may s a.After-index_mut next (asks s a.After-wait_block_on next)
-    (all s a.In-Ok-Values next (long s a.After-wait_block_on next))).block
+    let a = goal.at.take-requires-clause-block c in (
+      (all s a.In-Ok-Values next (long s a.After-wait_block_on next) next.some.0
+          next.some.1).some,
+      (may s a.After-index_mut next (asks s a.After-wait_block_on next)
+          (all s a.In-Ok-Values next (long s a.After-wait_block_on next))).block,
+    )
 
 pub take-requires-clause-nothing : goal.take-requires-clause-nothing
 take-requires-clause-nothing c =
@@ -191,8 +194,14 @@ take-requires-clause-room c =
     let next = c.requires.next.1 in
     let job = with_samples s c.args.job.now in
     let a = goal.at.take-requires-clause-room c in
-    (may s a.After-index_mut next (asks s a.After-wait_block_on next)
-    (all s a.In-Ok-Values next (long s a.After-wait_block_on next))).room
+    let items = ap length c.deref_mut.ensures.value in
+    let as_many = c.buffers.invariant.0 in
+    let most = c.buffers.invariant.1 in
+    let cut = length-take c.block-steps.result c.deref_mut.result.now in (
+      omega (arith, length-take c.in-Ok-Values.count c.wait_block_on.new.out),
+      (may s a.After-index_mut next (asks s a.After-wait_block_on next)
+          (all s a.In-Ok-Values next (long s a.After-wait_block_on next))).room,
+    )
 
 pub take-requires-clause-filter : goal.take-requires-clause-filter
 take-requires-clause-filter c =
@@ -208,15 +217,6 @@ take-requires-clause-filter c =
       subst (λ s. HasFilter (task_at job.graph c.args.t) s.filter (m.taken c.args.t 0)) it
           (next.some.1.tasks c.args.t c.index.result.now found).filter,
     )
-
-pub take-requires-clause-some : goal.take-requires-clause-some
-take-requires-clause-some c =
-    let s = c.requires.next.0 in
-    let next = c.requires.next.1 in
-    let job = with_samples s c.args.job.now in
-    let a = goal.at.take-requires-clause-some c in
-    (all s a.In-Ok-Values next (long s a.After-wait_block_on next) next.some.0
-    next.some.1).some
 
 pub keep-requires-clause-there : goal.keep-requires-clause-there
 keep-requires-clause-there c =
@@ -283,8 +283,8 @@ unreachable-requires c =
     (long s a.After-wait_block_on next)
     (c.in-Ok-Ended.ensures.reply m.history (bare_cores s at.cores) ∙ ap (λ g. Ok g) c.in-Ok-Ended.field-0-is))
 
-pub returns-clause-made : goal.returns-clause-made
-returns-clause-made c = λ s next.
+pub returns-in-Ok-Values-clause-made : goal.returns-in-Ok-Values-clause-made
+returns-in-Ok-Values-clause-made c = λ s next.
     let job = with_samples s c.args.job.now in
     let old = c.args.self.now in
     let t = c.args.t in
@@ -293,48 +293,66 @@ returns-clause-made c = λ s next.
     let n = get_or c.deref.result.now k 0 in
     let steps = c.block-steps.result in
     let places = take steps c.deref_mut.result.now in
-    let here = (goal.at.returns-clause-made c).After-wait_block_on in
+    let here = (goal.at.returns-in-Ok-Values-clause-made c).After-wait_block_on in
     let asked = asks s here next in
-    elim c.match-wait_block_on.branch as (λ w. HadTurn c.args.most job old c.match-wait_block_on.self t
-    c.match-wait_block_on.result) [
-      | in-Ok-Values w ↦
-          let v = w.in-Ok-Values in
-          let got = take v.count c.wait_block_on.new.out in
-          let all : (m : Moment) → IsMachineAt job m old → GotAll job m p n steps v.phase v.count got =
-          λ m at. got_answered job m p n steps v.phase v.count v.field-0 places c.wait_block_on.new.out
-          (long s here next) v.field-0-is (v.ensures.reply m.history (bare_cores s at.cores)) (v.ensures.out m.history (bare_cores s at.cores)) in
-          let tasks = ap (λ v. v.items) c.wait_block_on.ensures.tasks in
-          let it = read_same old.tasks.items t w.index_mut.result.now c.index.result.now
-          (state_there next (λ e. (cc)))
-          (w.index_mut.ensures.value ∙ ap (λ xs. get_or xs t w.index_mut.result.now) tasks)
-          c.index.ensures in
-          had_as job old c.match-wait_block_on.self _ t c.match-wait_block_on.result _ w.self-is w.result-is
-          (first_turn job old w.keep.new.self t k n p steps v.phase v.count got c.index.result.now
-          w.take.new.self c.sink_of-sink.result w.told_got.result asked
-          (subst (λ s. StateHasTaken (task_at job.graph t) (map number got) s w.take.new.self) it w.take.ensures)
-          (c.sink_of-sink.ensures c.index.result.now asked.found) all
-          (λ m at. subst (λ cs. HasCores job (with_at p (Waited n v.count ∷ m.history p) m.history) cs.items)
-          (sym w.keep.ensures.cores)
-          (subst (λ g. HasCores job (with_at p (after_wait_block (Ok g) n (m.history p)) m.history)
-          c.wait_block_on.new.self.cores.items) v.field-0-is (full_cores s (v.ensures.cores m.history (bare_cores s at.cores)))))
-          (ap (λ v. v.items) w.keep.ensures.tasks ∙ ap (λ xs. set xs t w.take.new.self) tasks)
-          (λ given. w.keep.ensures.lines given
-          ∙ ap (λ l. with_more c.sink_of-sink.result (kept_of got)
-          (map (kept_behind given) l.items)) c.wait_block_on.ensures.lines)
-          (w.keep.ensures.starts
-          ∙ ap (λ l. map (λ line. line.start) l.items) c.wait_block_on.ensures.lines)
-          (λ room own. w.keep.ensures.own room
-          (subst (λ l. All (HasRoom room) l.items) (sym c.wait_block_on.ensures.lines) own))
-          w.told_got.ensures)
-      | in-Err w ↦
-          had_as job old c.match-wait_block_on.self _ t c.match-wait_block_on.result _ w.self-is w.result-is
-          (blocked_first job old c.wait_block_on.new.self t k n p steps c.index.result.now w.in-Err.field-0
-          asked (λ m at. subst (λ i. wait_block_reply (limits_at job p) (m.history p) n i
-          ≡ Err w.in-Err.field-0) (long s here next) (w.in-Err.ensures.reply m.history (bare_cores s at.cores))) (λ m at. full_cores s (w.in-Err.ensures.cores m.history (bare_cores s at.cores)))
-          c.wait_block_on.ensures.tasks c.wait_block_on.ensures.lines)
-    ]
+    let v = c.in-Ok-Values in
+    let got = take v.count c.wait_block_on.new.out in
+    let all : (m : Moment) → IsMachineAt job m old → GotAll job m p n steps v.phase v.count got =
+    λ m at. got_answered job m p n steps v.phase v.count v.field-0 places c.wait_block_on.new.out
+    (long s here next) v.field-0-is (v.ensures.reply m.history (bare_cores s at.cores)) (v.ensures.out m.history (bare_cores s at.cores)) in
+    let tasks = ap (λ v. v.items) c.wait_block_on.ensures.tasks in
+    let it = read_same old.tasks.items t c.index_mut.result.now c.index.result.now
+    (state_there next (λ e. (cc)))
+    (c.index_mut.ensures.value ∙ ap (λ xs. get_or xs t c.index_mut.result.now) tasks)
+    c.index.ensures in
+    first_turn job old c.keep.new.self t k n p steps v.phase v.count got c.index.result.now
+    c.take.new.self c.sink_of-sink.result c.told_got.result asked
+    (subst (λ s. StateHasTaken (task_at job.graph t) (map number got) s c.take.new.self) it c.take.ensures.taken)
+    (c.sink_of-sink.ensures c.index.result.now asked.found) all
+    (λ m at. subst (λ cs. HasCores job (with_at p (Waited n v.count ∷ m.history p) m.history) cs.items)
+    (sym c.keep.ensures.cores)
+    (subst (λ g. HasCores job (with_at p (after_wait_block (Ok g) n (m.history p)) m.history)
+    c.wait_block_on.new.self.cores.items) v.field-0-is (full_cores s (v.ensures.cores m.history (bare_cores s at.cores)))))
+    (ap (λ v. v.items) c.keep.ensures.tasks ∙ ap (λ xs. set xs t c.take.new.self) tasks)
+    (λ given. c.keep.ensures.lines given
+    ∙ ap (λ l. with_more c.sink_of-sink.result (kept_of got)
+    (map (kept_behind given) l.items)) c.wait_block_on.ensures.lines)
+    (c.keep.ensures.starts
+    ∙ ap (λ l. map (λ line. line.start) l.items) c.wait_block_on.ensures.lines)
+    (λ room own. c.keep.ensures.own room
+    (subst (λ l. All (HasRoom room) l.items) (sym c.wait_block_on.ensures.lines) own))
+    c.told_got.ensures
+
+pub returns-in-Err-clause-made : goal.returns-in-Err-clause-made
+returns-in-Err-clause-made c = λ s next.
+    let job = with_samples s c.args.job.now in
+    let old = c.args.self.now in
+    let t = c.args.t in
+    let k = c.args.k in
+    let p = c.input_of-phaser.result in
+    let n = get_or c.deref.result.now k 0 in
+    let steps = c.block-steps.result in
+    let here = (goal.at.returns-in-Err-clause-made c).After-wait_block_on in
+    let asked = asks s here next in
+    blocked_first job old c.wait_block_on.new.self t k n p steps c.index.result.now c.in-Err.field-0
+    asked (λ m at. subst (λ i. wait_block_reply (limits_at job p) (m.history p) n i
+    ≡ Err c.in-Err.field-0) (long s here next)
+    (c.in-Err.ensures.reply m.history (bare_cores s at.cores)))
+    (λ m at. full_cores s (c.in-Err.ensures.cores m.history (bare_cores s at.cores)))
+    c.wait_block_on.ensures.tasks c.wait_block_on.ensures.lines
 
 pub wait_block_on-requires-clause-cores : goal.wait_block_on-requires-clause-cores
 wait_block_on-requires-clause-cores c =
     let next = c.requires.next.1 in
     (next.some.0.history, bare_cores c.requires.next.0 next.some.1.cores)
+
+-- ---- the places stay as many
+
+pub invariant_of-buffers : goal.invariant_of-buffers
+invariant_of-buffers c = (
+  search rules,
+  subst (λ room. c.buffers.inside.parcels ≤ room) (sym c.take.ensures.places) c.buffers.invariant.1,
+)
+
+pub invariant_of-buffers-in-Err : goal.invariant_of-buffers-in-Err
+invariant_of-buffers-in-Err c = (search rules, c.buffers.invariant.1)

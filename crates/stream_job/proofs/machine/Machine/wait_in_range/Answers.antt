@@ -1,6 +1,7 @@
 -- A task waits as the number that stands at the registration of its input, for the steps of its next
 -- block, and takes those values that are in range.
-use Rattle.std.proofs.Common.{ℕ, ◌≡◌, ◌≢◌, ◌<◌, ◌≤◌, ◌*◌, ◌∷◌, length, get_or, map, set, take, sym, ap, subst, ◌∙◌, arith, List, ℤ}
+use Rattle.std.proofs.Common.{rules, ℕ, ◌≡◌, ◌≢◌, ◌<◌, ◌≤◌, ◌*◌, ◌∷◌, length, get_or, map, set, take, sym, ap, subst, ◌∙◌, arith, List, ℤ}
+use Rattle.std.proofs.lemmas.List.{length-take}
 use Rattle.std.specs.Prelude.{Ok, Err, IfSome}
 use Rattle.std.specs.List.{All}
 use Rattle.phase_any.specs.phase_history.declared.event.Event.TheVariants.{Waited}
@@ -277,10 +278,12 @@ take-requires-clause-block c =
     let good = c.requires.next.1 in
     let a = goal.at.take-requires-clause-block c in
     let not : c.in-Values.count ≢ 0 = c.if-count-eq0.false in
-    let lt : 0 < c.in-Values.count = omega arith in
-    (may s a.After-index_mut a.In-Values good
-    (asks_so s a.After-wait_in_range_on c.in-Values.count good lt (few a.In-Values))
-    (some a.In-Values lt s)).block
+    let lt : 0 < c.in-Values.count = omega arith in (
+      (some a.In-Values lt s good.next_in.some.0 good.next_in.some.1).some,
+      (may s a.After-index_mut a.In-Values good
+          (asks_so s a.After-wait_in_range_on c.in-Values.count good lt (few a.In-Values))
+          (some a.In-Values lt s)).block,
+    )
 
 pub take-requires-clause-nothing : goal.take-requires-clause-nothing
 take-requires-clause-nothing c =
@@ -300,9 +303,15 @@ take-requires-clause-room c =
     let a = goal.at.take-requires-clause-room c in
     let not : c.in-Values.count ≢ 0 = c.if-count-eq0.false in
     let lt : 0 < c.in-Values.count = omega arith in
-    (may s a.After-index_mut a.In-Values good
-    (asks_so s a.After-wait_in_range_on c.in-Values.count good lt (few a.In-Values))
-    (some a.In-Values lt s)).room
+    let items = ap length c.deref_mut.ensures.value in
+    let as_many = c.buffers.invariant.0 in
+    let most = c.buffers.invariant.1 in
+    let cut = length-take c.block-steps.result c.deref_mut.result.now in (
+      omega (arith, length-take c.in-Values.count c.wait_in_range_on.new.out),
+      (may s a.After-index_mut a.In-Values good
+          (asks_so s a.After-wait_in_range_on c.in-Values.count good lt (few a.In-Values))
+          (some a.In-Values lt s)).room,
+    )
 
 pub take-requires-clause-filter : goal.take-requires-clause-filter
 take-requires-clause-filter c =
@@ -317,14 +326,6 @@ take-requires-clause-filter c =
           (read a.After-index_mut s next)
           (next.some.1.tasks c.args.t c.index.result.now found).filter,
     )
-
-pub take-requires-clause-some : goal.take-requires-clause-some
-take-requires-clause-some c =
-    let s = c.requires.next.0 in
-    let next = c.requires.next.1.next_in in
-    let a = goal.at.take-requires-clause-some c in
-    let not : c.in-Values.count ≢ 0 = c.if-count-eq0.false in
-    (some a.In-Values (omega arith) s next.some.0 next.some.1).some
 
 pub keep-requires-clause-there : goal.keep-requires-clause-there
 keep-requires-clause-there c =
@@ -390,7 +391,7 @@ returns-clause-went c = λ s good.
     (first_turn job old c.keep.new.self t k n p v.count v.phase v.count got c.index.result.now
     c.take.new.self c.sink_of-sink.result turned.Moved asked
     (subst (λ s. StateHasTaken (task_at job.graph t) (map number got) s c.take.new.self) it
-    c.take.ensures)
+    c.take.ensures.taken)
     (c.sink_of-sink.ensures c.index.result.now asked.found) (some a.In-Values lt s)
     (λ m at. subst (λ cs. HasCores job (with_at p (Waited n v.count ∷ m.history p) m.history) cs.items)
     (sym c.keep.ensures.cores)
@@ -411,3 +412,20 @@ returns-clause-went c = λ s good.
     (would a.In-Values s m next.some.1)
     (c.in-Ok.ensures.got v.phase v.count (ap (λ g. Ok g) c.in-Values.is) lt m.history
     (bare_cores s next.some.1.cores)).1).none))
+
+-- ---- the places stay as many
+
+pub invariant_of-buffers : goal.invariant_of-buffers
+invariant_of-buffers c = (
+  (let back : Unit {0} = c.deref_mut.ensures.writes_back in search rules),
+  c.buffers.invariant.1,
+)
+
+pub invariant_of-buffers-then-count-eq0 : goal.invariant_of-buffers-then-count-eq0
+invariant_of-buffers-then-count-eq0 c = (search rules, c.buffers.invariant.1)
+
+pub invariant_of-buffers-2 : goal.invariant_of-buffers-2
+invariant_of-buffers-2 c = (
+  search rules,
+  subst (λ room. c.buffers.inside.parcels ≤ room) (sym c.take.ensures.places) c.buffers.invariant.1,
+)
