@@ -17,7 +17,7 @@ _phase() {
         *,replay,-*) words='--help --strict' ;;
         *,check,-*) words='--beside --explain --help' ;;
         *,draw,-*) words='--explain --help' ;;
-        *,eval,-*) words='--beside --columns --explain --help --sink' ;;
+        *,eval,-*) words='--beside --columns --explain --help --sink --workers' ;;
         *,stream,-*) words='--beside --explain --help --sink' ;;
         *,run,-*) words='--beside --explain --help --sink --workers' ;;
         *) return ;;

@@ -29,7 +29,7 @@ _phase() {
         draw) _arguments '--help' '--explain' '*:graph:_files' ;;
         eval)
             _arguments '--help' '--beside' '--columns' '--explain' '--sink:sink:_phase_sinks' \
-                '*:graph:_files'
+                '--workers:number:(1 2 4 8 16)' '*:graph:_files'
             ;;
         run)
             _arguments '--help' '--beside' '--explain' '--sink:sink:_phase_sinks' \

@@ -16,14 +16,14 @@ use crate::asked::{AskedJob, read_asked, write_sinks};
 use crate::columns::write_columns;
 use crate::further::further_lines;
 use crate::notes::job_notes;
-use crate::{Failure, read_job};
-use graph_show::graph_lang::{Graph, OneThread};
+use crate::{Failure, ValueTexts, read_job};
+use graph_show::graph_lang::{Graph, OneThread, SampleTexts};
 use graph_show::watched_io::{Explain, Files, IoFault, Watched, WriteFailed, write_parts};
 use itoa::Buffer;
 use std::alloc::Global;
 use std::io::Write;
-use stream_eval::EvalFault;
 use stream_eval::stream_lists::Job;
+use stream_eval::{EvalFault, FilterLists, InTurn};
 
 /// Reads a graph and the samples of its sources, and writes how many phasers and tasks there are.
 ///
@@ -113,8 +113,32 @@ pub fn eval<'a, W: Write, F: Files>(
         (option_map (λ s. s.now) sink.entry) W.contents output.old output.new found) }
     ensures same { (other : List ℕ) → F.file files.new other ≡ F.file files.old other }
 {
-    match read_asked(alloc, files, &OneThread, name, sink) {
-        Ok(asked) => eval_asked(alloc, asked, output),
+    eval_by(alloc, &OneThread, &InTurn, name, sink, output, files)
+}
+
+/// The same, where texts are read and made as `texts` does it, and the lists of filters as
+/// `filters` does it: by several threads, say.
+pub fn eval_by<'a, T: SampleTexts + ValueTexts, L: FilterLists, W: Write, F: Files>(
+    alloc: Global,
+    texts: &T,
+    filters: &L,
+    name: &str,
+    sink: Option<&'a str>,
+    output: &mut Watched<W>,
+    files: &mut F,
+) -> Result<(), Failure<'a>>
+    requires read { T.may_read texts.now }
+    requires write { T.may_write texts.now }
+    requires filter { L.may_filter filters.now }
+    ensures done { OnOk result (Evaluates (F.file files.old) name.now
+        (option_map (λ s. s.now) sink.entry)
+        (writer_state W.contents output.old) (writer_state W.contents output.new)) }
+    ensures failed { IfErr result (λ found. EvalFails (F.file files.old) name.now
+        (option_map (λ s. s.now) sink.entry) W.contents output.old output.new found) }
+    ensures same { (other : List ℕ) → F.file files.new other ≡ F.file files.old other }
+{
+    match read_asked(alloc, files, texts, name, sink) {
+        Ok(asked) => eval_asked(alloc, texts, filters, asked, output),
         Err(failure) => Err(failure),
     }
 }
@@ -133,11 +157,15 @@ fn unanswered<'a>(job: Job, fault: EvalFault) -> Failure<'a>
 }
 
 /// Evaluates a job for all its sinks, or for the one that is asked for.
-fn eval_asked<'a, W: Write>(
+fn eval_asked<'a, T: ValueTexts, L: FilterLists, W: Write>(
     alloc: Global,
+    texts: &T,
+    filters: &L,
     asked: AskedJob,
     output: &mut Watched<W>,
 ) -> Result<(), Failure<'a>>
+    requires write { T.may_write texts.now }
+    requires filter { L.may_filter filters.now }
     ensures done { OnOk result ((known : Known) (name : List ℕ) (sink : Option (List ℕ))
         → IsJobOf known name asked.job → AsksSink asked.job sink asked.sink
         → Evaluates known name sink
@@ -148,8 +176,8 @@ fn eval_asked<'a, W: Write>(
         → EvalFails known name sink W.contents output.old output.new found) }
 {
     let AskedJob { job, sink } = asked;
-    match stream_eval::eval(alloc, &job) {
-        Ok(lines) => match write_sinks(output, &OneThread, &job, &lines, sink) {
+    match stream_eval::eval_by(alloc, filters, &job) {
+        Ok(lines) => match write_sinks(output, texts, &job, &lines, sink) {
             Ok(()) => Ok(()),
             Err(_) => Err(Failure::Io(IoFault::WriteFault)),
         },

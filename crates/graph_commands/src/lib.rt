@@ -38,7 +38,7 @@ mod sources;
 mod stalls;
 mod value_texts;
 
-pub use answered::{check, eval, eval_columns};
+pub use answered::{check, eval, eval_by, eval_columns};
 pub use asked::{AskedJob, read_asked, write_sinks};
 pub use drawn::draw;
 pub use explained::{end, report};
@@ -53,5 +53,6 @@ pub use refused::{FileRefusal, Refuses, TellingFiles};
 pub use sinks::find_sink;
 pub use sources::read_sources;
 pub use stalls::stall_told;
+pub use stream_eval;
 pub use stream_eval::stream_lists;
 pub use value_texts::ValueTexts;

@@ -141,12 +141,28 @@ fn is_number_in_blanks(text: &[u8]) -> bool {
         && text.iter().all(|b| (b'0' <= *b && *b <= b'9') || *b == b'-' || is_blank(*b))
 }
 
+/// Whether a field is one of the words that floating point has beside its numbers.
+fn is_no_number(field: &[u8]) -> bool {
+    let word = match field {
+        [b'+', behind @ ..] | [b'-', behind @ ..] => behind,
+        _ => field,
+    };
+    word.eq_ignore_ascii_case(b"nan")
+        || word.eq_ignore_ascii_case(b"inf")
+        || word.eq_ignore_ascii_case(b"infinity")
+}
+
 /// Why a field is no sample.
 fn field_fault(field: &[u8]) -> &'static str {
     if is_number_in_blanks(field) {
         return "a blank before or behind the number";
     }
+    if is_no_number(field) {
+        return "no number: NaN and infinity are no samples";
+    }
     match field {
+        [0xFF, 0xFE, ..] | [0xFE, 0xFF, ..] => "UTF-16: a text has one byte a character",
+        [0xEF, 0xBB, 0xBF, ..] => "a byte order mark",
         [b'-', digits @ ..] => number_fault(digits, true),
         [b'+', digits @ ..] if are_digits(digits) => "a sign or zero in front",
         _ => number_fault(field, false),
@@ -172,7 +188,7 @@ fn record_fault(alloc: Global, text: &[u8], number: usize) -> Result<&'static st
     if up_to_end(field) < field.len() {
         return Ok("a quote that is not closed on its line");
     }
-    if number == 1 && begins_with_letter(field) {
+    if number == 1 && begins_with_letter(field) && !is_no_number(field) {
         return Ok("a header is no sample");
     }
     Ok(field_fault(field))

@@ -3,7 +3,7 @@
 use Rattle.std.proofs.Common.{◌≡◌, ℕ, ◌<◌, ◌≤◌, true, List, [], Option, Some, None, length, slice_get, ℤ, refl, sym, ap, subst, ◌∙◌, arith, ◌⊎◌, inl, inr}
 use Rattle.std.proofs.lemmas.Bool.{cases_lt}
 use Rattle.std.proofs.lemmas.Option.{same_Some}
-use Rattle.phase_history.specs.Histories.{History, has_dropped}
+use Rattle.phase_history.specs.Histories.{History}
 use Rattle.phase_history.specs.phase_base.Lists.{is_in}
 use Rattle.stream_lists.specs.graph_base.TaskLines.{IsGraph}
 use Rattle.stream_lists.specs.Jobs.{Job}
@@ -13,7 +13,8 @@ use Rattle.graph_runs.specs.Beginnings.{opening}
 use Rattle.graph_runs.specs.Nexts.{registrations_at}
 use Rattle.graph_runs.specs.TaskPlaces.{registration_at}
 use Rattle.graph_runs.specs.TaskEnds.{TaskEnd, IsChildOf, FounderEnd}
-use Rattle.graph_runs.specs.RunEnds.{Ends, HasCome, IsRegisteredOn, HasWholeRun, IsRunEnd}
+use Rattle.graph_runs.specs.RunEnds.{Ends, HasCome, IsRegisteredOn}
+use Rattle.graph_runs.specs.Stops.{HasRunSoFar, IsStop}
 use Rattle.graph_runs.proofs.Owns.{IsFound, found_on, has_some, HasOwn, owns_as, HasNumber, has_number}
 
 -- a task that never came, or one that came, with its end and a moment of its own
@@ -48,7 +49,7 @@ same_end ends t one two a b =
     let some : Some (Some one) ≡ Some (Some two) = sym a ∙ b in
     same_Some one two (same_Some (Some one) (Some two) some)
 
-module _ (job : Job) (ends : Ends) (is : IsGraph job.graph) (r : IsRunEnd job ends) where
+module _ (job : Job) (ends : Ends) (is : IsGraph job.graph) (r : IsStop job ends) where
   pub status : (t : ℕ) → Status job ends t
   status t = by (slice_get ends t) refl
     where
@@ -62,21 +63,30 @@ module _ (job : Job) (ends : Ends) (is : IsGraph job.graph) (r : IsRunEnd job en
 
   -- the history of phaser p
   history_by : (p : ℕ) → (p < length job.graph.phasers) ⊎ (length job.graph.phasers ≤ p) → History
-  history_by p (inl pp) = (r.phasers p pp).1
+  history_by p (inl pp) = (r.agree.phasers p pp).1
   history_by p (inr beyond) = []
 
   pub whole_history : ℕ → History
   whole_history p = history_by p (cases_lt p (length job.graph.phasers))
 
-  pub has_whole : (p : ℕ) → p < length job.graph.phasers
-      → (founder : FounderEnd) × HasWholeRun job ends p founder (whole_history p)
+  -- what holds of each phaser's history holds of these
+  pub whole_has : (Q : ℕ → FounderEnd → History → Type 0)
+      → ((p : ℕ) → (pp : p < length job.graph.phasers)
+      → (founder : FounderEnd) × Q p founder (r.agree.phasers p pp).1)
+      → (p : ℕ) → p < length job.graph.phasers
+      → (founder : FounderEnd) × Q p founder (whole_history p)
   unfolding history_by whole_history
-  has_whole p pp = by (cases_lt p (length job.graph.phasers))
+  whole_has Q each p pp = by (cases_lt p (length job.graph.phasers))
     where
       by : (c : (p < length job.graph.phasers) ⊎ (length job.graph.phasers ≤ p))
-          → (founder : FounderEnd) × HasWholeRun job ends p founder (history_by p c)
-      by (inl here) = ((r.phasers p here).0, (r.phasers p here).2)
+          → (founder : FounderEnd) × Q p founder (history_by p c)
+      by (inl here) = each p here
       by (inr beyond) = absurd (omega arith)
+
+  pub has_whole : (p : ℕ) → p < length job.graph.phasers
+      → (founder : FounderEnd) × HasRunSoFar job ends p founder (whole_history p)
+  has_whole = whole_has (λ p founder h. HasRunSoFar job ends p founder h)
+      (λ p here. ((r.agree.phasers p here).0, (r.agree.phasers p here).2))
 
   abbrev pub whole : Moment
   whole = record {
@@ -100,7 +110,6 @@ module _ (job : Job) (ends : Ends) (is : IsGraph job.graph) (r : IsRunEnd job en
     pub numbered : m.number p t ≡ Some n
     pub i : ℕ
     pub on : IsRegisteredOn job ends t i p n (m.history p)
-    pub left : has_dropped (m.history p) n ≡ true
 
   -- of a task that came
   pub numbered_own : (t p n : ℕ) (end : TaskEnd) → HasCome ends t end
@@ -126,7 +135,6 @@ module _ (job : Job) (ends : Ends) (is : IsGraph job.graph) (r : IsRunEnd job en
           number = has.number ∙ ap (λ x. Some x) same;
           saw = has.saw;
         };
-        left = ap (λ x. has_dropped (m.history p) x) (sym same) ∙ has.left;
       }
 
   pub is_numbered : (t p n : ℕ) → whole.number p t ≡ Some n → IsNumbered t p n
@@ -182,7 +190,7 @@ module _ (job : Job) (ends : Ends) (is : IsGraph job.graph) (r : IsRunEnd job en
       sym (given.numbered f.i f.few) ∙ ap (λ q. m.number q c) f.phaser ∙ at in
       let has_u : HasCome ends child.parent.task end =
       subst (λ x. HasCome ends x end) (sym child.by) has in
-      by f number (r.children c child.parent end child.there child.has has_u)
+      by f number (r.agree.children c child.parent end child.there child.has has_u)
     where
       by : (f : IsFound job c p) → slice_get (end.given c) f.i ≡ Some a
           → (end.given c ≡ [])

@@ -3,16 +3,15 @@
 use Rattle.std.proofs.Common.{◌≡◌, ℕ, ◌<◌, Bool, true, false, eqb, ◌||◌, List, [], ◌∷◌, Option, Some, None, is_some, length, refl, sym, ap, subst, ◌∙◌, ◌⊎◌, inl, inr}
 use Rattle.std.proofs.lemmas.Bool.{eqb-true, eq-eqb}
 use Rattle.phase_history.specs.phase_base.declared.entry.Entry.{Entry}
-use Rattle.phase_history.specs.Histories.{History, IsBeginning, has_dropped, start_of, HasNoSignaller}
+use Rattle.phase_history.specs.Histories.{History, IsBeginning, start_of}
 use Rattle.phase_history.specs.declared.event.Event.TheVariants.{Made}
-use Rattle.phase_history.specs.Others.{events_of, children_in, IsUsed, OnlyUsed, OthersCame}
+use Rattle.phase_history.specs.Others.{events_of, children_in, OnlyUsed, OthersCame}
 use Rattle.phase_history.specs.phase_base.Lists.{is_in}
 use Rattle.phase_history.specs.Sent.{NamesAll, IsSilent}
 use Rattle.phase_history.proofs.Beginnings.{IsBeginning-trans}
 use Rattle.phase_history.proofs.Descent.{OnlyUsed-descent}
 use Rattle.phase_history.proofs.OthersEvents.{IsBeginning-others}
 use Rattle.phase_history.proofs.Sendings.{IsSilent-unused}
-use Rattle.phase_history.proofs.Signallers.{quiet_from}
 use Rattle.phase_history.proofs.Used.{IsUsed-longer, events_of-unused}
 use Rattle.stream_lists.specs.graph_base.Graphs.{phaser_at}
 use Rattle.stream_lists.specs.graph_base.TaskLines.{IsGraph}
@@ -21,7 +20,8 @@ use Rattle.graph_runs.specs.Moments.{Moment, PhaserRan, limits_at, numbers_on}
 use Rattle.graph_runs.specs.Moves.{PartStays}
 use Rattle.graph_runs.proofs.Framed.{part_came}
 use Rattle.graph_runs.specs.TaskEnds.{FounderEnd, HasGiven, HasNoSignal}
-use Rattle.graph_runs.specs.RunEnds.{Ends, HasWholeRun, IsRunEnd}
+use Rattle.graph_runs.specs.RunEnds.{Ends}
+use Rattle.graph_runs.specs.Stops.{HasRunSoFar, IsStop}
 use Rattle.graph_runs.proofs.Founding.{events_stay, names_any, founder_silent, named_by_each}
 use Rattle.graph_runs.proofs.Owns.{used_by}
 use Rattle.graph_runs.proofs.Joined.{whole, whole_history, IsNumbered, is_numbered, number_there, number_given, number_among, among_is}
@@ -30,8 +30,8 @@ or_right : (a b : Bool) → b ≡ true → (a || b) ≡ true
 or_right true b e = refl
 or_right false b e = e
 
-module _ (job : Job) (ends : Ends) (is : IsGraph job.graph) (r : IsRunEnd job ends) (p : ℕ)
-    (founder : FounderEnd) (w : HasWholeRun job ends p founder (whole_history job ends is r p)) where
+module _ (job : Job) (ends : Ends) (is : IsGraph job.graph) (r : IsStop job ends) (p : ℕ)
+    (founder : FounderEnd) (w : HasRunSoFar job ends p founder (whole_history job ends is r p)) where
   abbrev pub m : Moment
   m = whole job ends is r
 
@@ -57,7 +57,7 @@ module _ (job : Job) (ends : Ends) (is : IsGraph job.graph) (r : IsRunEnd job en
   begins : IsBeginning (Made founder.number ∷ []) (whole_history job ends is r p)
   begins =
       IsBeginning-trans (Made founder.number ∷ []) founder.seen (whole_history job ends is r p)
-      w.founds.founded.made
+      w.founds.made
       (IsBeginning-others (founder.number ∷ []) founder.seen (whole_history job ends is r p) w.founder_came)
 
   founders_events : events_of founder.number (whole_history job ends is r p)
@@ -83,7 +83,7 @@ module _ (job : Job) (ends : Ends) (is : IsGraph job.graph) (r : IsRunEnd job en
           let first : is_in child (children_in (events_of founder.number founder.seen)) ≡ true =
           ap (λ l. is_in child (children_in l)) (sym founders_events)
           ∙ ap (λ x. is_in child (children_in (events_of x (whole_history job ends is r p)))) (sym same) ∙ given in
-          let gave = w.gave child (w.founds.founded.gave_these child first) in
+          let gave = w.gave child (w.founds.gave_these child first) in
           let on = gave.3 in
           inside gave.0 (r.tasks gave.0 on.end on.came).1
           (number_there job ends is r gave.0 gave.1 p child on.end on.came on.few on.phaser on.number)
@@ -116,24 +116,6 @@ module _ (job : Job) (ends : Ends) (is : IsGraph job.graph) (r : IsRunEnd job en
       → PartStays n (g.m.history p) (whole_history job ends is r p)
   part_of t n g = part_came n (g.m.history p) (whole_history job ends is r p) (came_to t n g)
 
-  -- each that was used has dropped
-  dropped : (n : ℕ) → IsUsed (whole_history job ends is r p) n
-      → has_dropped (whole_history job ends is r p) n ≡ true
-  dropped n used = by (case_of n (only_used n used))
-    where
-      by : (n ≡ founder.number) ⊎ ((t : ℕ) × IsNumbered job ends is r t p n)
-          → has_dropped (whole_history job ends is r p) n ≡ true
-      by (inl same) =
-          let part = part_came founder.number founder.seen (whole_history job ends is r p) w.founder_came in
-          ap (λ x. has_dropped (whole_history job ends is r p) x) same ∙ part.dropped
-          ∙ w.founds.left
-      by (inr numbered) =
-          let g : IsNumbered job ends is r numbered.0 p n = numbered.1 in
-          (part_of numbered.0 n g).dropped ∙ g.left
-
-  pub quiet : HasNoSignaller (whole_history job ends is r p)
-  quiet = quiet_from (limits_at job p) (whole_history job ends is r p) w.legal dropped
-
   named : NamesAll (phaser_at job.graph p).single (whole_history job ends is r p)
   named =
       named_by_each (phaser_at job.graph p).single (whole_history job ends is r p)
@@ -154,7 +136,7 @@ module _ (job : Job) (ends : Ends) (is : IsGraph job.graph) (r : IsRunEnd job en
               let single = (phaser_at job.graph p).single in
               rw same
               (rw founders_events
-              (names_any single (events_of founder.number founder.seen) w.founds.founded.silent))
+              (names_any single (events_of founder.number founder.seen) w.founds.silent))
           of (inr numbered) =
               let single = (phaser_at job.graph p).single in
               let g : IsNumbered job ends is r numbered.0 p n = numbered.1 in
@@ -177,7 +159,7 @@ module _ (job : Job) (ends : Ends) (is : IsGraph job.graph) (r : IsRunEnd job en
           of true same inside =
               rw (eqb-true founder.number n same) at (founder_silent (limits_at job p) founder.number (whole_history job ends is r p) w.legal begins
               (let N = founders_events in
-              subst HasNoSignal (sym N) w.founds.founded.silent))
+              subst HasNoSignal (sym N) w.founds.silent))
           of false same inside = absurd (let no : true ≡ false = sym inside ∙ none in cc)
 
   pub phaser_ran : PhaserRan job m p

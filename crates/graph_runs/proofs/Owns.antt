@@ -1,10 +1,7 @@
--- What a task that has left has of its own, phaser by phaser.
-use Rattle.std.proofs.Common.{◌≡◌, ℕ, ◌+◌, ◌<◌, ◌≤◌, true, [], ◌++◌, Option, Some, is_some, length, get_or, slice_get, sym, ap, subst, ◌∙◌, arith, inl, inr}
-use Rattle.std.specs.Prelude.{unwrap_or, nat_lt}
-use Rattle.std.proofs.lemmas.Bool.{lt-ltb}
+-- What a task that stands somewhere has of its own, phaser by phaser.
+use Rattle.std.proofs.Common.{◌≡◌, ℕ, ◌+◌, ◌<◌, ◌≤◌, true, ◌++◌, Option, Some, is_some, length, get_or, slice_get, sym, ap, subst, ◌∙◌, arith, inl, inr}
 use Rattle.std.proofs.lemmas.Option.{slice_get-get_or}
 use Rattle.std.proofs.lemmas.List.{length-map, get_or-map, length-append}
-use Rattle.phase_history.specs.Histories.{has_dropped}
 use Rattle.phase_history.specs.Others.{IsUsed}
 use Rattle.stream_lists.specs.graph_base.declared.line.Kind.{Kind}
 use Rattle.stream_lists.specs.graph_base.declared.line.Kind.TheVariants.{Source, Fir, Split, Join, Peer, Sink}
@@ -19,7 +16,8 @@ use Rattle.graph_runs.specs.Parts.{HasPart}
 use Rattle.graph_runs.specs.Nexts.{registrations_at}
 use Rattle.graph_runs.specs.TaskPlaces.{registration_at}
 use Rattle.graph_runs.proofs.PlacesLemmas.{on_ends}
-use Rattle.graph_runs.specs.TaskEnds.{TaskEnd, IsChildOf, HasOwnCalls, HasNumbers, HasLeftAt}
+use Rattle.graph_runs.specs.TaskEnds.{TaskEnd, IsChildOf, HasOwnCalls, HasNumbers}
+use Rattle.graph_runs.specs.Stops.{HasStoppedAt}
 
 -- ---- registrations
 
@@ -71,7 +69,7 @@ has_some job t is there =
     some_end Peer ins outs e = (let one : outs ≡ 1 = e.1 in omega arith)
     some_end Sink ins outs e = (let one : ins ≡ 1 = e.0 in omega arith)
 
--- ---- a task that has left, as task t
+-- ---- a task that stands somewhere, as task t
 
 pub record HasOwn (job : Job) (m : Moment) (end : TaskEnd) (t : ℕ) : Type 0 where
   pub part : HasPart job m t
@@ -81,46 +79,27 @@ pub record HasOwn (job : Job) (m : Moment) (end : TaskEnd) (t : ℕ) : Type 0 wh
   pub numbered : (i : ℕ) → i < length (registrations_at job t)
       → m.number (registration_at job t i).phaser t ≡ slice_get end.numbers i
   pub whole : length end.numbers ≡ length (registrations_at job t)
-  pub left : (i n : ℕ) → i < length (registrations_at job t)
-      → m.number (registration_at job t i).phaser t ≡ Some n
-      → has_dropped (m.history (registration_at job t i).phaser) n ≡ true
   pub seen : (i : ℕ) → i < length (registrations_at job t)
       → slice_get end.seen i ≡ Some (m.history (registration_at job t i).phaser)
   pub lines : (task_at job.graph t).kind ≡ Sink → m.taken t 0 ≡ end.lines
   pub given : (c : ℕ) → IsChildOf job c t → HasNumbers job m c (end.given c)
 
-pub owns : (job : Job) (m : Moment) (end : TaskEnd) → HasLeftAt job m end
+pub owns : (job : Job) (m : Moment) (end : TaskEnd) → HasStoppedAt job m end
     → HasOwn job m end end.task
 owns job m end is = record {
   part = is.part;
   own = is.own;
-  begun = is.stands.begun ∙ is.begun;
+  begun = is.begun;
   start = is.start;
-  numbered = λ i lt. is.stands.numbered i lt ∙ ap (λ l. slice_get l i) is.numbers;
+  numbered = is.numbered;
   whole = is.whole;
-  left = λ i n lt e. left i n lt e;
-  seen = λ i lt.
-      (let long : length end.seen ≡ length (registrations_at job end.task) = is.long in
-      slice_get-get_or end.seen i [] (omega arith) ∙ ap (λ h. Some h) (sym (is.seen i lt)));
+  seen = is.seen;
   lines = is.lines;
   given = is.given;
 }
-  where
-    left : (i n : ℕ) → i < length (registrations_at job end.task)
-        → m.number (registration_at job end.task i).phaser end.task ≡ Some n
-        → has_dropped (m.history (registration_at job end.task i).phaser) n ≡ true
-    left i n lt e =
-        let p = (registration_at job end.task i).phaser in
-        let same : length is.at.numbers ≡ length end.numbers = ap length is.numbers in
-        let whole : length end.numbers ≡ length (registrations_at job end.task) = is.whole in
-        let all : is.at.left ≡ length end.numbers = is.left in
-        let below : i < is.at.left = omega arith in
-        let at : has_dropped (m.history p) (unwrap_or (m.number p end.task) 0) ≡ nat_lt i is.at.left =
-        is.stands.leaves i (omega arith) in
-        sym (ap (λ o. has_dropped (m.history p) (unwrap_or o 0)) e) ∙ at ∙ lt-ltb i is.at.left below
 
 pub owns_as : (job : Job) (m : Moment) (end : TaskEnd) (t : ℕ) → end.task ≡ t
-    → HasLeftAt job m end → HasOwn job m end t
+    → HasStoppedAt job m end → HasOwn job m end t
 owns_as job m end t same is =
     rw (← same) (owns job m end is)
 
@@ -133,7 +112,6 @@ pub record HasNumber (job : Job) (m : Moment) (end : TaskEnd) (t p : ℕ) : Type
   pub number : slice_get end.numbers i ≡ Some n
   pub numbered : m.number p t ≡ Some n
   pub saw : slice_get end.seen i ≡ Some (m.history p)
-  pub left : has_dropped (m.history p) n ≡ true
 
 pub has_number : (job : Job) (m : Moment) (end : TaskEnd) (t p : ℕ) → HasOwn job m end t
     → IsFound job t p → HasNumber job m end t p
@@ -153,7 +131,6 @@ has_number job m end t p o f =
       number = number;
       numbered = ap (λ x. m.number x t) (sym f.phaser) ∙ at;
       saw = o.seen f.i f.few ∙ ap (λ x. Some (m.history x)) f.phaser;
-      left = ap (λ x. has_dropped (m.history x) n) (sym f.phaser) ∙ o.left f.i n f.few at;
     }
 
 -- each of its numbers was used by then

@@ -1,7 +1,5 @@
--- The moment of the whole run has run and is over, and so its sinks have taken the job's answer,
--- for the starts that came about.
-use Rattle.std.proofs.Common.{◌≡◌, ℕ, ◌<◌, ◌≤◌, Bool, true, false, List, [], ◌∷◌, Option, Some, None, Ok, length, map, slice_get, refl, sym, ap, ◌∙◌, arith}
-use Rattle.std.specs.List.{range_with_len}
+-- The moment of the whole run has run.
+use Rattle.std.proofs.Common.{◌≡◌, ℕ, ◌<◌, ◌≤◌, false, [], ◌∷◌, Option, Some, None, length, slice_get, refl, sym, ap, ◌∙◌, arith}
 use Rattle.std.proofs.lemmas.Option.{same_Some}
 use Rattle.phase_history.specs.Others.{OthersCame}
 use Rattle.phase_history.proofs.Beginnings.{IsBeginning-refl}
@@ -11,16 +9,9 @@ use Rattle.stream_lists.specs.graph_base.TaskLines.{IsGraph}
 use Rattle.stream_lists.specs.graph_base.declared.line.Kind.TheVariants.{Sink}
 use Rattle.stream_lists.specs.graph_base.declared.line.Parent.{Parent}
 use Rattle.stream_lists.specs.Jobs.{Job}
-use Rattle.stream_lists.specs.Lists.{is_sink_at, start_in}
-use Rattle.stream_lists.proofs.Starts.{lengths_stay}
-use Rattle.graph_runs.proofs.Started.{ready_as, run_started}
-use Rattle.graph_runs.proofs.StartsAtEnd.{start_of_others, start_registered, start_absent, start_in_time}
-use Rattle.graph_runs.proofs.Whole.{parent_of, stands_all}
-use Rattle.graph_runs.specs.Moments.{Moment, started, HasRun, PhaserRan, TaskRan, IsOver, HasMetNone, OnLine, IsRegistered, IsChild, value_at}
-use Rattle.graph_runs.specs.Settled.{IsReady}
+use Rattle.graph_runs.proofs.Whole.{parent_of}
+use Rattle.graph_runs.specs.Moments.{Moment, HasRun, PhaserRan, TaskRan, OnLine, IsRegistered, IsChild}
 use Rattle.graph_runs.proofs.OnLines.{on_phaser}
-use Rattle.graph_runs.proofs.Results.{map-filtered, sink_is}
-use Rattle.graph_runs.proofs.TooBigs.{answer_is}
 use Rattle.graph_runs.specs.Moves.{SameTask, HasGrown, PartStays, OthersMoved}
 use Rattle.graph_runs.proofs.Framed.{part_came}
 use Rattle.graph_runs.proofs.Joins.{joined_ran}
@@ -28,13 +19,14 @@ use Rattle.graph_runs.specs.Beginnings.{opening}
 use Rattle.graph_runs.specs.Reached.{HasBegun}
 use Rattle.graph_runs.proofs.AtOpening.{opening_has_begun}
 use Rattle.graph_runs.specs.TaskEnds.{TaskEnd}
-use Rattle.graph_runs.specs.RunEnds.{Ends, HasCome, IsRunEnd, HasAnswer, lines_in, start_in_end}
+use Rattle.graph_runs.specs.RunEnds.{Ends, HasCome, lines_in}
+use Rattle.graph_runs.specs.Stops.{IsStop}
 use Rattle.graph_runs.proofs.Absent.{absent_ran}
 use Rattle.graph_runs.proofs.Owns.{found_on, HasOwn, has_number}
-use Rattle.graph_runs.proofs.Joined.{Status, absent, came, number_by, offset_by, begun_by, taken_by, put_by, status, whole, has_whole, IsNumbered, is_numbered, number_given, begun_there, registered_there}
-use Rattle.graph_runs.proofs.OnPhasers.{part_of, quiet, phaser_ran}
+use Rattle.graph_runs.proofs.Joined.{Status, absent, came, number_by, offset_by, begun_by, taken_by, put_by, status, whole, has_whole, IsNumbered, number_given, begun_there, registered_there}
+use Rattle.graph_runs.proofs.OnPhasers.{part_of, phaser_ran}
 
-module _ (job : Job) (ends : Ends) (is : IsGraph job.graph) (r : IsRunEnd job ends) where
+module _ (job : Job) (ends : Ends) (is : IsGraph job.graph) (r : IsStop job ends) where
   abbrev m : Moment
   m = whole job ends is r
 
@@ -46,7 +38,7 @@ module _ (job : Job) (ends : Ends) (is : IsGraph job.graph) (r : IsRunEnd job en
   begins = opening_has_begun job is
 
   -- what a task's own moment has of a phaser is its part of the whole
-  part : (t p n : ℕ) → (g : IsNumbered job ends is r t p n)
+  pub part : (t p n : ℕ) → (g : IsNumbered job ends is r t p n)
       → PartStays n (g.m.history p) (m.history p)
   part t p n g =
       let pp : p < length job.graph.phasers =
@@ -133,7 +125,7 @@ module _ (job : Job) (ends : Ends) (is : IsGraph job.graph) (r : IsRunEnd job en
         → (m.offset u.task ≡ o.offset u.task) × (o.begun u.task ≤ m.begun u.task)
         × (IsRegistered o u.task → IsRegistered m u.task)
     came_parent u e =
-        let other = r.parents t u end has e in
+        let other = r.agree.parents t u end has e in
         let begun : m.begun u.task ≡ other.0.begun =
         begun_there job ends is r u.task other.0 other.1 in
         let stays : (task_at job.graph u.task).joins_now ≡ false =
@@ -169,7 +161,7 @@ module _ (job : Job) (ends : Ends) (is : IsGraph job.graph) (r : IsRunEnd job en
     where
       child : (u : Option Parent) → (task_at job.graph t).parent ≡ u
           → IsChild (task_at job.graph t).parent
-      child None f = let root = r.roots t there f in absurd (never root.0 root.1)
+      child None f = let root = r.agree.roots t there f in absurd (never root.0 root.1)
       child (Some u) f = rw f tt
 
   ran_by : (t : ℕ) → t < length job.graph.tasks → (s : Status job ends t) → status job ends is r t ≡ s
@@ -207,28 +199,14 @@ module _ (job : Job) (ends : Ends) (is : IsGraph job.graph) (r : IsRunEnd job en
 
   -- ---- the whole
 
-  has_run : HasRun job m
+  pub has_run : HasRun job m
   has_run =
       joined_ran job m (λ t. own_by (status job ends is r t)) is phasers
       (λ t there. ran_by t there (status job ends is r t) refl)
       (λ t there. grown_by t there (status job ends is r t) refl)
       (λ t there. moved_by t there (status job ends is r t) refl)
 
-  is_over : IsOver job m
-  is_over = record {
-    quiet = λ p pp. (let w = has_whole job ends is r p pp in quiet job ends is r p w.0 w.1);
-    gone = λ p t n there at.
-        (let g = is_numbered job ends is r t p n at in (part t p n g).dropped ∙ g.left);
-  }
-
-  met_none : HasMetNone job m
-  met_none p t n pp there at =
-      let g = is_numbered job ends is r t p n at in
-      rw ((part t p n g).received (value_at job p)) (g.own.own.met_none p n g.numbered)
-
-  -- ---- its lines
-
-  sink_lines : (t : ℕ) → t < length job.graph.tasks → (task_at job.graph t).kind ≡ Sink
+  pub sink_lines : (t : ℕ) → t < length job.graph.tasks → (task_at job.graph t).kind ≡ Sink
       → m.taken t 0 ≡ lines_in (slice_get ends t)
   sink_lines t there sink = by (status job ends is r t) refl
     where
@@ -244,68 +222,10 @@ module _ (job : Job) (ends : Ends) (is : IsGraph job.graph) (r : IsRunEnd job en
           none (Some None) f = ap lines_in f
           none (Some (Some end)) f = absurd (never end f)
 
-  -- ---- the answer
-
-  -- the starts of the tasks that came, and of the others where the opening has them
-  abbrev starts_at_end : List ℕ
-  starts_at_end = map m.offset (range_with_len 0 (length job.graph.tasks))
-
-  -- a task's start at the end is the one that its span has with these starts
-  begins_at : IsReady job → (t : ℕ) → t < length job.graph.tasks
-      → start_in_end (task_at job.graph t).joins_now (slice_get ends t) ≡ start_in (started job m) t
-  begins_at ready t there = by (task_at job.graph t).joins_now refl
-    where
-      by : (b : Bool) → (task_at job.graph t).joins_now ≡ b
-          → start_in_end (task_at job.graph t).joins_now (slice_get ends t)
-          ≡ start_in (started job m) t
-      by false stays =
-          ap (λ b. start_in_end b (slice_get ends t)) stays
-          ∙ sym (start_of_others (started job m) t stays)
-      by true now =
-          ap (λ b. start_in_end b (slice_get ends t)) now ∙ of (status job ends is r t) refl
-        where
-          of : (s : Status job ends t) → status job ends is r t ≡ s
-              → start_in_end true (slice_get ends t) ≡ start_in (started job m) t
-          of (came end has o own here) e =
-              ap (start_in_end true) has
-              ∙ ap (λ n. Some n) (sym (ap (λ x. offset_by x) e ∙ own.start now))
-              ∙ sym (start_registered (started job m) m t now
-              (stands_all (started job m) m (ready_as job m ready) (run_started job m has_run) t
-              there (registered_there job ends is r t end has)))
-          of (absent never) e =
-              none (slice_get ends t) refl
-              ∙ sym (start_absent (started job m) m t (ready_as job m ready)
-              (run_started job m has_run)
-              (record { quiet = is_over.quiet; gone = is_over.gone }) there now
-              (λ p. ap (λ x. number_by x p) e))
-            where
-              none : (o : Option (Option TaskEnd)) → slice_get ends t ≡ o
-                  → start_in_end true (slice_get ends t) ≡ None
-              none None f = ap (start_in_end true) f
-              none (Some None) f = ap (start_in_end true) f
-              none (Some (Some end)) f = absurd (never end f)
-
--- the answer of the job, with these starts, is what the sinks have taken
-pub answer_at_end : (job : Job) (ends : Ends) → IsReady job → IsRunEnd job ends
-    → HasAnswer job ends
-answer_at_end job ends ready r =
-    let m = whole job ends ready.graph r in
-    let over = is_over job ends ready.graph r in
-    let ready_now = ready_as job m ready in
-    let ran_now = run_started job m (has_run job ends ready.graph r) in
-    let over_now : IsOver (started job m) m = record { quiet = over.quiet; gone = over.gone } in
-    record {
-      starts = starts_at_end job ends ready.graph r;
-      answer = answer_is (started job m) m ready_now ran_now over_now
-          (met_none job ends ready.graph r)
-          ∙ ap (λ lines. Ok lines) (map-filtered (λ t. (t, m.taken t 0))
-          (λ t. (t, lines_in (slice_get ends t)))
-          (is_sink_at job) 0 (length job.graph.tasks)
-          (λ t lt e. (let there : t < length job.graph.tasks = omega arith in
-          ap (λ values. (t, values))
-          (sink_lines job ends ready.graph r t there
-          (sink_is (task_at job.graph t).kind e)))));
-      began = begins_at job ends ready.graph r ready;
-      in_time = λ t start there e.
-          (rw (lengths_stay job (starts_at_end job ends ready.graph r) ready.graph) at (start_in_time (started job m) m t start ready_now ran_now over_now there e));
-    }
+-- a sink has an input
+pub has_input : (job : Job) (t : ℕ) → IsGraph job.graph → t < length job.graph.tasks
+    → (task_at job.graph t).kind ≡ Sink → 0 < length (task_at job.graph t).inputs
+has_input job t is there sink =
+    let both : (length (task_at job.graph t).inputs ≡ 1)
+    × (length (task_at job.graph t).outputs ≡ 0) = rw sink at (is.tasks t there).ends in
+    let one : length (task_at job.graph t).inputs ≡ 1 = both.0 in omega arith

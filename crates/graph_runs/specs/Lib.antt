@@ -13,6 +13,7 @@ pub mod Reached
 pub mod RunEnds
 pub mod Settled
 pub mod Steps
+pub mod Stops
 pub mod TaskEnds
 pub mod TaskEvents
 pub mod TaskPlaces

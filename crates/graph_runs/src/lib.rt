@@ -19,6 +19,8 @@
 //!   signalled: `specs/Feeds.antt`.
 //! - `ends`: what each task knew is put together, and the sinks have taken what the graph's lines
 //!   say: `specs/TaskEnds.antt`, `specs/RunEnds.antt`.
+//! - `stops`: the same of tasks that are stopped wherever they stand, with samples still to come:
+//!   what each sink took is right whatever comes: `specs/Stops.antt`.
 //!
 //! **A step in code.** What the line of a task says, and what the task owes within a step, for all
 //! kinds, whoever moves the tasks: `kind_of`, `first_filter` and `owed_after_wait`.
@@ -37,6 +39,7 @@ pub mod parts;
 pub mod places;
 pub mod sized;
 mod steps;
+pub mod stops;
 mod taken;
 pub mod turns;
 

@@ -4,6 +4,7 @@ use crate::explain_parts::Part;
 use crate::grammar::{Known, Reading};
 use crate::names::are_near;
 use graph_lang::graph_text::{Version, begins_comment, is_heading, without_cr, words_of};
+use graph_lang::phase_base::{BOUND_MAX, nat};
 use std::alloc::{AllocError, Global};
 
 /// The words of each line above, each with what it is, but for the heading and the lines that are
@@ -60,6 +61,16 @@ fn takes_any(line: &[Known<'_>]) -> bool {
         }
     }
     false
+}
+
+/// The bound on a line of these words, or the highest one where it has none.
+fn bound_on(line: &[Known<'_>]) -> u64 {
+    for (part, word) in line {
+        if matches!(part, Part::Bound) {
+            return nat(word, BOUND_MAX).unwrap_or(BOUND_MAX);
+        }
+    }
+    BOUND_MAX
 }
 
 /// Whether the task of a line of these words signals that phaser.
@@ -173,6 +184,14 @@ impl<'a> Above<'a> {
         match self.place_of(name) {
             Some(i) if i < self.lines.len() => is_of_phaser(&self.lines[i]),
             _ => false,
+        }
+    }
+
+    /// The bound of a phaser of this name, or the highest one where none is declared.
+    pub(crate) fn bound_of(&self, name: &[u8]) -> u64 {
+        match self.place_of(name) {
+            Some(i) if i < self.lines.len() => bound_on(&self.lines[i]),
+            _ => BOUND_MAX,
         }
     }
 

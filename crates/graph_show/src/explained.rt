@@ -132,6 +132,7 @@ fn bytes_wanted(rest: &[u8]) -> &'static [u8] {
         [0xE2, 0x88, 0x92, ..] | [0xE2, 0x80, 0x93, ..] => b"`-` in place of a longer stroke",
         [0xC2, 0xA0, ..] => b"a space in place of one at which no line breaks",
         [0xEF, 0xBB, 0xBF, ..] => b"no byte order mark",
+        [0xFF, 0xFE, ..] | [0xFE, 0xFF, ..] => b"a text of one byte a character: this is UTF-16",
         _ => b"bytes from 33 to 126, spaces and tabs alone",
     }
 }

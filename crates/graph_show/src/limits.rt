@@ -15,6 +15,11 @@ fn digits_in(word: &[u8]) -> &[u8] {
     }
 }
 
+/// How many steps a block of this word has, or none where it has more than a bound may be.
+pub(crate) fn steps_of(block: &[u8]) -> u64 {
+    nat(digits_in(block), BOUND_MAX).unwrap_or(0)
+}
+
 /// Whether the magnitude of a number is outside these limits.
 fn is_outside(word: &[u8], least: u64, most: u64) -> bool
     requires { most < 2 ^ 63 }

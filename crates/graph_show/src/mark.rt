@@ -4,7 +4,7 @@ use crate::above::{Above, declares};
 use crate::below::Below;
 use crate::explain_parts::Part;
 use crate::grammar::{Known, Reading};
-use crate::limits::{count_passed, limit_passed};
+use crate::limits::{count_passed, limit_passed, steps_of};
 use crate::meeting_place::MeetingPlace;
 use crate::wanted::Wanted;
 use graph_lang::FaultKind;
@@ -47,7 +47,7 @@ pub(crate) fn mark_of<'a>(
         FaultKind::OutBeforeIn => order_mark(found, above),
         FaultKind::BadParent => parent_mark(found, parent_wanted(above.version())),
         FaultKind::NotHeld => held_mark(found, above),
-        FaultKind::OverBound => block_mark(found),
+        FaultKind::OverBound => block_mark(found, above),
         FaultKind::AnyMeets => meeting_mark(found, above, meeting),
     };
     Ok(mark)
@@ -316,15 +316,30 @@ fn parent_wanted(version: Version) -> &'static str {
     }
 }
 
-/// The block that is above a bound.
-fn block_mark<'a>(found: &[Known<'a>]) -> Mark<'a> {
+/// What is wanted of a block of so many steps, and the first phaser of its line with a lower bound.
+fn block_wanted<'a>(found: &[Known<'a>], above: &Above<'_>, steps: u64) -> Wanted<'a> {
     let wanted = "at most as many steps as the bound of each phaser of the line";
-    for word in 0..found.len() {
-        if let (Part::Block, _) = found[word] {
-            return Mark::text(word, wanted);
+    for (part, name) in found {
+        let bound = above.bound_of(name);
+        if (part.is_input() || part.is_output()) && bound < steps {
+            return Wanted::with_number(wanted, ": ", name, " has bound ", bound.into());
         }
     }
-    Mark::text(1, wanted)
+    Wanted::text(wanted)
+}
+
+/// The block that is above a bound.
+fn block_mark<'a>(found: &[Known<'a>], above: &Above<'_>) -> Mark<'a> {
+    for word in 0..found.len() {
+        if let (Part::Block, block) = found[word] {
+            let wanted = block_wanted(found, above, steps_of(block));
+            return Mark { word, wanted };
+        }
+    }
+    Mark::text(
+        1,
+        "at most as many steps as the bound of each phaser of the line",
+    )
 }
 
 /// The output with a single, or the parent that lacks what its child needs.

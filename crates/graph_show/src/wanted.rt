@@ -6,7 +6,7 @@ use itoa::Buffer;
 use std::alloc::{AllocError, Global};
 
 /// What was expected in the place of a word: a text, and perhaps more behind it, with a word, the
-/// number of a line or a phase.
+/// number of a line, and a phase or a bound.
 #[derive(Clone, Copy)]
 pub(crate) struct Wanted<'a> {
     text: &'static str,
@@ -16,7 +16,7 @@ pub(crate) struct Wanted<'a> {
     /// The number of a line, counted from 1, or 0 for none.
     line: usize,
     behind: &'static str,
-    phase: Option<u128>,
+    number: Option<u128>,
 }
 
 impl<'a> Wanted<'a> {
@@ -39,7 +39,7 @@ impl<'a> Wanted<'a> {
             between: "",
             line: 0,
             behind,
-            phase: None,
+            number: None,
         }
     }
 
@@ -52,7 +52,7 @@ impl<'a> Wanted<'a> {
             between: "",
             line,
             behind,
-            phase: None,
+            number: None,
         }
     }
 
@@ -65,7 +65,26 @@ impl<'a> Wanted<'a> {
             between: " (line ",
             line: meeting.line,
             behind: ") also signals it in phase ",
-            phase: Some(meeting.phase),
+            number: Some(meeting.phase),
+        }
+    }
+
+    /// This text, and behind it a word and a number, each behind another text.
+    pub(crate) fn with_number(
+        text: &'static str,
+        before: &'static str,
+        word: &'a [u8],
+        behind: &'static str,
+        number: u128,
+    ) -> Wanted<'a> {
+        Wanted {
+            text,
+            before,
+            word,
+            between: "",
+            line: 0,
+            behind,
+            number: Some(number),
         }
     }
 
@@ -79,8 +98,8 @@ impl<'a> Wanted<'a> {
             put(&mut told, [Buffer::new().format(self.line)].as_slice())?;
         }
         put(&mut told, [self.behind].as_slice())?;
-        if let Some(phase) = self.phase {
-            put(&mut told, [Buffer::new().format(phase)].as_slice())?;
+        if let Some(number) = self.number {
+            put(&mut told, [Buffer::new().format(number)].as_slice())?;
         }
         Ok(told)
     }

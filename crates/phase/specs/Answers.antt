@@ -11,6 +11,7 @@ use Rattle.phase_commands.specs.phase_words.Answers.{AnswerEnds, IsUnbegun, MayE
 use Rattle.phase_commands.specs.phase_words.CommandLine.{Asked, AskReplay, Asks, kinds_of}
 use Rattle.phase_commands.specs.phase_words.RunLine.{AsksRun, Run, run_kinds_of}
 use Rattle.phase_commands.specs.phase_words.StreamLine.{AsksStream, Stream, stream_kinds_of}
+use Rattle.phase_run.specs.phase_eval.Ends.{EndsAsEval, MayEndAsEval}
 use Rattle.phase_run.specs.Ends.{EndsAsRun, MayEndAsRun}
 use Rattle.phase_stream.specs.Ends.{EndsAsStream, MayEndAsStream}
 
@@ -36,6 +37,14 @@ abbrev pub RunAnswers : {F W : Type 0} → List Text → Known → (W → Option
 RunAnswers words known contents status closed files old new before after =
     Answers (run_kinds_of words) MayEndAsRun (AsksRun words)
     (λ (what : Run). EndsAsRun what known contents status old new before after)
+    status closed files old new before after
+
+-- `eval` by workers answers the words behind its name
+abbrev pub EvalAnswers : {F W : Type 0} → List Text → Known → (W → Option (List ℕ)) → Status
+    → F → F → Watched W → Watched W → WriterState → WriterState → Type 0
+EvalAnswers words known contents status closed files old new before after =
+    Answers (run_kinds_of words) MayEndAsEval (AsksRun words)
+    (λ (what : Run). EndsAsEval what known contents status old new before after)
     status closed files old new before after
 
 -- `stream` answers words of its own

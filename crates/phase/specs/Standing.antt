@@ -1,7 +1,7 @@
 -- What a value of the code says of the words.
 use Rattle.std.specs.Prelude.{List, [], ◌∷◌, codes}
 use Rattle.clap.specs.Words.{Text}
-use Rattle.phase.specs.Ways.{Way, others, run, stream}
+use Rattle.phase.specs.Ways.{Way, by_workers, others, run, stream}
 use Rattle.phase.specs.declared.way.Own.{Own}
 use Rattle.phase.specs.declared.way.Own.TheVariants as own
 use Rattle.phase.specs.declared.way.Way.{Way as WayOfWords}
@@ -17,4 +17,5 @@ own_texts own.Help = codes "--help" ∷ []
 abbrev pub way_by : WayOfWords → Way
 way_by (way.Run own) = run (own_texts own)
 way_by (way.Stream own) = stream (own_texts own)
+way_by (way.Eval words) = by_workers (texts words.now)
 way_by way.Others = others

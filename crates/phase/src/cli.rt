@@ -1,9 +1,9 @@
 //! A run of the program over any input, outputs and files.
 ghost use Rattle.std.specs.Prelude.{◌≡◌, ◌≢◌, List};
 ghost use Rattle.clap.specs.Words.{Text};
-ghost use Rattle.phase.specs.Answers.{OthersAnswer, RunAnswers, StreamAnswers};
+ghost use Rattle.phase.specs.Answers.{EvalAnswers, OthersAnswer, RunAnswers, StreamAnswers};
 ghost use Rattle.phase.specs.Standing.{own_texts};
-ghost use Rattle.phase.specs.Ways.{others, run, stream, way_of};
+ghost use Rattle.phase.specs.Ways.{by_workers, others, run, stream, way_of};
 ghost use Rattle.phase_commands.specs.graph_commands.watched_io.States.{writer_state};
 ghost use Rattle.phase_commands.specs.phase_words.Answers.{IsAnswer};
 ghost use Rattle.phase_commands.specs.phase_words.CommandLine.{texts};
@@ -20,8 +20,9 @@ use std::sync::Wait;
 use std::thread::Threads;
 
 /// Runs the program on its words, without its own name, and answers its status: that of `run` or of
-/// `stream` on the words behind its name, or that of the other commands on all the words.
-/// `help run` asks for what `run --help` does, and `help stream` for what `stream --help` does.
+/// `stream` on the words behind its name, of `eval` by workers on those behind its name where one
+/// of them is `--workers`, or that of the other commands on all the words. `help run` asks for what
+/// `run --help` does, and `help stream` for what `stream --help` does.
 ///
 /// A run waits, and it is not promised that it comes back. A stream comes back where each call of
 /// its readers and writers does.
@@ -49,6 +50,11 @@ pub fn run_cli<
         streams.old.files streams.new.files streams.old.output streams.new.output
         (writer_state E.contents streams.old.faults)
         (writer_state E.contents streams.new.faults) }
+    ensures eval { (own : List Text) → way_of (texts words.now) ≡ by_workers own
+        → EvalAnswers own (F.file streams.old.files) W.contents result
+        streams.old.files streams.new.files streams.old.output streams.new.output
+        (writer_state E.contents streams.old.faults)
+        (writer_state E.contents streams.new.faults) }
     ensures others { way_of (texts words.now) ≡ others
         → OthersAnswer (texts words.now) (F.file streams.old.files) R.remaining W.contents result
         input.old input.new
@@ -63,6 +69,7 @@ pub fn run_cli<
     match way_of(words) {
         Way::Run(own) => run_own(rt, alloc, own, streams),
         Way::Stream(own) => stream_own(alloc, own, streams),
+        Way::Eval(words) => eval_own(rt, alloc, words, streams),
         Way::Others => phase_commands::run_cli(alloc, words, input, streams),
     }
 }
@@ -87,6 +94,22 @@ fn run_own<H: Threads + Wait + Sync, W: Write, E: Write, F: Opens + Refuses + Lo
             Err(_) => out_of_memory(streams),
         },
     }
+}
+
+/// Evaluates a graph by the words behind `eval`.
+fn eval_own<H: Threads + Sync, W: Write, E: Write, F: Opens + Refuses + LooksBeside>(
+    rt: &H,
+    alloc: Global,
+    words: &[String],
+    streams: &mut Streams<W, E, F>,
+) -> Status
+    ensures answers { EvalAnswers (texts words.now) (F.file streams.old.files) W.contents result
+        streams.old.files streams.new.files streams.old.output streams.new.output
+        (writer_state E.contents streams.old.faults)
+        (writer_state E.contents streams.new.faults) }
+    ensures quiet { result ≡ Status.Done → streams.new.faults ≡ streams.old.faults }
+{
+    phase_run::phase_eval::run_cli(rt, alloc, words, streams)
 }
 
 /// Streams a graph by the words of `stream`.

@@ -1,10 +1,11 @@
 //! Which command the words that the program's pages name are for. The contracts are the laws.
-ghost use Rattle.std.specs.Prelude.{◌≡◌, List, [], ◌∷◌, codes};
+ghost use Rattle.std.specs.Prelude.{◌≡◌, List, [], ◌∷◌, codes, false, true};
+ghost use Rattle.std.specs.List.{list_any};
 ghost use Rattle.clap.specs.Words.{Text};
-ghost use Rattle.phase.specs.Ways.{others, run, stream, way_of};
+ghost use Rattle.phase.specs.Ways.{by_workers, names_workers, others, run, stream, way_of};
 
 /// `run` and `stream` have the words behind their names, and behind `help` they are asked for
-/// help. All else is for the others.
+/// help. So has `eval`, where one of them names workers. All else is for the others.
 pub fn words_for_commands()
     ensures run { (own : List Text) → way_of (codes "run" ∷ own) ≡ run own }
     ensures stream { (own : List Text) → way_of (codes "stream" ∷ own) ≡ stream own }
@@ -15,7 +16,10 @@ pub fn words_for_commands()
     ensures none { way_of [] ≡ others }
     ensures replay { (more : List Text) → way_of (codes "replay" ∷ more) ≡ others }
     ensures check { (more : List Text) → way_of (codes "check" ∷ more) ≡ others }
-    ensures eval { (more : List Text) → way_of (codes "eval" ∷ more) ≡ others }
+    ensures eval { (more : List Text) → list_any names_workers more ≡ false
+        → way_of (codes "eval" ∷ more) ≡ others }
+    ensures eval_by_workers { (more : List Text) → list_any names_workers more ≡ true
+        → way_of (codes "eval" ∷ more) ≡ by_workers more }
 {}
 
 /// Help and the version of the program are the others' too.

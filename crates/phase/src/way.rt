@@ -1,6 +1,7 @@
 //! Which command the words are for.
 ghost use Rattle.std.specs.Prelude.{◌≡◌, ◌∷◌, IfOk, [], codes};
-ghost use Rattle.phase.specs.Ways.{is_bare, way_named, way_of};
+ghost use Rattle.std.specs.List.{list_any};
+ghost use Rattle.phase.specs.Ways.{is_bare, is_by_workers, names_workers, way_named, way_of};
 ghost use Rattle.phase.specs.Standing.{own_texts, way_by};
 ghost use Rattle.phase_commands.specs.phase_words.CommandLine.{texts};
 
@@ -22,6 +23,8 @@ pub(crate) enum Way<'a> {
     Run(Own<'a>),
     /// `stream`.
     Stream(Own<'a>),
+    /// `eval`, by workers, with these words behind its name.
+    Eval(&'a [String]),
     /// One of the others, which read all the words.
     Others,
 }
@@ -39,12 +42,39 @@ fn way_named<'a>(name: &str, own: Own<'a>) -> Way<'a>
     Way::Others
 }
 
+/// Whether a word is `--workers`, or begins with that and a `=`.
+fn names_workers(word: &str) -> bool
+    ensures { result ≡ names_workers word.now }
+{
+    word == "--workers" || word.as_bytes().starts_with(b"--workers=")
+}
+
+/// Whether one of the words names workers.
+fn name_workers(words: &[String]) -> bool
+    ensures { result ≡ list_any names_workers (texts words.now) }
+{
+    for word in words {
+        if names_workers(word.as_str()) {
+            return true;
+        }
+    }
+    false
+}
+
+/// Whether words are for `eval`, and one of those behind its name names workers.
+fn is_by_workers(first: &str, behind: &[String]) -> bool
+    ensures { result ≡ is_by_workers first.now (texts behind.now) }
+{
+    first == "eval" && name_workers(behind)
+}
+
 /// Which command the words are for, by the first of them, or by the second behind `help`.
 pub(crate) fn way_of(words: &[String]) -> Way<'_>
     ensures { way_by result ≡ way_of (texts words.now) }
 {
     match words {
         [first, name, ..] if first.as_str() == "help" => way_named(name.as_str(), Own::Help),
+        [first, behind @ ..] if is_by_workers(first.as_str(), behind) => Way::Eval(behind),
         [first, behind @ ..] => way_named(first.as_str(), Own::Behind(behind)),
         [] => Way::Others,
     }

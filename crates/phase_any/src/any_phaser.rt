@@ -109,8 +109,8 @@ impl AnyPhaser {
     /// each and a single for all of them or none, and answers the first phase. A refused block
     /// signals nothing. It takes no memory.
     ///
-    /// Any value can be sent but `NO_VALUE`. The parcels are used where there is more than one
-    /// value or none.
+    /// Any value can be sent but `NO_VALUE`. The parcels are used where another task signals too,
+    /// where the task waits, or where a single is named.
     pub fn signal_values(
         &mut self,
         task: u64,
@@ -130,9 +130,6 @@ impl AnyPhaser {
         ensures err { OnErr result (self.new ≡ self.old) }
         ensures parcels { parcels.new ≡ parcels.old }
     {
-        if let [value] = values {
-            return self.signal_one(task, *value, single);
-        }
         match self {
             AnyPhaser::Sum(core) => signal_values(core, task, values, single, &mut parcels.sum),
             AnyPhaser::Product(core) => signal_values(

@@ -1,9 +1,9 @@
 -- Which statuses may come of a run.
 use Rattle.std.proofs.Common.{◌≡◌, ◌≢◌, ◌⊎◌, inl, inr, ℕ, List, refl}
 use Rattle.phase_run.specs.Ends.{MayEndAsRun}
-use Rattle.phase_words.proofs.Answering.{stalled-taken}
-use Rattle.phase_words.specs.Answers.{MayEnd}
-use Rattle.phase_words.specs.RunLine.{AreRunTaken, run_kinds_of}
+use Rattle.phase_eval.proofs.phase_words_lemmas.Answering.{stalled-taken}
+use Rattle.phase_eval.specs.phase_words.Answers.{MayEnd}
+use Rattle.phase_eval.specs.phase_words.RunLine.{AreRunTaken, run_kinds_of}
 use Rattle.stream_workers.specs.graph_commands.Failures.{failure_status}
 use Rattle.stream_workers.specs.graph_commands.GraphRuns.{job_status}
 use Rattle.stream_workers.specs.graph_commands.declared.failure.Failure.{Failure}

@@ -1,7 +1,7 @@
 -- How a run of the program may end, by what its words ask for.
 use Rattle.std.specs.Prelude.{◌≡◌, ◌⊎◌, ℕ, List, Option}
 use Rattle.phase_run.specs.Runs.{RunEnds}
-use Rattle.phase_words.specs.RunLine.{Run}
+use Rattle.phase_eval.specs.phase_words.RunLine.{Run}
 use Rattle.stream_workers.specs.graph_commands.FileJobs.{Known}
 use Rattle.stream_workers.specs.graph_commands.Folders.{known_by}
 use Rattle.stream_workers.specs.graph_commands.watched_io.States.{WriterState}

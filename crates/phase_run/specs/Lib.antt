@@ -1,3 +1,3 @@
 pub mod Ends
 pub mod Runs
-pub mod Texts
+pub use Rattle.phase_eval.specs as phase_eval

@@ -1,13 +1,13 @@
 //! A run of the program over any outputs and files.
 ghost use Rattle.std.specs.Prelude.{◌≡◌, ◌⊎◌};
 ghost use Rattle.phase_run.specs.Ends.{EndsAsRun, MayEndAsRun};
-ghost use Rattle.phase_words.specs.Answers.{AnswerEnds, IsUnbegun, MayEnd};
-ghost use Rattle.phase_words.specs.CommandLine.{texts};
-ghost use Rattle.phase_words.specs.RunLine.{AreRunTaken, AsksRun, Run, run_kinds_of, run_of};
+ghost use Rattle.phase_eval.specs.phase_words.Answers.{AnswerEnds, IsUnbegun, MayEnd};
+ghost use Rattle.phase_eval.specs.phase_words.CommandLine.{texts};
+ghost use Rattle.phase_eval.specs.phase_words.RunLine.{AreRunTaken, AsksRun, Run, run_kinds_of, run_of};
 ghost use Rattle.stream_workers.specs.graph_commands.watched_io.States.{writer_state};
 
 use crate::graph_run::run;
-use phase_words::{RunCall, answer, read_run_words};
+use phase_eval::phase_words::{RunCall, answer, read_run_words};
 use std::alloc::Global;
 use std::io::Write;
 use std::sync::Wait;

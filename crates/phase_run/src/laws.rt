@@ -1,8 +1,8 @@
 //! Which statuses come of which words. The contract of the function is the law.
 ghost use Rattle.std.specs.Prelude.{◌≡◌, ◌≢◌, ℕ, List};
 ghost use Rattle.phase_run.specs.Ends.{MayEndAsRun};
-ghost use Rattle.phase_words.specs.Answers.{MayEnd};
-ghost use Rattle.phase_words.specs.RunLine.{AreRunTaken, run_kinds_of};
+ghost use Rattle.phase_eval.specs.phase_words.Answers.{MayEnd};
+ghost use Rattle.phase_eval.specs.phase_words.RunLine.{AreRunTaken, run_kinds_of};
 
 use stream_workers::graph_commands::watched_io::Status;
 

@@ -12,7 +12,7 @@
 mod cli;
 mod graph_run;
 pub mod laws;
-mod texts;
 
 pub use cli::run_cli;
+pub use phase_eval;
 pub use stream_workers;

@@ -120,6 +120,9 @@ and the file `numbers` the lines 1, 2 and 3, `phase eval sums` writes
 and `phase eval sums --sink out` the last three of these lines, which may be the
 samples of another source. With --columns the first line is `out`.
 
+With --workers N, from 1 to 16, and without --columns, N threads make long lists,
+a part each, and the output is the same: where the program has `run`.
+
 Files are opened from the current folder, by their names as they are written,
 and with --beside those of the sources in the folder of the graph.
 

@@ -17,7 +17,7 @@ mod told;
 
 pub use call::{Call, NoCall, RunCall, StreamCall, Strict, WORKERS, WORKERS_MAX};
 pub use command_line::read_words;
-pub use run_line::read_run_words;
+pub use run_line::{read_eval_words, read_run_words};
 pub use stream_line::read_stream_words;
 pub use told::answer;
 pub use watched_io::Explain;

@@ -6,7 +6,7 @@ ghost use Rattle.phase_words.specs.RunLine.{AsksRun, run_app, run_by, run_in, ru
 ghost use Rattle.phase_words.specs.RunLine.{workers_of, workers_rule};
 
 use crate::command_line::{explain_of, explain_word, found_by, is_given, no_call};
-use crate::help::{RUN, RUN_END, WORKERS_WORD};
+use crate::help::{EVAL, EVAL_END, RUN, RUN_END, WORKERS_WORD};
 use crate::sink_line::{graph_of, sink_command};
 use crate::{NoCall, RunCall, WORKERS, WORKERS_MAX};
 use clap::builder::ValueParser;
@@ -25,11 +25,17 @@ fn workers_word<'a>(alloc: Global) -> Arg<'a>
         .help(WORKERS_WORD)
 }
 
-/// The command line behind `phase run`.
-fn run_command<'a>(alloc: Global) -> Result<Command<'a>, AllocError>
+/// The command line behind `phase run`, or behind `phase eval` with `--workers`, of this name and
+/// with these texts of help.
+fn workers_command<'a>(
+    alloc: Global,
+    name: &'a str,
+    about: &'a str,
+    end: &'a str,
+) -> Result<Command<'a>, AllocError>
     ensures { IfOk result (λ c. app_of c ≡ run_app) }
 {
-    sink_command(alloc, "phase run", RUN, RUN_END)?
+    sink_command(alloc, name, about, end)?
         .arg(workers_word(alloc))?
         .arg(explain_word(alloc))
 }
@@ -60,12 +66,16 @@ fn workers_of(word: Option<&str>) -> usize
     }
 }
 
-/// Reads the words by clap.
-fn parse<'a>(alloc: Global, words: &'a [String]) -> Result<RunCall<'a>, Error>
+/// Reads the words by clap, which has this command line.
+fn parse<'a>(
+    command: Result<Command<'a>, AllocError>,
+    words: &'a [String],
+) -> Result<RunCall<'a>, Error>
+    requires { IfOk command (λ c. app_of c ≡ run_app) }
     ensures fails { FailsBy (run_kinds_of (texts words.now)) result }
     ensures call { IfOk result (λ call. run_of call ≡ run_in (texts words.now)) }
 {
-    let matches = found_by(run_command(alloc), words)?;
+    let matches = found_by(command, words)?;
     Ok(call_of(&matches))
 }
 
@@ -75,7 +85,19 @@ pub fn read_run_words<'a>(alloc: Global, words: &'a [String]) -> Result<RunCall<
     ensures call { IfOk result (λ call. AsksRun (texts words.now) (run_of call)) }
     ensures no_call { IfErr result (λ none. ExplainsNone (run_kinds_of (texts words.now)) none) }
 {
-    match parse(alloc, words) {
+    match parse(workers_command(alloc, "phase run", RUN, RUN_END), words) {
+        Ok(call) => Ok(call),
+        Err(error) => Err(no_call(alloc, &error)),
+    }
+}
+
+/// Reads the words behind `phase eval`, of which one is `--workers`, by the rules of those behind
+/// `phase run`. Where they ask for help or for the version, or are refused, the text is clap's.
+pub fn read_eval_words<'a>(alloc: Global, words: &'a [String]) -> Result<RunCall<'a>, NoCall>
+    ensures call { IfOk result (λ call. AsksRun (texts words.now) (run_of call)) }
+    ensures no_call { IfErr result (λ none. ExplainsNone (run_kinds_of (texts words.now)) none) }
+{
+    match parse(workers_command(alloc, "phase eval", EVAL, EVAL_END), words) {
         Ok(call) => Ok(call),
         Err(error) => Err(no_call(alloc, &error)),
     }

@@ -1,6 +1,7 @@
 mod Bads
 mod Begins
 mod Ending
+mod Lines
 mod Marks
 mod Reading
 mod Rows

@@ -1,5 +1,5 @@
 -- A reader of samples whose text comes in pieces, as contracts see it.
-use Rattle.std.specs.Prelude.{◌≡◌, ◌+◌, ◌≤◌, ℕ, ℤ, Bool, true, false, List, [], ◌∷◌, ◌++◌, length, map, ⊤, ◌<◌, ◌&&◌, nat_lt}
+use Rattle.std.specs.Prelude.{◌≡◌, ◌+◌, ◌≤◌, ℕ, ℤ, Bool, true, false, List, [], ◌∷◌, ◌++◌, length, map, ⊤, ◌<◌, ◌&&◌, nat_lt, take}
 use Rattle.csv.specs.declared.parser.Action.{Action}
 use Rattle.csv.specs.declared.parser.Action.TheVariants as act
 use Rattle.csv.specs.declared.parser.State.{State}
@@ -73,6 +73,12 @@ abbrev pub Finds : List ℕ → List ℤ → SampleReader → Found → Type 0
 Finds text values reader found.Nothing = HasRead text values reader
 Finds text values reader (found.Value v) = HasRead text (values ++ v ∷ []) reader
 Finds text values reader found.Bad = IsBadFrom text (length values + 1)
+
+-- the text begins with this number and a line feed, of so many bytes
+pub record BeginsWithNumber (text : List ℕ) (value : ℤ) (size : ℕ) : Type 0 where
+  pub send : IsSend value
+  pub within : size ≤ length text
+  pub line_is : take size text ≡ signed_decimal value ++ 10 ∷ []
 
 -- what a piece came to: all values of the text as far as it was read, or a bad record behind them
 abbrev pub TakesPiece : Bool → List ℕ → List ℤ → SampleReader → Type 0

@@ -5,6 +5,7 @@
 
 pub mod laws;
 mod number;
+mod plain;
 mod reader;
 mod step;
 

@@ -3,6 +3,7 @@ ghost use Rattle.std.specs.Prelude.{◌≡◌, ◌+◌, ◌≤◌, ◌<◌, [], 
 ghost use Rattle.sample_pieces.specs.Pieces.{HasRead, Finds, FindsLast, TakesPiece, FindsField, EndsMark, Copies};
 
 use crate::number::value_of;
+use crate::plain::line_in;
 use crate::step::{Move, Where, step};
 use arrayvec::ArrayVec;
 
@@ -18,6 +19,13 @@ pub enum Found {
     Value(i64),
     /// The record at hand is none of a value, whatever follows.
     Bad,
+}
+
+/// How many bytes were read, and what was found in them.
+#[derive(Clone, Copy)]
+struct Read {
+    size: usize,
+    found: Found,
 }
 
 /// What a piece came to.
@@ -70,8 +78,9 @@ impl SampleReader {
             → result.bytes ≡ length piece.now }
         ensures behind { drop result.values out.new ≡ drop result.values out.old }
     {
+        let mut bytes = 0;
         let mut values = 0;
-        for bytes in 0..piece.len() {
+        while bytes < piece.len() {
             if values == out.len() {
                 return Taken {
                     bytes,
@@ -79,7 +88,9 @@ impl SampleReader {
                     is_bad: false,
                 };
             }
-            match self.byte(piece[bytes]) {
+            let Read { size, found } = self.next(&piece[bytes..]);
+            bytes += size;
+            match found {
                 Found::Nothing => {}
                 Found::Value(value) => {
                     out[values] = value;
@@ -87,7 +98,7 @@ impl SampleReader {
                 }
                 Found::Bad => {
                     return Taken {
-                        bytes: bytes + 1,
+                        bytes,
                         values,
                         is_bad: true,
                     };
@@ -95,7 +106,7 @@ impl SampleReader {
             }
         }
         Taken {
-            bytes: piece.len(),
+            bytes,
             values,
             is_bad: false,
         }
@@ -119,6 +130,28 @@ impl SampleReader {
         match value_of(self.field.as_slice()) {
             Some(value) => Found::Value(value),
             None => Found::Bad,
+        }
+    }
+
+    // Reads on by a line, where one begins here that is a number alone, or by one byte.
+    fn next(&mut self, piece: &[u8]) -> Read
+        requires { 1 ≤ length piece.now }
+        ensures found { (text : List ℕ) (values : List ℤ) → HasRead text values self.old
+            → Finds (text ++ take result.size piece.now) values self.new result.found }
+        ensures size { (1 ≤ result.size) × (result.size ≤ length piece.now) }
+    {
+        if self.at == Where::Between && self.field.is_empty() {
+            if let Some(line) = line_in(piece) {
+                self.is_first = false;
+                return Read {
+                    size: line.size,
+                    found: Found::Value(line.value),
+                };
+            }
+        }
+        Read {
+            size: 1,
+            found: self.byte(piece[0]),
         }
     }
 

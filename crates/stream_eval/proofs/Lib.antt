@@ -4,6 +4,7 @@ pub mod Composed
 pub mod Dropped
 pub mod Made
 pub mod Mixing
+pub mod Parts
 pub mod Sendable
 pub mod Sends
 pub mod SinkStarts

@@ -6,6 +6,7 @@
 #![tactic(auto)]
 
 mod fault;
+mod filter_lists;
 mod list;
 mod members;
 mod numbers;
@@ -17,6 +18,7 @@ mod taken_values;
 mod whole;
 
 pub use fault::EvalFault;
+pub use filter_lists::{FilterLists, InTurn, filter_part, parts_follow};
 pub use stream_lists;
 pub use stream_lists::stream_filters;
-pub use whole::{Lines, eval};
+pub use whole::{Lines, eval, eval_by};

@@ -7,9 +7,10 @@ ghost use Rattle.stream_lists.specs.Lists.{entry, every, in_turn, mixed};
 ghost use Rattle.stream_lists.specs.Ranges.{is_out_of_range};
 ghost use Rattle.stream_eval.specs.declared.list.ListFault.TheVariants as fault;
 
+use crate::filter_lists::FilterLists;
 use std::alloc::{AllocError, Global};
 use stream_lists::graph_base::ENDS_MAX;
-use stream_lists::stream_filters::{FilterFault, Peer, filter_list};
+use stream_lists::stream_filters::{FilterFault, Peer};
 
 /// Why no list was made.
 #[derive(Clone, Copy, Debug, PartialEq, Eq)]
@@ -30,12 +31,14 @@ impl From<AllocError> for ListFault {
 
 /// Makes the outputs of a filter at each of these samples, or finds the first step at which one is
 /// out of range.
-pub fn fir_list(
+pub fn fir_list<L: FilterLists>(
     alloc: Global,
+    filters: &L,
     taps: &[i64],
     shift: u32,
     samples: &[i64],
 ) -> Result<Vec<i64>, ListFault>
+    requires may { L.may_filter filters.now }
     requires taps { AreTaps taps.now shift }
     requires samples { AreSends samples.now }
     ensures ok { IfOk result (λ list. list.items ≡ outputs taps.now shift samples.now) }
@@ -45,7 +48,7 @@ pub fn fir_list(
     ensures too_big { (step : ℕ) → result ≡ Err (ListFault.TooBig step)
         → position_from is_out_of_range 0 (outputs taps.now shift samples.now) ≡ Some step }
 {
-    match filter_list(alloc, taps, shift, samples) {
+    match filters.filtered(alloc, taps, shift, samples) {
         Ok(list) => Ok(list),
         Err(FilterFault::TooBig(step)) => Err(ListFault::TooBig(step)),
         Err(FilterFault::BadTaps | FilterFault::OutOfMemory) => Err(ListFault::OutOfMemory),

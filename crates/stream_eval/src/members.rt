@@ -14,6 +14,7 @@ ghost use Rattle.stream_lists.specs.Ranges.{first_some, made_fault, output_fault
 ghost use Rattle.stream_lists.specs.Spans.{schedule_of};
 
 use crate::fault::EvalFault;
+use crate::filter_lists::FilterLists;
 use crate::list::ListFault;
 use crate::outputs::list_put;
 use crate::phases::MemberList;
@@ -24,13 +25,15 @@ use stream_lists::{Job, output_number};
 
 /// What task number `t` puts on its output number `j`, over the lists of the phasers above, or the
 /// first step whose value is out of range.
-fn output_of(
+fn output_of<L: FilterLists>(
     alloc: Global,
+    filters: &L,
     job: &Job,
     above: &[Vec<i64>],
     t: usize,
     j: usize,
 ) -> Result<Vec<i64>, ListFault>
+    requires may { L.may_filter filters.now }
     requires task { t < length job.now.graph.tasks }
     requires turn { (task_at job.now.graph t).kind ≡ Split
         → j < length (task_at job.now.graph t).outputs }
@@ -48,17 +51,27 @@ fn output_of(
     let Ok(taken) = taken_lists(alloc, above, task, span) else {
         return Err(ListFault::OutOfMemory);
     };
-    list_put(alloc, job.samples_of(t), &taken, task, span.steps, j)
+    list_put(
+        alloc,
+        filters,
+        job.samples_of(t),
+        &taken,
+        task,
+        span.steps,
+        j,
+    )
 }
 
 /// Task number `t` as a member of phaser number `p`, or where what it makes is first out of range.
-fn as_member(
+fn as_member<L: FilterLists>(
     alloc: Global,
+    filters: &L,
     job: &Job,
     above: &[Vec<i64>],
     p: usize,
     t: usize,
 ) -> Result<Option<MemberList>, EvalFault>
+    requires may { L.may_filter filters.now }
     requires task { t < length job.now.graph.tasks }
     requires sends { All (λ list. AreSends list.items) above.now }
     ensures ok { IfOk result (λ found. member_option found
@@ -76,7 +89,7 @@ fn as_member(
     let Some(j) = output_number(job.graph().task(t), p) else {
         return Ok(None);
     };
-    match output_of(alloc, job, above, t, j) {
+    match output_of(alloc, filters, job, above, t, j) {
         Ok(values) => Ok(Some(MemberList {
             offset: span.offset,
             values,
@@ -91,12 +104,14 @@ fn as_member(
 
 /// The members of phaser number `p`, in the order of the lines, or the first value out of range
 /// among what they make.
-pub(crate) fn members_on(
+pub(crate) fn members_on<L: FilterLists>(
     alloc: Global,
+    filters: &L,
     job: &Job,
     above: &[Vec<i64>],
     p: usize,
 ) -> Result<Vec<MemberList>, EvalFault>
+    requires may { L.may_filter filters.now }
     requires sends { All (λ list. AreSends list.items) above.now }
     ensures ok { IfOk result (λ members. map member_of members.items
         ≡ contributions_on job.now (schedule_of job.now) (items_of above.now) p) }
@@ -113,7 +128,7 @@ pub(crate) fn members_on(
         return Err(EvalFault::OutOfMemory);
     };
     for t in 0..job.graph().tasks() {
-        let found = match as_member(alloc, job, above, p, t) {
+        let found = match as_member(alloc, filters, job, above, p, t) {
             Ok(found) => found,
             Err(fault) => return Err(fault),
         };

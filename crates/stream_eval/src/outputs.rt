@@ -7,6 +7,7 @@ ghost use Rattle.stream_lists.specs.Lists.{mixed, output_list};
 ghost use Rattle.stream_lists.specs.Ranges.{is_out_of_range, list_fault};
 ghost use Rattle.stream_eval.specs.Composing.{LineMayPut};
 
+use crate::filter_lists::FilterLists;
 use crate::list::{ListFault, every_list, fir_list, in_turn_list, mixed_list};
 use crate::taken_values::part_of;
 use std::alloc::Global;
@@ -67,14 +68,16 @@ fn peer_list(
 
 /// What a task, with these samples, that took these values from each input in so many steps, puts
 /// on its output number `j`, or the first step whose value is out of range.
-pub(crate) fn list_put(
+pub(crate) fn list_put<L: FilterLists>(
     alloc: Global,
+    filters: &L,
     samples: &[i64],
     taken: &[&[i64]],
     task: &TaskLine,
     steps: u128,
     j: usize,
 ) -> Result<Vec<i64>, ListFault>
+    requires may { L.may_filter filters.now }
     requires task { LineMayPut task.now (length taken.now) j }
     requires samples { AreSends samples.now }
     requires sends { All (λ list. AreSends list.now) taken.now }
@@ -89,7 +92,7 @@ pub(crate) fn list_put(
 {
     match task.kind {
         Kind::Source => copy_of(alloc, samples, steps),
-        Kind::Fir => fir_list(alloc, &task.taps, task.shift, list_of(taken, 0)),
+        Kind::Fir => fir_list(alloc, filters, &task.taps, task.shift, list_of(taken, 0)),
         Kind::Split => Ok(every_list(alloc, task.outputs.len(), j, list_of(taken, 0))?),
         Kind::Join => Ok(in_turn_list(alloc, taken, steps)?),
         Kind::Peer => peer_list(alloc, task.mul, list_of(taken, 0), list_of(taken, 1), j),

@@ -12,6 +12,7 @@ ghost use Rattle.stream_lists.specs.Ranges.{fault_over, first_too_big, Fits};
 ghost use Rattle.stream_lists.specs.Spans.{lengths_of, schedule_of};
 
 use crate::fault::EvalFault;
+use crate::filter_lists::{FilterLists, InTurn};
 use crate::members::members_on;
 use crate::numbers::reduced;
 use crate::phases::MemberList;
@@ -61,12 +62,14 @@ fn only_values(job: &Job, p: usize, members: Vec<MemberList>) -> Result<Vec<i64>
 
 /// The numbers of the list of phaser number `p`, whose operation is `A`, over those of the phasers
 /// above, or the first value out of range on that phaser.
-fn list_by<A: Accumulate>(
+fn list_by<A: Accumulate, L: FilterLists>(
     alloc: Global,
+    filters: &L,
     job: &Job,
     above: &[Vec<i64>],
     p: usize,
 ) -> Result<Vec<i64>, EvalFault>
+    requires may { L.may_filter filters.now }
     requires phaser { p < length job.now.graph.phasers }
     requires value { A.operation.value ≡ value_by (phaser_at job.now.graph p).op }
     requires sends { All (λ list. AreSends list.items) above.now }
@@ -79,7 +82,7 @@ fn list_by<A: Accumulate>(
         → fault_over job.now (schedule_of job.now) (items_of above.now) p
         ≡ Some (place, n) }
 {
-    let members = match members_on(alloc, job, above, p) {
+    let members = match members_on(alloc, filters, job, above, p) {
         Ok(members) => members,
         Err(fault) => return Err(fault),
     };
@@ -92,12 +95,14 @@ fn list_by<A: Accumulate>(
 
 /// The numbers of the list of phaser number `p`, over those of the phasers above, or the first
 /// value out of range on that phaser.
-fn phaser_list(
+fn phaser_list<L: FilterLists>(
     alloc: Global,
+    filters: &L,
     job: &Job,
     above: &[Vec<i64>],
     p: usize,
 ) -> Result<Vec<i64>, EvalFault>
+    requires may { L.may_filter filters.now }
     requires phaser { p < length job.now.graph.phasers }
     requires sends { All (λ list. AreSends list.items) above.now }
     ensures ok { IfOk result (λ list. list.items
@@ -110,17 +115,22 @@ fn phaser_list(
         ≡ Some (place, n) }
 {
     match job.graph().phaser(p).op {
-        Op::Sum => list_by::<Sum>(alloc, job, above, p),
-        Op::Product => list_by::<Product>(alloc, job, above, p),
-        Op::Least => list_by::<Least>(alloc, job, above, p),
-        Op::Greatest => list_by::<Greatest>(alloc, job, above, p),
-        Op::Any => list_by::<Any>(alloc, job, above, p),
+        Op::Sum => list_by::<Sum, L>(alloc, filters, job, above, p),
+        Op::Product => list_by::<Product, L>(alloc, filters, job, above, p),
+        Op::Least => list_by::<Least, L>(alloc, filters, job, above, p),
+        Op::Greatest => list_by::<Greatest, L>(alloc, filters, job, above, p),
+        Op::Any => list_by::<Any, L>(alloc, filters, job, above, p),
     }
 }
 
 /// The numbers of the phasers' lists that a sink reads, each at its phaser's place, or the first
 /// value out of range. A list is dropped after the last phaser that is composed from it.
-fn phaser_lists(alloc: Global, job: &Job) -> Result<Vec<Vec<i64>>, EvalFault>
+fn phaser_lists<L: FilterLists>(
+    alloc: Global,
+    filters: &L,
+    job: &Job,
+) -> Result<Vec<Vec<i64>>, EvalFault>
+    requires may { L.may_filter filters.now }
     ensures ok { IfOk result (λ lists. (q : ℕ) → get_or (items_of lists.items) q []
         ≡ list_kept job.now (length job.now.graph.phasers) (numbers_of job.now) q) }
     ensures sends { IfOk result (λ lists. All (λ list. AreSends list.items) lists.items) }
@@ -132,7 +142,7 @@ fn phaser_lists(alloc: Global, job: &Job) -> Result<Vec<Vec<i64>>, EvalFault>
         return Err(EvalFault::OutOfMemory);
     };
     for p in 0..job.graph().phasers() {
-        let list = match phaser_list(alloc, job, lists.as_slice(), p) {
+        let list = match phaser_list(alloc, filters, job, lists.as_slice(), p) {
             Ok(list) => list,
             Err(fault) => return Err(fault),
         };
@@ -206,7 +216,24 @@ pub fn eval(alloc: Global, job: &Job) -> Result<Vec<Lines>, EvalFault>
     ensures too_big { (place : PlaceValue) (n : ℕ) → result ≡ Err (EvalFault.TooBig place n)
         → first_too_big job.now ≡ Some (place, n) }
 {
-    let lists = match phaser_lists(alloc, job) {
+    eval_by(alloc, &InTurn, job)
+}
+
+/// The same, where the lists of filters are made as `filters` makes them: by several threads, say.
+pub fn eval_by<L: FilterLists>(
+    alloc: Global,
+    filters: &L,
+    job: &Job,
+) -> Result<Vec<Lines>, EvalFault>
+    requires may { L.may_filter filters.now }
+    ensures ok { IfOk result (λ lines. map sink_values lines.items ≡ lines_of job.now) }
+    ensures starts { IfOk result (λ lines.
+        All (λ line. line.start ≡ start_in job.now line.task) lines.items) }
+    ensures fits { IfOk result (λ lines. Fits job.now) }
+    ensures too_big { (place : PlaceValue) (n : ℕ) → result ≡ Err (EvalFault.TooBig place n)
+        → first_too_big job.now ≡ Some (place, n) }
+{
+    let lists = match phaser_lists(alloc, filters, job) {
         Ok(lists) => lists,
         Err(fault) => return Err(fault),
     };

@@ -1,5 +1,5 @@
 -- The moment that is put together is over, and none met a value that is too big.
-use Rattle.graph_runs.proofs.Wholes.{answer_at_end}
+use Rattle.graph_runs.proofs.AtEnd.{answer_at_end}
 use Rattle.graph_runs.proofs.ends.runs_end.Goals as goal
 
 pub returns : goal.returns

@@ -2,7 +2,7 @@ use Rattle.std.proofs.Common.{inl, refl}
 use Rattle.std.proofs.lemmas.Result.{IfErr-weaker}
 use Rattle.stream_workers.proofs.graph_commands_lemmas.Counted.{known-same}
 use Rattle.stream_workers.proofs.graph_commands_lemmas.Ends.{ends-by, ends-status, fails-place, unanswered-place}
-use Rattle.phase_words.specs.RunLine.{run_of}
+use Rattle.phase_eval.specs.phase_words.RunLine.{run_of}
 use Rattle.stream_workers.specs.graph_commands.Folders.{known_by}
 use Rattle.phase_run.specs.Ends.{MayEndAsRun}
 use Rattle.phase_run.specs.Runs.{Stalls}

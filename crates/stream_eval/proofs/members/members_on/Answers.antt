@@ -15,7 +15,7 @@ use Rattle.stream_eval.proofs.members.members_on.Goals.{in-Some+in-Ok-push, in_d
 
 -- the first fault is this task's
 pub returns-in-Err-clause-too_big : goal.returns-in-Err-clause-too_big
-returns-in-Err-clause-too_big c place n e =
+returns-in-Err-clause-too_big g c place n e =
     let count = ap (λ (graph : Graph). length graph.tasks) c.graph-2.ensures.graph in
     let within : c.loop-t.t < length c.args.job.now.graph.tasks = omega
     (arith, count, c.loop-t-test.true, c.tasks-t-end.ensures.count) in
@@ -27,7 +27,7 @@ returns-in-Err-clause-too_big c place n e =
 
 -- a task that is a member stands behind those before it
 pub loop-t-preserved : goal.loop-t-preserved
-loop-t-preserved c =
+loop-t-preserved g c =
     let count = ap (λ (graph : Graph). length graph.tasks) c.graph-2.ensures.graph in
     let within : c.loop-t.t < length c.args.job.now.graph.tasks = omega
     (arith, count, c.loop-t-test.true, c.tasks-t-end.ensures.count) in

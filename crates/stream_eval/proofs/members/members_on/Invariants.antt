@@ -10,7 +10,7 @@ use Rattle.stream_eval.proofs.members.members_on.Given as goal
 
 -- the members among the tasks before this one, whose values are in range
 abbrev pub invariant-loop-t : goal.invariant-loop-t
-invariant-loop-t l =
+invariant-loop-t g l =
     (map member_of l.members.items
     ≡ filter_map (contribution_at l.job (schedule_of l.job) (items_of l.above) l.p)
     (range_with_len 0 l.t))

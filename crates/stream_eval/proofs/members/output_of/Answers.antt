@@ -6,7 +6,7 @@ use Rattle.stream_eval.proofs.members.output_of.Goals as goal
 
 -- there is a list for each input
 pub list_put-requires-clause-task : goal.list_put-requires-clause-task
-list_put-requires-clause-task c =
+list_put-requires-clause-task g c =
     let task = c.task-task.result.now in
     let line = c.task-task.ensures.line in
     let same = c.task-task.ensures.task

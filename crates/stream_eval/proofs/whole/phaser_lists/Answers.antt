@@ -14,7 +14,7 @@ use Rattle.stream_eval.proofs.whole.phaser_lists.Goals as goal
 
 -- the first fault is this phaser's
 pub returns-in-Err-clause-too_big : goal.returns-in-Err-clause-too_big
-returns-in-Err-clause-too_big c place n e =
+returns-in-Err-clause-too_big g c place n e =
     let job = c.args.job.now in
     let count = ap (λ (graph : Graph). length graph.phasers) c.graph-2.ensures.graph in
     let within : c.loop-p.p < length job.graph.phasers = omega
@@ -30,7 +30,7 @@ returns-in-Err-clause-too_big c place n e =
 
 -- and none where it has a list
 pub loop-p-preserved : goal.loop-p-preserved
-loop-p-preserved c =
+loop-p-preserved g c =
     let job = c.args.job.now in
     let count = ap (λ (graph : Graph). length graph.phasers) c.graph-2.ensures.graph in
     let within : c.loop-p.p < length job.graph.phasers = omega

@@ -10,7 +10,7 @@ use Rattle.stream_eval.proofs.whole.phaser_lists.Given as goal
 
 -- the lists of the phasers before this one that are still read, whose values are in range
 abbrev pub invariant-loop-p : goal.invariant-loop-p
-invariant-loop-p l = record {
+invariant-loop-p g l = record {
   kept : (q : ℕ) → get_or (items_of l.lists.items) q []
       ≡ list_kept l.job l.p (numbers_up_to l.job (schedule_of l.job) l.p) q;
   long : length l.lists.items ≡ l.p;

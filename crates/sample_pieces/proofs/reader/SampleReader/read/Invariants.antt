@@ -1,5 +1,5 @@
 -- As far as the piece was read.
-use Rattle.std.proofs.Common.{◌≡◌, ◌≤◌, ◌++◌, ℕ, ℤ, List, length, take, drop}
+use Rattle.std.proofs.Common.{◌≡◌, ◌≤◌, ◌-◌, ◌++◌, ℕ, ℤ, List, length, take, drop}
 use Rattle.sample_pieces.specs.Pieces.{HasRead}
 use Rattle.sample_pieces.proofs.reader.SampleReader.read.Given as goal
 
@@ -9,3 +9,8 @@ invariant-loop-bytes l =
     × (drop l.values l.out ≡ drop l.values l.fn.out)
     × ((text : List ℕ) (values : List ℤ) → HasRead text values l.fn.self
     → HasRead (text ++ take l.bytes l.piece) (values ++ take l.values l.out) l.self)
+    × (l.bytes ≤ length l.piece)
+
+-- the bytes that are left
+abbrev pub decreases-loop-bytes : goal.decreases-loop-bytes
+decreases-loop-bytes l = length l.piece - l.bytes
