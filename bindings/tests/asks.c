@@ -225,6 +225,169 @@ static void refused(void)
     IS(phase_member_leave(&other), PHASE_OK);
 }
 
+/* ---- More than have a lane. */
+
+enum { LANES = 16 };
+
+static void lanes(void)
+{
+    phase_member all[LANES + 1] = {{NULL, false}}, late = {NULL, false};
+    IS(phase_member_new(PHASE_SUM, 2, 100, &all[0]), PHASE_OK);
+    for (int at = 1; at <= LANES; at++)
+        IS(phase_member_register(&all[0], PHASE_SIG_WAIT, &all[at]), PHASE_OK);
+    for (int at = 0; at < LANES; at++)
+        IS(asks(&all[at], at), PHASE_ASKED);
+    IS(asks(&all[LANES], LANES), PHASE_E_CANNOT_ASK);
+    TELLS(goes_next(&all[LANES], LANES, &phase, &value), PHASE_SIGNALLED, 0, 77);
+    /* One turn makes the signals of all that ask, and their waits. */
+    TELLS(phase_member_serve(&all[3], 0, &phase, &value), PHASE_OK, 0, LANES * (LANES + 1) / 2);
+    for (int at = 0; at < LANES; at++)
+        if (at != 3)
+            TELLS(phase_member_look(&all[at], &phase, &value), PHASE_OK, 0,
+                  LANES * (LANES + 1) / 2);
+    TELLS(phase_member_wait(&all[LANES], &phase, &value), PHASE_OK, 0, LANES * (LANES + 1) / 2);
+    /* Who leaves gives its lane back, and who comes late gets it. */
+    IS(phase_member_leave(&all[3]), PHASE_OK);
+    IS(phase_member_register(&all[0], PHASE_SIG_WAIT, &late), PHASE_OK);
+    IS(asks(&late, 1), PHASE_ASKED);
+    TELLS(phase_member_take_back(&late, &phase, &value), PHASE_SIGNALLED, 1, 77);
+    IS(phase_member_leave(&late), PHASE_OK);
+    for (int at = 0; at <= LANES; at++)
+        if (at != 3)
+            IS(phase_member_leave(&all[at]), PHASE_OK);
+}
+
+/* ---- Calls at random, by one thread. */
+
+enum { TASKS = 6, PHASES = 4000, CALLS = 15000 };
+
+struct one {
+    phase_member member;
+    uint32_t mode;
+    bool asks;
+};
+
+/* Of each phase: how many signalled it, and what those that got it were given. */
+static int64_t sent[PHASES], got[PHASES];
+
+static uint32_t seed;
+
+static uint32_t below(uint32_t most)
+{
+    seed = seed * 1664525u + 1013904223u;
+    return (seed >> 8) % most;
+}
+
+/* Notes what a call answered that signals, or waits, or both. */
+static void note(int32_t status, bool signals, bool waits, uint64_t phase, int64_t value)
+{
+    if (status != PHASE_OK && status != PHASE_SIGNALLED)
+        return;
+    sent[phase] += signals;
+    if (status == PHASE_OK && waits) {
+        IS(got[phase] == -1 || got[phase] == value, true);
+        got[phase] = value;
+    }
+}
+
+/* Ends what one asks, or looks whether it has ended. */
+static void may_end(struct one *one, uint32_t how)
+{
+    uint64_t phase = 77;
+    int64_t value = 77;
+    int32_t status = how == 0   ? phase_member_look(&one->member, &phase, &value)
+                     : how == 1 ? phase_member_serve(&one->member, below(3), &phase, &value)
+                                : phase_member_take_back(&one->member, &phase, &value);
+    IS(status == PHASE_E_NOT_ASKED, !one->asks);
+    IS(status == PHASE_E_BUSY, false);
+    IS(status == PHASE_ASKED && how == 2, false);
+    if (one->asks && status != PHASE_ASKED) {
+        one->asks = false;
+        note(status, true, true, phase, value);
+    }
+}
+
+/* A call that one that asks does not make. */
+static void calls(struct one *one, struct one *none, uint32_t which)
+{
+    static const int64_t value = 1;
+    uint64_t phase = 77;
+    int64_t given = 77;
+    int32_t status;
+    bool signals = false, waits = true;
+    switch (which) {
+    case 0:
+        status = phase_member_ask(&one->member, &value, 1);
+        waits = false;
+        break;
+    case 1:
+        signals = one->mode == PHASE_SIG_WAIT;
+        waits = signals;
+        status = goes_next(&one->member, value, &phase, &given);
+        signals = signals || one->mode == PHASE_SIG;
+        break;
+    case 2:
+        signals = true;
+        waits = false;
+        status = phase_member_signal(&one->member, &value, 1, PHASE_NO_SINGLE, 0, 0, &phase);
+        break;
+    case 3: status = phase_member_wait(&one->member, &phase, &given); break;
+    case 4:
+        none->mode = below(3) == 0 ? one->mode : PHASE_SIG_WAIT;
+        waits = false;
+        status = phase_member_register(&one->member, none->mode, &none->member);
+        break;
+    default:
+        waits = false;
+        status = phase_member_leave(&one->member);
+    }
+    IS(status == PHASE_E_BUSY, one->asks);
+    one->asks = one->asks || status == PHASE_ASKED;
+    if (which != 0 && which < 4)
+        note(status, signals, waits, phase, given);
+}
+
+static void at_random(uint32_t from)
+{
+    static struct one all[TASKS];
+    struct one *none = NULL;
+    seed = from;
+    for (int at = 0; at < PHASES; at++)
+        sent[at] = 0, got[at] = -1;
+    all[0].mode = PHASE_SIG_WAIT;
+    IS(phase_member_new(PHASE_SUM, 2, PHASES, &all[0].member), PHASE_OK);
+    for (int at = 0; at < CALLS; at++) {
+        struct one *one = &all[below(TASKS)];
+        for (int other = 0; other < TASKS; other++)
+            if (!all[other].member.live)
+                none = &all[other];
+        uint32_t which = below(16);
+        if (!one->member.live)
+            continue;
+        if (which < 6)
+            may_end(one, which % 3);
+        else if (which < 14)
+            calls(one, none, which % 4);
+        else if (which == 14 && none != NULL && !none->member.live)
+            calls(one, none, 4);
+        else if (one != &all[0] && below(4) == 0)
+            calls(one, none, 5);
+    }
+    for (int at = 0; at < TASKS; at++) {
+        if (!all[at].member.live)
+            continue;
+        may_end(&all[at], 2);
+        IS(phase_member_leave(&all[at].member), PHASE_OK);
+    }
+    int64_t most = 0;
+    for (int at = 0; at < PHASES; at++) {
+        most += got[at] != -1;
+        IS(got[at] == -1 || got[at] == sent[at], true);
+    }
+    /* The phases went on. */
+    IS(most > 100, true);
+}
+
 /* ---- Threads whose time passes. */
 
 enum { MOST = 20 };
@@ -308,6 +471,9 @@ int main(void)
     states();
     taken_back();
     refused();
+    lanes();
+    for (uint32_t from = 1; from <= 6; from++)
+        at_random(from);
     leaves_in_time();
     for (int64_t threads = 2; threads <= MOST; threads += 3)
         in_a_hurry(threads, 300);

@@ -1,5 +1,5 @@
 -- What ends an ask is a next phase of its member.
-use Rattle.std.proofs.Common.{◌≡◌, ◌≢◌, ℕ, ℤ, Bool, true, List, Option, Some, None, unwrap_or, refl, sym, ap, subst, ◌∙◌}
+use Rattle.std.proofs.Common.{◌≡◌, ℕ, ℤ, Bool, true, false, List, Option, Some, None, unwrap_or, refl, ap, ◌∙◌}
 use Rattle.std.specs.Prelude.{Result, Ok, Err}
 use Rattle.phase_shared.specs.phase_base.Limits.{Limits}
 use Rattle.phase_shared.specs.phase_accum.declared.outcome.Outcome.{Outcome}
@@ -14,7 +14,7 @@ use Rattle.phase_shared.specs.phase_history.Histories.{History}
 use Rattle.phase_shared.specs.Asked.{IsGone, IsTakenBack}
 use Rattle.phase_shared.specs.Calls.{IsCall, IsTry, Tries, Signals, SignalsAndMayWait, MayWait, Waits, tried}
 use Rattle.phase_shared.specs.Entries.{entry_after_both, entry_after_next}
-use Rattle.phase_shared.specs.Nexts.{MadeWhere, GoesOrRefuses, RefusesNext}
+use Rattle.phase_shared.specs.Nexts.{MadeWhere, RefusesNext}
 use Rattle.phase_shared.specs.Regs.{RegState, phaser_lock, phaser_terms, phaser_limits}
 use Rattle.phase_shared.specs.Rule.{Allows}
 use Rattle.phase_shared.specs.declared.next.Next.{Next}
@@ -22,7 +22,7 @@ use Rattle.phase_shared.specs.declared.phaser.Phaser.{Phaser}
 use Rattle.phase_shared.specs.declared.rule.Terms.{Terms}
 use Rattle.phase_shared.specs.declared.rule.Unwoken.{Unwoken}
 use Rattle.phase_shared.specs.declared.tried.Tried.{Tried}
-use Rattle.phase_shared.specs.declared.tried.Tried.TheVariants.{Busy, Refused}
+use Rattle.phase_shared.specs.declared.tried.Tried.TheVariants.{Refused}
 use Rattle.shared_handle.specs.Members.{as_registration, limits_by}
 use Rattle.shared_handle.specs.Calls.{NextCall, SignalsAndWaits, both_of}
 use Rattle.shared_handle.proofs.Trying.{limits_same, member_try, signals_and_waits}
