@@ -187,6 +187,8 @@ enum {
     PHASE_ENDED = 1,
     /* Of phase_shared.h alone: the phase is signalled, and its wait is still to be made. */
     PHASE_SIGNALLED = 2,
+    /* Of the phase_member calls alone: the registration asks for its next phase. */
+    PHASE_ASKED = 3,
     /* There is no phaser. */
     PHASE_E_NO_PHASER = -20,
     /* There is a phaser already. */
@@ -236,8 +238,13 @@ enum {
     PHASE_E_SIGNAL_FIRST = -42,
     /* The phase is not complete, and a signaller is registered. */
     PHASE_E_NOT_YET = -43,
-    /* Of phase_shared.h alone: another call on the phaser is in the middle. */
-    PHASE_E_BUSY = -44
+    /* Of phase_shared.h alone: another call on the phaser is in the middle; of the phase_member
+     * calls, or the registration asks. */
+    PHASE_E_BUSY = -44,
+    /* Of the phase_member calls alone: the registration asks for nothing. */
+    PHASE_E_NOT_ASKED = -45,
+    /* Of the phase_member calls alone: the registration cannot ask. */
+    PHASE_E_CANNOT_ASK = -46
 };
 
 /* The operations: what the sends of a phase come to. */
@@ -459,6 +466,7 @@ static inline const char *phase_status_text(int32_t status)
     case PHASE_OK: return "done";
     case PHASE_ENDED: return "no more phases will come";
     case PHASE_SIGNALLED: return "signalled, and the wait is still to be made";
+    case PHASE_ASKED: return "asked for, and not answered yet";
     case PHASE_E_GRAPH: return "a fault in the graph's text";
     case PHASE_E_COUNTS: return "not one count for each source or sink, or not those of the values";
     case PHASE_E_SAMPLE: return "a sample is INT64_MIN";
@@ -496,6 +504,8 @@ static inline const char *phase_status_text(int32_t status)
     case PHASE_E_SIGNAL_FIRST: return "the task has not signalled since its last wait";
     case PHASE_E_NOT_YET: return "the phase is not complete yet";
     case PHASE_E_BUSY: return "another call on the phaser is in the middle";
+    case PHASE_E_NOT_ASKED: return "the registration asks for nothing";
+    case PHASE_E_CANNOT_ASK: return "the registration cannot ask";
     default: return "no status";
     }
 }

@@ -19,10 +19,10 @@
  * tries once: it may be answered so, too, and it alone PHASE_E_BUSY, while another call on the
  * phaser is in the middle. Where others are in the middle all the time, the form with _for answers
  * PHASE_E_AHEAD of a signal and PHASE_E_NOT_YET of a wait; phase_shared_next_for has made its
- * signal by then or has not: PHASE_SIGNALLED says that it has. A thread that has waited for more
- * than some microseconds sleeps. Behind `Refused as` stand all negative statuses of the three
- * forms, in the order in which they are looked for; where a call was tried too early or was busy,
- * it is looked at anew.
+ * signal by then or has not: PHASE_SIGNALLED says that it has. Where it asked others to make it, it
+ * waits for its turn to ask no more. A thread that has waited for more than some microseconds
+ * sleeps. Behind `Refused as` stand all negative statuses of the three forms, in the order in which
+ * they are looked for; where a call was tried too early or was busy, it is looked at anew.
  *
  * What a thread did before its signal is seen by every thread that got the phase: each call is a
  * sequentially consistent exchange on one word of the phaser.
@@ -74,12 +74,13 @@ typedef struct phase_registration {
     uint64_t signal_phase;
     uint64_t wait_phase;
     uint32_t mode;
+    uint32_t soon;     /* how soon others come */
     uint64_t crowded;  /* whether others want the processor */
     uint64_t apart[8]; /* nothing: threads do not write beside each other's in an array */
 } phase_registration;
 
 /* A place with no registration. */
-#define PHASE_REGISTRATION_INIT {{NULL, false}, NULL, 0, 0, 0, 0, 0, {0}}
+#define PHASE_REGISTRATION_INIT {{NULL, false}, NULL, 0, 0, 0, 0, 0, 0, {0}}
 
 /* Makes a phaser of at most this many phases, whose signallers may be `bound` phases ahead of its
  * slowest waiter, and its founder, in the mode PHASE_SINGLE at phase 0. Where threads meet at a
@@ -240,6 +241,25 @@ int32_t phase_member_wait(phase_member *member, uint64_t *phase, int64_t *value)
 int32_t phase_member_wait_block(phase_member *member, int64_t *values, size_t values_len,
                                 uint64_t *phase, size_t *count);
 int32_t phase_member_leave(phase_member *member);
+
+/* Asks others for the next phase, with one value at most and no single, where it can: the mode
+ * signals and waits, others are registered, and one of 16 lanes is its own. It answers PHASE_ASKED,
+ * or PHASE_E_CANNOT_ASK. Until the ask has ended every other call on the registration is
+ * PHASE_E_BUSY, but for those below, phase_member_view and phase_member_told.
+ *
+ * phase_member_look ends the ask where another's turn has made it: PHASE_OK with the phase and its
+ * value, or else PHASE_ASKED. phase_member_serve takes the turn, where that is free, signals for
+ * all that ask, looks so often for more, and ends the ask where its phase is complete or its signal
+ * refused; else it is PHASE_ASKED where its signal is made, and PHASE_E_BUSY where the turn was
+ * another's. phase_member_take_back ends it whenever it gets the turn: PHASE_SIGNALLED where its
+ * wait is still to be made, and PHASE_E_BUSY where the turn was another's. All three are
+ * PHASE_E_NOT_ASKED where it asks for nothing. Who sleeps owes a phase_member_serve before that is
+ * PHASE_ASKED. */
+int32_t phase_member_ask(phase_member *member, const int64_t *values, size_t values_len);
+int32_t phase_member_look(phase_member *member, uint64_t *phase, int64_t *value);
+int32_t phase_member_serve(phase_member *member, uint32_t looks, uint64_t *phase, int64_t *value);
+int32_t phase_member_take_back(phase_member *member, uint64_t *phase, int64_t *value);
+
 int32_t phase_member_view(phase_member *member, phase_member_standing *standing);
 int32_t phase_member_told(phase_member *member, uint64_t *done, uint64_t *base);
 

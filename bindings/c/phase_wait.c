@@ -50,6 +50,11 @@ enum { LOOKS = 15, YIELDS = 60 };
  * pauses look more often in place of yields, since a thread that slept gets it back sooner. */
 enum { YIELD_MAX = 200000, CROWDED_PAUSES = 200, CROWDED_LOOKS = 100 };
 
+/* How often a registration that asks looks for its answer, at most, before it takes the turn. One
+ * that hardly looks, since answers did not come so soon, looks more again from one phase in so many
+ * on; and behind its turn it looks so often. */
+enum { SOON = 40, SELDOM = 8, PROBE = 128, FEW = 4 };
+
 /* After a try whose turn was another's: how often a pause spins, each time twice as long, before it
  * yields, and how many nanoseconds it then sleeps. */
 enum { SPINS = 6, SNOOZE = 50000 };
@@ -325,17 +330,22 @@ static bool is_over_soon(const struct aim *aim, struct patience *patience)
     return false;
 }
 
-/* Returns when the number is reached, or no time is left, or some time later. */
-static void pause_for(const struct aim *aim, struct patience *patience)
+/* Sleeps until the number is reached, or no time is left, or for some time. */
+static void sleep_for(const struct aim *aim, struct patience *patience)
 {
-    if (is_over_soon(aim, patience))
-        return;
     uint64_t most = left(patience);
     atomic_fetch_add(&aim->bell->sleepers, 1);
     uint32_t rings = atomic_load(&aim->bell->rings);
     if (!is_reached(aim))
         sleep_at(aim->bell, rings, most < PHASE_SLEEP ? most : PHASE_SLEEP);
     atomic_fetch_sub(&aim->bell->sleepers, 1);
+}
+
+/* Returns when the number is reached, or no time is left, or some time later. */
+static void pause_for(const struct aim *aim, struct patience *patience)
+{
+    if (!is_over_soon(aim, patience))
+        sleep_for(aim, patience);
 }
 
 /* Whether a signal of so many phases that was answered so is tried again; it pauses first. Where
@@ -407,6 +417,7 @@ int32_t phase_shared_new(uint32_t operation, uint64_t bound, uint64_t phases,
     founder->signal_phase = 0;
     founder->wait_phase = 0;
     founder->mode = PHASE_SINGLE;
+    founder->soon = SOON;
     founder->crowded = 0;
     return PHASE_OK;
 }
@@ -420,6 +431,7 @@ static void fill(phase_registration *parent, uint32_t mode, phase_registration *
     child->signal_phase = parent->signal_phase;
     child->wait_phase = parent->wait_phase;
     child->mode = mode;
+    child->soon = SOON;
     child->crowded = 0;
 }
 
@@ -646,6 +658,148 @@ int32_t phase_shared_wait_block(phase_registration *registration, int64_t *value
     return phase_shared_wait_block_for(registration, values, values_len, phase, count, FOR_EVER);
 }
 
+/* ---- Asking. */
+
+/* A registration that asks for its next phase, and where its answer goes. */
+struct asker {
+    phase_registration *registration;
+    uint64_t *phase;
+    int64_t *value;
+    bool is_made; /* whether its signal is known to be made */
+};
+
+/* Looks for the answer. */
+static int32_t look(struct asker *asker)
+{
+    return phase_member_look(&asker->registration->member, asker->phase, asker->value);
+}
+
+/* Looks for it once, and so often more. */
+static int32_t look_for(struct asker *asker, uint32_t times)
+{
+    int32_t status;
+    while ((status = look(asker)) == PHASE_ASKED && times-- > 0)
+        relax();
+    return status;
+}
+
+/* Takes the turn, where it is free, and serves others for so many looks. */
+static int32_t serve(struct asker *asker, uint32_t looks)
+{
+    int32_t status = phase_member_serve(&asker->registration->member, looks, asker->phase,
+                                        asker->value);
+    if (status == PHASE_ASKED)
+        asker->is_made = true;
+    return status == PHASE_E_BUSY ? PHASE_ASKED : status;
+}
+
+/* What it asks for, for those that sleep. */
+static struct aim aim_of(const struct asker *asker)
+{
+    phase_registration *registration = asker->registration;
+    return (struct aim){registration, &registration->gate->done, registration->signal_phase + 1};
+}
+
+/* Whether it is time to take the turn: its phase is complete, or its signal may be a post alone. */
+static bool is_time(const struct asker *asker, int round)
+{
+    struct aim aim = aim_of(asker);
+    return (!asker->is_made && round % 4 == 0) || is_reached(&aim);
+}
+
+/* Looks for the answer, and takes the turn where it is time, while it yields. */
+static int32_t yield_for(struct asker *asker, struct patience *patience)
+{
+    int rounds = asker->registration->crowded > 0 ? 1 : YIELDS;
+    int32_t status = look(asker);
+    for (int round = 0; round < rounds && status == PHASE_ASKED; round++) {
+        if (is_time(asker, round))
+            status = serve(asker, 0);
+        if (status != PHASE_ASKED || left(patience) == 0)
+            return status;
+        yield(asker->registration);
+        status = look(asker);
+    }
+    return status;
+}
+
+/* Waits for the answer until no time is left. It sleeps only where its signal is made: as a post
+ * alone it may be left to nobody. */
+static int32_t wait_longer(struct asker *asker, struct patience *patience)
+{
+    uint64_t *crowded = &asker->registration->crowded;
+    int32_t status;
+    while ((status = yield_for(asker, patience)) == PHASE_ASKED && left(patience) != 0) {
+        struct aim aim = aim_of(asker);
+        *crowded -= *crowded > 0;
+        if (asker->is_made && !is_reached(&aim))
+            sleep_for(&aim, patience);
+    }
+    return status;
+}
+
+/* Waits for the answer: looks, takes the turn, looks again, and then yields and sleeps. It learns
+ * how soon answers come. */
+static int32_t wait_for_answer(struct asker *asker, struct patience *patience)
+{
+    uint32_t *soon = &asker->registration->soon;
+    if (*soon < SELDOM && asker->registration->signal_phase % PROBE == 0)
+        *soon = SOON;
+    uint32_t looks = *soon < SELDOM ? FEW : LOOKS;
+    int32_t status = look_for(asker, *soon);
+    if (status == PHASE_ASKED)
+        status = serve(asker, *soon + *soon / 2);
+    if (status == PHASE_ASKED)
+        status = look_for(asker, looks);
+    if (status == PHASE_ASKED) {
+        *soon = 0;
+        return wait_longer(asker, patience);
+    }
+    *soon = *soon < SOON / 2 ? *soon * 2 + 2 : SOON;
+    return status;
+}
+
+/* Takes back what was asked for. It waits for its turn alone. */
+static int32_t take_back(struct asker *asker)
+{
+    struct patience patience = {.nanoseconds = FOR_EVER};
+    int32_t status;
+    while ((status = phase_member_take_back(&asker->registration->member, asker->phase,
+                                            asker->value)) == PHASE_E_BUSY)
+        snooze(asker->registration, &patience);
+    return status;
+}
+
+/* Notes what came of a next phase, and wakes who sleeps for it. */
+static void go_on(phase_registration *registration, int32_t status, uint64_t phase)
+{
+    if (status < 0)
+        return;
+    registration->signal_phase = phase + 1;
+    if (status == PHASE_OK)
+        registration->wait_phase = phase + 1;
+    tell(registration);
+}
+
+/* Goes to the next phase by an ask, where the registration can ask. Where no time is left, it asks
+ * no more, and rests. */
+static int32_t next_by_ask(phase_registration *registration, const int64_t *values,
+                           size_t values_len, uint64_t *phase, int64_t *value,
+                           struct patience *patience)
+{
+    if (registration->gate == NULL || atomic_load(&registration->gate->owners) == 1)
+        return PHASE_E_CANNOT_ASK;
+    int32_t status = phase_member_ask(&registration->member, values, values_len);
+    if (status != PHASE_ASKED)
+        return status;
+    struct asker asker = {registration, phase, value, false};
+    status = wait_for_answer(&asker, patience);
+    if (status == PHASE_ASKED)
+        status = take_back(&asker);
+    go_on(registration, status, *phase);
+    return status;
+}
+
 /* ---- Signal and wait. */
 
 int32_t phase_shared_try_next(phase_registration *registration,
@@ -661,12 +815,7 @@ int32_t phase_shared_try_next(phase_registration *registration,
         value = &unused;
     int32_t status = phase_member_next(&registration->member, values, values_len, single, low,
                                        high, phase, value);
-    if (status < 0)
-        return status;
-    registration->signal_phase = *phase + 1;
-    if (status == PHASE_OK)
-        registration->wait_phase = *phase + 1;
-    tell(registration);
+    go_on(registration, status, *phase);
     return status;
 }
 
@@ -676,11 +825,21 @@ int32_t phase_shared_next_for(phase_registration *registration,
                               uint64_t *phase, int64_t *value, uint64_t nanoseconds)
 {
     struct patience patience = {.nanoseconds = nanoseconds};
+    uint64_t unread;
+    int64_t unused;
+    if (phase == NULL)
+        phase = &unread;
+    if (value == NULL)
+        value = &unused;
     int32_t status;
-    do
-        status = phase_shared_try_next(registration, values, values_len, single, low, high, phase,
-                                       value);
-    while (signals_again(registration, 1, &status, &patience));
+    do {
+        status = PHASE_E_CANNOT_ASK;
+        if (single == PHASE_NO_SINGLE && values_len <= 1)
+            status = next_by_ask(registration, values, values_len, phase, value, &patience);
+        if (status == PHASE_E_CANNOT_ASK)
+            status = phase_shared_try_next(registration, values, values_len, single, low, high,
+                                           phase, value);
+    } while (signals_again(registration, 1, &status, &patience));
     if (status != PHASE_SIGNALLED || registration->mode == PHASE_SIG)
         return status;
     int32_t waited = wait_with(registration, phase, value, &patience);

@@ -70,6 +70,29 @@ int32_t phase_member_next(phase_member *member, const int64_t *values, size_t va
     return status == PHASE_OK ? PHASE_SIGNALLED : status;
 }
 
+int32_t phase_member_ask(phase_member *member, const int64_t *values, size_t values_len)
+{
+    (void)member, (void)values, (void)values_len;
+    return PHASE_E_CANNOT_ASK;
+}
+
+int32_t phase_member_look(phase_member *member, uint64_t *phase, int64_t *value)
+{
+    (void)member, (void)phase, (void)value;
+    return PHASE_E_NOT_ASKED;
+}
+
+int32_t phase_member_serve(phase_member *member, uint32_t looks, uint64_t *phase, int64_t *value)
+{
+    (void)looks;
+    return phase_member_look(member, phase, value);
+}
+
+int32_t phase_member_take_back(phase_member *member, uint64_t *phase, int64_t *value)
+{
+    return phase_member_look(member, phase, value);
+}
+
 int32_t phase_member_signal_block(phase_member *member, const int64_t *values, size_t values_len,
                                   uint32_t single, int64_t low, int64_t high, uint64_t *phase)
 {

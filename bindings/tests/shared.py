@@ -156,6 +156,18 @@ def times():
             look("what was signalled", why.phase == 2 and "2" in str(why))
 
 
+def leaves_in_time():
+    """The others go on without one that left, or is gone, when the time of its next was over."""
+    for ends in (lambda own: own.leave(), lambda own: own.__exit__(None, None, None)):
+        founder = sums(2, 100)
+        other = founder.register(phase.SIG_WAIT)
+        look("a next with too little time", refused(phase.Signalled, founder.next, 4, None, 0.01))
+        ends(founder)
+        look("what it sent", other.next(5, timeout=10) == (0, 9))
+        look("who goes on without it", other.next(5, timeout=10) == (1, 5))
+        other.leave()
+
+
 def refusals():
     founder = phase.SharedPhaser(phase.PRODUCT, 2, 3)
     signaller, waiter = founder.register(phase.SIG), founder.register(phase.WAIT)
@@ -236,7 +248,8 @@ def interrupted():
 
 def main():
     for test in (
-        made, meetings, streams, blocks, times, refusals, let_go, one_thread_at_a_time, interrupted,
+        made, meetings, streams, blocks, times, leaves_in_time, refusals, let_go,
+        one_thread_at_a_time, interrupted,
     ):
         test()
     print(f"shared.py: {failed} failed")

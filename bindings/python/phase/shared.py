@@ -70,6 +70,7 @@ class _Place(ctypes.Structure):
         ("signal_phase", ctypes.c_uint64),
         ("wait_phase", ctypes.c_uint64),
         ("mode", ctypes.c_uint32),
+        ("soon", ctypes.c_uint32),
         ("crowded", ctypes.c_uint64),
         ("apart", ctypes.c_uint64 * 8),
     ]

@@ -10,6 +10,9 @@ pub const ENDED: i32 = 1;
 /// The registration signalled its phase, and its wait is still to be made.
 pub const SIGNALLED: i32 = 2;
 
+/// The registration asks for its next phase.
+pub const ASKED: i32 = 3;
+
 /// A growth was refused.
 pub const OUT_OF_MEMORY: i32 = -6;
 
@@ -85,8 +88,15 @@ pub const SIGNAL_FIRST: i32 = -42;
 /// The phase is not complete, and a signaller is registered.
 pub const NOT_YET: i32 = -43;
 
-/// Another registration of the phaser is in the middle of a call, and nothing changed.
+/// Another registration of the phaser is in the middle of a call, or this one asks for its next
+/// phase, and nothing changed.
 pub const BUSY: i32 = -44;
+
+/// The registration asks for nothing.
+pub const NOT_ASKED: i32 = -45;
+
+/// The registration cannot ask, and nothing changed: the same call is made by `next`.
+pub const CANNOT_ASK: i32 = -46;
 
 /// The sends of a phase are added up.
 pub const SUM: u32 = 1;

@@ -1,4 +1,5 @@
 pub mod Children
+pub mod Ending
 pub mod FirstRefusals
 pub mod Keeping
 pub mod NumberWaits

@@ -1,6 +1,6 @@
 -- What the calls of a registration answer, and how the history that it has seen goes on by them:
 -- by events of others up to the moment of the call, and then by its own, where it makes one.
-use Rattle.std.specs.Prelude.{◌≡◌, ◌≢◌, ℕ, ◌+◌, ◌≤◌, ℤ, List, [], ◌∷◌, ◌++◌, true, length, Option, Result, Ok, Err}
+use Rattle.std.specs.Prelude.{◌≡◌, ◌≢◌, ℕ, ◌+◌, ◌≤◌, ℤ, List, [], ◌∷◌, ◌++◌, true, length, Option, unwrap_or, Result, Ok, Err}
 use Rattle.std.specs.Result.{result_ok}
 use Rattle.phase_shared.specs.phase_base.Limits.{Limits}
 use Rattle.phase_shared.specs.phase_base.declared.entry.Entry.{Entry}
@@ -21,6 +21,7 @@ use Rattle.phase_shared.specs.phase_history.declared.refusal.WaitRefusal.TheVari
 use Rattle.phase_shared.specs.phase_history.Histories.{History, entry_at}
 use Rattle.phase_shared.specs.phase_history.Replies.{signal_reply, after_signal}
 use Rattle.phase_shared.specs.phase_history.Others.{OthersCame}
+use Rattle.phase_shared.specs.declared.next.Next.{Next}
 use Rattle.phase_shared.specs.declared.tried.Tried.{Tried}
 use Rattle.phase_shared.specs.declared.tried.Tried.TheVariants.{Busy, Refused}
 use Rattle.phase_shared.specs.Blocks.{SignalsValues, WaitsBlock, entry_after_block, entry_after_values}
@@ -92,6 +93,11 @@ NextCall value values single old new answer =
     IsMemberTry signal.NoTask entry_after_both (new ≡ old)
     (SignalsAndWaits value (limits_by old.at) old.number values single old.seen new.seen) old new
     answer
+
+-- for the code: a next phase, as a call answers it that signals and waits
+abbrev pub both_of : {R : Type 0} → Result Next R → Result (ℕ × Option Got) R
+both_of (Ok next) = Ok (unwrap_or next.signalled 0, next.got)
+both_of (Err refusal) = Err refusal
 
 abbrev pub BlockSignalCall : List ℤ → Option Single → Registration → Registration
     → Result ℕ (Tried SignalRefusal) → Type 0

@@ -1,5 +1,5 @@
 -- A registration with its phaser, as contracts see it.
-use Rattle.std.specs.Prelude.{◌≡◌, ℕ, [], ◌∷◌, Option, Some, None}
+use Rattle.std.specs.Prelude.{◌≡◌, ℕ, ℤ, List, [], ◌∷◌, Option, Some, None}
 use Rattle.phase_shared.specs.turn_lock.Seats.{Place}
 use Rattle.phase_shared.specs.phase_base.Limits.{Limits, limits}
 use Rattle.phase_shared.specs.phase_base.Members.{entry_of}
@@ -42,6 +42,20 @@ as_registration reg = record {
   entry = reg.entry;
   seen = reg.seen;
 }
+
+-- a registration as it asked for its next phase, and what it asked to send
+pub record AskedRegistration : Type 0 where
+  pub reg : Registration
+  pub values : List ℤ
+
+-- the value that is sent, where one is
+abbrev pub sent_value : Option ℤ → List ℤ
+sent_value None = []
+sent_value (Some value) = value ∷ []
+
+-- for the code: a registration that asks, which may hold what it asked to send
+abbrev pub as_asked : {A : Type 0} → RegState A Unwoken → Option ℤ → AskedRegistration
+as_asked reg value = record { reg = as_registration reg; values = sent_value value }
 
 -- it is registered, in its mode and at its phases, and what it has seen is legal
 pub record IsInItsHistory (m : Registration) : Type 0 where

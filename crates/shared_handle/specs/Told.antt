@@ -20,7 +20,8 @@ use Rattle.handle_numbers.specs.declared.numbers.TheConstants.{GOOD, ENDED, SIGN
 use Rattle.shared_handle.specs.Members.{Registration}
 use Rattle.shared_handle.specs.Calls.{SignalCall, NextCall, WaitCall, BlockSignalCall}
 use Rattle.shared_handle.specs.NumberBlocks.{NumbersCall}
-use Rattle.shared_handle.specs.AnyMembers.{op_in, state_in, state_of, held_in}
+use Rattle.shared_handle.specs.AnyMembers.{op_in, op_asked, asked_state, state_in, state_of, held_in, StillHas}
+use Rattle.shared_handle.specs.declared.any_asked.AnyAsked.{AnyAsked}
 use Rattle.shared_handle.specs.declared.any_member.AnyMember.{AnyMember}
 use Rattle.shared_handle.specs.declared.kept.Kept.{Kept}
 use Rattle.shared_handle.specs.declared.member_exports.Standing.{Standing}
@@ -145,6 +146,30 @@ pub record TellsNext (values : List ℤ) (single : Option Single) (old new : Any
   pub phase_is : new_phase ≡ phase_signalled answer old_phase
   pub value_is : new_value ≡ value_after answer old_value
 
+-- the end of an ask: the registration rests, and its call has this answer, from where it asked
+abbrev pub EndsAsk : AnyAsked → Option AnyMember → Result (ℕ × Option Got) (Tried SignalRefusal)
+    → Type 0
+EndsAsk old new answer = StillHas new (λ n. (op_in n ≡ op_asked old)
+    × NextCall (value_by (op_asked old)) (asked_state old).values None (asked_state old).reg
+    (state_in n) answer)
+
+-- the same, as C is told it: what a next phase is
+pub record TellsAskEnd (old : AnyAsked) (new : AnyMember) (status : ℤ) (old_phase new_phase : ℕ)
+    (old_value new_value : ℤ) : Type 0 where
+  pub answer : Result (ℕ × Option Got) (Tried SignalRefusal)
+  pub call : NextCall (value_by (op_asked old)) (asked_state old).values None
+      (asked_state old).reg (state_in new) answer
+  pub op : op_in new ≡ op_asked old
+  pub status_is : status ≡ tried_status next_status answer
+  pub phase_is : new_phase ≡ phase_signalled answer old_phase
+  pub value_is : new_value ≡ value_after answer old_value
+
+-- an ask with these values: from where the registration stood
+pub record AsksFrom (values : List ℤ) (old : AnyMember) (new : AnyAsked) : Type 0 where
+  pub reg : (asked_state new).reg ≡ state_in old
+  pub values_are : (asked_state new).values ≡ values
+  pub op : op_asked new ≡ op_in old
+
 -- a wait
 pub record TellsWait (old new : AnyMember) (status : ℤ) (old_phase new_phase : ℕ)
     (old_value new_value : ℤ) : Type 0 where
@@ -184,6 +209,14 @@ pub record TellsRegister
   pub op : op_in new ≡ op_in old
   pub status_is : status ≡ tried_status register_status answer
   pub child : GivesChild (op_in old) answer old_child new_child
+
+-- where a registration stood when it asked, in the numbers of C
+pub record IsAskedAt (a : AnyAsked) (standing : Standing) : Type 0 where
+  pub number : standing.number ≡ (asked_state a).reg.number
+  pub signal_phase : standing.signal_phase ≡ (asked_state a).reg.entry.signal_phase
+  pub wait_phase : standing.wait_phase ≡ (asked_state a).reg.entry.wait_phase
+  pub mode : standing.mode ≡ mode_number (asked_state a).reg.entry.mode
+  pub operation : standing.operation ≡ op_number (op_asked a)
 
 -- where a registration stands, in the numbers of C
 pub record IsStanding (m : AnyMember) (standing : Standing) : Type 0 where

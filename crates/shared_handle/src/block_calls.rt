@@ -1,16 +1,18 @@
 //! Calls of the registration of a handle on blocks of phases.
-ghost use Rattle.std.specs.Prelude.{◌≡◌, ◌≤◌, ℕ, Some, IsSome, Ok, IfOk, OnErr, length};
+ghost use Rattle.std.specs.Prelude.{◌≡◌, ◌≤◌, ℕ, Some, IsSome, Ok, Err, IfOk, OnErr, length};
 ghost use Rattle.phase_shared.specs.phase_base.Limits.{Limits, AreLimits};
 ghost use Rattle.phase_shared.specs.phase_accum.Sends.{AreSends};
 ghost use Rattle.phase_shared.specs.phase_accum.Values.{value_by};
 ghost use Rattle.phase_shared.specs.phase_history.Histories.{History};
 ghost use Rattle.phase_shared.specs.phase_history.Replies.{wait_block_reply};
-ghost use Rattle.shared_handle.specs.AnyMembers.{op_in, state_in, held_in, StillHas};
+ghost use Rattle.shared_handle.specs.AnyMembers.{op_in, state_in, held_in, asker_in, StillHas};
 ghost use Rattle.shared_handle.specs.Calls.{BlockSignalCall, BlockWaitCall};
 ghost use Rattle.shared_handle.specs.NumberBlocks.{NumbersCall};
+ghost use Rattle.shared_handle.specs.declared.any_asked.AnyAsked.{AnyAsked};
 ghost use Rattle.shared_handle.specs.declared.any_member.AnyMember.{AnyMember};
 
 use crate::handle::Handle;
+use crate::kept::Held;
 use handle_numbers::{places, write_numbers};
 use phase_shared::Tried;
 use phase_shared::phase_accum::{Outcome, Single};
@@ -27,17 +29,21 @@ impl Handle {
         values: &[i64],
         single: Option<Single>,
     ) -> Result<Result<u64, Tried<SignalRefusal>>, AllocError>
-        requires there { IsSome (held_in self.old.place.kept) }
+        requires there { IsSome self.old.place.kept }
         requires sends { AreSends values.now }
         ensures call { IfOk result (λ answer. (m : AnyMember)
             → held_in self.old.place.kept ≡ Some m
             → StillHas (held_in self.new.place.kept) (λ n. (op_in n ≡ op_in m)
             × BlockSignalCall values.now single (state_in m) (state_in n) answer)) }
+        ensures asks { IfOk result (λ answer. (a : AnyAsked)
+            → asker_in self.old.place.kept ≡ Some a
+            → (answer ≡ Err Tried.Busy) × (self.new.place.kept ≡ self.old.place.kept)) }
         ensures err { OnErr result (self.new.place.kept ≡ self.old.place.kept) }
     {
         let mut kept = self.take(alloc);
-        let Some(member) = &mut kept.member else {
-            unreachable!()
+        let Held::Rests(member) = &mut kept.held else {
+            self.put(kept);
+            return Ok(Err(Tried::Busy));
         };
         let answer = member.signal_block(alloc, values, single);
         self.put(kept);
@@ -51,17 +57,20 @@ impl Handle {
         alloc: Global,
         out: &mut [Outcome],
     ) -> Result<GotBlock, Tried<WaitRefusal>>
-        requires { IsSome (held_in self.old.place.kept) }
+        requires { IsSome self.old.place.kept }
         ensures call { (m : AnyMember) → held_in self.old.place.kept ≡ Some m
             → StillHas (held_in self.new.place.kept) (λ n. (op_in n ≡ op_in m)
             × BlockWaitCall (value_by (op_in m)) out.old out.new (state_in m) (state_in n)
             result) }
         ensures few { (first many : ℕ) → result ≡ Ok (GotBlock.Values first many)
             → many ≤ length out.old }
+        ensures asks { (a : AnyAsked) → asker_in self.old.place.kept ≡ Some a
+            → (result ≡ Err Tried.Busy) × (self.new.place.kept ≡ self.old.place.kept) }
     {
         let mut kept = self.take(alloc);
-        let Some(member) = &mut kept.member else {
-            unreachable!()
+        let Held::Rests(member) = &mut kept.held else {
+            self.put(kept);
+            return Err(Tried::Busy);
         };
         let answer = member.wait_block(out);
         self.put(kept);
@@ -76,7 +85,7 @@ impl Handle {
         out: &mut [Outcome],
         values: &mut [i64],
     ) -> Result<GotBlock, Tried<WaitRefusal>>
-        requires there { IsSome (held_in self.old.place.kept) }
+        requires there { IsSome self.old.place.kept }
         requires room { length out.old ≤ length values.old }
         requires asked { (limits : Limits) (h : History) (task : ℕ) → AreLimits limits
             → wait_block_reply limits h task (length out.old)
@@ -85,6 +94,8 @@ impl Handle {
             → StillHas (held_in self.new.place.kept) (λ n. (op_in n ≡ op_in m)
             × NumbersCall (value_by (op_in m)) values.old values.new (state_in m) (state_in n)
             result) }
+        ensures asks { (a : AnyAsked) → asker_in self.old.place.kept ≡ Some a
+            → (result ≡ Err Tried.Busy) × (self.new.place.kept ≡ self.old.place.kept) }
         ensures ended { result ≡ Ok GotBlock.Ended → values.new ≡ values.old }
         ensures err { OnErr result (values.new ≡ values.old) }
     {
@@ -106,12 +117,15 @@ impl Handle {
         alloc: Global,
         values: &mut [i64],
     ) -> Result<Result<GotBlock, Tried<WaitRefusal>>, AllocError>
-        requires { IsSome (held_in self.old.place.kept) }
+        requires { IsSome self.old.place.kept }
         ensures call { IfOk result (λ answer. (m : AnyMember)
             → held_in self.old.place.kept ≡ Some m
             → StillHas (held_in self.new.place.kept) (λ n. (op_in n ≡ op_in m)
             × NumbersCall (value_by (op_in m)) values.old values.new (state_in m) (state_in n)
             answer)) }
+        ensures asks { IfOk result (λ answer. (a : AnyAsked)
+            → asker_in self.old.place.kept ≡ Some a
+            → (answer ≡ Err Tried.Busy) × (self.new.place.kept ≡ self.old.place.kept)) }
         ensures ended { IfOk result (λ answer. answer ≡ Ok GotBlock.Ended
             → values.new ≡ values.old) }
         ensures refused { IfOk result (λ answer. OnErr answer (values.new ≡ values.old)) }

@@ -3,9 +3,10 @@ ghost use Rattle.std.specs.Prelude.{◌≡◌, ◌≢◌, ◌⊎◌, ℤ, Option
 ghost use Rattle.phase_shared.specs.phase_accum.Sends.{AreSends};
 ghost use Rattle.phase_shared.specs.phase_accum.declared.single.Single.{Single};
 ghost use Rattle.handle_numbers.specs.Numbers.{Names};
-ghost use Rattle.handle_numbers.specs.declared.numbers.TheConstants.{GOOD, NO_PHASER, OUT_OF_MEMORY};
-ghost use Rattle.shared_handle.specs.AnyMembers.{held_in, StillHas};
+ghost use Rattle.handle_numbers.specs.declared.numbers.TheConstants.{GOOD, BUSY, NO_PHASER, OUT_OF_MEMORY};
+ghost use Rattle.shared_handle.specs.AnyMembers.{held_in, asker_in, StillHas};
 ghost use Rattle.shared_handle.specs.Told.{RefusedAs, IsBadBlock, TellsBlockSignal, TellsBlockWait};
+ghost use Rattle.shared_handle.specs.declared.any_asked.AnyAsked.{AnyAsked};
 ghost use Rattle.shared_handle.specs.declared.any_member.AnyMember.{AnyMember};
 
 use crate::handle::Handle;
@@ -44,6 +45,11 @@ pub extern "C" fn phase_member_signal_block(
     ensures refused { (status : ℤ) → IsSome member.old.place.kept
         → IsBadBlock values.now single low high status
         → RefusedAs status result member.old.place.kept member.new.place.kept }
+    ensures asks { (a : AnyAsked) (named : Option Single)
+        → asker_in member.old.place.kept ≡ Some a → Names single low high named
+        → AreSends values.now
+        → RefusedAs OUT_OF_MEMORY result member.old.place.kept member.new.place.kept
+        ⊎ RefusedAs BUSY result member.old.place.kept member.new.place.kept }
     ensures unwritten { result ≢ GOOD → phase.new ≡ phase.old }
 {
     if !member.live {
@@ -85,6 +91,9 @@ pub extern "C" fn phase_member_wait_block(
 
     ensures no_phaser { member.old.place.kept ≡ None
         → RefusedAs NO_PHASER result member.old.place.kept member.new.place.kept }
+    ensures asks { (a : AnyAsked) → asker_in member.old.place.kept ≡ Some a
+        → RefusedAs OUT_OF_MEMORY result member.old.place.kept member.new.place.kept
+        ⊎ RefusedAs BUSY result member.old.place.kept member.new.place.kept }
     ensures unwritten { result ≢ GOOD → (values.new ≡ values.old)
         × (phase.new ≡ phase.old) × (count.new ≡ count.old) }
 {

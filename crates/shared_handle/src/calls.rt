@@ -1,13 +1,15 @@
 //! Calls of the registration of a handle on single phases.
-ghost use Rattle.std.specs.Prelude.{◌≡◌, ◌≤◌, Some, IsSome, length};
+ghost use Rattle.std.specs.Prelude.{◌≡◌, ◌≤◌, Some, IsSome, Err, length};
 ghost use Rattle.phase_shared.specs.phase_base.declared.limits.TheConstants.{SENDS_MAX};
 ghost use Rattle.phase_shared.specs.phase_accum.Sends.{AreSends};
 ghost use Rattle.phase_shared.specs.phase_accum.Values.{value_by};
-ghost use Rattle.shared_handle.specs.AnyMembers.{op_in, state_in, held_in, StillHas};
+ghost use Rattle.shared_handle.specs.AnyMembers.{op_in, state_in, held_in, asker_in, StillHas};
 ghost use Rattle.shared_handle.specs.Calls.{SignalCall, NextCall, WaitCall};
+ghost use Rattle.shared_handle.specs.declared.any_asked.AnyAsked.{AnyAsked};
 ghost use Rattle.shared_handle.specs.declared.any_member.AnyMember.{AnyMember};
 
 use crate::handle::Handle;
+use crate::kept::Held;
 use phase_shared::Tried;
 use phase_shared::phase_accum::Single;
 use phase_shared::phase_core::{Got, SignalRefusal, WaitRefusal};
@@ -22,16 +24,19 @@ impl Handle {
         values: &[i64],
         single: Option<Single>,
     ) -> Result<u64, Tried<SignalRefusal>>
-        requires there { IsSome (held_in self.old.place.kept) }
+        requires there { IsSome self.old.place.kept }
         requires sends { AreSends values.now }
         requires few { length values.now ≤ SENDS_MAX }
-        ensures { (m : AnyMember) → held_in self.old.place.kept ≡ Some m
+        ensures call { (m : AnyMember) → held_in self.old.place.kept ≡ Some m
             → StillHas (held_in self.new.place.kept) (λ n. (op_in n ≡ op_in m)
             × SignalCall (value_by (op_in m)) values.now single (state_in m) (state_in n) result) }
+        ensures asks { (a : AnyAsked) → asker_in self.old.place.kept ≡ Some a
+            → (result ≡ Err Tried.Busy) × (self.new.place.kept ≡ self.old.place.kept) }
     {
         let mut kept = self.take(alloc);
-        let Some(member) = &mut kept.member else {
-            unreachable!()
+        let Held::Rests(member) = &mut kept.held else {
+            self.put(kept);
+            return Err(Tried::Busy);
         };
         let answer = member.signal(values, single);
         self.put(kept);
@@ -45,16 +50,19 @@ impl Handle {
         values: &[i64],
         single: Option<Single>,
     ) -> Result<(u64, Option<Got>), Tried<SignalRefusal>>
-        requires there { IsSome (held_in self.old.place.kept) }
+        requires there { IsSome self.old.place.kept }
         requires sends { AreSends values.now }
         requires few { length values.now ≤ SENDS_MAX }
-        ensures { (m : AnyMember) → held_in self.old.place.kept ≡ Some m
+        ensures call { (m : AnyMember) → held_in self.old.place.kept ≡ Some m
             → StillHas (held_in self.new.place.kept) (λ n. (op_in n ≡ op_in m)
             × NextCall (value_by (op_in m)) values.now single (state_in m) (state_in n) result) }
+        ensures asks { (a : AnyAsked) → asker_in self.old.place.kept ≡ Some a
+            → (result ≡ Err Tried.Busy) × (self.new.place.kept ≡ self.old.place.kept) }
     {
         let mut kept = self.take(alloc);
-        let Some(member) = &mut kept.member else {
-            unreachable!()
+        let Held::Rests(member) = &mut kept.held else {
+            self.put(kept);
+            return Err(Tried::Busy);
         };
         let answer = member.next(values, single);
         self.put(kept);
@@ -64,14 +72,17 @@ impl Handle {
     /// Waits for the registration's phase, and answers it with its value, or that no more will
     /// come.
     pub fn wait(&mut self, alloc: Global) -> Result<Got, Tried<WaitRefusal>>
-        requires { IsSome (held_in self.old.place.kept) }
-        ensures { (m : AnyMember) → held_in self.old.place.kept ≡ Some m
+        requires { IsSome self.old.place.kept }
+        ensures call { (m : AnyMember) → held_in self.old.place.kept ≡ Some m
             → StillHas (held_in self.new.place.kept) (λ n. (op_in n ≡ op_in m)
             × WaitCall (value_by (op_in m)) (state_in m) (state_in n) result) }
+        ensures asks { (a : AnyAsked) → asker_in self.old.place.kept ≡ Some a
+            → (result ≡ Err Tried.Busy) × (self.new.place.kept ≡ self.old.place.kept) }
     {
         let mut kept = self.take(alloc);
-        let Some(member) = &mut kept.member else {
-            unreachable!()
+        let Held::Rests(member) = &mut kept.held else {
+            self.put(kept);
+            return Err(Tried::Busy);
         };
         let answer = member.wait();
         self.put(kept);

@@ -6,15 +6,16 @@ ghost use Rattle.phase_shared.specs.phase_base.declared.operation.Op.{Op};
 ghost use Rattle.phase_shared.specs.phase_accum.Sends.{AreSends};
 ghost use Rattle.phase_shared.specs.phase_accum.declared.single.Single.{Single};
 ghost use Rattle.handle_numbers.specs.Numbers.{op_numbered, Names};
-ghost use Rattle.handle_numbers.specs.declared.numbers.TheConstants.{GOOD, ENDED, SIGNALLED, NO_PHASER, HAS_PHASER, BAD_OPERATION, BAD_BOUND, BAD_PHASES, OUT_OF_MEMORY};
-ghost use Rattle.shared_handle.specs.AnyMembers.{op_in, state_in, held_in, StillHas};
+ghost use Rattle.handle_numbers.specs.declared.numbers.TheConstants.{GOOD, ENDED, SIGNALLED, BUSY, NO_PHASER, HAS_PHASER, BAD_OPERATION, BAD_BOUND, BAD_PHASES, OUT_OF_MEMORY};
+ghost use Rattle.shared_handle.specs.AnyMembers.{op_in, state_in, held_in, asker_in, StillHas};
 ghost use Rattle.shared_handle.specs.Members.{IsFounding};
 ghost use Rattle.shared_handle.specs.Told.{RefusedAs, IsBadSignal, TellsSignal, TellsNext, TellsWait};
+ghost use Rattle.shared_handle.specs.declared.any_asked.AnyAsked.{AnyAsked};
 ghost use Rattle.shared_handle.specs.declared.any_member.AnyMember.{AnyMember};
 
 use crate::any_member::AnyMember;
 use crate::handle::Handle;
-use crate::kept::Kept;
+use crate::kept::{Held, Kept};
 use crate::told::{told_next, told_signal, told_wait, write_got, write_next, write_signalled};
 use crate::words::signal_words;
 use handle_numbers::numbers::*;
@@ -25,11 +26,16 @@ use std::alloc::{AllocError, Global};
 
 /// Makes a phaser and its founder, in a block.
 fn founder_of(alloc: Global, op: Op, limits: Spec) -> Result<Box<Kept, Global>, AllocError>
-    ensures { IfOk result (λ made. StillHas made.value.member (λ m. (op_in m ≡ op)
+    ensures { IfOk result (λ made. StillHas (held_in (Some made.value)) (λ m. (op_in m ≡ op)
         × IsFounding limits (state_in m))) }
 {
-    let mut kept = Box::new(alloc, Kept { member: None })?;
-    kept.member = Some(AnyMember::make(alloc, op, limits)?);
+    let mut kept = Box::new(
+        alloc,
+        Kept {
+            held: Held::Nothing,
+        },
+    )?;
+    kept.held = Held::Rests(AnyMember::make(alloc, op, limits)?);
     Ok(kept)
 }
 
@@ -108,6 +114,10 @@ pub extern "C" fn phase_member_signal(
     ensures refused { (status : ℤ) → IsSome member.old.place.kept
         → IsBadSignal values.now single low high status
         → RefusedAs status result member.old.place.kept member.new.place.kept }
+    ensures asks { (a : AnyAsked) (named : Option Single)
+        → asker_in member.old.place.kept ≡ Some a → Names single low high named
+        → AreSends values.now → length values.now ≤ SENDS_MAX
+        → RefusedAs BUSY result member.old.place.kept member.new.place.kept }
     ensures unwritten { result ≢ GOOD → phase.new ≡ phase.old }
 {
     if !member.live {
@@ -152,6 +162,10 @@ pub extern "C" fn phase_member_next(
     ensures refused { (status : ℤ) → IsSome member.old.place.kept
         → IsBadSignal values.now single low high status
         → RefusedAs status result member.old.place.kept member.new.place.kept }
+    ensures asks { (a : AnyAsked) (named : Option Single)
+        → asker_in member.old.place.kept ≡ Some a → Names single low high named
+        → AreSends values.now → length values.now ≤ SENDS_MAX
+        → RefusedAs BUSY result member.old.place.kept member.new.place.kept }
     ensures unwritten { result ≢ GOOD → value.new ≡ value.old }
     ensures no_phase { result ≢ GOOD → result ≢ SIGNALLED → result ≢ ENDED
         → phase.new ≡ phase.old }
@@ -185,6 +199,8 @@ pub extern "C" fn phase_member_wait(
 
     ensures no_phaser { member.old.place.kept ≡ None
         → RefusedAs NO_PHASER result member.old.place.kept member.new.place.kept }
+    ensures asks { (a : AnyAsked) → asker_in member.old.place.kept ≡ Some a
+        → RefusedAs BUSY result member.old.place.kept member.new.place.kept }
     ensures unwritten { result ≢ GOOD → (phase.new ≡ phase.old) × (value.new ≡ value.old) }
 {
     if !member.live {

@@ -1,9 +1,9 @@
 //! What C holds of a registration.
-ghost use Rattle.std.specs.Prelude.{◌≡◌, Some, None, is_some, IsSome};
-ghost use Rattle.shared_handle.specs.AnyMembers.{held_in};
+ghost use Rattle.std.specs.Prelude.{◌≡◌, Some, None, true, is_some, IsSome};
+ghost use Rattle.shared_handle.specs.AnyMembers.{held_in, is_kept};
 
 use crate::any_member::AnyMember;
-use crate::kept::Kept;
+use crate::kept::{Held, Kept};
 use crate::place::Place;
 use heap_slot::Slot;
 use std::alloc::Global;
@@ -16,7 +16,7 @@ pub struct Handle {
     /// Whether there is a registration.
     pub live: bool,
     ghost fits: { live ≡ is_some place.kept },
-    ghost full: { live ≡ is_some (held_in place.kept) },
+    ghost full: { live ≡ is_kept place.kept },
 }
 
 /// Answers the value, which may go to another thread: C may hand on what it keeps.
@@ -29,7 +29,8 @@ fn kept_by_c<T: Send>(value: T) -> T
 impl Handle {
     /// Takes the registration out. The handle has none then.
     pub fn take(&mut self, alloc: Global) -> Box<Kept, Global>
-        requires { IsSome (held_in self.old.place.kept) }
+        requires { IsSome self.old.place.kept }
+        ensures full { is_kept (Some result.value) ≡ true }
         ensures value { self.old.place.kept ≡ Some result.value }
         ensures none { self.new.place.kept ≡ None }
     {
@@ -44,7 +45,7 @@ impl Handle {
     /// Puts a registration in.
     pub fn put(&mut self, kept: Box<Kept, Global>)
         requires none { self.old.place.kept ≡ None }
-        requires full { IsSome kept.value.member }
+        requires full { is_kept (Some kept.value) ≡ true }
         ensures { self.new.place.kept ≡ Some kept.value }
     {
         let one = Handle {
@@ -61,7 +62,7 @@ impl Handle {
         ensures { held_in self.new.place.kept ≡ Some member }
     {
         let mut kept = room;
-        kept.member = Some(member);
+        kept.held = Held::Rests(member);
         self.put(kept);
     }
 }

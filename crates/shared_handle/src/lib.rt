@@ -20,7 +20,11 @@
 //! **Only tested:** that a call succeeds where it can and where there is memory.
 #![tactic(auto)]
 
+mod any_asked;
 mod any_member;
+mod ask_calls;
+mod ask_exports;
+mod asked_member;
 mod block_calls;
 mod block_exports;
 mod calls;
@@ -34,6 +38,9 @@ mod place;
 mod told;
 mod words;
 
+pub use ask_exports::{
+    phase_member_ask, phase_member_look, phase_member_serve, phase_member_take_back,
+};
 pub use block_exports::{phase_member_signal_block, phase_member_wait_block};
 pub use exports::{phase_member_new, phase_member_next, phase_member_signal, phase_member_wait};
 pub use handle::Handle;

@@ -22,8 +22,8 @@ use std::sync::Arc;
 /// It may be thrown away: then it stays registered.
 #[derive(Drop)]
 pub struct Member<A: Accumulate> {
-    phaser: Arc<Phaser<A, Unwoken>, Global>,
-    loose: Loose<A, Unwoken>,
+    pub(crate) phaser: Arc<Phaser<A, Unwoken>, Global>,
+    pub(crate) loose: Loose<A, Unwoken>,
 }
 
 impl<A: Accumulate> Model for Member<A> {

@@ -3,15 +3,16 @@ ghost use Rattle.std.specs.Prelude.{◌≡◌, ◌≢◌, ◌⊎◌, Some, None,
 ghost use Rattle.phase_shared.specs.phase_base.declared.mode.Mode.{Mode};
 ghost use Rattle.handle_numbers.specs.Numbers.{mode_numbered};
 ghost use Rattle.handle_numbers.specs.declared.numbers.TheConstants.{GOOD, BUSY, NO_PHASER, HAS_PHASER, BAD_MODE, OUT_OF_MEMORY};
-ghost use Rattle.shared_handle.specs.AnyMembers.{state_in, held_in, StillHas};
+ghost use Rattle.shared_handle.specs.AnyMembers.{state_in, asked_state, held_in, asker_in, StillHas};
 ghost use Rattle.shared_handle.specs.Calls.{AddCall, AddNowCall};
 ghost use Rattle.shared_handle.specs.Members.{IsInItsHistory, IsOnlyOne, HasLeft};
-ghost use Rattle.shared_handle.specs.Told.{RefusedAs, TellsRegister, IsStanding, tried_status, register_status, start_got};
+ghost use Rattle.shared_handle.specs.Told.{RefusedAs, TellsRegister, IsStanding, IsAskedAt, tried_status, register_status, start_got};
+ghost use Rattle.shared_handle.specs.declared.any_asked.AnyAsked.{AnyAsked};
 ghost use Rattle.shared_handle.specs.declared.any_member.AnyMember.{AnyMember};
 
 use crate::any_member::AnyMember;
 use crate::handle::Handle;
-use crate::kept::Kept;
+use crate::kept::{Held, Kept};
 use handle_numbers::numbers::*;
 use handle_numbers::{mode_of, register_code};
 use phase_shared::Tried;
@@ -86,6 +87,10 @@ pub extern "C" fn phase_member_register(
     ensures bad_mode { IsSome parent.old.place.kept → child.old.place.kept ≡ None
         → mode_numbered mode ≡ None
         → RefusedAs BAD_MODE result parent.old.place.kept parent.new.place.kept }
+    ensures asks { (a : AnyAsked) (named : Mode) → asker_in parent.old.place.kept ≡ Some a
+        → child.old.place.kept ≡ None → mode_numbered mode ≡ Some named
+        → RefusedAs OUT_OF_MEMORY result parent.old.place.kept parent.new.place.kept
+        ⊎ RefusedAs BUSY result parent.old.place.kept parent.new.place.kept }
     ensures none { result ≢ GOOD → child.new.place.kept ≡ child.old.place.kept }
 {
     if !parent.live {
@@ -97,7 +102,12 @@ pub extern "C" fn phase_member_register(
     let Some(named) = mode_of(mode) else {
         return BAD_MODE;
     };
-    let Ok(room) = Box::new(alloc, Kept { member: None }) else {
+    let Ok(room) = Box::new(
+        alloc,
+        Kept {
+            held: Held::Nothing,
+        },
+    ) else {
         return OUT_OF_MEMORY;
     };
     let Ok(answer) = parent.register(alloc, named) else {
@@ -131,6 +141,10 @@ pub extern "C" fn phase_member_register_now(
         → RefusedAs NO_PHASER result parent.old.place.kept parent.new.place.kept }
     ensures has_phaser { IsSome parent.old.place.kept → IsSome child.old.place.kept
         → RefusedAs HAS_PHASER result parent.old.place.kept parent.new.place.kept }
+    ensures asks { (a : AnyAsked) → asker_in parent.old.place.kept ≡ Some a
+        → child.old.place.kept ≡ None
+        → RefusedAs OUT_OF_MEMORY result parent.old.place.kept parent.new.place.kept
+        ⊎ RefusedAs BUSY result parent.old.place.kept parent.new.place.kept }
     ensures none { result ≢ GOOD
         → (child.new.place.kept ≡ child.old.place.kept) × (phase.new ≡ phase.old) }
 {
@@ -140,7 +154,12 @@ pub extern "C" fn phase_member_register_now(
     if child.live {
         return HAS_PHASER;
     }
-    let Ok(room) = Box::new(alloc, Kept { member: None }) else {
+    let Ok(room) = Box::new(
+        alloc,
+        Kept {
+            held: Held::Nothing,
+        },
+    ) else {
         return OUT_OF_MEMORY;
     };
     let Ok(answer) = parent.register_now(alloc) else {
@@ -165,6 +184,7 @@ pub extern "C" fn phase_member_leave(alloc: Global, member: &mut Handle) -> i32
     ensures alone { (m : AnyMember) → held_in member.old.place.kept ≡ Some m
         → IsOnlyOne (state_in m) → result ≡ GOOD }
 
+    ensures asks { (a : AnyAsked) → asker_in member.old.place.kept ≡ Some a → result ≡ BUSY }
     ensures no_phaser { member.old.place.kept ≡ None → result ≡ NO_PHASER }
     ensures same { result ≢ GOOD → member.new.place.kept ≡ member.old.place.kept }
 {
@@ -189,6 +209,9 @@ pub extern "C" fn phase_member_view(
     // It stands there in the history that it has seen.
     ensures member { (m : AnyMember) → held_in member.old.place.kept ≡ Some m
         → IsInItsHistory (state_in m) }
+    // One that asks stands there as it did before.
+    ensures asks { (a : AnyAsked) → asker_in member.old.place.kept ≡ Some a
+        → (result ≡ GOOD) × IsAskedAt a standing.new × IsInItsHistory (asked_state a).reg }
 
     ensures no_phaser { member.old.place.kept ≡ None → result ≡ NO_PHASER }
     ensures same { member.new.place.kept ≡ member.old.place.kept }

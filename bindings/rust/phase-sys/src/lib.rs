@@ -37,6 +37,7 @@ pub const PHASE_NO_START: i64 = -1;
 
 pub const PHASE_ENDED: i32 = 1;
 pub const PHASE_SIGNALLED: i32 = 2;
+pub const PHASE_ASKED: i32 = 3;
 pub const PHASE_E_NO_PHASER: i32 = -20;
 pub const PHASE_E_HAS_PHASER: i32 = -21;
 pub const PHASE_E_BAD_OPERATION: i32 = -22;
@@ -62,6 +63,8 @@ pub const PHASE_E_NO_WAIT: i32 = -41;
 pub const PHASE_E_SIGNAL_FIRST: i32 = -42;
 pub const PHASE_E_NOT_YET: i32 = -43;
 pub const PHASE_E_BUSY: i32 = -44;
+pub const PHASE_E_NOT_ASKED: i32 = -45;
+pub const PHASE_E_CANNOT_ASK: i32 = -46;
 
 pub const PHASE_SUM: u32 = 1;
 pub const PHASE_PRODUCT: u32 = 2;

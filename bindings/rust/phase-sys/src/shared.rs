@@ -43,6 +43,8 @@ pub struct PhaseRegistration {
     pub wait_phase: u64,
     /// The number of its mode.
     pub mode: u32,
+    /// How soon others come.
+    pub soon: u32,
     /// Whether others want the processor.
     pub crowded: u64,
     /// Nothing: threads do not write beside each other's in an array.
@@ -58,6 +60,7 @@ impl PhaseRegistration {
         signal_phase: 0,
         wait_phase: 0,
         mode: 0,
+        soon: 0,
         crowded: 0,
         apart: [0; 8],
     };

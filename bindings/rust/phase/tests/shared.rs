@@ -95,6 +95,22 @@ fn blocks_go_from_thread_to_thread() {
 }
 
 #[test]
+fn others_go_on_without_one_that_left_in_time() {
+    for is_dropped in [false, true] {
+        let mut founder = sums(2, 100);
+        let mut other = founder.register::<SigWait>().unwrap();
+        assert_eq!(founder.next_for(&[4], None, MILLISECOND), Ok(Next::Signalled(0)));
+        if is_dropped {
+            drop(founder);
+        } else {
+            founder.leave();
+        }
+        assert_eq!(other.next(&[5], None), Ok(got(0, 9)));
+        assert_eq!(other.next(&[5], None), Ok(got(1, 5)));
+    }
+}
+
+#[test]
 fn a_time_ends_a_wait() {
     let mut founder = sums(1, 100);
     let mut other = founder.register::<Sig>().unwrap();

@@ -4,7 +4,8 @@ use Rattle.std.proofs.lemmas.Int.{to_z-of_z}
 use Rattle.phase_shared.specs.phase_accum.declared.single.Single.{Single}
 use Rattle.shared_handle.specs.AnyMembers.{op_in, state_in, held_in}
 use Rattle.shared_handle.specs.Calls.{BlockSignalCall}
-use Rattle.shared_handle.specs.Told.{TellsBlockSignal}
+use Rattle.shared_handle.specs.Told.{TellsBlockSignal, tried_status}
+use Rattle.handle_numbers.specs.Numbers.{signal_status}
 use Rattle.shared_handle.proofs.FirstRefusals.{block_word_fits}
 use Rattle.shared_handle.proofs.Keeping.{StillHas-map}
 use Rattle.shared_handle.proofs.Statuses.{signal_told, signal_unwritten}
@@ -60,3 +61,13 @@ returns-in_default-clause-refused c = λ status there bad.
     let found = (simp (to_z-of_z, c.ranges.low, c.ranges.high) at
     (c.block_words.ensures.bad status)) bad in
     absurd (let z = sym c.in-Ok.is ∙ found in cc)
+
+-- it asks
+pub returns-clause-asks : goal.returns-clause-asks
+returns-clause-asks c = λ a named is names sends.
+    let busy = c.in-Ok-signal_block.ensures.asks a is in
+    inr (
+      signal_told c.in-Ok-signal_block.answer c.told_signal.result c.told_signal.ensures
+          ∙ ap (tried_status signal_status) busy.0,
+      busy.1,
+    )

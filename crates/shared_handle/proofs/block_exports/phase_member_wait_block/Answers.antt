@@ -1,9 +1,10 @@
 -- C is told what the member answered.
-use Rattle.std.proofs.Common.{◌≡◌, inr, ◌∙◌, w32, to_z, of_z}
+use Rattle.std.proofs.Common.{◌≡◌, ap, inr, ◌∙◌, w32, to_z, of_z}
 use Rattle.phase_shared.specs.phase_accum.Values.{value_by}
 use Rattle.shared_handle.specs.AnyMembers.{op_in, state_in, held_in}
 use Rattle.shared_handle.specs.NumberBlocks.{NumbersCall}
-use Rattle.shared_handle.specs.Told.{TellsBlockWait}
+use Rattle.handle_numbers.specs.Numbers.{wait_block_status}
+use Rattle.shared_handle.specs.Told.{TellsBlockWait, tried_status}
 use Rattle.shared_handle.proofs.Keeping.{StillHas-map}
 use Rattle.shared_handle.proofs.Statuses.{wait_block_told, wait_block_unwritten, numbers_unwritten}
 use Rattle.shared_handle.proofs.block_exports.phase_member_wait_block.Goals as goal
@@ -38,4 +39,14 @@ returns-clause-unwritten c = λ none.
           (λ good. none (told ∙ good)) c.in-Ok.ensures.ended c.in-Ok.ensures.refused,
       c.write_block.ensures.phase ∙ same.0,
       c.write_block.ensures.count ∙ same.1,
+    )
+
+-- it asks
+pub returns-clause-asks : goal.returns-clause-asks
+returns-clause-asks c = λ a is.
+    let busy = c.in-Ok.ensures.asks a is in
+    inr (
+      wait_block_told c.in-Ok.answer c.told_wait_block.result c.told_wait_block.ensures
+          ∙ ap (tried_status wait_block_status) busy.0,
+      busy.1,
     )

@@ -5,7 +5,7 @@ use Rattle.phase_shared.specs.phase_accum.Values.{value_by}
 use Rattle.phase_shared.specs.phase_accum.declared.single.Single.{Single}
 use Rattle.shared_handle.specs.AnyMembers.{op_in, state_in, held_in}
 use Rattle.shared_handle.specs.Calls.{NextCall}
-use Rattle.shared_handle.specs.Told.{TellsNext}
+use Rattle.shared_handle.specs.Told.{TellsNext, tried_status, next_status}
 use Rattle.shared_handle.proofs.FirstRefusals.{signal_word_fits}
 use Rattle.shared_handle.proofs.Keeping.{StillHas-map}
 use Rattle.shared_handle.proofs.Statuses.{next_told, next_unwritten, next_no_phase}
@@ -32,7 +32,7 @@ returns-clause-call c = λ m named is names sends few.
       phase_is = c.write_next.ensures.phase;
       value_is = c.write_next.ensures.value;
     })
-    (c.next-answer.ensures m is)
+    (c.next-answer.ensures.call m is)
 
 pub returns-clause-unwritten : goal.returns-clause-unwritten
 returns-clause-unwritten c = λ none.
@@ -64,3 +64,12 @@ returns-clause-refused c = λ status there bad.
     let found = (simp (to_z-of_z, c.ranges.low, c.ranges.high) at
     (c.signal_words.ensures.bad status)) bad in
     absurd (let z = sym c.in-Ok.is ∙ found in cc)
+
+-- it asks
+pub returns-clause-asks : goal.returns-clause-asks
+returns-clause-asks c = λ a named is names sends few.
+    let busy = c.next-answer.ensures.asks a is in (
+      next_told c.next-answer.result c.told_next.result c.told_next.ensures
+          ∙ ap (tried_status next_status) busy.0,
+      busy.1,
+    )

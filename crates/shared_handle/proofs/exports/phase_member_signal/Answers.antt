@@ -5,7 +5,8 @@ use Rattle.phase_shared.specs.phase_accum.Values.{value_by}
 use Rattle.phase_shared.specs.phase_accum.declared.single.Single.{Single}
 use Rattle.shared_handle.specs.AnyMembers.{op_in, state_in, held_in}
 use Rattle.shared_handle.specs.Calls.{SignalCall}
-use Rattle.shared_handle.specs.Told.{TellsSignal}
+use Rattle.shared_handle.specs.Told.{TellsSignal, tried_status}
+use Rattle.handle_numbers.specs.Numbers.{signal_status}
 use Rattle.shared_handle.proofs.FirstRefusals.{signal_word_fits}
 use Rattle.shared_handle.proofs.Keeping.{StillHas-map}
 use Rattle.shared_handle.proofs.Statuses.{signal_told, signal_unwritten}
@@ -31,7 +32,7 @@ returns-clause-call c = λ m named is names sends few.
       status_is = signal_told answer c.told_signal.result c.told_signal.ensures;
       phase_is = c.write_signalled.ensures;
     })
-    (c.signal-answer.ensures m is)
+    (c.signal-answer.ensures.call m is)
 
 pub returns-clause-unwritten : goal.returns-clause-unwritten
 returns-clause-unwritten c = λ none.
@@ -55,3 +56,12 @@ returns-clause-refused c = λ status there bad.
     let found = (simp (to_z-of_z, c.ranges.low, c.ranges.high) at
     (c.signal_words.ensures.bad status)) bad in
     absurd (let z = sym c.in-Ok.is ∙ found in cc)
+
+-- it asks
+pub returns-clause-asks : goal.returns-clause-asks
+returns-clause-asks c = λ a named is names sends few.
+    let busy = c.signal-answer.ensures.asks a is in (
+      signal_told c.signal-answer.result c.told_signal.result c.told_signal.ensures
+          ∙ ap (tried_status signal_status) busy.0,
+      busy.1,
+    )

@@ -1,9 +1,10 @@
 -- C is told what the member answered.
-use Rattle.std.proofs.Common.{◌≡◌, ◌∙◌, w32, to_z, of_z}
+use Rattle.std.proofs.Common.{◌≡◌, ap, ◌∙◌, w32, to_z, of_z}
 use Rattle.phase_shared.specs.phase_accum.Values.{value_by}
 use Rattle.shared_handle.specs.AnyMembers.{op_in, state_in, held_in}
 use Rattle.shared_handle.specs.Calls.{WaitCall}
-use Rattle.shared_handle.specs.Told.{TellsWait}
+use Rattle.shared_handle.specs.Told.{TellsWait, tried_status}
+use Rattle.handle_numbers.specs.Numbers.{wait_status}
 use Rattle.shared_handle.proofs.Keeping.{StillHas-map}
 use Rattle.shared_handle.proofs.Statuses.{wait_told, wait_unwritten}
 use Rattle.shared_handle.proofs.exports.phase_member_wait.Goals as goal
@@ -24,7 +25,7 @@ returns-clause-call c = λ m is.
       phase_is = c.write_got.ensures.phase;
       value_is = c.write_got.ensures.value;
     })
-    (c.wait-answer.ensures m is)
+    (c.wait-answer.ensures.call m is)
 
 pub returns-clause-unwritten : goal.returns-clause-unwritten
 returns-clause-unwritten c = λ none.
@@ -33,3 +34,12 @@ returns-clause-unwritten c = λ none.
     let same =
     wait_unwritten answer c.args.phase.now c.args.value.now (λ good. none (told ∙ good)) in
     (c.write_got.ensures.phase ∙ same.0, c.write_got.ensures.value ∙ same.1)
+
+-- it asks
+pub returns-clause-asks : goal.returns-clause-asks
+returns-clause-asks c = λ a is.
+    let busy = c.wait-answer.ensures.asks a is in (
+      wait_told c.wait-answer.result c.told_wait.result c.told_wait.ensures
+          ∙ ap (tried_status wait_status) busy.0,
+      busy.1,
+    )

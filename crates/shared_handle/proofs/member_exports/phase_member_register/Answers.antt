@@ -1,9 +1,9 @@
 -- C is told what the member answered.
-use Rattle.std.proofs.Common.{◌≡◌, inr, sym, subst, ◌∙◌, w32, to_z, of_z}
+use Rattle.std.proofs.Common.{◌≡◌, inr, sym, ap, subst, ◌∙◌, w32, to_z, of_z}
 use Rattle.phase_shared.specs.phase_base.declared.mode.Mode.{Mode}
 use Rattle.shared_handle.specs.AnyMembers.{held_in, StillHas}
 use Rattle.shared_handle.specs.Calls.{AddCall}
-use Rattle.shared_handle.specs.Told.{TellsRegister}
+use Rattle.shared_handle.specs.Told.{TellsRegister, tried_status, register_status}
 use Rattle.shared_handle.proofs.Children.{child_told}
 use Rattle.shared_handle.proofs.Statuses.{register_told, register_unwritten}
 use Rattle.shared_handle.proofs.member_exports.phase_member_register.Goals as goal
@@ -29,3 +29,13 @@ returns-clause-none c = λ none.
     let told = register_told answer c.give.result c.give.ensures.status in
     register_unwritten answer c.args.child.now.place.kept c.give.new.child.place.kept
     (λ good. none (told ∙ good)) c.give.ensures.none
+
+-- it asks
+pub returns-clause-asks : goal.returns-clause-asks
+returns-clause-asks c = λ a named is none named_is.
+    let busy = c.in-Ok-register.ensures.asks a is in
+    inr (
+      register_told c.in-Ok-register.answer c.give.result c.give.ensures.status
+          ∙ ap (tried_status register_status) busy.0,
+      busy.1,
+    )

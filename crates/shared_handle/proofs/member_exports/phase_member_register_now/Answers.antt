@@ -1,7 +1,8 @@
 -- C is told what the member answered.
-use Rattle.std.proofs.Common.{inr, sym, ◌∙◌, w32, to_z, of_z}
+use Rattle.std.proofs.Common.{inr, sym, ap, ◌∙◌, w32, to_z, of_z}
 use Rattle.shared_handle.specs.AnyMembers.{held_in}
 use Rattle.shared_handle.specs.Calls.{AddNowCall}
+use Rattle.shared_handle.specs.Told.{tried_status, register_status}
 use Rattle.shared_handle.proofs.Children.{child_told, start_told}
 use Rattle.shared_handle.proofs.Statuses.{register_told, register_unwritten, start_unwritten}
 use Rattle.shared_handle.proofs.member_exports.phase_member_register_now.Goals as goal
@@ -30,4 +31,14 @@ returns-clause-none c = λ none.
           (λ good. none (told ∙ good)) c.give.ensures.none,
       c.write_start.ensures
           ∙ start_unwritten answer c.args.phase.now (λ good. none (told ∙ good)),
+    )
+
+-- it asks
+pub returns-clause-asks : goal.returns-clause-asks
+returns-clause-asks c = λ a is none.
+    let busy = c.in-Ok-register_now.ensures.asks a is in
+    inr (
+      register_told c.in-Ok-register_now.answer c.give.result c.give.ensures.status
+          ∙ ap (tried_status register_status) busy.0,
+      busy.1,
     )
