@@ -1,6 +1,6 @@
-//! What holds of a run whose tasks are stopped wherever they stand: the contract of each function is
-//! the law. `specs/Stops.antt` has what each task knows then; the end of a run (`ends`) is a stop
-//! whose tasks have left.
+//! What holds of a run whose tasks are stopped wherever they stand. Each function's contract is the
+//! law. `specs/Stops.antt` has what each task knows then; the end of a run (`ends`) is a stop whose
+//! tasks have left.
 ghost use Rattle.std.specs.Prelude.{◌≡◌, ◌<◌, ℕ, ℤ, List, Bool, length};
 ghost use Rattle.graph_runs.specs.Feeds.{IsFed};
 ghost use Rattle.graph_runs.specs.Moments.{Moment, HasRun};
