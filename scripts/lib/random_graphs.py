@@ -158,7 +158,8 @@ class Maker:
 def ended(folder, *words, **settings):
     """The status and both streams of the program of these words, in an environment with these
     settings; the status is None where it took too long."""
-    own = [project.built("phase" if words[0] in ("run", "stream") else "phase_cli"), *words]
+    has_threads = words[0] in ("run", "stream") or "--workers" in words
+    own = [project.built("phase" if has_threads else "phase_cli"), *words]
     try:
         done = subprocess.run(
             own, cwd=folder, capture_output=True, timeout=60, stdin=subprocess.DEVNULL,
