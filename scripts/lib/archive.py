@@ -26,6 +26,7 @@ FILES = {
     "bindings/c/phase_shared.h": "include/phase_shared.h",
     "bindings/c/phase_races.h": "include/phase_races.h",
     "bindings/c/phase_wait.c": "share/phase/c/phase_wait.c",
+    "bindings/c/phase_bell.h": "share/phase/c/phase_bell.h",
     "scripts/lib/completion.bash": "share/bash-completion/completions/phase",
     "scripts/lib/completion.fish": "share/fish/vendor_completions.d/phase.fish",
     "scripts/lib/completion.zsh": "share/zsh/site-functions/_phase",
