@@ -23,7 +23,7 @@ use Rattle.phase_stream.specs.Streams.{AsksOne, StreamEnds, StreamFails, Streams
 
 job_ends : (found : JobFault) → MayEndAsStream (job_status found)
 job_ends (fault.Graph found) = inr (inl refl)
-job_ends (fault.BadSample name number) = inr (inl refl)
+job_ends (fault.BadSample name number told) = inr (inl refl)
 job_ends fault.ReadFault = inr (inr (inr (inr refl)))
 job_ends fault.OutOfMemory = inr (inr (inr (inr refl)))
 
@@ -36,7 +36,7 @@ failure_ends (failure.Io found) = inr (inr (inr (inr refl)))
 
 job_not_done : (found : JobFault) → job_status found ≢ Done
 job_not_done (fault.Graph found) = λ e. (cc e)
-job_not_done (fault.BadSample name number) = λ e. (cc e)
+job_not_done (fault.BadSample name number told) = λ e. (cc e)
 job_not_done fault.ReadFault = λ e. (cc e)
 job_not_done fault.OutOfMemory = λ e. (cc e)
 
@@ -56,7 +56,7 @@ pub stream_ends : {A W : Type 0} (Quiet : Type 0) (explain : Explain) (known : K
     → IfErr done (StreamFails known name asked contents old new)
     → OnOk done ((status ≡ Done) × Quiet)
     → IfErr done (λ found. status ≡ failure_status found)
-    → IfErr done (λ found. IsTold (explained found explain) known found before after)
+    → IfErr done (λ found. IsTold (explained found explain) found before after)
     → StreamEnds explain known name asked status contents old new before after
 stream_ends Quiet explain known name asked contents old new (Ok unit) status before after does fails
     quiet is told =

@@ -17,7 +17,7 @@ use Rattle.stream_job.specs.Gone.{has_gone}
 use Rattle.stream_job.specs.SinkLines.{kept_by}
 use Rattle.std.specs.Prelude.{◌⊎◌, string_bytes}
 use Rattle.std.specs.Global.{Global}
-use Rattle.std.proofs.Common.{inl, inr, String}
+use Rattle.std.proofs.Common.{inl, inr, String, Vec}
 use Rattle.phase_stream.proofs.Handing.{whole_part}
 use Rattle.stream_job.proofs.GivenLines.{sink_there}
 use Rattle.phase_stream.specs.declared.source.Lack.{Lack}
@@ -271,15 +271,15 @@ lacking_stops held old new session k lack fault found begins right st is which =
 
 -- a record is none
 pub bad_stops : {R : Type 0} (held : Known) (old new : WriterState) (session : Session R)
-    (k number task : ℕ) (name : String Global) (found : Failure)
+    (k number task : ℕ) (name : String Global) {told : Option (Vec ℕ Global)} (found : Failure)
     → IsKeptRight session.stream session.task
     → (st : StandsLacking held old.written new.written session k (lack.BadRecord number))
-    → IsFaultWithoutText (faults.BadSample name number) found
+    → IsFaultWithoutText (faults.BadSample name number told) found
     → IsSourceAt session.stream.job task k
     → string_bytes name ≡ name_at session.stream.job.graph (place.Task task)
     → StopsOf held session.stream.job session.task old new found
 bad_stops held old new session k number task name found right st is there named =
-    unread_stops (faults.BadSample name number) found
+    unread_stops (faults.BadSample name number told) found
     (StopsOf held session.stream.job session.task old new) is
     (λ text. record {
       kept = kept_of held session.stream session.task old.written new.written st.samples st.moment

@@ -194,7 +194,14 @@ impl<R: Read + Drop> Session<R> {
             return unread(alloc, JobFault::OutOfMemory);
         }
         match String::from_str(alloc, graph.name(Place::Task(task))) {
-            Ok(name) => unread(alloc, JobFault::BadSample { name, number }),
+            Ok(name) => unread(
+                alloc,
+                JobFault::BadSample {
+                    name,
+                    number,
+                    told: None,
+                },
+            ),
             Err(_) => unread(alloc, JobFault::OutOfMemory),
         }
     }

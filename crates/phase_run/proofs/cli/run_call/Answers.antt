@@ -24,11 +24,10 @@ returns-clause-status g c =
     ends-status _ _ MayEndAsRun c.run-done.result c.end.result c.run-done.ensures.failed c.end.ensures.done
     c.end.ensures.status (inl refl) (λ found fails. failure-ends found)
 
--- the files are known as before when a failure is told
+-- the files are known beside the graph where that is asked for, and a failure is told
 pub returns-clause-ends : goal.returns-clause-ends
 returns-clause-ends g c =
     let known = known_by c.args.call.beside c.args.call.graph.now (g.F.Files.file c.args.streams.now.files) in
     let moved = known-same (g.F.Files.file c.look_by.new.files) known c.look_by.ensures in
-    let same = known-same (g.F.Files.file c.run-done.new.files) (g.F.Files.file c.look_by.new.files) c.run-done.ensures.same in
-    ends-by _ c.args.call.explain known _ _ c.run-done.result c.end.result _ _ (rw moved at c.run-done.ensures.done)
-    (rw moved at c.run-done.ensures.failed) c.end.ensures.done c.end.ensures.status (rw (same, moved) at c.end.ensures.told)
+    ends-by _ c.args.call.explain _ _ c.run-done.result c.end.result _ _ (rw moved at c.run-done.ensures.done)
+    (rw moved at c.run-done.ensures.failed) c.end.ensures.done c.end.ensures.status c.end.ensures.told

@@ -1,18 +1,16 @@
 use Rattle.std.proofs.Common.{◌++◌, ◌∙◌, ◌∷◌, [], ap, sym, inl, append-nil}
 use Rattle.std.proofs.lemmas.List.{take_rest}
 use Rattle.graph_commands.specs.Explained.{TellsLine, further_line}
-use Rattle.graph_commands.proofs.records.place_told.Goals as goal
+use Rattle.graph_commands.proofs.records.record_told.Goals as goal
 
 -- the record's line is told, and why it is no sample
 pub returns : goal.returns
-returns c = λ known bytes.
+returns c =
     let samples = c.args.samples.now in
     let at = c.in-Some.at in
     let place = c.in_ok-place.place.items in
     let why = further_line c.as_bytes.result.now in
-    let line : TellsLine known c.args.number place = record {
-      samples = samples;
-      bytes = bytes;
+    let line : TellsLine samples c.args.number place = record {
       at = at;
       start = c.in-Some.ensures.some;
       is = rw (c.line_at.ensures, c.front_of.ensures, c.up_to_end-end.ensures.end, take_rest samples at)
