@@ -156,6 +156,32 @@ def times():
             look("what was signalled", why.phase == 2 and "2" in str(why))
 
 
+def asked():
+    """Behind a next whose time is over a registration rests, with its signal made, whether it asked
+    for the phase, as with one value, or not."""
+    for values in (4, [1, 3]):
+        founder = sums(2, 100)
+        other = founder.register(phase.SIG_WAIT)
+        look("a next with too little time", refused(phase.Signalled, founder.next, values, None, 0))
+        look("where it stands", founder.view()[:2] == (1, 0) and founder.told() == (0, 0))
+        for call in (
+            lambda: founder.next(4), lambda: founder.next(4, timeout=0),
+            lambda: founder.signal(4), lambda: founder.signal(4, timeout=0),
+            lambda: founder.signal_block([4, 5]), lambda: founder.signal_block([4], timeout=0),
+        ):
+            look("a second signal", refused(phase.SignalTwice, call))
+        look("a wait with too little time", refused(TimeoutError, founder.wait, 0.001))
+        look("a block of waits", refused(TimeoutError, founder.wait_block, 2, 0))
+        child, (late, at) = founder.register(phase.SIG_WAIT), founder.register_now()
+        look("where children stand", child.view()[:2] == (1, 0) and at == 0)
+        look("what it sent", other.next(5, timeout=10) == (0, 9))
+        look("what each got", founder.wait(10) == child.wait(10) == late.wait(10) == (0, 9))
+        founder.leave()
+        look("a child's time", refused(phase.Signalled, child.next, 6, None, 0.001))
+        look("the next phase", other.next(5, timeout=10) == (1, 11))
+        other.leave()
+
+
 def leaves_in_time():
     """The others go on without one that left, or is gone, when the time of its next was over."""
     for ends in (lambda own: own.leave(), lambda own: own.__exit__(None, None, None)):
@@ -248,7 +274,7 @@ def interrupted():
 
 def main():
     for test in (
-        made, meetings, streams, blocks, times, leaves_in_time, refusals, let_go,
+        made, meetings, streams, blocks, times, asked, leaves_in_time, refusals, let_go,
         one_thread_at_a_time, interrupted,
     ):
         test()

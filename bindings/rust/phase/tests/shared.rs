@@ -110,6 +110,43 @@ fn others_go_on_without_one_that_left_in_time() {
     }
 }
 
+/// Behind a `next_for` whose time has passed a registration rests, with its signal made, whether it
+/// asked for the phase, as with one value, or not.
+#[test]
+fn a_next_whose_time_passed_leaves_its_signal() {
+    let twice = PhaserError::SignalTwice;
+    for values in [&[4_i64][..], &[1, 3]] {
+        let mut founder = sums(2, 100);
+        let mut other = founder.register::<SigWait>().unwrap();
+        assert_eq!(founder.next_for(values, None, MILLISECOND), Ok(Next::Signalled(0)));
+        let standing = founder.view();
+        assert_eq!((standing.signal_phase, standing.wait_phase), (1, 0));
+        assert_eq!(founder.told(), (0, 0));
+        assert_eq!(founder.next(&[4], None).unwrap_err(), twice);
+        assert_eq!(founder.try_next(&[4], None).unwrap_err(), twice);
+        assert_eq!(founder.next_for(&[4], None, MILLISECOND).unwrap_err(), twice);
+        assert_eq!(founder.signal(&[4], None).unwrap_err(), twice);
+        assert_eq!(founder.try_signal(&[4], None).unwrap_err(), twice);
+        assert_eq!(founder.signal_block(&[4, 5], None).unwrap_err(), twice);
+        assert_eq!(founder.try_wait(), Err(PhaserError::NotYet));
+        assert_eq!(founder.wait_for(MILLISECOND), Err(PhaserError::NotYet));
+        assert_eq!(founder.try_wait_block(&mut [0; 2]), Err(PhaserError::NotYet));
+        let mut child = founder.register::<SigWait>().unwrap();
+        assert_eq!((child.view().signal_phase, child.view().wait_phase), (1, 0));
+        let (mut late, at) = founder.register_now().unwrap();
+        assert_eq!(at, 0);
+        assert_eq!(other.next(&[5], None), Ok(got(0, 9)));
+        let mut places = [7; 2];
+        assert_eq!(founder.wait(), Ok(Got::Value { phase: 0, value: Some(9) }));
+        assert_eq!(child.wait(), Ok(Got::Value { phase: 0, value: Some(9) }));
+        assert_eq!(late.wait_block(&mut places), Ok(GotBlock::Values { phase: 0, count: 1 }));
+        assert_eq!(places, [9, 7]);
+        founder.leave();
+        assert_eq!(child.next_for(&[6], None, MILLISECOND), Ok(Next::Signalled(1)));
+        assert_eq!(other.next(&[5], None), Ok(got(1, 11)));
+    }
+}
+
 #[test]
 fn a_time_ends_a_wait() {
     let mut founder = sums(1, 100);
