@@ -19,7 +19,7 @@ _phase() {
         *,draw,-*) words='--explain --help' ;;
         *,eval,-*) words='--beside --columns --explain --help --sink --workers' ;;
         *,stream,-*) words='--beside --explain --help --sink' ;;
-        *,run,-*) words='--beside --explain --help --sink --workers' ;;
+        *,run,-*) words='--beside --counts --explain --help --sink --workers' ;;
         *) return ;;
     esac
     COMPREPLY=($(compgen -W "$words" -- "$2"))

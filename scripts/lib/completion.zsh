@@ -32,7 +32,7 @@ _phase() {
                 '--workers:number:(1 2 4 8 16)' '*:graph:_files'
             ;;
         run)
-            _arguments '--help' '--beside' '--explain' '--sink:sink:_phase_sinks' \
+            _arguments '--help' '--beside' '--counts' '--explain' '--sink:sink:_phase_sinks' \
                 '--workers:number:(1 2 4 8 16)' '*:graph:_files'
             ;;
         stream)

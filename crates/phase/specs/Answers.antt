@@ -1,5 +1,5 @@
 -- How the commands answer their words: which statuses may come, what is written, and what is told.
-use Rattle.std.specs.Prelude.{◌≡◌, ◌⊎◌, ℕ, List, [], Option}
+use Rattle.std.specs.Prelude.{◌≡◌, ◌⊎◌, ℕ, List, [], Option, ⊤}
 use Rattle.clap.specs.Words.{Kinds, Text}
 use Rattle.phase_commands.specs.Ends.{EndsAs, LeavesAlone, MayEndAsked}
 use Rattle.phase_commands.specs.graph_commands.FileJobs.{Known}
@@ -9,11 +9,12 @@ use Rattle.phase_commands.specs.graph_commands.watched_io.declared.watched.Watch
 use Rattle.phase_commands.specs.phase_replay.Replays.{ReplayEnds}
 use Rattle.phase_commands.specs.phase_words.Answers.{AnswerEnds, IsUnbegun, MayEnd}
 use Rattle.phase_commands.specs.phase_words.CommandLine.{Asked, AskReplay, Asks, kinds_of}
-use Rattle.phase_commands.specs.phase_words.RunLine.{AsksRun, Run, run_kinds_of}
+use Rattle.phase_commands.specs.phase_words.RunLine.{AsksRun, AsksWorkers, Run, run_kinds_of, workers_kinds_of}
 use Rattle.phase_commands.specs.phase_words.StreamLine.{AsksStream, Stream, stream_kinds_of}
 use Rattle.phase_run.specs.phase_eval.Ends.{EndsAsEval, MayEndAsEval}
-use Rattle.phase_run.specs.Ends.{EndsAsRun, MayEndAsRun}
+use Rattle.phase_run.specs.Ends.{AskNoCounts, EndsAsRun, MayEndAsRun}
 use Rattle.phase_stream.specs.Ends.{EndsAsStream, MayEndAsStream}
+use Rattle.phase.specs.Ways.{Way, run}
 
 -- ---- any command
 
@@ -39,11 +40,16 @@ RunAnswers words known contents status closed files old new before after =
     (λ (what : Run). EndsAsRun what known contents status old new before after)
     status closed files old new before after
 
+-- the words ask for no counts of a run
+abbrev pub AsksNoCounts : Way → Type 0
+AsksNoCounts (run own) = AskNoCounts own
+AsksNoCounts way = ⊤
+
 -- `eval` by workers answers the words behind its name
 abbrev pub EvalAnswers : {F W : Type 0} → List Text → Known → (W → Option (List ℕ)) → Status
     → F → F → Watched W → Watched W → WriterState → WriterState → Type 0
 EvalAnswers words known contents status closed files old new before after =
-    Answers (run_kinds_of words) MayEndAsEval (AsksRun words)
+    Answers (workers_kinds_of words) MayEndAsEval (AsksWorkers words)
     (λ (what : Run). EndsAsEval what known contents status old new before after)
     status closed files old new before after
 

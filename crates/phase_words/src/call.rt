@@ -64,6 +64,8 @@ pub struct RunCall<'a> {
     pub workers: usize,
     pub explain: Explain,
     pub beside: bool,
+    /// Whether it is told at the end what each task did.
+    pub counts: bool,
 }
 
 /// What the words behind `phase stream` ask for: the values, as they come, of the sink of a name,

@@ -61,6 +61,9 @@ pub(crate) const STREAM: &str = "\
 Writes the values of a sink of a graph as its samples come, a line each, for as
 long as they come.";
 
+/// What the word `--counts` is.
+pub(crate) const COUNTS: &str = "Tell what each task did, behind all values, on standard error";
+
 /// What the word behind `--workers` is.
 pub(crate) const WORKERS_WORD: &str =
     "How many worker threads, from 1 to 16: 4 where none are named";

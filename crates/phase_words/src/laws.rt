@@ -1,12 +1,12 @@
 //! What clap makes of the words that the program's pages name.
-ghost use Rattle.std.specs.Prelude.{◌≤◌, ℕ, List, Option, [], ◌∷◌, Some, None, codes, true};
+ghost use Rattle.std.specs.Prelude.{◌≤◌, ℕ, List, Option, [], ◌∷◌, Some, None, codes, false, true};
 ghost use Rattle.phase_words.specs.CommandLine.{AreRefused, AskCheck, AskColumns, AskDraw, AskEval};
 ghost use Rattle.phase_words.specs.CommandLine.{AskColumnsExplained, AskHelp, Asks, check, columns, eval};
 ghost use Rattle.phase_words.specs.CommandLine.{AskCheckExplained, AskDrawExplained};
 ghost use Rattle.phase_words.specs.CommandLine.{AskEvalExplained, AskReplay};
 ghost use Rattle.phase_words.specs.CommandLine.{AskReplayFile, AskReplayStrictly, AskVersion};
 ghost use Rattle.phase_words.specs.RunLine.{AreRunRefused, AskRun, AskRunExplained, AskRunHelp};
-ghost use Rattle.phase_words.specs.RunLine.{AskRunVersion, AsksRun, Run};
+ghost use Rattle.phase_words.specs.RunLine.{AreWorkersRefused, AskRunVersion, AsksRun, Run};
 ghost use Rattle.phase_words.specs.StreamLine.{AreStreamRefused, AskStream, AskStreamExplained};
 ghost use Rattle.phase_words.specs.StreamLine.{AskStreamHelp, AskStreamVersion, AsksStream};
 
@@ -96,6 +96,7 @@ pub fn words_for_files_beside()
       workers = 4;
       explain = Explain.No;
       beside = true;
+      counts = false;
     }) }
     ensures stream { AsksStream (codes "d/g" ∷ codes "--beside" ∷ []) (record {
       graph = codes "d/g";
@@ -149,6 +150,23 @@ pub fn words_for_runs()
         (codes "g") (Some (codes "out")) 2 }
     ensures help { AskRunHelp (codes "--help" ∷ []) }
     ensures version { AskRunVersion (codes "-V" ∷ []) }
+{}
+
+/// `--counts` asks of a run that it is told at the end what each task did. An evaluation by workers
+/// and a stream refuse it.
+pub fn words_for_counts()
+    ensures run { AsksRun (codes "g" ∷ codes "--counts" ∷ []) (record {
+      graph = codes "g";
+      sink = None;
+      workers = 4;
+      explain = Explain.No;
+      beside = false;
+      counts = true;
+    }) }
+    ensures twice { AreRunRefused (codes "g" ∷ codes "--counts" ∷ codes "--counts" ∷ []) }
+    ensures eval { AreWorkersRefused
+        (codes "g" ∷ codes "--workers" ∷ codes "2" ∷ codes "--counts" ∷ []) }
+    ensures stream { AreStreamRefused (codes "g" ∷ codes "--counts" ∷ []) }
 {}
 
 /// Whatever the words are, a run that they ask for is one by 1 to 16 workers.

@@ -29,6 +29,6 @@ mod whole;
 pub use graph_commands;
 pub use graph_commands::write_lines;
 pub use stream_tasks::stream_lists::Stand;
-pub use stream_tasks::{Gate, Open, phase_shared, stream_members};
+pub use stream_tasks::{Gate, Open, Went, phase_shared, stream_members};
 pub use whole::{RunFault, after_fault, run};
 pub use worker_pool;

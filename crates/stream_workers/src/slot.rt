@@ -123,7 +123,12 @@ impl<'a, J: Run, G: Gate> Work for Slot<'a, J, G> {
     fn turn(&mut self) -> Progress {
         let gate = self.gate;
         match &mut self.place {
-            TaskSlot::Task(task) => progress_of(task.turn(gate)),
+            TaskSlot::Task(task) => {
+                let began = gate.begins();
+                let went = task.turn(gate);
+                gate.ends(task.number(), began, went);
+                progress_of(went)
+            }
             _ => Progress::Failed(Fault::Stalled),
         }
     }
