@@ -18,4 +18,5 @@ complete -c phase -n "__fish_seen_subcommand_from check eval run stream" -l besi
 complete -c phase -n "__fish_seen_subcommand_from check draw eval run stream" -l explain
 complete -c phase -n "__fish_seen_subcommand_from eval" -l columns
 complete -c phase -n "__fish_seen_subcommand_from eval run stream" -l sink -x -a "(__phase_sinks)"
+complete -c phase -n "__fish_seen_subcommand_from stream" -l to -x -a "(__phase_sinks)="
 complete -c phase -n "__fish_seen_subcommand_from eval run" -l workers -x -a "1 2 4 8 16"

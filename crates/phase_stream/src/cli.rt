@@ -26,10 +26,14 @@ use std::io::Write;
 ///
 /// A refusal's text goes to the fault stream, and so does a fault's line. Where that stream fails
 /// too, the status stands alone. It comes back where each call of its readers and writers does.
+///
+/// The writers of the files that are made for sinks are left in `made`, in the order of the words,
+/// and what was there before is let go.
 pub fn run_cli<W: Write, E: Write, F: Opens + Refuses + LooksBeside>(
     alloc: Global,
     words: &[String],
     streams: &mut Streams<W, E, F>,
+    made: &mut Vec<Watched<F::Writer>>,
 ) -> Status
     // Which statuses may come, by what the words ask for.
     ensures status { MayEnd (stream_kinds_of (texts words.now)) MayEndAsStream result }
