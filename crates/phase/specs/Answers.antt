@@ -1,5 +1,5 @@
 -- How the commands answer their words: which statuses may come, what is written, and what is told.
-use Rattle.std.specs.Prelude.{◌≡◌, ◌⊎◌, ℕ, List, [], Option, ⊤}
+use Rattle.std.specs.Prelude.{◌≡◌, ◌⊎◌, ℕ, Bool, List, [], Option, ⊤}
 use Rattle.clap.specs.Words.{Kinds, Text}
 use Rattle.phase_commands.specs.Ends.{EndsAs, LeavesAlone, MayEndAsked}
 use Rattle.phase_commands.specs.graph_commands.FileJobs.{Known}
@@ -13,7 +13,7 @@ use Rattle.phase_commands.specs.phase_words.RunLine.{AsksRun, AsksWorkers, Run, 
 use Rattle.phase_commands.specs.phase_words.StreamLine.{AsksStream, Stream, stream_kinds_of}
 use Rattle.phase_run.specs.phase_eval.Ends.{EndsAsEval, MayEndAsEval}
 use Rattle.phase_run.specs.Ends.{AskNoCounts, EndsAsRun, MayEndAsRun}
-use Rattle.phase_stream.specs.Ends.{EndsAsStream, MayEndAsStream}
+use Rattle.phase_stream.specs.Ends.{EndsAsAsked, EndsAsStream, MayEndAsStream}
 use Rattle.phase.specs.Ways.{Way, run}
 
 -- ---- any command
@@ -59,6 +59,16 @@ abbrev pub StreamAnswers : {F W : Type 0} → List Text → Known → (W → Opt
 StreamAnswers words known contents status closed files old new before after =
     Answers (stream_kinds_of words) MayEndAsStream (AsksStream words)
     (λ (what : Stream). EndsAsStream what known contents status old new before after)
+    status closed files old new before after
+
+-- and so it does what it writes to the files of sinks
+abbrev pub SinksAnswer : {F W V : Type 0} → List Text → Known → Bool → (W → Option (List ℕ))
+    → (V → Option (List ℕ)) → Status → F → F → Watched W → Watched W → List (Watched V)
+    → WriterState → WriterState → Type 0
+SinksAnswer words known knows of_output of_file status closed files old new made before after =
+    Answers (stream_kinds_of words) MayEndAsStream (AsksStream words)
+    (λ (what : Stream). EndsAsAsked what known knows of_output of_file status old new made
+    before after)
     status closed files old new before after
 
 -- the others answer all the words: a replay of the input ends as one also where memory ran out, a

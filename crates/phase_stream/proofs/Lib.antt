@@ -1,3 +1,4 @@
+mod Alone
 mod Asking
 mod Begun
 mod Ending
@@ -10,4 +11,6 @@ mod Refilling
 mod Sinking
 mod Standing
 mod Stopping
+mod Targeting
+mod Targets
 mod Writing

@@ -101,6 +101,7 @@ pub fn words_for_files_beside()
     ensures stream { AsksStream (codes "d/g" ∷ codes "--beside" ∷ []) (record {
       graph = codes "d/g";
       sink = None;
+      files = [];
       explain = Explain.No;
       beside = true;
     }) }
@@ -216,4 +217,41 @@ pub fn words_refused_of_streams()
         (codes "g" ∷ codes "--sink=out" ∷ codes "--sink=in" ∷ []) }
     ensures workers { AreStreamRefused (codes "g" ∷ codes "--workers" ∷ codes "2" ∷ []) }
     ensures elsewhere { AreRefused (codes "stream" ∷ codes "g" ∷ []) }
+{}
+
+/// `--to` asks of a stream that the values of a sink go to a file, and may stand there more than
+/// once. What stands before its first `=` is the sink. `-` is the output, so `--to out=-` asks for
+/// what `--sink out` does.
+pub fn words_for_files_of_sinks()
+    ensures file { AsksStream (codes "g" ∷ codes "--to" ∷ codes "out=f" ∷ []) (record {
+      graph = codes "g";
+      sink = None;
+      files = (codes "out", codes "f") ∷ [];
+      explain = Explain.No;
+      beside = false;
+    }) }
+    ensures files { AsksStream
+        (codes "--to=a=f" ∷ codes "g" ∷ codes "--to" ∷ codes "b=x=y" ∷ codes "--sink=c" ∷ [])
+        (record {
+          graph = codes "g";
+          sink = Some (codes "c");
+          files = (codes "a", codes "f") ∷ (codes "b", codes "x=y") ∷ [];
+          explain = Explain.No;
+          beside = false;
+        }) }
+    ensures output { AskStream (codes "g" ∷ codes "--to" ∷ codes "out=-" ∷ [])
+        (codes "g") (Some (codes "out")) }
+{}
+
+/// A word behind `--to` that names no file is refused, and so are words that name a sink twice, or
+/// a file. Behind `eval` and `run` `--to` is no word.
+pub fn words_refused_of_files_of_sinks()
+    ensures no_file { AreStreamRefused (codes "g" ∷ codes "--to" ∷ codes "out" ∷ []) }
+    ensures sink_twice { AreStreamRefused (codes "g" ∷ codes "--to=a=f" ∷ codes "--to=a=h" ∷ []) }
+    ensures sink_again { AreStreamRefused (codes "g" ∷ codes "--to=a=f" ∷ codes "--sink=a" ∷ []) }
+    ensures file_twice { AreStreamRefused (codes "g" ∷ codes "--to=a=f" ∷ codes "--to=b=f" ∷ []) }
+    ensures output_twice { AreStreamRefused
+        (codes "g" ∷ codes "--to=a=-" ∷ codes "--sink=b" ∷ []) }
+    ensures eval { AreRefused (codes "eval" ∷ codes "g" ∷ codes "--to=a=f" ∷ []) }
+    ensures run { AreRunRefused (codes "g" ∷ codes "--to=a=f" ∷ []) }
 {}

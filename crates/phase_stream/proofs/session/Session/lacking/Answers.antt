@@ -31,7 +31,7 @@ returns-in-Err-clause-stops g c = λ held old new st.
 
 pub returns-in-Ok-clause-stops : goal.returns-in-Ok-clause-stops
 returns-in-Ok-clause-stops g c = λ held old new st.
-    let bad = subst (λ l. StandsLacking held old.written new.written c.args.self.now c.args.k l)
+    let bad = subst (λ l. StandsLacking held old (λ k. (new k).written) c.args.self.now c.args.k l)
     c.in-BadRecord.is st in
     let lt = c.if-k-len.false in
     let many = c.len.ensures in
