@@ -10,7 +10,7 @@ use std::time::{Clock, Instant};
 use stream_workers::graph_commands::further_lines;
 use stream_workers::graph_commands::graph_lang::Place;
 use stream_workers::graph_commands::stream_lists::{Job, input_number};
-use stream_workers::{Gate, Went};
+use stream_workers::{Gate, Watch, Went};
 
 /// What one task did so far.
 #[derive(Drop)]
@@ -116,7 +116,9 @@ impl<'a, C: Clock> Gate for Counts<'a, C> {
     fn is_open(&self) -> bool {
         true
     }
+}
 
+impl<'a, C: Clock> Watch for Counts<'a, C> {
     fn begins(&self) -> Option<Instant> {
         Instant::now(self.clock).ok()
     }

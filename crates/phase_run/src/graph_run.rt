@@ -18,10 +18,11 @@ use std::io::Write;
 use std::sync::Wait;
 use std::thread::Threads;
 use std::time::Clock;
+use stream_workers::graph_commands::stream_eval::Lines;
 use stream_workers::graph_commands::stream_lists::Job;
 use stream_workers::graph_commands::watched_io::{Files, IoFault, Watched};
 use stream_workers::graph_commands::{AskedJob, Failure, read_asked, stall_told, write_sinks};
-use stream_workers::{Lines, Open, RunFault, Stand};
+use stream_workers::{Open, RunFault, Stand};
 
 /// Reads a graph and the samples of its sources, runs it by as many worker threads as the call asks
 /// for, of which the caller's is one, and writes the lists of its sinks, or the values alone of the
@@ -76,7 +77,7 @@ fn run_counted<H: Threads + Wait + Clock + Sync>(
 {
     match counts {
         None => stream_workers::run(rt, alloc, job, workers, &Open),
-        Some(counts) => stream_workers::run(rt, alloc, job, workers, counts),
+        Some(counts) => stream_workers::run_watched(rt, alloc, job, workers, counts),
     }
 }
 

@@ -1,7 +1,4 @@
-//! What a worker calls as it enters a step, and around each turn.
-
-use crate::went::Went;
-use std::time::Instant;
+//! What a worker calls as it enters a step.
 
 /// Called by a worker as it enters a step of a task, before the step's first event, once a step; of
 /// a block of steps once, with the first of them. Steps are numbered from 0.
@@ -11,15 +8,6 @@ pub trait Gate {
     /// Whether it sees nothing, so that a run may make several steps at once where nobody can tell.
     /// Else the steps of a line that names no block are made one by one.
     fn is_open(&self) -> bool;
-
-    /// Called as a worker begins a turn of a task. What it returns is handed to `ends`.
-    fn begins(&self) -> Option<Instant> {
-        None
-    }
-
-    /// Called at the end of a turn of a task, with what `begins` returned, and with how far the
-    /// task came.
-    fn ends(&self, _task: usize, _began: Option<Instant>, _went: Went) {}
 }
 
 /// A gate that returns at once.
