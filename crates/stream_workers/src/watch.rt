@@ -13,6 +13,7 @@ pub trait Watch: Gate {
 }
 
 /// A gate, of whose run nobody looks at the turns.
+#[derive(Drop)]
 pub struct Unwatched<'a, G> {
     pub gate: &'a G,
 }
