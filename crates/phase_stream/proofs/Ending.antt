@@ -1,5 +1,5 @@
 -- How a stream ends, by what its parts answered.
-use Rattle.std.proofs.Common.{◌≡◌, ◌≢◌, ◌≤◌, ◌+◌, inl, inr, ℕ, zero, suc, Bool, true, false, List, [], ◌∷◌, Option, Some, None, Ok, Err, length, slice_get, refl, sym, ap, subst, ◌∙◌, arith}
+use Rattle.std.proofs.Common.{◌≡◌, ◌≢◌, ◌⊎◌, ◌≤◌, ◌+◌, inl, inr, ℕ, zero, suc, Bool, true, false, List, [], ◌∷◌, Option, Some, None, Ok, Err, length, slice_get, refl, sym, ap, subst, ◌∙◌, arith}
 use Rattle.std.proofs.KnownBytes.{Appends-nil}
 use Rattle.std.specs.Prelude.{IfErr, OnOk}
 use Rattle.std.specs.Io.KnownBytes.{Appends, Keeps}
@@ -15,6 +15,8 @@ use Rattle.graph_commands.specs.declared.fault.JobFault.TheVariants as fault
 use Rattle.graph_commands.specs.declared.graph_file.TheConstants.{GRAPH_MAX}
 use Rattle.graph_commands.specs.watched_io.Files.{HasBytes, MayNeedMemory}
 use Rattle.graph_commands.specs.watched_io.States.{WriterState}
+use Rattle.graph_commands.specs.watched_io.declared.fault.IoFault.{IoFault}
+use Rattle.graph_commands.specs.watched_io.declared.fault.IoFault.TheVariants as io_fault
 use Rattle.graph_commands.specs.watched_io.declared.status.Status.{Status}
 use Rattle.graph_commands.specs.watched_io.declared.status.Status.TheVariants.{Done}
 use Rattle.graph_commands.specs.watched_io.declared.watched.Watched.{Watched}
@@ -23,7 +25,7 @@ use Rattle.phase_words.specs.StreamLine.{Stream}
 use Rattle.stream_job.specs.graph_base.Graphs.{Graph}
 use Rattle.stream_job.specs.stream_lists.Jobs.{Job}
 use Rattle.phase_stream.specs.Ends.{MayEndAsStream}
-use Rattle.phase_stream.specs.Outputs.{AreBare, IsThere, IsUnbegunStream, IsUnreadGraph, StopOf, StreamDoes, StreamEndsBy, StreamFailsBy, WriteWhole, bare_at, bare_file, task_to, writers_at}
+use Rattle.phase_stream.specs.Outputs.{AreApart, AreBare, HasSinks, IsThere, IsUnbegunStream, IsUnmade, IsUnreadGraph, StopOf, StreamDoes, StreamEndsBy, StreamFailsBy, WriteWhole, bare_at, bare_file, task_to, writers_at}
 use Rattle.phase_stream.specs.Streams.{explained}
 
 -- ---- statuses
@@ -85,38 +87,35 @@ status_ends Quiet (Err found) status quiet is = subst MayEndAsStream (sym is) (f
 
 -- ---- a stream that began
 
-pub with_ok : {A E : Type 0} (r : Result A E) (P Q : Type 0) → (P → Q) → OnOk r P → OnOk r Q
-with_ok (Ok x) P Q f p = f p
-with_ok (Err e) P Q f p = tt
+-- what the words ask for is there
+pub there_of : (known : Known) (what : Stream) (job now : Job) (graph : Graph) → now ≡ job
+    → graph ≡ now.graph → IsGraphOf known what.graph job.graph → HasSinks job what.sink what.files
+    → AreApart what.beside what.graph graph what.files → IsThere known what now
+there_of known what job now graph same is of_graph sinks apart = record {
+  graph_of = subst (λ (j : Job). IsGraphOf known what.graph j.graph) (sym same) of_graph;
+  sinks = subst (λ j. HasSinks j what.sink what.files) (sym same) sinks;
+  apart = subst (λ g. AreApart what.beside what.graph g what.files) is apart;
+}
 
-pub with_err : {A E : Type 0} (r : Result A E) (P Q : E → Type 0) → ((e : E) → P e → Q e)
-    → IfErr r P → IfErr r Q
-with_err (Ok x) P Q f p = tt
-with_err (Err e) P Q f p = f e p
-
-pub begun_done : {A : Type 0} (known : Known) (what : Stream) (job : Job) (goes : ℕ → Option ℕ)
-    (old now : ℕ → Option (List ℕ)) (done : Result A Failure) → IsThere known what job
-    → ((k : ℕ) → goes k ≡ task_to job what.sink what.files k)
-    → OnOk done (WriteWhole known job goes old now) → OnOk done (StreamDoes known what old now)
-begun_done known what job goes old now (Ok unit) there same whole = record {
+pub begun_does : (known : Known) (what : Stream) (job : Job) (goes : ℕ → Option ℕ)
+    (old now : ℕ → Option (List ℕ)) → IsThere known what job
+    → ((k : ℕ) → goes k ≡ task_to job what.sink what.files k) → WriteWhole known job goes old now
+    → StreamDoes known what old now
+begun_does known what job goes old now there same whole = record {
   job = job;
   there = there;
   whole = subst (λ goes. WriteWhole known job goes old now) (λ i. λ k. same k i) whole;
 }
-begun_done known what job goes old now (Err found) there same whole = tt
 
-pub begun_fails : {A W V : Type 0} (known : Known) (what : Stream) (knows : Bool)
+pub begun_stops : {W V : Type 0} (known : Known) (what : Stream) (knows : Bool)
     (of_output : W → Option (List ℕ)) (of_file : V → Option (List ℕ)) (old new : Watched W)
-    (made : List (Watched V)) (job : Job) (goes : ℕ → Option ℕ) (many : ℕ)
-    (done : Result A Failure) → IsThere known what job
-    → ((k : ℕ) → goes k ≡ task_to job what.sink what.files k) → many ≡ length what.files + 1
-    → IfErr done (StopOf known job goes many (bare_at knows what.files (of_output old.inner))
-    (writers_at of_output of_file new made))
-    → IfErr done (StreamFailsBy known what knows of_output of_file old new made)
-begun_fails known what knows of_output of_file old new made job goes many (Ok unit) there same long
-    stops = tt
-begun_fails known what knows of_output of_file old new made job goes many (Err found) there same long
-    stops =
+    (made : List (Watched V)) (job : Job) (goes : ℕ → Option ℕ) (many : ℕ) (found : Failure)
+    → IsThere known what job → ((k : ℕ) → goes k ≡ task_to job what.sink what.files k)
+    → many ≡ length what.files + 1
+    → StopOf known job goes many (bare_at knows what.files (of_output old.inner))
+    (writers_at of_output of_file new made) found
+    → StreamFailsBy known what knows of_output of_file old new made found
+begun_stops known what knows of_output of_file old new made job goes many found there same long stops =
     inr (record {
       job = job;
       there = there;
@@ -144,6 +143,15 @@ graph_memory known name graph of_file = by (known name) of_file.bytes
     by : (held : Option (List ℕ)) → HasBytes held of_file.text → MayNeedMemory GRAPH_MAX held
     by None bytes = tt
     by (Some held) bytes = subst (λ text. length text ≤ GRAPH_MAX) bytes of_file.short
+
+-- no file was made, or not all
+pub unmade_unbegun : (known : Known) (what : Stream) (fault : IoFault) (graph : Graph)
+    → IsGraphOf known what.graph graph
+    → (fault ≡ io_fault.OutOfMemory) ⊎ ((fault ≡ io_fault.WriteFault) × (what.files ≢ []))
+    → IsUnmade known what fault
+unmade_unbegun known what fault graph of_graph (inl memory) =
+    inl (memory, graph_memory known what.graph graph of_graph)
+unmade_unbegun known what fault graph of_graph (inr unmade) = inr unmade
 
 -- nothing was read
 pub unread_unbegun : (known : Known) (what : Stream) (found : Failure)

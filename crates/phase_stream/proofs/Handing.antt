@@ -201,7 +201,7 @@ all_handed : (job : Job) (targets : List (Option Sink)) (m : Moment) (later : �
     → AllHanded job targets m later
 all_handed job targets m later are handed k t goes =
     let number = number_of_task job targets k t are goes in
-    subst (λ u. later u ≡ kept_by job m u) number.1.1 (handed number.0 number.1.0)
+    subst (λ u. later u ≡ kept_by job m u) number.2 (handed number.0 number.1)
 
 -- and was written
 all_written : (stream : StreamState) (targets : List (Option Sink)) (old : ℕ → Option (List ℕ))

@@ -5,9 +5,11 @@ mod Ending
 mod Feeding
 mod Forgetting
 mod Handing
+mod Making
 mod Opening
 mod Reading
 mod Refilling
+mod Results
 mod Sinking
 mod Standing
 mod Stopping

@@ -1,5 +1,6 @@
 -- Which sink goes to a writer.
-use Rattle.std.proofs.Common.{◌≡◌, ◌<◌, ◌≤◌, ◌++◌, ℕ, ℤ, Bool, true, false, List, [], ◌∷◌, Option, Some, None, length, get_or, slice_get, zero, suc, refl, sym, ap, subst, ◌∙◌, rules, arith}
+use Rattle.std.proofs.Common.{◌≡◌, inl, inr, ◌<◌, ◌≤◌, ◌+◌, ◌++◌, ℕ, ℤ, Bool, true, false, List, [], ◌∷◌, Option, Some, None, length, get_or, slice_get, zero, suc, refl, sym, ap, subst, ◌∙◌, rules, arith}
+use Rattle.std.proofs.lemmas.Bool.{cases_lt}
 use Rattle.std.proofs.lemmas.Option.{same_Some}
 use Rattle.stream_job.specs.Machines.{none_given}
 use Rattle.stream_job.specs.SinkLines.{kept_by}
@@ -33,6 +34,21 @@ beyond_none (x ∷ xs) (suc k) le = beyond_none xs k (omega (arith, le))
 pub beyond : (targets : List (Option Sink)) (k : ℕ) → length targets ≤ k → task_for targets k ≡ None
 beyond targets k le = rw (beyond_none targets k le) refl
 
+-- so a task that goes somewhere goes to one of the writers
+pub task_within : (targets : List (Option Sink)) (k t : ℕ) → task_for targets k ≡ Some t
+    → k < length targets
+task_within targets k t e = elim (cases_lt k (length targets)) [
+  | inl less ↦ less
+  | inr past ↦ absurd (let bad : None ≡ Some t = sym (beyond targets k past) ∙ e in cc)
+]
+
+-- what holds of each number below n and of n holds of each below the next
+pub one_more : (P : ℕ → Type 0) (n : ℕ) → ((k : ℕ) → k < n → P k) → P n → (k : ℕ) → k < n + 1 → P k
+one_more P n before here k lt = elim (cases_lt k n) [
+  | inl less ↦ before k less
+  | inr past ↦ (let same : n ≡ k = omega (arith, lt, past) in subst P same here)
+]
+
 -- a task that goes somewhere is that of a sink
 pub sink_of_task : (targets : List (Option Sink)) (k t : ℕ) → task_for targets k ≡ Some t
     → (sink : Sink) × (sink_for targets k ≡ Some sink) × (sink.task ≡ t)
@@ -51,8 +67,8 @@ pub number_of_task : (job : Job) (targets : List (Option Sink)) (k t : ℕ) → 
     → (i : ℕ) × (i < length (sinks_of job)) × (get_or (sinks_of job) i 0 ≡ t)
 number_of_task job targets k t are e =
     let found = sink_of_task targets k t e in
-    let number = are k found.0 found.1.0 in
-    (found.0.number, number.there, number.task ∙ found.1.1)
+    let number = are k found.0 found.1 in
+    (found.0.number, number.there, number.task ∙ found.2)
 
 -- nothing was handed over of any sink
 pub none_values : (task : Option ℕ) → values_for task none_given ≡ []

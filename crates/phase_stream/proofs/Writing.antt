@@ -191,8 +191,8 @@ whole_of remaining held old now session are st =
       in_time = λ k t goes more behind.
           (let number = number_of_task stream.job ts k t are goes in
           (st.stopped_is more behind.feeds behind.ready).1 t
-          (subst (λ u. u < length stream.job.graph.tasks) number.1.1
-          (sink_there stream.job number.0 number.1.0).1));
+          (subst (λ u. u < length stream.job.graph.tasks) number.2
+          (sink_there stream.job number.0 number.1).1));
       ends = inl (λ more behind. answer_fits (started (with_samples more stream.job) m) _
           (st.stopped_is more behind.feeds behind.ready).0);
       none = λ k free. ap (λ o. values_for o stands.given) free;
@@ -207,7 +207,7 @@ whole_of remaining held old now session are st =
     by k t goes more behind =
         let number = number_of_task session.stream.job session.targets.items k t are goes in
         whole_by (started (with_samples more session.stream.job) st.stands.moment)
-        (kept_by session.stream.job st.stands.moment) number.0 t number.1.0 number.1.1
+        (kept_by session.stream.job st.stands.moment) number.0 t number.1 number.2
         (st.stopped_is more behind.feeds behind.ready).0
 
 -- where the sinks have left, whatever the others do
@@ -235,7 +235,7 @@ left_of remaining held old now session stop are gone whole st =
       values = λ k. values_for (task_for ts k) stands.given;
       whole = λ k t goes more behind.
           (let number = number_of_task stream.job ts k t are goes in
-          text_of_list (started (with_samples more stream.job) m) number.0 t number.1.0 number.1.1
+          text_of_list (started (with_samples more stream.job) m) number.0 t number.1 number.2
           ∙ ap (flat_map value_text) (sym (ap (λ o. values_for o stands.given) goes
           ∙ (st.whole k t goes ∙ (whole k t goes stands.samples m stands.given more
           stands.reaches.at behind.feeds behind.ready).0))));

@@ -1,8 +1,43 @@
 -- What the words ask for is there, and nothing was written yet.
-use Rattle.std.proofs.Common.{◌∙◌, inl, inr, length, refl, sym, subst, ap, length-map}
-use Rattle.graph_commands.specs.FileJobs.{IsGraphOf}
+use Rattle.std.proofs.Common.{◌≡◌, ◌+◌, ◌∙◌, ℕ, List, Option, inl, inr, length, map, refl, sym, subst, ap, length-map}
+use Rattle.std.specs.Io.KnownBytes.{Appends}
+use Rattle.phase_words.specs.Outputs.{pair_as}
 use Rattle.phase_words.specs.StreamLine.{stream_asked}
 use Rattle.stream_job.specs.stream_lists.Jobs.{Job}
-use Rattle.phase_stream.specs.Outputs.{IsThere, bare_at, writers_at}
-use Rattle.phase_stream.proofs.Ending.{begun_done, begun_fails, graph_memory, none_bare, with_err, with_ok, writers_bare}
+use Rattle.phase_stream.specs.Outputs.{bare_at, writers_at}
+use Rattle.phase_stream.specs.Sessions.{AreTargets, task_for}
+use Rattle.phase_stream.proofs.Ending.{begun_does, begun_stops, graph_memory, none_bare, there_of, unmade_unbegun, writers_bare}
+use Rattle.phase_stream.proofs.Results.{with_err, with_ok}
 use Rattle.phase_stream.proofs.streamed.begin.Goals as goal
+
+pub returns-in_default-clause-failed : goal.returns-in_default-clause-failed
+returns-in_default-clause-failed g c = λ known is of_graph.
+    inl (inl (refl, graph_memory known _ _ of_graph), refl,
+    none_bare g.F.Opens.knows g.F.Writer.Write.contents c.args.made.now.items c.requires.made)
+
+pub returns-in-Err-clause-failed : goal.returns-in-Err-clause-failed
+returns-in-Err-clause-failed g c = λ known is of_graph.
+    inl (unmade_unbegun known (stream_asked c.args.call.now) c.in-Err.fault _ of_graph
+    c.in-Err.ensures.fault, refl, c.make_files.ensures.bare)
+
+pub go-requires-clause-targets : goal.go-requires-clause-targets
+go-requires-clause-targets g c =
+    subst (λ j. AreTargets j c.in-Ok.session.targets.items) (sym c.in-Ok.ensures.job)
+    (subst (AreTargets c.args.stream.job) (sym c.in-Ok.ensures.targets) c.requires.targets.numbers)
+
+pub go-requires-clause-stands : goal.go-requires-clause-stands
+go-requires-clause-stands g c =
+    let known = g.F.Files.file c.args.files.now in
+    let what = stream_asked c.args.call.now in
+    let bare : (k : ℕ) → Appends (bare_at g.F.Opens.knows what.files
+    (g.W.Write.contents c.args.output.now.inner) k)
+    (writers_at g.W.Write.contents g.F.Writer.Write.contents c.args.output.now
+    c.make_files.new.made.items k).written [] =
+    writers_bare g.F.Opens.knows g.W.Write.contents g.F.Writer.Write.contents c.args.output.now
+    what.files c.make_files.new.made.items c.make_files.ensures.bare
+    (c.in-Ok-make_files.ensures.many ∙ sym (length-map pair_as c.args.call.now.files.items)) in (
+      known,
+      _,
+      c.make_files.ensures.same,
+      c.in-Ok.ensures.stands known _ _ bare,
+    )

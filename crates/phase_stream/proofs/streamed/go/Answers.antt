@@ -4,7 +4,7 @@ use Rattle.graph_commands.specs.Failures.{HasPlace}
 use Rattle.graph_commands.specs.declared.failure.Failure.TheVariants as failure
 use Rattle.stream_job.specs.graph_base.Graphs.{IsPlace}
 use Rattle.stream_job.specs.stream_lists.Jobs.{Job}
-use Rattle.phase_stream.specs.Outputs.{StopOf}
+use Rattle.phase_stream.specs.Outputs.{StopOf, writers_at}
 use Rattle.phase_stream.specs.Sessions.{StandsStopped, task_for}
 use Rattle.phase_stream.proofs.Refilling.{lacks_none}
 use Rattle.phase_stream.proofs.Standing.{same_session}
@@ -149,7 +149,9 @@ returns-in-TooBig-clause-failed g c = λ held old is st.
     c.into_job.ensures in
     subst (StopOf held c.args.session.stream.job (task_for c.args.session.targets.items)
     (length c.args.session.targets.items) old _) (sym told)
-    (too_big_stops g.F.Reader.Read.remaining held old _ c.args.session c.turn.new.self
+    (too_big_stops g.F.Reader.Read.remaining held old
+    (writers_at g.W.Write.contents g.F.Writer.Write.contents c.turn.new.output c.turn.new.made.items)
+    c.args.session c.turn.new.self
     c.in-TooBig.place c.in-TooBig.phase
     (same_session c.args.session c.loop.session c.turn.new.self c.loop.invariant.0 c.turn.ensures.same)
     c.kept_is_right-in-TooBig.ensures.right

@@ -11,6 +11,11 @@ kept_is_right-requires g c =
 pub hand_over-requires : goal.hand_over-requires
 hand_over-requires g c = targets_same c.args.self.now c.run.new.self c.run.ensures.same c.requires
 
+pub kept_is_right-requires-in-Err-hand_over : goal.kept_is_right-requires-in-Err-hand_over
+kept_is_right-requires-in-Err-hand_over g c =
+    targets_same c.run.new.self c.hand_over.new.self c.hand_over.ensures.same
+    (targets_same c.args.self.now c.run.new.self c.run.ensures.same c.requires)
+
 pub returns-in-Ok-hand_over-clause-ok : goal.returns-in-Ok-hand_over-clause-ok
 returns-in-Ok-hand_over-clause-ok g c = λ held old st.
     handed g.R.Read.remaining held old

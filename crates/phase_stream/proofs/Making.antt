@@ -1,0 +1,58 @@
+-- One file after another that is made for a sink.
+use Rattle.std.proofs.Common.{◌≡◌, ◌≢◌, ◌<◌, ◌≤◌, ◌+◌, ◌++◌, inl, inr, ℕ, zero, suc, Bool, false, List, [], ◌∷◌, Option, Some, None, length, slice_get, refl, sym, ap, subst, ◌∙◌, arith}
+use Rattle.std.specs.Io.KnownBytes.{Keeps}
+use Rattle.std.proofs.lemmas.Bool.{cases_lt}
+use Rattle.std.proofs.lemmas.Option.{same_Some}
+use Rattle.graph_commands.specs.watched_io.declared.watched.Watched.{Watched}
+use Rattle.phase_words.specs.Outputs.{Pair}
+use Rattle.stream_job.specs.graph_base.Graphs.{Graph}
+use Rattle.phase_stream.specs.Outputs.{AreApart, AreBare, bare_file, is_source_file}
+
+-- ---- apart from the files of sources
+
+-- none of the first n files is that of a source
+abbrev pub AreFirstApart : Bool → List ℕ → Graph → List Pair → ℕ → Type 0
+AreFirstApart is_beside name graph files n = (k : ℕ) (file : Pair) → k < n
+    → slice_get files k ≡ Some file → is_source_file is_beside name graph file.1 ≡ false
+
+pub apart_none : (is_beside : Bool) (name : List ℕ) (graph : Graph) (files : List Pair)
+    → AreFirstApart is_beside name graph files 0
+apart_none is_beside name graph files k file lt there = absurd (omega (arith, lt))
+
+pub apart_more : (is_beside : Bool) (name : List ℕ) (graph : Graph) (files : List Pair) (n : ℕ)
+    (one : Pair) → AreFirstApart is_beside name graph files n → slice_get files n ≡ Some one
+    → is_source_file is_beside name graph one.1 ≡ false
+    → AreFirstApart is_beside name graph files (n + 1)
+apart_more is_beside name graph files n one before here none k file lt there = elim (cases_lt k n) [
+  | inl less ↦ before k file less there
+  | inr past ↦
+      (let same : n ≡ k = omega (arith, lt, past) in
+      let is : one ≡ file = same_Some one file (sym here ∙ (ap (slice_get files) same ∙ there)) in
+      subst (λ (f : Pair). is_source_file is_beside name graph f.1 ≡ false) is none)
+]
+
+got_within : (files : List Pair) (k : ℕ) (file : Pair) → slice_get files k ≡ Some file
+    → k < length files
+got_within [] k file e = absurd (cc)
+got_within (x ∷ xs) zero file e = omega arith
+got_within (x ∷ xs) (suc k) file e =
+    let within = got_within xs k file e in omega (arith, within)
+
+pub apart_all : (is_beside : Bool) (name : List ℕ) (graph : Graph) (files : List Pair) (n : ℕ)
+    → length files ≤ n → AreFirstApart is_beside name graph files n
+    → AreApart is_beside name graph files
+apart_all is_beside name graph files n all first k file there =
+    let within = got_within files k file there in
+    first k file (omega (arith, within, all)) there
+
+-- ---- the files that were made
+
+pub bare_more : {V : Type 0} (knows : Bool) (of_file : V → Option (List ℕ)) (made : List (Watched V))
+    (one : Watched V) → AreBare knows of_file made → Keeps (bare_file knows) (of_file one.inner)
+    → AreBare knows of_file (made ++ one ∷ [])
+bare_more knows of_file [] one bare keeps zero writer there =
+    subst (λ w. Keeps (bare_file knows) (of_file w.inner)) (same_Some one writer there) keeps
+bare_more knows of_file [] one bare keeps (suc k) writer there = absurd (cc)
+bare_more knows of_file (x ∷ xs) one bare keeps zero writer there = bare zero writer there
+bare_more knows of_file (x ∷ xs) one bare keeps (suc k) writer there =
+    bare_more knows of_file xs one (λ j w at. bare (suc j) w at) keeps k writer there
