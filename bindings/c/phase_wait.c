@@ -738,19 +738,17 @@ static int32_t wait_longer(struct asker *asker, struct patience *patience)
     return status;
 }
 
-/* Waits for the answer: looks, takes the turn, looks again, and then yields and sleeps. It learns
- * how soon answers come. */
+/* Waits for the answer: takes the turn, where it is free, looks, and then yields and sleeps. It
+ * learns how soon answers come. */
 static int32_t wait_for_answer(struct asker *asker, struct patience *patience)
 {
     uint32_t *soon = &asker->registration->soon;
     if (*soon < SELDOM && asker->registration->signal_phase % PROBE == 0)
         *soon = SOON;
-    uint32_t looks = *soon < SELDOM ? FEW : LOOKS;
-    int32_t status = look_for(asker, *soon);
+    uint32_t looks = *soon + *soon / 2;
+    int32_t status = serve(asker, looks);
     if (status == PHASE_ASKED)
-        status = serve(asker, *soon + *soon / 2);
-    if (status == PHASE_ASKED)
-        status = look_for(asker, looks);
+        status = look_for(asker, looks + (*soon < SELDOM ? FEW : LOOKS));
     if (status == PHASE_ASKED) {
         *soon = 0;
         return wait_longer(asker, patience);
