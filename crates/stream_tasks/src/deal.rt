@@ -80,9 +80,8 @@ impl<'a> TaskState<'a> {
         match put_list(&mut self.holds[k], &self.deal.share, single, &mut self.places) {
             Ok(()) => {
                 self.deal.turn = turn + 1;
-                if self.deal.turn >= outputs.min(self.deal.values.len()) {
+                if turn + 1 >= outputs.min(self.deal.values.len()) {
                     self.deal.values.clear();
-                    self.deal.turn = 0;
                 }
                 Went::Moved(p)
             }
@@ -109,6 +108,7 @@ impl<'a> TaskState<'a> {
                     return self.meet(Went::TooBig);
                 }
                 keep_all(&mut self.deal.values, got);
+                self.deal.turn = 0;
                 self.begun += count as u64;
                 self.entered = false;
                 Went::Moved(p)

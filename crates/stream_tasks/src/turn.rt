@@ -13,7 +13,7 @@ ghost use Rattle.graph_runs.specs.Moves.{IsBlock};
 ghost use Rattle.graph_runs.specs.Steps.{HasFilter};
 ghost use Rattle.graph_runs.specs.TaskPlaces.{outputs_of_block};
 ghost use Rattle.stream_tasks.specs.Holds.{HoldGoesOn, WaitGave, IsAtMost};
-ghost use Rattle.stream_tasks.specs.Tasks.{DealsNothing, HasAllNow, HasNoneDue, IsTask, IsWhole, KeepsTask, OwesNothing};
+ghost use Rattle.stream_tasks.specs.Tasks.{HasAllNow, HasNoneDue, IsTask, IsWhole, KeepsTask, OwesNothing};
 ghost use Rattle.stream_tasks.specs.Children.{HasTakenFirst, MayStep};
 
 use crate::gate::Gate;
@@ -118,7 +118,6 @@ impl<'a> TaskState<'a> {
         requires over { self.old.over ≡ false }
         requires owed { self.old.owed ≡ Value output (Ok value) }
         requires none_made { self.old.made.items ≡ [] }
-        requires none_dealt { DealsNothing self.old }
         ensures { KeepsTask job.now self.old self.new }
     {
         let (k, p) = output_of(job, self.number, output);
@@ -138,7 +137,6 @@ impl<'a> TaskState<'a> {
         requires over { self.old.over ≡ false }
         requires owed { self.old.owed ≡ Exchange x }
         requires none_made { self.old.made.items ≡ [] }
-        requires none_dealt { DealsNothing self.old }
         ensures { KeepsTask job.now self.old self.new }
     {
         let p = input_of(job, self.number, 1);
