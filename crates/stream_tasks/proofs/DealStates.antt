@@ -1,5 +1,5 @@
 -- The state of a splitter that takes what it deals, and that puts a share of it.
-use Rattle.std.proofs.Common.{◌≡◌, ◌≢◌, ℕ, ◌+◌, ◌-◌, ◌%◌, ◌<◌, ◌≤◌, ◌⊎◌, inl, inr, ℤ, false, List, [], ◌∷◌, length, get_or, map, refl, sym, ap, subst, ◌∙◌, arith}
+use Rattle.std.proofs.Common.{◌≡◌, ℕ, zero, suc, ◌+◌, ◌-◌, ◌%◌, ◌<◌, ◌≤◌, ◌⊎◌, inl, inr, ℤ, false, List, [], ◌∷◌, length, get_or, map, refl, sym, ap, subst, ◌∙◌, arith}
 use Rattle.std.specs.Global.{Global}
 use Rattle.std.specs.List.{All}
 use Rattle.std.specs.Vec.{with_item}
@@ -16,7 +16,7 @@ use Rattle.stream_eval.specs.stream_lists.Lists.{every, number}
 use Rattle.stream_eval.specs.stream_lists.Ranges.{is_too_big}
 use Rattle.graph_runs.specs.Moments.{Moment, input_at}
 use Rattle.stream_members.specs.Members.{Spot}
-use Rattle.stream_members.specs.AnyMembers.{member_in}
+use Rattle.stream_members.specs.AnyMembers.{member_in, room_for}
 use Rattle.stream_members.specs.declared.any_member.AnyMember.{AnyMember}
 use Rattle.stream_members.specs.declared.places.Places.{Places}
 use Rattle.graph_runs.specs.Answers.{output_at}
@@ -30,16 +30,17 @@ use Rattle.graph_runs.proofs.PartsLemmas.{with_history, puts_values}
 use Rattle.graph_runs.proofs.TellsNext.{staying_at}
 use Rattle.graph_runs.proofs.CallsFollow.{calls_put, calls_got}
 use Rattle.stream_tasks.specs.Children.{MayStep}
-use Rattle.stream_tasks.specs.Deals.{HasDealRoom, IsDealing, next_output_of}
+use Rattle.stream_tasks.specs.Deals.{HasDealRoom, HasListPlaces, IsDealing, next_output_of}
 use Rattle.stream_tasks.specs.Holds.{HoldGoesOn, MemberHasSignalled, MemberHasWaited, signal_event, wait_event}
-use Rattle.stream_tasks.specs.Tasks.{DealsNothing, IsOn, IsOwnTaskAt, IsWhole, IsTask, OwesNothing, owed_by, place_of_state}
+use Rattle.stream_tasks.specs.Tasks.{DealsNothing, HasStepPlaces, IsHeldOn, IsOn, IsOwnTaskAt, IsWhole, IsTask, owed_by, place_of_state}
 use Rattle.stream_tasks.specs.declared.deal.Deal.{Deal}
 use Rattle.stream_tasks.specs.declared.hold.Hold.{Hold}
-use Rattle.stream_tasks.specs.declared.hold.Hold.TheVariants.{On}
+use Rattle.stream_tasks.specs.declared.hold.Hold.TheVariants.{On, Gone}
 use Rattle.stream_tasks.specs.declared.task_state.TaskState.{TaskState}
 use Rattle.stream_tasks.proofs.DealWaits.{gets_block}
 use Rattle.stream_tasks.proofs.Dealing.{deal_begins, share_goes_on, share_is_next, share_was_last, split_may_begin}
 use Rattle.stream_tasks.proofs.Holding.{sees_own, on_after}
+use Rattle.stream_tasks.proofs.Shares.{length-every, turns_few}
 use Rattle.stream_tasks.proofs.Turning.{as_it_is, FitPlaces, StayPlaces, state_moves, whole_moves, goes, held}
 use Rattle.stream_tasks.proofs.Waiting.{answered_on, makes_fewer, owes_none}
 
@@ -349,3 +350,95 @@ task_shares job spots s j k p old new places deal few here out going met some is
             both.1.4 both.1.3 then),
       );
 }
+
+-- a splitter whose place for a share was written
+pub task_gathers : (job : Job) (spots : ℕ → Spot) (s : TaskState) (deal : Deal)
+    → deal.values.items ≡ s.deal.values.items → deal.turn ≡ s.deal.turn → HasDealRoom s.most deal
+    → IsTask job spots s → IsTask job spots (record s { deal = deal })
+task_gathers job spots s deal values turn room task = record {
+  whole = record {
+    graph = whole.graph;
+    there = whole.there;
+    samples = whole.samples;
+    numbers = whole.numbers;
+    holds = whole.holds;
+    children = whole.children;
+    staying = whole.staying;
+    room = whole.room;
+    places = record {
+      most = whole.places.most;
+      own = whole.places.own;
+      own_few = whole.places.own_few;
+      block = whole.places.block;
+      made = whole.places.made;
+      few_made = whole.places.few_made;
+      outcomes = whole.places.outcomes;
+      sends = whole.places.sends;
+      few_dealt = subst (λ l. length l ≤ s.most) (sym values) whole.places.few_dealt;
+      deal = λ split. room;
+      served = whole.places.served;
+    };
+    filters = whole.filters;
+    others = whole.others;
+    splitters = whole.splitters;
+    dealers = λ apart. values ∙ whole.dealers apart;
+  };
+  stands = λ met.
+      let m = (task.stands met).0 in
+      let at = (task.stands met).1 in (
+        m,
+        record {
+          part = at.part;
+          own = at.own;
+          knows = at.knows;
+          place = λ none. at.place (sym values ∙ none);
+          deals = λ some.
+              subst (λ i. IsDealing job m s.number s.numbers.items s.begun i deal.values.items) (sym turn)
+              (subst (λ l. IsDealing job m s.number s.numbers.items s.begun s.deal.turn l) (sym values)
+              (at.deals (λ none. some (values ∙ none))));
+          start = at.start;
+          holds = at.holds;
+          filter = at.filter;
+          lines = at.lines;
+          given = at.given;
+          at_end = λ over. let end = at.at_end over in record {
+            ended = end.ended;
+            nothing_owed = end.nothing_owed;
+            nothing_dealt = values ∙ end.nothing_dealt;
+            children = end.children;
+          };
+        },
+      );
+}
+  where
+    whole : IsWhole job s
+    whole = task.whole
+
+-- ---- places for the sends of a share
+
+-- a share is no longer than what is dealt
+pub share_few : (job : Job) (s : TaskState) → s.deal.turn < length (task_at job.graph s.number).outputs
+    → length (share_of job s) ≤ length s.deal.values.items
+share_few job s less =
+    let outputs = length (task_at job.graph s.number).outputs in
+    omega (
+      arith,
+      length-every outputs s.deal.turn s.deal.values.items,
+      turns_few outputs (length s.deal.values.items) s.deal.turn less,
+    )
+
+-- the places of a splitter serve a share of its output j, unless it is one value
+pub has_list_places : (job : Job) (spots : ℕ → Spot) (m : Moment) (s : TaskState) (j p count : ℕ)
+    (hold : Hold) → IsHeldOn job spots m s.number p hold → p ≡ output_at job s.number j
+    → j < length (task_at job.graph s.number).outputs
+    → (task_at job.graph s.number).kind ≡ kind.Split → HasStepPlaces job s → count ≤ s.most
+    → HasListPlaces hold count s.places
+has_list_places job spots m s j p zero (On x) on out there split places few not_one = omega arith
+has_list_places job spots m s j p (suc zero) (On x) on out there split places few not_one =
+    absurd (not_one refl)
+has_list_places job spots m s j p (suc (suc n)) (On x) on out there split places few not_one =
+    let room : s.most ≤ room_for (phaser_at job.graph (output_at job s.number j)).op s.places =
+    places.served split (omega arith) j there in
+    subst (λ o. suc (suc n) ≤ room_for o s.places)
+    (sym (on.op ∙ ap (λ q. (phaser_at job.graph q).op) out)) (omega arith)
+has_list_places job spots m s j p count Gone on out there split places few not_one = absurd on

@@ -260,8 +260,14 @@ module _ (job : Job) (m : Moment) (t begun turn : ℕ) (numbers : List ℕ) (val
             ap length put.put ∙ length-append (m.put t output) share in
             let here : length (after.put t output)
             ≡ (deal.first + turn) / outputs + dealt outputs (length values) (turn + 1) turn =
-            omega (arith, more, none, now_dealt, deal.puts turn deal.outputs_left,
-            length-every outputs turn values) in
+            omega (
+              arith,
+              more,
+              none,
+              now_dealt,
+              deal.puts turn deal.outputs_left,
+              length-every outputs turn values,
+            ) in
             subst (λ k. length (after.put t ((deal.first + k) % outputs))
             ≡ (deal.first + k) / outputs + dealt outputs (length values) (turn + 1) k)
             (sym same) here

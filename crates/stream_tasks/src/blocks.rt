@@ -10,6 +10,7 @@ ghost use Rattle.graph_runs.specs.NextBlocks.{until_allows};
 ghost use Rattle.stream_tasks.specs.Children.{ChildrenAllow, MayStep};
 
 use crate::child::Child;
+use crate::deal::outputs_of;
 use crate::gate::Gate;
 use crate::opening::founders::registration_of;
 use crate::task_state::TaskState;
@@ -63,7 +64,7 @@ fn has_one_op(job: &Job, task: usize) -> bool
     ensures { result ≡ true → HasOneOp job.now task }
 {
     let first = output_op(job, task, 0);
-    for j in 0..job.graph().task(task).outputs.len() {
+    for j in 0..outputs_of(job, task) {
         if output_op(job, task, j) != first {
             return false;
         }

@@ -72,12 +72,17 @@ impl<'a> TaskState<'a> {
         requires dealing { self.old.deal.values.items ≢ [] }
         ensures { KeepsTask job.now self.old self.new }
     {
-        let outputs = job.graph().task(self.number).outputs.len();
+        let outputs = outputs_of(job, self.number);
         let (k, p) = output_of(job, self.number, self.next_output(job));
         let single = job.graph().phaser(p).single;
         let turn = self.deal.turn;
         gather(&self.deal.values, turn, outputs, &mut self.deal.share);
-        match put_list(&mut self.holds[k], &self.deal.share, single, &mut self.places) {
+        match put_list(
+            &mut self.holds[k],
+            &self.deal.share,
+            single,
+            &mut self.places,
+        ) {
             Ok(()) => {
                 self.deal.turn = turn + 1;
                 if turn + 1 >= outputs.min(self.deal.values.len()) {
@@ -128,7 +133,7 @@ impl<'a> TaskState<'a> {
         ensures some { 1 ≤ result }
         ensures few { result ≤ self.now.own }
     {
-        let outputs = job.graph().task(self.number).outputs.len();
+        let outputs = outputs_of(job, self.number);
         let mut steps = self.own;
         for turn in 0..outputs {
             let step = self.begun.saturating_add(turn as u64);
@@ -147,7 +152,18 @@ fn output_in_turn(job: &Job, t: usize, steps: u64) -> usize
     ensures output { result ≡ steps % length (task_at job.now.graph t).outputs }
     ensures within { result < length (task_at job.now.graph t).outputs }
 {
-    (steps % job.graph().task(t).outputs.len() as u64) as usize
+    (steps % outputs_of(job, t) as u64) as usize
+}
+
+/// How many outputs task number `t` has, a splitter.
+pub fn outputs_of(job: &Job, t: usize) -> usize
+    requires task { t < length job.now.graph.tasks }
+    requires kind { (task_at job.now.graph t).kind ≡ kind.Split }
+    ensures count { result ≡ length (task_at job.now.graph t).outputs }
+    ensures some { 2 ≤ result }
+    ensures few { result ≤ ENDS_MAX }
+{
+    job.graph().task(t).outputs.len()
 }
 
 /// Gathers the values from place `first` on, each so many places behind the other.
