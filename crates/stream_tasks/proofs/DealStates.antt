@@ -30,7 +30,7 @@ use Rattle.graph_runs.proofs.PartsLemmas.{with_history, puts_values}
 use Rattle.graph_runs.proofs.TellsNext.{staying_at}
 use Rattle.graph_runs.proofs.CallsFollow.{calls_put, calls_got}
 use Rattle.stream_tasks.specs.Children.{MayStep}
-use Rattle.stream_tasks.specs.Deals.{HasDealRoom, HasListPlaces, IsDealing, next_output_of}
+use Rattle.stream_tasks.specs.Deals.{DealtThen, HasDealRoom, HasListPlaces, IsDealing, goes_on, next_output_of, was_last}
 use Rattle.stream_tasks.specs.Holds.{HoldGoesOn, MemberHasSignalled, MemberHasWaited, signal_event, wait_event}
 use Rattle.stream_tasks.specs.Tasks.{DealsNothing, HasStepPlaces, IsHeldOn, IsOn, IsOwnTaskAt, IsWhole, IsTask, owed_by, place_of_state}
 use Rattle.stream_tasks.specs.declared.deal.Deal.{Deal}
@@ -193,13 +193,6 @@ task_deals job spots s p begun allowed os old new entered outcomes deal split fe
 
 -- ---- a share
 
--- what is left to deal once this output has its share: nothing, or it is the next one's turn
-pub data DealtThen (outputs : ℕ) (old new : Deal) : Type 0 where
-  was_last : (outputs ≤ old.turn + 1) ⊎ (length old.values.items ≤ old.turn + 1)
-      → new.values.items ≡ [] → DealtThen outputs old new
-  goes_on : old.turn + 1 < outputs → old.turn + 1 < length old.values.items
-      → new.values.items ≡ old.values.items → new.turn ≡ old.turn + 1 → DealtThen outputs old new
-
 -- the share of the output that comes next
 abbrev pub share_of : Job → TaskState → List ℤ
 share_of job s = every (length (task_at job.graph s.number).outputs) s.deal.turn s.deal.values.items
@@ -254,7 +247,7 @@ module _ (job : Job) (spots : ℕ → Spot) (m : Moment) (s : TaskState) (k p : 
       (share_is_next job m t s.begun s.deal.turn s.numbers.items s.deal.values.items whole.graph
       whole.there at.part (at.deals some)))
 
-  place : DealtThen outputs s.deal deal → deal.values.items ≡ []
+  place : DealtThen outputs s.deal.turn s.deal.values.items deal → deal.values.items ≡ []
       → StandsUpTo s.most job after t (place_of_state (record s { deal = deal }))
   place (was_last over empty) none =
       subst (λ o. StandsUpTo s.most job after t (record {
@@ -274,7 +267,7 @@ module _ (job : Job) (spots : ℕ → Spot) (m : Moment) (s : TaskState) (k p : 
   place (goes_on outputs_left values_left same turn) none =
       absurd (some_in s.deal.values.items (omega arith) (sym same ∙ none))
 
-  deals : DealtThen outputs s.deal deal → (deal.values.items ≡ [] → ⊥)
+  deals : DealtThen outputs s.deal.turn s.deal.values.items deal → (deal.values.items ≡ [] → ⊥)
       → IsDealing job after t s.numbers.items s.begun deal.turn deal.values.items
   deals (was_last over empty) full = absurd (full empty)
   deals (goes_on outputs_left values_left same turn) full =
@@ -283,7 +276,7 @@ module _ (job : Job) (spots : ℕ → Spot) (m : Moment) (s : TaskState) (k p : 
       (share_goes_on job m t s.begun s.deal.turn s.numbers.items s.deal.values.items whole.graph
       whole.there at.part (at.deals some) after p now put outputs_left values_left))
 
-  pub state_shares : DealtThen outputs s.deal deal
+  pub state_shares : DealtThen outputs s.deal.turn s.deal.values.items deal
       → IsOwnTaskAt job spots after
       (record s { places = places; deal = deal; holds = with_item s.holds k (On new) })
   state_shares then =
@@ -297,6 +290,14 @@ module _ (job : Job) (spots : ℕ → Spot) (m : Moment) (s : TaskState) (k p : 
       (on_after job spots m after t p now old new on is_made.1.same put.moved is_made.1.seen)
       (λ fir. absurd (let no = sym dealing.kind ∙ fir in cc))
       (λ sink. absurd (let no = sym dealing.kind ∙ sink in cc))
+
+-- no more is left than there was
+pub then_few : (outputs turn : ℕ) (values : List ℤ) (deal : Deal)
+    → DealtThen outputs turn values deal → length deal.values.items ≤ length values
+then_few outputs turn values deal (was_last over none) =
+    subst (λ l. length l ≤ length values) (sym none) (omega arith)
+then_few outputs turn values deal (goes_on outputs_left values_left same turn_is) =
+    subst (λ l. length l ≤ length values) (sym same) (omega arith)
 
 -- how many values are left, and for how many outputs
 pub deal_left : (job : Job) (spots : ℕ → Spot) (s : TaskState) → s.met ≡ false
@@ -313,7 +314,7 @@ pub task_shares : (job : Job) (spots : ℕ → Spot) (s : TaskState) (j k p : �
     (places : Places) (deal : Deal) → k < length (registrations_at job s.number)
     → (registration_at job s.number k).phaser ≡ p → output_at job s.number j ≡ p
     → s.over ≡ false → s.met ≡ false → (DealsNothing s → ⊥) → j ≡ next_output_of job s
-    → DealtThen (length (task_at job.graph s.number).outputs) s.deal deal
+    → DealtThen (length (task_at job.graph s.number).outputs) s.deal.turn s.deal.values.items deal
     → length deal.values.items ≤ s.most → HasDealRoom s.most deal → StayPlaces s.places places
     → old ≡ get_or s.holds.items k old
     → HoldGoesOn (MemberHasSignalled (share_of job s) (phaser_at job.graph p).single) old new

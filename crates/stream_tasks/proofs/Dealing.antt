@@ -16,7 +16,7 @@ use Rattle.stream_eval.specs.stream_lists.Jobs.{Job}
 use Rattle.stream_eval.specs.stream_lists.Lists.{every, number}
 use Rattle.stream_eval.specs.stream_lists.Spans.{puts_on, signalled_by, takes_from, turns_below}
 use Rattle.graph_runs.specs.Answers.{output_at}
-use Rattle.graph_runs.specs.Moments.{AtMost, Moment, made_now, taken_now}
+use Rattle.graph_runs.specs.Moments.{AtMost, Moment, first_input, made_now, taken_now}
 use Rattle.graph_runs.specs.Moves.{IsStaying, MayBeginTo}
 use Rattle.graph_runs.specs.Nexts.{has_left, number_on, registrations_at}
 use Rattle.graph_runs.specs.Parts.{AreNextValues, HasGot, HasPart, HasPut, HasSeen}
@@ -43,6 +43,11 @@ pub split_ends : (job : Job) (t : ℕ) → IsGraph job.graph → t < length job.
 split_ends job t is there kind =
     let ends = rw kind at (is.tasks t there).ends in
     (rw kind refl, ends.0, ends.1, ends.2)
+
+-- its steps begin at its input
+pub first_of_split : (job : Job) (t i : ℕ) → (task_at job.graph t).kind ≡ Split
+    → 0 ≡ first_input (task_at job.graph t) i
+first_of_split job t i kind = rw kind refl
 
 -- what it makes on an output, over what it has taken
 split_made : (job : Job) (m : Moment) (t j : ℕ) → IsGraph job.graph → t < length job.graph.tasks

@@ -1,6 +1,6 @@
 -- A splitter between a wait and its signals: what it has taken by the wait, and how far it has dealt
 -- that to its outputs.
-use Rattle.std.specs.Prelude.{◌≡◌, ◌≢◌, ℕ, ◌+◌, ◌-◌, ◌/◌, ◌%◌, ◌<◌, ◌≤◌, ℤ, List, [], length, drop, slice_get, nat_lt, if◌then◌else◌}
+use Rattle.std.specs.Prelude.{◌≡◌, ◌≢◌, ℕ, ◌+◌, ◌-◌, ◌/◌, ◌%◌, ◌<◌, ◌≤◌, ◌⊎◌, ℤ, List, [], length, drop, slice_get, nat_lt, if◌then◌else◌}
 use Rattle.graph_runs.specs.graph_base.declared.line.Kind.TheVariants.{Split}
 use Rattle.graph_runs.specs.graph_base.Graphs.{task_at, phaser_at}
 use Rattle.graph_runs.specs.Answers.{output_at}
@@ -37,6 +37,14 @@ ServesOutputs job t most places = (j : ℕ) → j < length (task_at job.graph t)
 abbrev pub HasOneOp : Job → ℕ → Type 0
 HasOneOp job t = (j : ℕ) → j < length (task_at job.graph t).outputs
     → (phaser_at job.graph (output_at job t j)).op ≡ (phaser_at job.graph (output_at job t 0)).op
+
+-- what is left to deal of these values once the output whose turn it was has its share, of so many
+-- outputs: nothing, or it is the next one's turn
+pub data DealtThen (outputs turn : ℕ) (values : List ℤ) (new : Deal) : Type 0 where
+  was_last : (outputs ≤ turn + 1) ⊎ (length values ≤ turn + 1) → new.values.items ≡ []
+      → DealtThen outputs turn values new
+  goes_on : turn + 1 < outputs → turn + 1 < length values → new.values.items ≡ values
+      → new.turn ≡ turn + 1 → DealtThen outputs turn values new
 
 -- ---- a deal at a moment
 

@@ -63,8 +63,9 @@ fn has_one_op(job: &Job, task: usize) -> bool
     requires kind { (task_at job.now.graph task).kind ≡ kind.Split }
     ensures { result ≡ true → HasOneOp job.now task }
 {
+    let outputs = outputs_of(job, task);
     let first = output_op(job, task, 0);
-    for j in 0..outputs_of(job, task) {
+    for j in 0..outputs {
         if output_op(job, task, j) != first {
             return false;
         }
@@ -79,6 +80,7 @@ fn output_op(job: &Job, task: usize, j: usize) -> Op
     requires output { j < length (task_at job.now.graph task).outputs }
     ensures { result ≡ (phaser_at job.now.graph (output_at job.now task j)).op }
 {
+    let _lines = job.graph().tasks();
     let (_, phaser) = output_of(job, task, j);
     job.graph().phaser(phaser).op
 }

@@ -1,5 +1,5 @@
 //! What a splitter takes by blocks, and deals to its outputs.
-ghost use Rattle.std.specs.Prelude.{◌≡◌, ◌≢◌, ◌+◌, ◌-◌, ◌<◌, ◌≤◌, ◌*◌, [], true, false, length, take, vec_capacity, IfOk};
+ghost use Rattle.std.specs.Prelude.{◌≡◌, ◌≢◌, ◌%◌, ◌<◌, ◌≤◌, ℕ, [], false, length, vec_capacity, IfOk, OnErr, OnOk};
 ghost use Rattle.stream_eval.specs.stream_lists.Lists.{every};
 ghost use Rattle.stream_members.specs.Members.{Spot};
 ghost use Rattle.stream_members.specs.AnyMembers.{room_for};
@@ -7,7 +7,7 @@ ghost use Rattle.graph_runs.specs.phase_base.declared.operation.Op.{Op};
 ghost use Rattle.graph_runs.specs.graph_base.Graphs.{task_at};
 ghost use Rattle.graph_runs.specs.graph_base.declared.line.Kind.TheVariants as kind;
 ghost use Rattle.stream_tasks.specs.Children.{MayStep};
-ghost use Rattle.stream_tasks.specs.Deals.{HasDealRoom, HasListPlaces, next_output_of};
+ghost use Rattle.stream_tasks.specs.Deals.{DealtThen, HasDealRoom, HasListPlaces, next_output_of};
 ghost use Rattle.stream_tasks.specs.Holds.{HoldGoesOn, HasSeenOthers, MemberHasSignalled};
 ghost use Rattle.stream_tasks.specs.Tasks.{IsTask, IsWhole, KeepsTask};
 
@@ -49,6 +49,19 @@ impl Deal {
             share,
         })
     }
+
+    /// One more of so many outputs has got its share.
+    fn go_on(&mut self, outputs: usize)
+        requires { self.old.turn < length self.old.values.items }
+        ensures then { DealtThen outputs self.old.turn self.old.values.items self.new }
+        ensures room { vec_capacity self.new.values ≡ vec_capacity self.old.values }
+        ensures share { self.new.share ≡ self.old.share }
+    {
+        self.turn += 1;
+        if self.turn >= outputs.min(self.values.len()) {
+            self.values.clear();
+        }
+    }
 }
 
 impl<'a> TaskState<'a> {
@@ -84,10 +97,7 @@ impl<'a> TaskState<'a> {
             &mut self.places,
         ) {
             Ok(()) => {
-                self.deal.turn = turn + 1;
-                if turn + 1 >= outputs.min(self.deal.values.len()) {
-                    self.deal.values.clear();
-                }
+                self.deal.go_on(outputs);
                 Went::Moved(p)
             }
             Err(held) => held.on(p),
