@@ -1,6 +1,6 @@
 -- What a splitter has dealt, from the wait for the values on to the last share of them.
 use Rattle.std.proofs.Common.{◌≡◌, ◌≢◌, ℕ, ◌+◌, ◌/◌, ◌%◌, ◌<◌, ◌≤◌, ◌⊎◌, inl, inr, ℤ, true, false, List, [], ◌++◌, Some, length, get_or, drop, map, refl, sym, ap, subst, ◌∙◌, arith}
-use Rattle.std.specs.Prelude.{nat_lt, slice_get, unwrap_or, Option, cond}
+use Rattle.std.specs.Prelude.{nat_lt, unwrap_or}
 use mathlib.Core.List.{IsPrefix}
 use Rattle.std.proofs.Math.Seq.{drop-append_seam}
 use Rattle.std.proofs.lemmas.Bool.{cases_lt, le-ltb, lt-ltb}
@@ -17,7 +17,7 @@ use Rattle.stream_eval.specs.stream_lists.Lists.{every, number}
 use Rattle.stream_eval.specs.stream_lists.Spans.{puts_on, signalled_by, takes_from, turns_below}
 use Rattle.graph_runs.specs.Answers.{output_at}
 use Rattle.graph_runs.specs.Moments.{AtMost, Moment, first_input, made_now, taken_now}
-use Rattle.graph_runs.specs.Moves.{IsStaying, MayBeginTo}
+use Rattle.graph_runs.specs.Moves.{MayBeginTo}
 use Rattle.graph_runs.specs.Nexts.{has_left, number_on, registrations_at}
 use Rattle.graph_runs.specs.Parts.{AreNextValues, HasGot, HasPart, HasPut, HasSeen}
 use Rattle.graph_runs.specs.Places.{HasChildrenBy, IsMost, MayMake}

@@ -1,5 +1,5 @@
--- A splitter between a wait and its signals: what it has taken by the wait, and how far it has dealt
--- that to its outputs.
+-- A splitter between a wait and its signals: what it has taken by the wait, and how far it has
+-- dealt that to its outputs.
 use Rattle.std.specs.Prelude.{◌≡◌, ◌≢◌, ℕ, ◌+◌, ◌-◌, ◌/◌, ◌%◌, ◌<◌, ◌≤◌, ◌⊎◌, ℤ, List, [], length, drop, slice_get, nat_lt, if◌then◌else◌}
 use Rattle.graph_runs.specs.graph_base.declared.line.Kind.TheVariants.{Split}
 use Rattle.graph_runs.specs.graph_base.Graphs.{task_at, phaser_at}

@@ -14,8 +14,16 @@ push_reserved-requires c =
     let few = turns_few c.args.step (length values) c.args.first c.requires.turn in
     let long = length-map-range_with_len
     (λ k. entry values (c.args.first + k * c.args.step)) 0 c.loop-k.k in
-    omega (arith, within, few, long, ap length c.loop-k.invariant.0, c.loop-k.invariant.1,
-    c.requires.room, c.loop-k.share.ok.0)
+    omega (
+      arith,
+      within,
+      few,
+      long,
+      ap length c.loop-k.invariant.0,
+      c.loop-k.invariant.1,
+      c.requires.room,
+      c.loop-k.share.ok.0,
+    )
 
 pub loop-k-preserved : goal.loop-k-preserved
 loop-k-preserved c =

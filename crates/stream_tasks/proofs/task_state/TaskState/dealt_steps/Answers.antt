@@ -1,5 +1,5 @@
 -- The output is one of its registrations.
-use Rattle.std.proofs.Common.{◌≡◌, ◌<◌, length, ap, arith}
+use Rattle.std.proofs.Common.{◌<◌, length, ap, arith}
 use Rattle.graph_runs.specs.graph_base.Graphs.{task_at}
 use Rattle.graph_runs.specs.graph_base.Registrations.{signalled_by}
 use Rattle.stream_tasks.proofs.Dealing.{split_ends}

@@ -1,13 +1,10 @@
 -- The wait is on the only input, and what it gets is dealt.
-use Rattle.std.proofs.Common.{◌≡◌, ◌<◌, ◌≤◌, ◌+◌, [], ◌++◌, length, refl, sym, subst, ap, ◌∙◌, arith, Ok, map}
+use Rattle.std.proofs.Common.{◌≡◌, ◌<◌, ◌≤◌, ◌+◌, ◌++◌, false, length, refl, sym, subst, ap, ◌∙◌, arith, Ok, map}
 use Rattle.std.specs.Prelude.{take, drop}
-use Rattle.std.proofs.lemmas.List.{length-map, length-take-le, take-append-le, take-append-drop}
+use Rattle.std.proofs.lemmas.List.{length-take-le, take-append-le, take-append-drop}
 use Rattle.graph_runs.specs.graph_base.Graphs.{task_at}
-use Rattle.graph_runs.proofs.Entries.{take_length}
 use Rattle.stream_eval.specs.stream_lists.Lists.{number}
-use Rattle.graph_runs.specs.Nexts.{registrations_at}
 use Rattle.stream_tasks.specs.Holds.{HoldGoesOn, WaitGave, MemberHasWaited, IsAtMost}
-use Rattle.stream_tasks.specs.Tasks.{IsWhole}
 use Rattle.stream_tasks.proofs.Dealing.{first_of_split, split_ends}
 use Rattle.stream_tasks.proofs.DealStates.{task_deals}
 use Rattle.stream_tasks.proofs.EndingLemmas.{runs_out}
