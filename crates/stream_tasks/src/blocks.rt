@@ -118,7 +118,7 @@ fn least_bound(job: &Job, task: usize) -> u64
     least.max(1)
 }
 
-/// Makes the places for the sends of so many phases on the output of task number `task`, where its
+/// Makes the places for the sends of so many phases on the outputs of task number `task`, where its
 /// kind signals blocks. It takes memory for them.
 pub fn places_for(alloc: Global, job: &Job, task: usize, most: usize) -> Result<Places, AllocError>
     requires task { task < length job.now.graph.tasks }
@@ -155,7 +155,7 @@ impl<'a> TaskState<'a> {
     }
 
     /// How many steps it would make, if only `until` and its children allow them: a block of its
-    /// line; or, of a line that names none, as many as there is room for on its output, where
+    /// line; or, of a line that names none, as many as there is room for on its outputs, where
     /// nobody looks at steps.
     fn wanted<G: Gate>(&self, job: &Job, gate: &G) -> u64
         requires { IsWhole job.now self.now }

@@ -30,11 +30,11 @@ pub struct TaskState<'a> {
     pub begun: u64,
     /// The phase at which it began, of a sink that joined now.
     pub start: u64,
-    /// What these steps owe next, of a task that is no filter.
+    /// What these steps owe next, of a task that is neither a filter nor a splitter.
     pub owed: Owed,
     /// What these steps owe, of a filter.
     pub made: Vec<i64>,
-    /// What these steps owe, of a splitter, to all its outputs.
+    /// What these steps owe, of a splitter, on all its outputs.
     pub deal: Deal,
     /// The filter of a task that is one.
     pub filter: Option<Fir>,
