@@ -779,13 +779,27 @@ static void go_on(phase_registration *registration, int32_t status, uint64_t pha
     tell(registration);
 }
 
-/* Goes to the next phase by an ask, where the registration can ask. Where no time is left, it asks
- * no more, and rests. */
+/* How many processors there are. */
+static uint64_t processors(void)
+{
+    static _Atomic long known;
+    long many = atomic_load_explicit(&known, memory_order_relaxed);
+    if (many == 0) {
+        many = sysconf(_SC_NPROCESSORS_ONLN);
+        many = many < 1 ? 1 : many;
+        atomic_store_explicit(&known, many, memory_order_relaxed);
+    }
+    return (uint64_t)many;
+}
+
+/* Goes to the next phase by an ask, where the registration can ask, and no more are there than can
+ * run at once: else the tries are quicker. Where no time is left, it asks no more, and rests. */
 static int32_t next_by_ask(phase_registration *registration, const int64_t *values,
                            size_t values_len, uint64_t *phase, int64_t *value,
                            struct patience *patience)
 {
-    if (registration->gate == NULL || atomic_load(&registration->gate->owners) == 1)
+    uint64_t owners = registration->gate == NULL ? 1 : atomic_load(&registration->gate->owners);
+    if (owners == 1 || owners > processors())
         return PHASE_E_CANNOT_ASK;
     int32_t status = phase_member_ask(&registration->member, values, values_len);
     if (status != PHASE_ASKED)

@@ -399,6 +399,55 @@ task_leaves job spots s p old new left lefts met over few here looked g more roo
     leaver job spots m t p (On x) new left g on = (x, (refl, g.0, g.1, on))
     leaver job spots m t p Gone new left g on = absurd on
 
+-- a task whose holds are as they were
+pub task_held : (job : Job) (spots : ℕ → Spot) (s : TaskState) (holds : Vec Hold Global)
+    → holds.items ≡ s.holds.items → IsTask job spots s → IsTask job spots (record s { holds = holds })
+task_held job spots s holds same task = record {
+  whole = held_whole job s holds same task.whole;
+  stands = λ met.
+      let m = (task.stands met).0 in
+      let at = (task.stands met).1 in (
+        m,
+        record {
+          part = at.part;
+          own = at.own;
+          knows = at.knows;
+          place = at.place;
+          deals = at.deals;
+          start = at.start;
+          holds = subst (λ l. HasHolds job spots m s.number l s.lefts.items) (sym same) at.holds;
+          filter = at.filter;
+          lines = at.lines;
+          given = at.given;
+          at_end = λ over. let end = at.at_end over in record {
+            ended = end.ended;
+            nothing_owed = end.nothing_owed;
+            nothing_dealt = end.nothing_dealt;
+            children = end.children;
+          };
+        },
+      );
+}
+  where
+    held_whole : (job : Job) (s : TaskState) (holds : Vec Hold Global)
+        → holds.items ≡ s.holds.items → IsWhole job s → IsWhole job (record s { holds = holds })
+    held_whole job s holds same whole = record {
+      graph = whole.graph;
+      there = whole.there;
+      samples = whole.samples;
+      numbers = whole.numbers;
+      holds = ap length same ∙ whole.holds;
+      children = whole.children;
+      staying = whole.staying;
+      room = whole.room;
+      places = places_stay job s (record s { holds = holds }) refl refl refl refl refl refl refl
+          whole.places;
+      filters = whole.filters;
+      others = whole.others;
+      splitters = whole.splitters;
+      dealers = whole.dealers;
+    }
+
 -- a task whose list has more room, or whose next step was entered
 pub task_lines : (job : Job) (spots : ℕ → Spot) (s : TaskState) (lines : Vec ℤ Global)
     → lines.items ≡ s.lines.items → IsTask job spots s → IsTask job spots (record s { lines = lines })
