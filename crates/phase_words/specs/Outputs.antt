@@ -1,6 +1,6 @@
 -- Which sinks of a graph a stream writes, and where their values go, by the words that say it.
-use Rattle.std.specs.Prelude.{ℕ, ◌==◌, ◌||◌, ◌&&◌, Bool, true, false, not, List, [], ◌∷◌, Option, Some, None, codes, length, map, nat_lt, unwrap_or, if◌then◌else◌}
-use Rattle.std.specs.List.{after_first, before_first, filter, list_all, list_any, position_or_len}
+use Rattle.std.specs.Prelude.{ℕ, ◌==◌, ◌||◌, Bool, false, not, List, [], ◌∷◌, Option, Some, None, codes, length, map, nat_lt, unwrap_or, if◌then◌else◌}
+use Rattle.std.specs.List.{after_first, before_first, list_any, position_or_len}
 use Rattle.std.specs.Str.{bytes_eq}
 use Rattle.clap.specs.Words.{Kinds, Row, Rule, Text, all_of, first_of, new_rule}
 use Rattle.clap.specs.declared.builder.action.ArgAction.TheVariants.{Append}
@@ -85,6 +85,6 @@ sink_in [] = None
 sink_in (pair ∷ pairs) = if is_output pair then Some pair.0 else sink_in pairs
 
 -- the sinks that go to other files
-abbrev pub files_in : List Pair → List Pair
-files_in [] = []
-files_in (pair ∷ pairs) = if is_output pair then files_in pairs else pair ∷ files_in pairs
+abbrev pub others_in : List Pair → List Pair
+others_in [] = []
+others_in (pair ∷ pairs) = if is_output pair then others_in pairs else pair ∷ others_in pairs

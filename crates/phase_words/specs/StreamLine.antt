@@ -4,7 +4,7 @@ use Rattle.clap.specs.Words.{App, Kinds, Row, Text, fault_of, first_of, matches_
 use Rattle.clap.specs.Kinds.{or_else}
 use Rattle.clap.specs.declared.error.kind.ErrorKind.TheVariants.{DisplayHelp, DisplayVersion}
 use Rattle.phase_words.specs.CommandLine.{Refuse, explain_of, explain_rule, is_given}
-use Rattle.phase_words.specs.Outputs.{Pair, files_in, output_kinds, pair_as, pairs_in, sink_in, to_rule}
+use Rattle.phase_words.specs.Outputs.{Pair, others_in, output_kinds, pair_as, pairs_in, sink_in, to_rule}
 use Rattle.phase_words.specs.SinkLine.{graph_by, sink_app}
 use Rattle.watched_io.specs.declared.explain.Explain.{Explain}
 use Rattle.watched_io.specs.declared.explain.Explain.TheVariants.{No, Yes}
@@ -44,8 +44,8 @@ AreStreamRefused words = Refuse (stream_kinds_of words)
 
 -- the values of a sink, of the name or of the only one, of the graph in the file of a name, as they
 -- come, and those of other sinks to files, with an explanation of a fault or without, and with the
--- files of its sources opened beside it or not. Where other sinks are named, none goes to the output
--- but that of the name
+-- files of its sources opened beside it or not. Where others are named, no sink goes to the output
+-- but the one of the name
 pub record Stream : Type 0 where
   pub graph : Text
   pub sink : Option Text
@@ -58,7 +58,7 @@ abbrev pub stream_with : List Row → List Pair → Stream
 stream_with rows pairs = record {
   graph = graph_by rows;
   sink = sink_in pairs;
-  files = files_in pairs;
+  files = others_in pairs;
   explain = explain_of (first_of (codes "explain") rows);
   beside = is_given (first_of (codes "beside") rows);
 }

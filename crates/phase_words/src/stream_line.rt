@@ -3,8 +3,8 @@ ghost use Rattle.std.specs.Prelude.{◌≡◌, ◌∷◌, [], IfOk, IfErr, map};
 ghost use Rattle.std.specs.Option.{option_map_or};
 ghost use Rattle.clap.specs.Words.{FailsBy, HasKind, app_of, found_of, kind_of, rows_of};
 ghost use Rattle.phase_words.specs.CommandLine.{ExplainsNone, texts};
-ghost use Rattle.phase_words.specs.Outputs.{output_kinds, output_kinds_by, pair_as, pairs_in, words_by};
-ghost use Rattle.phase_words.specs.StreamLine.{AsksStream, stream_app, stream_by, stream_in};
+ghost use Rattle.phase_words.specs.Outputs.{output_kinds_by, pair_as};
+ghost use Rattle.phase_words.specs.StreamLine.{AsksStream, stream_app, stream_in};
 ghost use Rattle.phase_words.specs.StreamLine.{stream_kinds_of, stream_asked, stream_with};
 
 use crate::command_line::{explain_of, explain_word, found_by, is_given, no_call};

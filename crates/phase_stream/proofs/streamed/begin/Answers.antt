@@ -41,3 +41,49 @@ go-requires-clause-stands g c =
       c.make_files.ensures.same,
       c.in-Ok.ensures.stands known _ _ bare,
     )
+
+pub returns-in-Ok-make_files-clause-done : goal.returns-in-Ok-make_files-clause-done
+returns-in-Ok-make_files-clause-done g c =
+    let what = stream_asked c.args.call.now in
+    let session = c.in-Ok.session in
+    let bare : (k : ℕ) → Appends (bare_at g.F.Opens.knows what.files
+    (g.W.Write.contents c.args.output.now.inner) k)
+    (writers_at g.W.Write.contents g.F.Writer.Write.contents c.args.output.now
+    c.make_files.new.made.items k).written [] =
+    writers_bare g.F.Opens.knows g.W.Write.contents g.F.Writer.Write.contents c.args.output.now
+    what.files c.make_files.new.made.items c.make_files.ensures.bare
+    (c.in-Ok-make_files.ensures.many ∙ sym (length-map pair_as c.args.call.now.files.items)) in
+    with_ok c.go.result _ _
+    (λ whole known is of_graph. begun_does known what session.stream.job (task_for session.targets.items)
+    (bare_at g.F.Opens.knows what.files (g.W.Write.contents c.args.output.now.inner))
+    (λ k. (writers_at g.W.Write.contents g.F.Writer.Write.contents c.go.new.output
+    c.go.new.made.items k).written)
+    (there_of known what c.args.stream.job session.stream.job c.graph.result.now c.in-Ok.ensures.job
+    c.graph.ensures of_graph c.requires.targets.sinks c.in-Ok-make_files.ensures.apart)
+    (λ k. ap (λ ts. task_for ts k) c.in-Ok.ensures.targets ∙ c.requires.targets.goes k)
+    (whole known _ (λ name. c.make_files.ensures.same name ∙ is name)
+    (c.in-Ok.ensures.stands known _ _ bare)))
+    c.go.ensures.done
+
+pub returns-in-Ok-make_files-clause-failed : goal.returns-in-Ok-make_files-clause-failed
+returns-in-Ok-make_files-clause-failed g c =
+    let what = stream_asked c.args.call.now in
+    let session = c.in-Ok.session in
+    let bare : (k : ℕ) → Appends (bare_at g.F.Opens.knows what.files
+    (g.W.Write.contents c.args.output.now.inner) k)
+    (writers_at g.W.Write.contents g.F.Writer.Write.contents c.args.output.now
+    c.make_files.new.made.items k).written [] =
+    writers_bare g.F.Opens.knows g.W.Write.contents g.F.Writer.Write.contents c.args.output.now
+    what.files c.make_files.new.made.items c.make_files.ensures.bare
+    (c.in-Ok-make_files.ensures.many ∙ sym (length-map pair_as c.args.call.now.files.items)) in
+    with_err c.go.result _ _
+    (λ found stops known is of_graph. begun_stops known what g.F.Opens.knows g.W.Write.contents
+    g.F.Writer.Write.contents c.args.output.now c.go.new.output c.go.new.made.items
+    session.stream.job (task_for session.targets.items) (length session.targets.items) found
+    (there_of known what c.args.stream.job session.stream.job c.graph.result.now c.in-Ok.ensures.job
+    c.graph.ensures of_graph c.requires.targets.sinks c.in-Ok-make_files.ensures.apart)
+    (λ k. ap (λ ts. task_for ts k) c.in-Ok.ensures.targets ∙ c.requires.targets.goes k)
+    (ap length c.in-Ok.ensures.targets ∙ c.requires.targets.many)
+    (stops known _ (λ name. c.make_files.ensures.same name ∙ is name)
+    (c.in-Ok.ensures.stands known _ _ bare)))
+    c.go.ensures.failed
