@@ -77,3 +77,32 @@ any_in_range test from (suc n) k low high is =
     by false e (inr past) rest =
         let same : k ≡ from = omega (arith, low, past) in
         absurd (let bad : true ≡ false = sym is ∙ (ap test same ∙ e) in cc)
+
+-- one number more does not pass
+range_more : (from n : ℕ) → range_with_len from (suc n) ≡ range_with_len from n ++ (from + n) ∷ []
+range_more from zero =
+    let same : from ≡ from + 0 = omega arith in ap (λ k. k ∷ []) same
+range_more from (suc n) =
+    let same : from + 1 + n ≡ from + suc n = omega arith in
+    ap (λ l. from ∷ l) (range_more (from + 1) n
+    ∙ ap (λ k. range_with_len (from + 1) n ++ k ∷ []) same)
+
+none_more : (test : ℕ → Bool) (xs : List ℕ) (k : ℕ) → list_any test xs ≡ false → test k ≡ false
+    → list_any test (xs ++ k ∷ []) ≡ false
+none_more test [] k none is = ap (λ b. b || false) is
+none_more test (x ∷ xs) k none is = by (test x) refl none (none_more test xs k)
+  where
+    by : (b : Bool) → test x ≡ b → (b || list_any test xs) ≡ false
+        → (list_any test xs ≡ false → test k ≡ false → list_any test (xs ++ k ∷ []) ≡ false)
+        → (test x || list_any test (xs ++ k ∷ [])) ≡ false
+    by true e none rest = absurd (cc)
+    by false e none rest = ap (λ b. b || list_any test (xs ++ k ∷ [])) e ∙ rest none is
+
+pub none_in_range : (test : ℕ → Bool) (n : ℕ) → list_any test (range_with_len 0 n) ≡ false
+    → test n ≡ false → list_any test (range_with_len 0 (n + 1)) ≡ false
+none_in_range test n none is =
+    let next : n + 1 ≡ suc n = omega arith in
+    let same : n ≡ 0 + n = omega arith in
+    ap (λ m. list_any test (range_with_len 0 m)) next
+    ∙ ap (list_any test) (range_more 0 n)
+    ∙ none_more test (range_with_len 0 n) (0 + n) none (subst (λ m. test m ≡ false) same is)
