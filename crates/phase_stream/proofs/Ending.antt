@@ -25,7 +25,7 @@ use Rattle.phase_words.specs.StreamLine.{Stream}
 use Rattle.stream_job.specs.graph_base.Graphs.{Graph}
 use Rattle.stream_job.specs.stream_lists.Jobs.{Job}
 use Rattle.phase_stream.specs.Ends.{MayEndAsStream}
-use Rattle.phase_stream.specs.Outputs.{AreApart, AreBare, HasSinks, IsThere, IsUnbegunStream, IsUnmade, IsUnreadGraph, StopOf, StreamDoes, StreamEndsBy, StreamFailsBy, WriteWhole, bare_at, bare_file, task_to, writers_at}
+use Rattle.phase_stream.specs.Outputs.{AreNoSources, AreBare, HasSinks, IsAsAsked, IsUnbegunStream, IsUnmadeFile, IsUnreadGraph, StopOf, StreamDoes, StreamEndsBy, StreamFailsBy, WriteWhole, bare_at, bare_file, task_to, writers_at}
 use Rattle.phase_stream.specs.Streams.{explained}
 
 -- ---- statuses
@@ -90,15 +90,15 @@ status_ends Quiet (Err found) status quiet is = subst MayEndAsStream (sym is) (f
 -- what the words ask for is there
 pub there_of : (known : Known) (what : Stream) (job now : Job) (graph : Graph) → now ≡ job
     → graph ≡ now.graph → IsGraphOf known what.graph job.graph → HasSinks job what.sink what.files
-    → AreApart what.beside what.graph graph what.files → IsThere known what now
+    → AreNoSources what.beside what.graph graph what.files → IsAsAsked known what now
 there_of known what job now graph same is of_graph sinks apart = record {
   graph_of = subst (λ (j : Job). IsGraphOf known what.graph j.graph) (sym same) of_graph;
   sinks = subst (λ j. HasSinks j what.sink what.files) (sym same) sinks;
-  apart = subst (λ g. AreApart what.beside what.graph g what.files) is apart;
+  apart = subst (λ g. AreNoSources what.beside what.graph g what.files) is apart;
 }
 
 pub begun_does : (known : Known) (what : Stream) (job : Job) (goes : ℕ → Option ℕ)
-    (old now : ℕ → Option (List ℕ)) → IsThere known what job
+    (old now : ℕ → Option (List ℕ)) → IsAsAsked known what job
     → ((k : ℕ) → goes k ≡ task_to job what.sink what.files k) → WriteWhole known job goes old now
     → StreamDoes known what old now
 begun_does known what job goes old now there same whole = record {
@@ -110,7 +110,7 @@ begun_does known what job goes old now there same whole = record {
 pub begun_stops : {W V : Type 0} (known : Known) (what : Stream) (knows : Bool)
     (of_output : W → Option (List ℕ)) (of_file : V → Option (List ℕ)) (old new : Watched W)
     (made : List (Watched V)) (job : Job) (goes : ℕ → Option ℕ) (many : ℕ) (found : Failure)
-    → IsThere known what job → ((k : ℕ) → goes k ≡ task_to job what.sink what.files k)
+    → IsAsAsked known what job → ((k : ℕ) → goes k ≡ task_to job what.sink what.files k)
     → many ≡ length what.files + 1
     → StopOf known job goes many (bare_at knows what.files (of_output old.inner))
     (writers_at of_output of_file new made) found
@@ -148,7 +148,7 @@ graph_memory known name graph of_file = by (known name) of_file.bytes
 pub unmade_unbegun : (known : Known) (what : Stream) (fault : IoFault) (graph : Graph)
     → IsGraphOf known what.graph graph
     → (fault ≡ io_fault.OutOfMemory) ⊎ ((fault ≡ io_fault.WriteFault) × (what.files ≢ []))
-    → IsUnmade known what fault
+    → IsUnmadeFile known what fault
 unmade_unbegun known what fault graph of_graph (inl memory) =
     inl (memory, graph_memory known what.graph graph of_graph)
 unmade_unbegun known what fault graph of_graph (inr unmade) = inr unmade

@@ -1,11 +1,12 @@
 -- One sink after another that goes to a file.
-use Rattle.std.proofs.Common.{◌≡◌, ◌≢◌, ◌⊎◌, inl, inr, ◌<◌, ◌≤◌, ◌+◌, ◌++◌, ℕ, zero, suc, Bool, true, false, List, [], ◌∷◌, Option, Some, None, length, get_or, slice_get, refl, sym, ap, subst, ◌∙◌, rules, arith}
+use Rattle.std.proofs.Common.{◌≡◌, ◌≢◌, ◌⊎◌, inl, inr, ◌<◌, ◌≤◌, ◌+◌, ◌++◌, ℕ, zero, suc, Bool, true, false, List, [], ◌∷◌, Option, Some, None, length, map, get_or, slice_get, refl, sym, ap, subst, ◌∙◌, rules, arith}
 use Rattle.std.specs.Prelude.{is_some, nat_lt}
 use Rattle.std.proofs.lemmas.Bool.{cases_lt, ltb-false, ltb-true}
 use Rattle.std.proofs.lemmas.List.{length_push}
 use Rattle.std.proofs.lemmas.Option.{same_Some}
 use Rattle.graph_commands.specs.GraphRuns.{sink_named}
-use Rattle.phase_words.specs.Outputs.{Pair}
+use Rattle.phase_words.specs.Outputs.{Pair, pair_as}
+use Rattle.phase_words.specs.declared.call.SinkFile.{SinkFile}
 use Rattle.phase_words.specs.StreamLine.{Stream}
 use Rattle.stream_job.specs.stream_lists.Jobs.{Job}
 use Rattle.stream_job.specs.stream_lists.Lists.{sinks_of}
@@ -218,6 +219,13 @@ first_all job what n targets all first = record {
         let many = first.many in
         beyond targets k (omega (arith, past, many))
         ∙ sym (task_past job what k (omega (arith, past, all)))
+
+-- a file in its place, as a pair
+pub got_pair : (items : List SinkFile) (k : ℕ) (d : SinkFile) → k < length items
+    → slice_get (map pair_as items) k ≡ Some (pair_as (get_or items k d))
+got_pair [] k d lt = absurd (omega (arith, lt))
+got_pair (x ∷ xs) zero d lt = refl
+got_pair (x ∷ xs) (suc k) d lt = got_pair xs k d (omega (arith, lt))
 
 lt_true : (a b : ℕ) (t : Bool) → a < b → nat_lt a b ≡ t → t ≡ true
 lt_true a b true lt e = refl

@@ -148,16 +148,16 @@ is_source_file is_beside name graph file =
     (range_with_len 0 (sources_of graph))
 
 -- none of these is
-abbrev pub AreApart : Bool → List ℕ → Graph → List Pair → Type 0
-AreApart is_beside name graph files = (k : ℕ) (file : Pair) → slice_get files k ≡ Some file
+abbrev pub AreNoSources : Bool → List ℕ → Graph → List Pair → Type 0
+AreNoSources is_beside name graph files = (k : ℕ) (file : Pair) → slice_get files k ≡ Some file
     → is_source_file is_beside name graph file.1 ≡ false
 
 -- what the words ask for is there: the file tells a graph with the sinks, and what they go to is no
 -- file of a source
-pub record IsThere (known : Known) (what : Stream) (job : Job) : Type 0 where
+pub record IsAsAsked (known : Known) (what : Stream) (job : Job) : Type 0 where
   pub graph_of : IsGraphOf known what.graph job.graph
   pub sinks : HasSinks job what.sink what.files
-  pub apart : AreApart what.beside what.graph job.graph what.files
+  pub apart : AreNoSources what.beside what.graph job.graph what.files
 
 -- ---- what is written
 
@@ -256,8 +256,8 @@ StopOf held job goes many old new (failure.Io found) =
 
 -- why no file was made, or not all: memory ran out, or one could not be made, which may be that of
 -- a source
-abbrev pub IsUnmade : Known → Stream → IoFault → Type 0
-IsUnmade known what found =
+abbrev pub IsUnmadeFile : Known → Stream → IoFault → Type 0
+IsUnmadeFile known what found =
     ((found ≡ io_fault.OutOfMemory) × MayNeedMemory GRAPH_MAX (known what.graph))
     ⊎ ((found ≡ io_fault.WriteFault) × (what.files ≢ []))
 
@@ -275,21 +275,21 @@ IsUnbegunStream known what (failure.NoSink job wanted) =
     IsGraphOf known what.graph job.graph × LacksSink job what.sink what.files
 IsUnbegunStream known what (failure.TooBig other at phase) = ⊥
 IsUnbegunStream known what (failure.Stalled further) = ⊥
-IsUnbegunStream known what (failure.Io found) = IsUnmade known what found
+IsUnbegunStream known what (failure.Io found) = IsUnmadeFile known what found
 
 -- ---- what a stream did
 
 -- what the words ask for is there, and the values of the sinks were written, all of them
 pub record StreamDoes (known : Known) (what : Stream) (old now : ℕ → Option (List ℕ)) : Type 0 where
   pub job : Job
-  pub there : IsThere known what job
+  pub there : IsAsAsked known what job
   pub whole : WriteWhole known job (task_to job what.sink what.files) old now
 
 -- it had begun: what the words ask for is there
 pub record StreamStops (known : Known) (what : Stream) (old : ℕ → Option (List ℕ))
     (new : ℕ → WriterState) (found : Failure) : Type 0 where
   pub job : Job
-  pub there : IsThere known what job
+  pub there : IsAsAsked known what job
   pub stops : StopOf known job (task_to job what.sink what.files) (length what.files + 1) old new
       found
 

@@ -183,6 +183,7 @@ fn go<'a, W: Write, F: Opens>(
         if session.have_left() {
             return Ok(());
         }
+        session.kept_is_right();
         match stop {
             Stopped::Done => return Ok(()),
             Stopped::Hungry { source } => {
@@ -193,12 +194,10 @@ fn go<'a, W: Write, F: Opens>(
             }
             Stopped::Full { .. } | Stopped::Paused => {}
             Stopped::Stalled => {
-                session.kept_is_right();
                 let further = session.stall_told(alloc, explain);
                 return Err(Failure::Stalled { further });
             }
             Stopped::TooBig { place, phase } => {
-                session.kept_is_right();
                 outcomes::faults_are_there();
                 return Err(too_big(session.into_job(), place, phase));
             }

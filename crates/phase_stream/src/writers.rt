@@ -5,7 +5,7 @@ ghost use Rattle.std.specs.Str.{bytes_eq};
 ghost use Rattle.graph_commands.specs.OutputTexts.{value_text};
 ghost use Rattle.graph_commands.specs.watched_io.declared.fault.IoFault.TheVariants as io_fault;
 ghost use Rattle.phase_words.specs.StreamLine.{stream_asked};
-ghost use Rattle.phase_stream.specs.Outputs.{AreApart, AreBare, is_source_file, opened_as, writers_at};
+ghost use Rattle.phase_stream.specs.Outputs.{AreNoSources, AreBare, is_source_file, opened_as, writers_at};
 ghost use Rattle.phase_stream.specs.Sessions.{WritesPrefixTo, WritesTo};
 
 use crate::opens::Opens;
@@ -53,7 +53,7 @@ pub fn make_files<F: Opens>(
     files: &mut F,
 ) -> Result<(), IoFault>
     requires { made.old.items ≡ [] }
-    ensures apart { OnOk result (AreApart (stream_asked call.now).beside
+    ensures apart { OnOk result (AreNoSources (stream_asked call.now).beside
         (stream_asked call.now).graph graph.now (stream_asked call.now).files) }
     ensures many { OnOk result (length made.new.items ≡ length call.now.files.items) }
     ensures bare { AreBare F.knows F.Writer.contents made.new.items }
@@ -94,7 +94,7 @@ fn make_all<F: Opens>(
 
 /// Whether none of the files that a call names is that of a source.
 fn are_apart(alloc: Global, graph: &Graph, call: &StreamCall<'_>) -> Result<bool, AllocError>
-    ensures apart { IfOk result (λ apart. apart ≡ true → AreApart (stream_asked call.now).beside
+    ensures apart { IfOk result (λ apart. apart ≡ true → AreNoSources (stream_asked call.now).beside
         (stream_asked call.now).graph graph.now (stream_asked call.now).files) }
     ensures other { IfOk result (λ apart. (apart ≡ true → ⊥) → call.now.files.items ≢ []) }
 {

@@ -1,5 +1,6 @@
 -- What the words ask for is there, and nothing was written yet.
-use Rattle.std.proofs.Common.{◌≡◌, ◌+◌, ◌∙◌, ℕ, List, Option, inl, inr, length, map, refl, sym, subst, ap, length-map}
+use Rattle.std.proofs.Common.{◌≡◌, ◌+◌, ◌∙◌, ℕ, List, Option, [], inl, length, refl, sym, subst, ap}
+use Rattle.std.proofs.lemmas.List.{length-map}
 use Rattle.std.specs.Io.KnownBytes.{Appends}
 use Rattle.phase_words.specs.Outputs.{pair_as}
 use Rattle.phase_words.specs.StreamLine.{stream_asked}
@@ -15,8 +16,8 @@ returns-in_default-clause-failed g c = λ known is of_graph.
     inl (inl (refl, graph_memory known _ _ of_graph), refl,
     none_bare g.F.Opens.knows g.F.Writer.Write.contents c.args.made.now.items c.requires.made)
 
-pub returns-in-Err-clause-failed : goal.returns-in-Err-clause-failed
-returns-in-Err-clause-failed g c = λ known is of_graph.
+pub returns-clause-failed : goal.returns-clause-failed
+returns-clause-failed g c = λ known is of_graph.
     inl (unmade_unbegun known (stream_asked c.args.call.now) c.in-Err.fault _ of_graph
     c.in-Err.ensures.fault, refl, c.make_files.ensures.bare)
 
@@ -35,9 +36,55 @@ go-requires-clause-stands g c =
     c.make_files.new.made.items k).written [] =
     writers_bare g.F.Opens.knows g.W.Write.contents g.F.Writer.Write.contents c.args.output.now
     what.files c.make_files.new.made.items c.make_files.ensures.bare
-    (c.in-Ok-make_files.ensures.many ∙ sym (length-map pair_as c.args.call.now.files.items)) in (
+    (c.in-Ok-make_files.ensures.many ∙ sym (length-map c.args.call.now.files.items pair_as)) in (
       known,
       _,
       c.make_files.ensures.same,
       c.in-Ok.ensures.stands known _ _ bare,
     )
+
+pub returns-in-Ok-make_files-clause-done : goal.returns-in-Ok-make_files-clause-done
+returns-in-Ok-make_files-clause-done g c =
+    let what = stream_asked c.args.call.now in
+    let session = c.in-Ok.session in
+    let bare : (k : ℕ) → Appends (bare_at g.F.Opens.knows what.files
+    (g.W.Write.contents c.args.output.now.inner) k)
+    (writers_at g.W.Write.contents g.F.Writer.Write.contents c.args.output.now
+    c.make_files.new.made.items k).written [] =
+    writers_bare g.F.Opens.knows g.W.Write.contents g.F.Writer.Write.contents c.args.output.now
+    what.files c.make_files.new.made.items c.make_files.ensures.bare
+    (c.in-Ok-make_files.ensures.many ∙ sym (length-map c.args.call.now.files.items pair_as)) in
+    with_ok c.go.result _ _
+    (λ whole known is of_graph. begun_does known what session.stream.job (task_for session.targets.items)
+    (bare_at g.F.Opens.knows what.files (g.W.Write.contents c.args.output.now.inner))
+    (λ k. (writers_at g.W.Write.contents g.F.Writer.Write.contents c.go.new.output
+    c.go.new.made.items k).written)
+    (there_of known what c.args.stream.job session.stream.job c.graph.result.now c.in-Ok.ensures.job
+    c.graph.ensures of_graph c.requires.targets.sinks c.in-Ok-make_files.ensures.apart)
+    (λ k. ap (λ ts. task_for ts k) c.in-Ok.ensures.targets ∙ c.requires.targets.goes k)
+    (whole known _ (λ name. c.make_files.ensures.same name ∙ is name)
+    (c.in-Ok.ensures.stands known _ _ bare)))
+    c.go.ensures.done
+
+pub returns-in-Ok-make_files-clause-failed : goal.returns-in-Ok-make_files-clause-failed
+returns-in-Ok-make_files-clause-failed g c =
+    let what = stream_asked c.args.call.now in
+    let session = c.in-Ok.session in
+    let bare : (k : ℕ) → Appends (bare_at g.F.Opens.knows what.files
+    (g.W.Write.contents c.args.output.now.inner) k)
+    (writers_at g.W.Write.contents g.F.Writer.Write.contents c.args.output.now
+    c.make_files.new.made.items k).written [] =
+    writers_bare g.F.Opens.knows g.W.Write.contents g.F.Writer.Write.contents c.args.output.now
+    what.files c.make_files.new.made.items c.make_files.ensures.bare
+    (c.in-Ok-make_files.ensures.many ∙ sym (length-map c.args.call.now.files.items pair_as)) in
+    with_err c.go.result _ _
+    (λ found stops known is of_graph. begun_stops known what g.F.Opens.knows g.W.Write.contents
+    g.F.Writer.Write.contents c.args.output.now c.go.new.output c.go.new.made.items
+    session.stream.job (task_for session.targets.items) (length session.targets.items) found
+    (there_of known what c.args.stream.job session.stream.job c.graph.result.now c.in-Ok.ensures.job
+    c.graph.ensures of_graph c.requires.targets.sinks c.in-Ok-make_files.ensures.apart)
+    (λ k. ap (λ ts. task_for ts k) c.in-Ok.ensures.targets ∙ c.requires.targets.goes k)
+    (ap length c.in-Ok.ensures.targets ∙ c.requires.targets.many)
+    (stops known _ (λ name. c.make_files.ensures.same name ∙ is name)
+    (c.in-Ok.ensures.stands known _ _ bare)))
+    c.go.ensures.failed

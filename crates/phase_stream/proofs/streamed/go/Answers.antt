@@ -137,12 +137,6 @@ returns-in-Stalled-clause-failed g c = λ held old is st. (
       (c.in-Ok.ensures.ok held old (c.loop.invariant.2 held old is st))),
 )
 
-pub kept_is_right-requires-in-TooBig : goal.kept_is_right-requires-in-TooBig
-kept_is_right-requires-in-TooBig g c =
-    targets_same c.args.session c.turn.new.self
-    (same_session c.args.session c.loop.session c.turn.new.self c.loop.invariant.0 c.turn.ensures.same)
-    c.requires.targets
-
 pub returns-in-TooBig-clause-failed : goal.returns-in-TooBig-clause-failed
 returns-in-TooBig-clause-failed g c = λ held old is st.
     let told = c.too_big.ensures ∙ ap (λ j. failure.TooBig j c.in-TooBig.place c.in-TooBig.phase)
@@ -154,7 +148,7 @@ returns-in-TooBig-clause-failed g c = λ held old is st.
     c.args.session c.turn.new.self
     c.in-TooBig.place c.in-TooBig.phase
     (same_session c.args.session c.loop.session c.turn.new.self c.loop.invariant.0 c.turn.ensures.same)
-    c.kept_is_right-in-TooBig.ensures.right
+    c.kept_is_right.ensures.right
     (subst (StandsStopped g.F.Reader.Read.remaining held old _ c.turn.new.self) c.in-TooBig.is
     (c.in-Ok.ensures.ok held old (c.loop.invariant.2 held old is st))))
 
