@@ -1,6 +1,7 @@
 -- A stream whose values go to the output alone, by what holds of one whose values go to several
 -- writers.
 use Rattle.std.proofs.Common.{◌≡◌, ◌⊎◌, inl, inr, ◌+◌, ℕ, ℤ, zero, suc, Bool, true, false, List, [], ◌∷◌, Option, Some, None, length, slice_get, refl, sym, ap, subst, ◌∙◌, rules, arith}
+use Rattle.std.proofs.lemmas.Bool.{ltb-true}
 use Rattle.std.specs.Prelude.{◌||◌, is_some, string_bytes, ⊤}
 use Rattle.std.specs.List.{flat_map}
 use Rattle.std.specs.Io.KnownBytes.{Appends}
@@ -161,7 +162,7 @@ lacks_alone job asked lacks = by lacks.number lacks.asked lacks.none
   where
     by : (k : ℕ) → is_asked asked [] k ≡ true → task_to job asked [] k ≡ None → AsksNone job asked
     by zero is none = asks_none job asked none
-    by (suc k) is none = absurd (cc)
+    by (suc k) is none = let lt = ltb-true k 0 is in absurd (omega (arith, lt))
 
 -- ---- a stream
 

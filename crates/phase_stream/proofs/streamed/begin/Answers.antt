@@ -5,7 +5,7 @@ use Rattle.std.specs.Io.KnownBytes.{Appends}
 use Rattle.phase_words.specs.Outputs.{pair_as}
 use Rattle.phase_words.specs.StreamLine.{stream_asked}
 use Rattle.stream_job.specs.stream_lists.Jobs.{Job}
-use Rattle.phase_stream.specs.Outputs.{bare_at, writers_at}
+use Rattle.phase_stream.specs.Outputs.{bare_at, task_to, writers_at}
 use Rattle.phase_stream.specs.Sessions.{AreTargets, task_for}
 use Rattle.phase_stream.proofs.Ending.{begun_does, begun_stops, graph_memory, none_bare, there_of, unmade_unbegun, writers_bare}
 use Rattle.phase_stream.proofs.Results.{with_err, with_ok}
@@ -13,13 +13,20 @@ use Rattle.phase_stream.proofs.streamed.begin.Goals as goal
 
 pub returns-in_default-clause-failed : goal.returns-in_default-clause-failed
 returns-in_default-clause-failed g c = λ known is of_graph.
-    inl (inl (refl, graph_memory known _ _ of_graph), refl,
-    none_bare g.F.Opens.knows g.F.Writer.Write.contents c.args.made.now.items c.requires.made)
+    inl (
+      inl (refl, graph_memory known _ _ of_graph),
+      refl,
+      none_bare g.F.Opens.knows g.F.Writer.Write.contents c.args.made.now.items c.requires.made,
+    )
 
 pub returns-clause-failed : goal.returns-clause-failed
 returns-clause-failed g c = λ known is of_graph.
-    inl (unmade_unbegun known (stream_asked c.args.call.now) c.in-Err.fault _ of_graph
-    c.in-Err.ensures.fault, refl, c.make_files.ensures.bare)
+    inl (
+      unmade_unbegun known (stream_asked c.args.call.now) c.in-Err.fault _ of_graph
+          c.in-Err.ensures.fault,
+      refl,
+      c.make_files.ensures.bare,
+    )
 
 pub go-requires-clause-targets : goal.go-requires-clause-targets
 go-requires-clause-targets g c =
@@ -61,7 +68,8 @@ returns-in-Ok-make_files-clause-done g c =
     c.go.new.made.items k).written)
     (there_of known what c.args.stream.job session.stream.job c.graph.result.now c.in-Ok.ensures.job
     c.graph.ensures of_graph c.requires.targets.sinks c.in-Ok-make_files.ensures.apart)
-    (λ k. ap (λ ts. task_for ts k) c.in-Ok.ensures.targets ∙ c.requires.targets.goes k)
+    (λ k. ap (λ ts. task_for ts k) c.in-Ok.ensures.targets ∙ c.requires.targets.goes k
+    ∙ ap (λ j. task_to j what.sink what.files k) (sym c.in-Ok.ensures.job))
     (whole known _ (λ name. c.make_files.ensures.same name ∙ is name)
     (c.in-Ok.ensures.stands known _ _ bare)))
     c.go.ensures.done
@@ -83,7 +91,8 @@ returns-in-Ok-make_files-clause-failed g c =
     session.stream.job (task_for session.targets.items) (length session.targets.items) found
     (there_of known what c.args.stream.job session.stream.job c.graph.result.now c.in-Ok.ensures.job
     c.graph.ensures of_graph c.requires.targets.sinks c.in-Ok-make_files.ensures.apart)
-    (λ k. ap (λ ts. task_for ts k) c.in-Ok.ensures.targets ∙ c.requires.targets.goes k)
+    (λ k. ap (λ ts. task_for ts k) c.in-Ok.ensures.targets ∙ c.requires.targets.goes k
+    ∙ ap (λ j. task_to j what.sink what.files k) (sym c.in-Ok.ensures.job))
     (ap length c.in-Ok.ensures.targets ∙ c.requires.targets.many)
     (stops known _ (λ name. c.make_files.ensures.same name ∙ is name)
     (c.in-Ok.ensures.stands known _ _ bare)))
