@@ -310,7 +310,7 @@ lacking_stops {R} held old new session k lack fault found begins right st is whi
 -- a record is none
 pub bad_stops : {R : Type 0} (held : Known) (old : ℕ → Option (List ℕ)) (new : ℕ → WriterState)
     (session : Session R) (k number task : ℕ) (name : String Global)
-    {told : Option (Vec ℕ Global)} (found : Failure)
+    (told : Option (Vec ℕ Global)) (found : Failure)
     → AreKeptRight session.stream session.targets.items
     → (st : StandsLacking held old (λ k. (new k).written) session k (lack.BadRecord number))
     → IsFaultWithoutText (faults.BadSample name number told) found
@@ -318,7 +318,7 @@ pub bad_stops : {R : Type 0} (held : Known) (old : ℕ → Option (List ℕ)) (n
     → string_bytes name ≡ name_at session.stream.job.graph (place.Task task)
     → StopOf held session.stream.job (task_for session.targets.items)
     (length session.targets.items) old new found
-bad_stops held old new session k number task name {told = told} found right st is there named =
+bad_stops held old new session k number task name told found right st is there named =
     unread_stops (faults.BadSample name number told) found
     (StopOf held session.stream.job (task_for session.targets.items)
     (length session.targets.items) old new) is
