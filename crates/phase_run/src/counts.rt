@@ -35,6 +35,14 @@ impl Did {
         })
     }
 
+    /// How often it was refused on a phaser.
+    fn waits_on(&self, phaser: usize) -> u64 {
+        match self.waits.get(phaser) {
+            Some(waits) => waits.load(Relaxed),
+            None => 0,
+        }
+    }
+
     /// Notes a turn that went so, and how long it took.
     fn note(&self, went: Went, nanoseconds: u64) {
         self.turns.fetch_add(1, Relaxed);
@@ -47,7 +55,8 @@ impl Did {
     }
 }
 
-/// A gate that counts what each task of a job does, by a clock.
+/// A gate that counts what each task of a job does, by a clock; or that counts nothing, where that
+/// is not asked for.
 #[derive(Drop)]
 pub(crate) struct Counts<'a, C> {
     clock: &'a C,
@@ -67,30 +76,29 @@ fn since<C: Clock>(clock: &C, reading: Option<Instant>) -> u64 {
 }
 
 impl<'a, C: Clock> Counts<'a, C> {
-    /// Makes one for a run that begins now, where that is asked for. It takes memory for the
-    /// counts.
-    pub fn asked(
+    /// Makes one for a run that begins now. It takes memory for the counts, where they are asked
+    /// for.
+    pub fn new(
         clock: &'a C,
         alloc: Global,
         job: &Job,
         is_asked: bool,
-    ) -> Result<Option<Counts<'a, C>>, AllocError> {
-        if !is_asked {
-            return Ok(None);
+    ) -> Result<Counts<'a, C>, AllocError> {
+        let mut tasks = Vec::new(alloc);
+        if is_asked {
+            for _ in 0..job.graph().tasks() {
+                tasks.push(Did::new(alloc, job.graph().phasers())?)?;
+            }
         }
-        let mut tasks = Vec::with_capacity(alloc, job.graph().tasks())?;
-        for _ in 0..job.graph().tasks() {
-            tasks.push(Did::new(alloc, job.graph().phasers())?)?;
-        }
-        Ok(Some(Counts {
+        Ok(Counts {
             clock,
             began: Instant::now(clock).ok(),
             tasks,
-        }))
+        })
     }
 
-    /// Returns a line for each task of a run that has ended, by so many workers; nothing where
-    /// memory runs out.
+    /// Returns a line for each task of a run that has ended, by so many workers; nothing where they
+    /// were not counted, or memory runs out.
     pub fn lines(&self, alloc: Global, job: &Job, workers: usize) -> Vec<u8>
         ensures { AreFurtherLines result.items }
     {
@@ -120,6 +128,9 @@ impl<'a, C: Clock> Gate for Counts<'a, C> {
 
 impl<'a, C: Clock> Watch for Counts<'a, C> {
     fn begins(&self) -> Option<Instant> {
+        if self.tasks.is_empty() {
+            return None;
+        }
         Instant::now(self.clock).ok()
     }
 
@@ -158,22 +169,37 @@ fn task_text(
 }
 
 /// Puts how often a task waited, and on which phasers of its line, behind a text.
-fn put_waits(text: &mut Vec<u8>, job: &Job, t: usize, did: &Did) -> Result<(), AllocError>
-    requires { t < length job.now.graph.tasks }
-{
-    let mut before = ", waits: ";
+fn put_waits(text: &mut Vec<u8>, job: &Job, t: usize, did: &Did) -> Result<(), AllocError> {
+    let mut is_first = true;
     for p in 0..did.waits.len() {
-        let waits = did.waits[p].load(Relaxed);
-        if waits > 0 && p < job.graph().phasers() {
-            let takes = input_number(job.graph().task(t), p).is_some();
-            text.extend_from_slice(before.as_bytes())?;
+        let waits = did.waits_on(p);
+        if waits > 0 {
+            text.extend_from_slice(if is_first { b", waits: " } else { b", " })?;
             put_number(text, waits as u128)?;
-            text.extend_from_slice(if takes { b" for " } else { b" for room on " })?;
-            text.extend_from_slice(job.graph().name(Place::Phaser(p)).as_bytes())?;
-            before = ", ";
+            text.extend_from_slice(if takes(job, t, p) {
+                b" for "
+            } else {
+                b" for room on "
+            })?;
+            text.extend_from_slice(phaser_name(job, p).as_bytes())?;
+            is_first = false;
         }
     }
     Ok(())
+}
+
+/// Whether a task takes from a phaser.
+fn takes(job: &Job, t: usize, p: usize) -> bool {
+    t < job.graph().tasks() && input_number(job.graph().task(t), p).is_some()
+}
+
+/// The name of a phaser.
+fn phaser_name(job: &Job, p: usize) -> &str {
+    if p < job.graph().phasers() {
+        job.graph().name(Place::Phaser(p))
+    } else {
+        ""
+    }
 }
 
 /// Puts a share of the workers' time behind a text, in tenths of a hundredth; nothing where no

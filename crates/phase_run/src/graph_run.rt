@@ -1,14 +1,11 @@
 //! A run of a graph.
-ghost use Rattle.std.specs.Prelude.{◌≡◌, ℕ, List, Option, Some, Err, OnOk, IfOk, IfErr};
+ghost use Rattle.std.specs.Prelude.{◌≡◌, ℕ, List, Option, OnOk, IfOk, IfErr};
 ghost use Rattle.stream_workers.specs.graph_commands.Explained.{AreFurtherLines};
 ghost use Rattle.stream_workers.specs.graph_commands.FileJobs.{IsJobOf, Known};
 ghost use Rattle.stream_workers.specs.graph_commands.GraphRuns.{AsksSink};
 ghost use Rattle.phase_run.specs.Runs.{RunFails, Runs};
 ghost use Rattle.phase_eval.specs.phase_words.RunLine.{run_of};
 ghost use Rattle.stream_workers.specs.graph_commands.watched_io.States.{writer_state};
-ghost use Rattle.stream_workers.specs.stream_tasks.RunAnswers.{AreLinesOf};
-ghost use Rattle.stream_workers.specs.stream_tasks.stream_lists.Ranges.{first_too_big};
-ghost use Rattle.stream_workers.specs.stream_tasks.graph_base.declared.place.Place.{Place as PlaceValue};
 
 use crate::counts::Counts;
 use phase_eval::ByThreads;
@@ -18,11 +15,10 @@ use std::io::Write;
 use std::sync::Wait;
 use std::thread::Threads;
 use std::time::Clock;
-use stream_workers::graph_commands::stream_eval::Lines;
 use stream_workers::graph_commands::stream_lists::Job;
 use stream_workers::graph_commands::watched_io::{Files, IoFault, Watched};
 use stream_workers::graph_commands::{AskedJob, Failure, read_asked, stall_told, write_sinks};
-use stream_workers::{Open, RunFault, Stand};
+use stream_workers::{RunFault, Stand, run_watched};
 
 /// Reads a graph and the samples of its sources, runs it by as many worker threads as the call asks
 /// for, of which the caller's is one, and writes the lists of its sinks, or the values alone of the
@@ -63,39 +59,6 @@ fn stalled(alloc: Global, job: &Job, stands: &[Stand], explain: Explain) -> Vec<
     }
 }
 
-/// Runs a job by so many workers, which are counted where there is who counts.
-fn run_counted<H: Threads + Wait + Clock + Sync>(
-    rt: &H,
-    alloc: Global,
-    job: &Job,
-    workers: usize,
-    counts: &Option<Counts<'_, H>>,
-) -> Result<Vec<Lines>, RunFault>
-    ensures done { IfOk result (λ lines. AreLinesOf job.now lines.items) }
-    ensures too_big { (place : PlaceValue) (n : ℕ) → result ≡ Err (RunFault.TooBig place n)
-        → first_too_big job.now ≡ Some (place, n) }
-{
-    match counts {
-        None => stream_workers::run(rt, alloc, job, workers, &Open),
-        Some(counts) => stream_workers::run_watched(rt, alloc, job, workers, counts),
-    }
-}
-
-/// What each task of a run that has ended did, where that was counted.
-fn counted<H: Clock>(
-    alloc: Global,
-    job: &Job,
-    workers: usize,
-    counts: &Option<Counts<'_, H>>,
-) -> Vec<u8>
-    ensures { AreFurtherLines result.items }
-{
-    match counts {
-        None => Vec::new(alloc),
-        Some(counts) => counts.lines(alloc, job, workers),
-    }
-}
-
 /// Runs a job for all its sinks, or for the one that is asked for.
 fn run_asked<'a, H: Threads + Wait + Clock + Sync, W: Write>(
     rt: &H,
@@ -116,12 +79,12 @@ fn run_asked<'a, H: Threads + Wait + Clock + Sync, W: Write>(
 {
     let AskedJob { job, sink } = asked;
     let texts = ByThreads::new(rt, alloc, call.workers);
-    let Ok(counts) = Counts::asked(rt, alloc, &job, call.counts) else {
+    let Ok(counts) = Counts::new(rt, alloc, &job, call.counts) else {
         return Err(Failure::Io(IoFault::OutOfMemory));
     };
-    match run_counted(rt, alloc, &job, call.workers, &counts) {
+    match run_watched(rt, alloc, &job, call.workers, &counts) {
         Ok(lines) => match write_sinks(output, &texts, &job, &lines, sink) {
-            Ok(()) => Ok(counted(alloc, &job, call.workers, &counts)),
+            Ok(()) => Ok(counts.lines(alloc, &job, call.workers)),
             Err(_) => Err(Failure::Io(IoFault::WriteFault)),
         },
         Err(RunFault::TooBig { place, phase }) => Err(Failure::TooBig { job, place, phase }),
