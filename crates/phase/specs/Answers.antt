@@ -1,5 +1,5 @@
 -- How the commands answer their words: which statuses may come, what is written, and what is told.
-use Rattle.std.specs.Prelude.{◌≡◌, ◌⊎◌, ℕ, Bool, List, [], Option, ⊤}
+use Rattle.std.specs.Prelude.{◌≡◌, ◌⊎◌, ℕ, Bool, List, [], Option}
 use Rattle.clap.specs.Words.{Kinds, Text}
 use Rattle.phase_commands.specs.Ends.{EndsAs, LeavesAlone, MayEndAsked}
 use Rattle.phase_commands.specs.graph_commands.FileJobs.{Known}
@@ -14,7 +14,7 @@ use Rattle.phase_commands.specs.phase_words.StreamLine.{AsksStream, Stream, stre
 use Rattle.phase_run.specs.phase_eval.Ends.{EndsAsEval, MayEndAsEval}
 use Rattle.phase_run.specs.Ends.{AskNoCounts, EndsAsRun, MayEndAsRun}
 use Rattle.phase_stream.specs.Ends.{EndsAsAsked, EndsAsStream, MayEndAsStream}
-use Rattle.phase.specs.Ways.{Way, run}
+use Rattle.phase.specs.Ways.{run, way_of}
 
 -- ---- any command
 
@@ -40,10 +40,9 @@ RunAnswers words known contents status closed files old new before after =
     (λ (what : Run). EndsAsRun what known contents status old new before after)
     status closed files old new before after
 
--- the words ask for no counts of a run
-abbrev pub AsksNoCounts : Way → Type 0
-AsksNoCounts (run own) = AskNoCounts own
-AsksNoCounts way = ⊤
+-- where the words are for a run, they ask for no counts
+abbrev pub AsksNoCounts : List Text → Type 0
+AsksNoCounts words = (own : List Text) → way_of words ≡ run own → AskNoCounts own
 
 -- `eval` by workers answers the words behind its name
 abbrev pub EvalAnswers : {F W : Type 0} → List Text → Known → (W → Option (List ℕ)) → Status

@@ -74,7 +74,7 @@ pub fn run_cli<
 
     // That the input is left to the files by a run and by a stream.
     ensures unread { way_of (texts words.now) ≢ others → input.new ≡ input.old }
-    ensures quiet { result ≡ Status.Done → AsksNoCounts (way_of (texts words.now))
+    ensures quiet { result ≡ Status.Done → AsksNoCounts (texts words.now)
         → streams.new.faults ≡ streams.old.faults }
 {
     match way_of(words) {
