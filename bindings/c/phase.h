@@ -457,6 +457,15 @@ int32_t phase_stream_take(phase_stream *stream, size_t sink, int64_t *values, si
  * PHASE_NO_START. */
 int32_t phase_stream_start(phase_stream *stream, size_t sink, int64_t *start);
 
+/* Writes, where the run is PHASE_STALLED, what each task that is left waits for into the first
+ * places of text, and how many bytes that is: a line for each, and one for each phaser that a task
+ * may not signal, with how far its waiters are; each behind two spaces and with a line feed at its
+ * end, as `phase stream --explain` has them behind `stalled`. Nothing is promised of them where it
+ * is not. There is no zero byte, and what stands behind the lines stays. With too few places the
+ * answer is PHASE_E_ROOM, and count is how many bytes there are: so a call with NULL, 0 asks. It
+ * takes memory, and gives it back; where there is none, there are no lines. */
+int32_t phase_stream_waits(phase_stream *stream, uint8_t *text, size_t text_len, size_t *count);
+
 /* ---- Words. They stand in this header, and not in the library. */
 
 /* What a status says, for a person; of a number that is no status, that. */

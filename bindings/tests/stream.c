@@ -332,7 +332,16 @@ static void too_big_is_told(void)
  * each, so that f wants samples further ahead of g than the bounds allow. */
 static void stalls_are_told(void)
 {
-    const int64_t samples[] = {1, 2, 3, 4, 5, 6, 7}, wanted[] = {2, 5, 8, 11};
+    static const char waits[] = "  s may not signal phase 6 of x: bound 1, and g stands at 5\n"
+                                "  d waits for phase 6 of x, which s has not signalled\n"
+                                "  f waits for phase 3 of a, which d has not signalled\n"
+                                "  g may not signal phase 4 of y: bound 1, and out stands at 3\n"
+                                "  out waits for phase 3 of y, which f has not signalled\n"
+                                "  x: d has come to phase 6, g has come to phase 5\n"
+                                "  y: out has come to phase 3\n";
+    const int64_t samples[] = {1, 2, 3, 4, 5, 6, 7}, wanted[] = {2, 5, 8};
+    const size_t length = sizeof waits - 1;
+    uint8_t text[sizeof waits + 1];
     int64_t out[4];
     size_t took, count = 77;
     phase_stream stream = PHASE_STREAM_INIT;
@@ -347,9 +356,19 @@ static void stalls_are_told(void)
     STOPS(&stream, PHASE_STALLED, 0);
     IS(phase_stream_finish(&stream, 0), PHASE_OK);
     STOPS(&stream, PHASE_STALLED, 0);
+    IS(phase_stream_waits(&stream, NULL, 0, &count), PHASE_E_ROOM);
+    IS(count, length);
+    memset(text, '#', sizeof text);
+    IS(phase_stream_waits(&stream, text, length - 1, &count), PHASE_E_ROOM);
+    IS(text[0], '#');
+    IS(phase_stream_waits(&stream, text, length + 1, &count), PHASE_OK);
+    IS(count, length);
+    IS(memcmp(text, waits, length), 0);
+    IS(text[length], '#');
     IS(phase_stream_take(&stream, 0, out, 4, &count), PHASE_OK);
-    IS(count > 0 && !memcmp(out, wanted, count * sizeof *out), true);
+    IS(count == 3 && !memcmp(out, wanted, sizeof wanted), true);
     phase_stream_free(&stream);
+    IS(phase_stream_waits(&stream, text, length, &count), PHASE_E_NO_STREAM);
 }
 
 static void a_text_is_refused(void)

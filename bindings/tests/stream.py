@@ -28,6 +28,15 @@ STALLED = (
     "phaser x sum 1\nphaser a sum 1\nphaser b sum 1\nphaser y sum 1\nsource s s.csv -> x\n"
     "split d x -> a b\nfir f a -> y shift 0 taps 1\nfir g x -> y shift 0 taps 1\nsink out y\n"
 )
+WAITS = [
+    "s may not signal phase 6 of x: bound 1, and g stands at 5",
+    "d waits for phase 6 of x, which s has not signalled",
+    "f waits for phase 3 of a, which d has not signalled",
+    "g may not signal phase 4 of y: bound 1, and out stands at 3",
+    "out waits for phase 3 of y, which f has not signalled",
+    "x: d has come to phase 6, g has come to phase 5",
+    "y: out has come to phase 3",
+]
 MOST = 2**63 - 1
 ALL = 10**9
 
@@ -265,8 +274,11 @@ def ends():
     look("from another process", (again.name, lists(again.values)) == ("f", {"o": []}))
     stream = phase.Stream(STALLED)
     why = refused(phase.Stalled, stream.feed, s=[1, 2, 3, 4, 5, 6, 7, 8, 9])
-    look("a graph that stands still", str(why) == "stalled" and len(why.values["out"]) > 0)
-    look("what it has", [2, 5, 8, 11][: len(why.values["out"])] == why.values["out"].tolist())
+    look("a graph that stands still", why.waits == WAITS)
+    look("who waits for whom", str(why) == "\n  ".join(["stalled", *WAITS]))
+    look("what it has", why.values["out"].tolist() == [2, 5, 8])
+    again = pickle.loads(pickle.dumps(why))
+    look("a stall from another process", (str(again), again.waits) == (str(why), WAITS))
     for call in (lambda: stream.feed(s=[1] * 9000), stream.finish):
         look("it stands still", refused(phase.Stalled, call))
 

@@ -14,12 +14,16 @@ _phase() {
         1,*) words='check draw eval help replay run stream --help --version' ;;
         2,help,*) words='check draw eval replay run stream' ;;
         *,--sink) words=$(_phase_sinks "${COMP_WORDS[@]:2}") ;;
+        *,--to)
+            compopt -o nospace
+            words=$(_phase_sinks "${COMP_WORDS[@]:2}" | sed 's/$/=/')
+            ;;
         *,replay,-*) words='--help --strict' ;;
         *,check,-*) words='--beside --explain --help' ;;
         *,draw,-*) words='--explain --help' ;;
         *,eval,-*) words='--beside --columns --explain --help --sink --workers' ;;
-        *,stream,-*) words='--beside --explain --help --sink' ;;
-        *,run,-*) words='--beside --explain --help --sink --workers' ;;
+        *,stream,-*) words='--beside --explain --help --sink --to' ;;
+        *,run,-*) words='--beside --counts --explain --help --sink --workers' ;;
         *) return ;;
     esac
     COMPREPLY=($(compgen -W "$words" -- "$2"))

@@ -9,7 +9,16 @@ _phase_sinks() {
         [[ ! -f $word ]] || sinks+=(${(f)"$(
             sed -n 's/^[ ]*sink[ ]\{1,\}\([A-Za-z0-9_]\{1,\}\).*/\1/p' $word)"})
     done
-    compadd -a sinks
+    compadd "$@" -a sinks
+}
+
+# The same, with a `=` and then a file behind them.
+_phase_sinks_to() {
+    if compset -P '*='; then
+        _files
+    else
+        _phase_sinks -S '='
+    fi
 }
 
 _phase() {
@@ -32,11 +41,12 @@ _phase() {
                 '--workers:number:(1 2 4 8 16)' '*:graph:_files'
             ;;
         run)
-            _arguments '--help' '--beside' '--explain' '--sink:sink:_phase_sinks' \
+            _arguments '--help' '--beside' '--counts' '--explain' '--sink:sink:_phase_sinks' \
                 '--workers:number:(1 2 4 8 16)' '*:graph:_files'
             ;;
         stream)
-            _arguments '--help' '--beside' '--explain' '--sink:sink:_phase_sinks' '*:graph:_files'
+            _arguments '--help' '--beside' '--explain' '--sink:sink:_phase_sinks' \
+                '*--to:sink and file:_phase_sinks_to' '*:graph:_files'
             ;;
     esac
 }

@@ -60,12 +60,14 @@ class NoStream(phase.Error):
 
 class Stalled(phase.Error):
     """No task of a graph can move, and no sample helps. `values` has what came out before, by
-    sink."""
+    sink, and `waits` a line for each task that is left, with what it waits for, and one for each
+    phaser that a task may not signal, with how far its waiters are."""
 
     values: Outputs = {}
+    waits: list[str] = []
 
     def __str__(self) -> str:
-        return "stalled"
+        return "\n  ".join(["stalled", *self.waits])
 
 
 class _Stop(ctypes.Structure):
@@ -89,6 +91,7 @@ def _load():
         "run": place + [ctypes.POINTER(_Stop)],
         "take": place + end + row + count,
         "start": place + end + [ctypes.POINTER(ctypes.c_int64)],
+        "waits": place + text + count,
     }
     for name, arguments in calls.items():
         call = getattr(lib, "phase_stream_" + name)
@@ -312,9 +315,17 @@ class Stream:
         values = self._answer()
         if stop.kind == DONE:
             return values
-        why = Stalled() if stop.kind == STALLED else self._too_big(stop)
+        why = self._stalled() if stop.kind == STALLED else self._too_big(stop)
         why.values = values
         raise why
+
+    def _stalled(self):
+        why, count = Stalled(), ctypes.c_size_t()
+        _lib.phase_stream_waits(self._place, None, 0, count)
+        told = ctypes.create_string_buffer(count.value)
+        _done(_lib.phase_stream_waits(self._place, told, len(told), count))
+        why.waits = [line.strip() for line in told.raw[: count.value].decode().splitlines()]
+        return why
 
     def _too_big(self, stop):
         fault = phase._Fault(number=stop.number, at=stop.at, place=stop.place)

@@ -21,7 +21,7 @@ use Rattle.graph_show.specs.watched_io.declared.watched.Watched.{Watched}
 
 job-not-done : (found : JobFault) → job_status found ≡ Done → ⊥
 job-not-done (fault.Graph found) e = cc e
-job-not-done (fault.BadSample name number) e = cc e
+job-not-done (fault.BadSample name number told) e = cc e
 job-not-done fault.ReadFault e = cc e
 job-not-done fault.OutOfMemory e = cc e
 
@@ -35,7 +35,7 @@ failure-not-done (failure.Io found) e = cc e
 
 job-refused-or-failed : (found : JobFault) → (job_status found ≡ GraphRefused) ⊎ (job_status found ≡ Failed)
 job-refused-or-failed (fault.Graph found) = inl refl
-job-refused-or-failed (fault.BadSample name number) = inl refl
+job-refused-or-failed (fault.BadSample name number told) = inl refl
 job-refused-or-failed fault.ReadFault = inr refl
 job-refused-or-failed fault.OutOfMemory = inr refl
 
@@ -133,17 +133,17 @@ fails-status Cause Written contents old new found Ends by failed (inr unwritten)
 -- ---- ends
 
 -- a command ended, and its failure was reported
-pub ends-by : {A : Type 0} (Quiet : Type 0) (explain : Explain) (known : Known) (Does : Type 0)
+pub ends-by : {A : Type 0} (Quiet : Type 0) (explain : Explain) (Does : Type 0)
     (Fails : Failure → Type 0) (done : Result A Failure) (status : Status) (before after : WriterState)
     → OnOk done Does → IfErr done Fails → OnOk done ((status ≡ Done) × Quiet)
     → IfErr done (λ found. status ≡ failure_status found)
-    → IfErr done (λ found. IsTold explain known found before after)
-    → EndsBy explain known Does Fails status before after
-ends-by Quiet explain known Does Fails (Ok unit) status before after does fails quiet is told = record {
+    → IfErr done (λ found. IsTold explain found before after)
+    → EndsBy explain Does Fails status before after
+ends-by Quiet explain Does Fails (Ok unit) status before after does fails quiet is told = record {
   done = λ _. does;
   stops = λ other. absurd (other quiet.0);
 }
-ends-by Quiet explain known Does Fails (Err found) status before after does fails quiet is told = record {
+ends-by Quiet explain Does Fails (Err found) status before after does fails quiet is told = record {
   done = λ done. absurd (failure-not-done found (sym is ∙ done));
   stops = λ _. record { found = found; fails = fails; status_is = is; told = told };
 }

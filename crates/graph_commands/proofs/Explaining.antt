@@ -1,12 +1,11 @@
 -- What is said further of a fault, and the graph of a file's text.
 use Rattle.std.specs.Global.{Global}
 use Rattle.std.specs.Prelude.{Vec}
-use Rattle.std.proofs.Common.{◌≡◌, ℕ, List, [], ◌∷◌, ◌++◌, map, Ok, refl, sym, subst, ap, ◌∙◌}
+use Rattle.std.proofs.Common.{◌≡◌, ℕ, List, [], ◌∷◌, ◌++◌, map, Ok, refl, ap, ◌∙◌}
 use Rattle.std.specs.List.{flat_map}
 use Rattle.graph_show.specs.graph_base.Graphs.{Graph}
-use Rattle.graph_commands.specs.Explained.{AreFurtherLines, IsTextOf, Tells, further_line}
+use Rattle.graph_commands.specs.Explained.{AreFurtherLines, IsTextOf, further_line}
 use Rattle.graph_commands.specs.FileJobs.{IsGraphOf, Known}
-use Rattle.graph_commands.specs.declared.fault.JobFault.{JobFault}
 use Rattle.graph_show.specs.graph_lang.Reads.{ReadsText}
 use Rattle.graph_show.specs.graph_text.Texts.{lines_of}
 
@@ -15,12 +14,6 @@ pub graph-of-text : (known : Known) (name text : List ℕ) (graph : Graph) → I
     → ReadsText (lines_of text) (Ok graph) → IsGraphOf known name graph
 graph-of-text known name text graph of reads =
     record { text = text; bytes = of.bytes; short = of.short; reads = reads }
-
--- what explains a fault explains the same fault
-pub tells-of : (known : Known) (text more : List ℕ) (found same : JobFault) → found ≡ same
-    → Tells known text same more → Tells known text found more
-tells-of known text more found same is tells =
-    subst (λ (found : JobFault). Tells known text found more) (sym is) tells
 
 -- ---- lines for a person
 

@@ -51,32 +51,6 @@ find_none test n below =
     let plain : (d : ℕ) → 0 + d ≡ d = λ d. omega arith in
     find_none_from test 0 n (λ d less. ap test (plain d) ∙ below d less)
 
--- the number that is found is one of these, and passes
-find_some_from : (test : ℕ → Bool) (a n x : ℕ) → find test (range_with_len a n) ≡ Some x
-    → (x < a + n) × (test x ≡ true)
-find_some_from test a zero x e = absurd (cc)
-find_some_from test a (suc n) x e = by (test a) refl e (find_some_from test (a + 1) n x)
-  where
-    by : (b : Bool) → test a ≡ b
-        → (if b then Some a else find test (range_with_len (a + 1) n)) ≡ Some x
-        → (find test (range_with_len (a + 1) n) ≡ Some x → (x < a + 1 + n) × (test x ≡ true))
-        → (x < a + suc n) × (test x ≡ true)
-    by true is e rest =
-        let same : a ≡ x = grind (arith, e) in
-        (omega arith, ap test (sym same) ∙ is)
-    by false is e rest = let found = rest e in (omega (arith, found.0), found.1)
-
-pub find_some : (test : ℕ → Bool) (n x : ℕ) → find test (range_with_len 0 n) ≡ Some x
-    → (x < n) × (test x ≡ true)
-find_some test n x e =
-    let found = find_some_from test 0 n x e in
-    (omega (arith, found.0), found.1)
-
--- what passes both of two tests passes the first
-pub and_first : (first second : Bool) → (first && second) ≡ true → first ≡ true
-and_first true second both = refl
-and_first false second both = absurd (cc)
-
 -- one more number that passes
 pub count-take : (test : ℕ → Bool) (n : ℕ) → test n ≡ true
     → length (filter test (range_with_len 0 (n + 1)))

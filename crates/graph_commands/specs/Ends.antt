@@ -27,46 +27,46 @@ use Rattle.stream_eval.specs.stream_lists.Jobs.{Job}
 -- ran out over that; of a name that no sink has and of a value that is out of range, by lines for a
 -- person or nothing; of a stall by what goes with it; of a failed write and want of memory it is
 -- nothing
-abbrev pub ExplainsFailure : Known → Failure → List ℕ → Type 0
-ExplainsFailure known (failure.Graph fault text) more =
-    Tells known text.items fault more ⊎ (more ≡ no_memory_line)
-ExplainsFailure known (failure.NoSink job name) more = AreFurtherLines more
-ExplainsFailure known (failure.TooBig job place phase) more = AreFurtherLines more
-ExplainsFailure known (failure.Stalled further) more = more ≡ further.items
-ExplainsFailure known (failure.Io fault) more = more ≡ []
+abbrev pub ExplainsFailure : Failure → List ℕ → Type 0
+ExplainsFailure (failure.Graph fault text) more =
+    Tells text.items fault more ⊎ (more ≡ no_memory_line)
+ExplainsFailure (failure.NoSink job name) more = AreFurtherLines more
+ExplainsFailure (failure.TooBig job place phase) more = AreFurtherLines more
+ExplainsFailure (failure.Stalled further) more = more ≡ further.items
+ExplainsFailure (failure.Io fault) more = more ≡ []
 
 -- the text was said that explains it
-pub record SaysMore (known : Known) (found : Failure) (before after : WriterState) : Type 0 where
+pub record SaysMore (found : Failure) (before after : WriterState) : Type 0 where
   pub more : List ℕ
-  pub explains : ExplainsFailure known found more
+  pub explains : ExplainsFailure found more
   pub says : Says more before after
 
 -- its line was said, and then that text
-pub record IsExplained (known : Known) (found : Failure) (before after : WriterState) : Type 0 where
+pub record IsExplained (found : Failure) (before after : WriterState) : Type 0 where
   pub told : WriterState
   pub line : Says (failure_line found) before told
-  pub further : SaysMore known found told after
+  pub further : SaysMore found told after
 
 -- a failure is told by its line, and explained where that is asked for
-abbrev pub IsTold : Explain → Known → Failure → WriterState → WriterState → Type 0
-IsTold No known found before after = Says (failure_line found) before after
-IsTold Yes known found before after = IsExplained known found before after
+abbrev pub IsTold : Explain → Failure → WriterState → WriterState → Type 0
+IsTold No found before after = Says (failure_line found) before after
+IsTold Yes found before after = IsExplained found before after
 
 -- ---- how a command ends
 
 -- it failed of a cause, which was told
-pub record Stops (explain : Explain) (known : Known) (Fails : Failure → Type 0) (status : Status)
+pub record Stops (explain : Explain) (Fails : Failure → Type 0) (status : Status)
     (before after : WriterState) : Type 0 where
   pub found : Failure
   pub fails : Fails found
   pub status_is : status ≡ failure_status found
-  pub told : IsTold explain known found before after
+  pub told : IsTold explain found before after
 
 -- it did what it is for, or it stopped
-pub record EndsBy (explain : Explain) (known : Known) (Does : Type 0) (Fails : Failure → Type 0)
+pub record EndsBy (explain : Explain) (Does : Type 0) (Fails : Failure → Type 0)
     (status : Status) (before after : WriterState) : Type 0 where
   pub done : status ≡ Done → Does
-  pub stops : status ≢ Done → Stops explain known Fails status before after
+  pub stops : status ≢ Done → Stops explain Fails status before after
 
 -- ---- a check
 
@@ -116,7 +116,7 @@ CheckFails explain known name contents old new found =
 abbrev pub CheckEnds : {W : Type 0} → Explain → Known → List ℕ → Status → (W → Option (List ℕ))
     → Watched W → Watched W → WriterState → WriterState → Type 0
 CheckEnds explain known name status contents old new before after =
-    EndsBy explain known
+    EndsBy explain
     (Checks explain known name (writer_state contents old) (writer_state contents new))
     (CheckFails explain known name contents old new) status before after
 
@@ -134,7 +134,7 @@ DrawFails known name contents old new found =
 abbrev pub DrawEnds : {W : Type 0} → Explain → Known → List ℕ → Status → (W → Option (List ℕ))
     → Watched W → Watched W → WriterState → WriterState → Type 0
 DrawEnds explain known name status contents old new before after =
-    EndsBy explain known
+    EndsBy explain
     (Draws known name (writer_state contents old) (writer_state contents new))
     (DrawFails known name contents old new) status before after
 
@@ -152,7 +152,7 @@ EvalFails known name asked contents old new found =
 abbrev pub EvalEnds : {W : Type 0} → Explain → Known → List ℕ → Option (List ℕ) → Status
     → (W → Option (List ℕ)) → Watched W → Watched W → WriterState → WriterState → Type 0
 EvalEnds explain known name asked status contents old new before after =
-    EndsBy explain known
+    EndsBy explain
     (Evaluates known name asked (writer_state contents old) (writer_state contents new))
     (EvalFails known name asked contents old new) status before after
 
@@ -170,6 +170,6 @@ ColumnsFail known name contents old new found =
 abbrev pub ColumnsEnd : {W : Type 0} → Explain → Known → List ℕ → Status
     → (W → Option (List ℕ)) → Watched W → Watched W → WriterState → WriterState → Type 0
 ColumnsEnd explain known name status contents old new before after =
-    EndsBy explain known
+    EndsBy explain
     (EvaluatesColumns known name (writer_state contents old) (writer_state contents new))
     (ColumnsFail known name contents old new) status before after

@@ -1,6 +1,7 @@
 -- The job of a graph's file and of the files of its sources. What a file holds is told by its name,
 -- where it is known beforehand.
-use Rattle.std.specs.Prelude.{ℕ, ◌≡◌, ◌<◌, ◌≤◌, ◌⊎◌, List, [], length, get_or, ℤ, true, Ok, Err, Some, None, string_bytes}
+use Rattle.std.specs.Prelude.{ℕ, ◌≡◌, ◌<◌, ◌≤◌, ◌⊎◌, List, [], length, get_or, ℤ, true, Ok, Err, Some, None, IfSome, Vec, string_bytes}
+use Rattle.std.specs.Global.{Global}
 use Rattle.std.specs.declared.option.Option.{Option}
 use Rattle.graph_show.specs.graph_text.Texts.{lines_of}
 use Rattle.graph_show.specs.graph_base.Graphs.{Graph, task_at, file_at, name_at, is_source, source_number, sources_of}
@@ -9,10 +10,11 @@ use Rattle.graph_show.specs.graph_lang.declared.fault.FaultKind.TheVariants.{Any
 use Rattle.graph_show.specs.graph_lang.declared.fault.GraphFault.{GraphFault}
 use Rattle.graph_show.specs.graph_base.declared.place.Place.TheVariants as place
 use Rattle.graph_show.specs.watched_io.Files.{HasBytes, MayBeRefused, MayNeedMemory}
-use Rattle.graph_show.specs.graph_lang.Samples.{AreSamplesOf, HasBadSample}
+use Rattle.graph_show.specs.graph_lang.Samples.{AreSamplesOf, IsBadShortSample}
 use Rattle.graph_show.specs.graph_lang.declared.sample.TheConstants.{TEXT_MAX}
 use Rattle.stream_eval.specs.stream_lists.Jobs.{Job}
 use Rattle.stream_eval.specs.stream_lists.Meetings.{meeting_line}
+use Rattle.graph_commands.specs.Explained.{TellsPlace}
 use Rattle.graph_commands.specs.declared.fault.JobFault.{JobFault}
 use Rattle.graph_commands.specs.declared.fault.JobFault.TheVariants as fault
 use Rattle.graph_commands.specs.declared.graph_file.TheConstants.{GRAPH_MAX}
@@ -79,13 +81,17 @@ pub record MeetsAt (known : Known) (name : List ℕ) (line : ℕ) : Type 0 where
   pub samples_of : AreSamples known job.graph job.samples
   pub meets : meeting_line job ≡ Some line
 
--- the file of the source of this name has a bad record of this number
-pub record HasBadRecord (known : Known) (name source : List ℕ) (n : ℕ) : Type 0 where
+-- the file of the source of this name has a bad record of this number, of which this is told
+pub record HasBadRecord (known : Known) (name source : List ℕ) (n : ℕ)
+    (told : Option (Vec ℕ Global)) : Type 0 where
   pub graph : Graph
   pub task : ℕ
   pub reached : IsReached known name graph task
   pub named : source ≡ name_at graph (place.Task task)
-  pub bad : HasBadSample (known (file_of graph task)) n
+  pub text : List ℕ
+  pub bytes : HasBytes (known (file_of graph task)) text
+  pub bad : IsBadShortSample n text
+  pub tells : IfSome told (λ front. TellsPlace text (file_of graph task) n front.items)
 
 -- a file of a source may be refused: it is too long, or nothing is known of it
 pub record IsSourceRefused (known : Known) (name : List ℕ) : Type 0 where
@@ -98,7 +104,8 @@ pub record IsSourceRefused (known : Known) (name : List ℕ) : Type 0 where
 abbrev pub Explains : Known → List ℕ → JobFault → Type 0
 Explains known name (fault.Graph found) =
     IsFaultOf known name found ⊎ ((found.kind ≡ AnyMeets) × MeetsAt known name found.line)
-Explains known name (fault.BadSample source n) = HasBadRecord known name (string_bytes source) n
+Explains known name (fault.BadSample source n told) =
+    HasBadRecord known name (string_bytes source) n told
 Explains known name fault.ReadFault =
     MayBeRefused GRAPH_MAX (known name) ⊎ IsSourceRefused known name
 Explains known name fault.OutOfMemory = MayNeedMemory GRAPH_MAX (known name)

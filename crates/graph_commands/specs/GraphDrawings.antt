@@ -14,7 +14,7 @@ use Rattle.graph_show.specs.watched_io.States.{WriterState}
 -- why the file of this name tells no graph; memory may run out only over one that is not too long
 abbrev pub ExplainsNoGraph : Known → List ℕ → JobFault → Type 0
 ExplainsNoGraph known name (fault.Graph found) = IsFaultOf known name found
-ExplainsNoGraph known name (fault.BadSample source n) = ⊥
+ExplainsNoGraph known name (fault.BadSample source n told) = ⊥
 ExplainsNoGraph known name fault.ReadFault = MayBeRefused GRAPH_MAX (known name)
 ExplainsNoGraph known name fault.OutOfMemory = MayNeedMemory GRAPH_MAX (known name)
 

@@ -125,14 +125,14 @@ no_sink_line name = concat (codes "phase: no sink " ∷ told_name name ∷ codes
 -- the line of a fault of the files
 abbrev pub job_line : JobFault → List ℕ
 job_line (fault.Graph found) = graph_line found.line found.kind
-job_line (fault.BadSample name number) = samples_line (string_bytes name) number
+job_line (fault.BadSample name number told) = samples_line (string_bytes name) number
 job_line fault.ReadFault = fault_line ReadFault
 job_line fault.OutOfMemory = fault_line OutOfMemory
 
 -- the status of a fault of the files
 abbrev pub job_status : JobFault → Status
 job_status (fault.Graph found) = GraphRefused
-job_status (fault.BadSample name number) = GraphRefused
+job_status (fault.BadSample name number told) = GraphRefused
 job_status fault.ReadFault = Failed
 job_status fault.OutOfMemory = Failed
 

@@ -35,7 +35,7 @@ pub fn end<E: Write, F: Files + Refuses>(
     ensures done { OnOk done.entry ((result ≡ Status.Done) × (faults.new ≡ faults.old)) }
     ensures status { IfErr done.entry (λ found. result ≡ failure_status found) }
     ensures quiet { result ≡ Status.Done → faults.new ≡ faults.old }
-    ensures told { IfErr done.entry (λ found. IsTold explain (F.file files.old) found
+    ensures told { IfErr done.entry (λ found. IsTold explain found
         (writer_state E.contents faults.old) (writer_state E.contents faults.new)) }
 {
     match done {
@@ -51,9 +51,9 @@ pub fn end<E: Write, F: Files + Refuses>(
 /// was expected there; a record that is no sample by where it stands, why it is none, and what a
 /// sample is; a file that was refused by its name and why, as far as the files tell; a name that no
 /// sink has by the sinks that there are; a value that is out of range by the line that declares its
-/// phaser or makes it, and the tasks that signal the phaser. The file of the record is read again
-/// for that, the files of all sources where tasks meet, and the graph's where a value is out of
-/// range. Where memory runs out over a fault of the files, that is told, and else nothing is said.
+/// phaser or makes it, and the tasks that signal the phaser. The files of all sources are read
+/// again for that where tasks meet, and the graph's where a value is out of range. Where memory
+/// runs out over a fault of the files, that is told, and else nothing is said.
 pub fn report<E: Write, F: Files + Refuses>(
     alloc: Global,
     failure: &Failure<'_>,
@@ -64,7 +64,7 @@ pub fn report<E: Write, F: Files + Refuses>(
 ) -> Status
     requires { HasPlace failure.now }
     ensures status { result ≡ failure_status failure.now }
-    ensures told { IsTold explain (F.file files.old) failure.now
+    ensures told { IsTold explain failure.now
         (writer_state E.contents faults.old) (writer_state E.contents faults.new) }
 {
     tell(failure, faults);
@@ -84,7 +84,7 @@ fn tell_more<E: Write, F: Files + Refuses>(
     files: &mut F,
 )
     requires { HasPlace failure.now }
-    ensures { SaysMore (F.file files.old) failure.now
+    ensures { SaysMore failure.now
         (writer_state E.contents faults.old) (writer_state E.contents faults.new) }
 {
     match failure {
@@ -117,7 +117,7 @@ fn further<F: Files + Refuses>(
     fault: &JobFault,
     files: &mut F,
 ) -> Result<Vec<u8>, AllocError>
-    ensures { IfOk result (λ more. Tells (F.file files.old) text.now fault.now more.items) }
+    ensures { IfOk result (λ more. Tells text.now fault.now more.items) }
 {
     match fault {
         JobFault::Graph(found) => {
@@ -125,9 +125,11 @@ fn further<F: Files + Refuses>(
             let place = meeting.as_ref().map(|met| met.place());
             explanation(alloc, text, *found, place)
         }
-        JobFault::BadSample { name, number } => {
-            record_explained(alloc, files, text, name.as_str(), *number)
-        }
+        JobFault::BadSample {
+            name: _,
+            number: _,
+            told,
+        } => record_explained(alloc, told),
         JobFault::ReadFault => match files.refused() {
             Some((name, why)) => refusal_explained(alloc, name, why),
             None => Ok(Vec::new(alloc)),

@@ -49,7 +49,7 @@ impl JobFault {
         ensures { result ≡ job_status self.now }
     {
         match self {
-            JobFault::Graph(_) | JobFault::BadSample { name: _, number: _ } => Status::GraphRefused,
+            JobFault::Graph(_) | JobFault::BadSample { .. } => Status::GraphRefused,
             JobFault::ReadFault | JobFault::OutOfMemory => Status::Failed,
         }
     }

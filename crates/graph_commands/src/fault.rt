@@ -17,6 +17,9 @@ pub enum JobFault {
         name: String,
         /// The number of the first such record, counted from 1.
         number: usize,
+        /// Where it stands and why it is none, as lines for a person; nothing where memory ran out
+        /// over them.
+        told: Option<Vec<u8>>,
     },
     /// A file could not be opened, a read failed, or it is longer than its limit.
     ReadFault,

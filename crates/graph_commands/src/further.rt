@@ -47,7 +47,8 @@ fn laid_out(alloc: Global, texts: &[Vec<u8>]) -> Result<Vec<u8>, AllocError>
     Ok(more)
 }
 
-/// Returns these texts, each as a line for a person, or nothing where memory ran out.
+/// Returns these texts, each as a line for a person behind two spaces, a question mark for each
+/// byte that is none of a line; or nothing where memory ran out.
 pub fn further_lines(alloc: Global, texts: Result<Vec<Vec<u8>>, AllocError>) -> Vec<u8>
     ensures { AreFurtherLines result.items }
 {
@@ -61,7 +62,7 @@ pub fn further_lines(alloc: Global, texts: Result<Vec<Vec<u8>>, AllocError>) -> 
 }
 
 /// Tells these bytes. Where a write fails there is nobody to be told.
-pub(crate) fn tell_bytes<E: Write>(bytes: &[u8], faults: &mut Watched<E>)
+pub fn tell_bytes<E: Write>(bytes: &[u8], faults: &mut Watched<E>)
     ensures { Says bytes.now
         (writer_state E.contents faults.old) (writer_state E.contents faults.new) }
 {

@@ -74,7 +74,11 @@ fn tell_job_fault<E: Write>(fault: &JobFault, faults: &mut Watched<E>)
 {
     match fault {
         JobFault::Graph(found) => tell_graph_fault(*found, faults),
-        JobFault::BadSample { name, number } => tell_bad_sample(name.as_str(), *number, faults),
+        JobFault::BadSample {
+            name,
+            number,
+            told: _,
+        } => tell_bad_sample(name.as_str(), *number, faults),
         JobFault::ReadFault => tell_io_fault(IoFault::ReadFault, faults),
         JobFault::OutOfMemory => tell_io_fault(IoFault::OutOfMemory, faults),
     }

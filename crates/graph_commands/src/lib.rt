@@ -45,6 +45,7 @@ pub use explained::{end, report};
 pub use failure::Failure;
 pub use fault::JobFault;
 pub use folders::{LooksBeside, look_by, path_beside};
+pub use further::{further_lines, tell_bytes};
 pub use graph_file::{GRAPH_MAX, read_graph_file};
 pub use graph_show::{graph_lang, watched_io};
 pub use job_file::read_job;

@@ -1,17 +1,11 @@
 //! What is said of a record that is no sample, from the text that it stands in.
-ghost use Rattle.std.specs.Prelude.{◌≡◌, ◌⊎◌, ◌<◌, ◌≤◌, ◌++◌, ◌&&◌, ℕ, List, [], Option, length, take, codes, decimal, IfOk, IfSome, OnOk, None};
-ghost use Rattle.graph_commands.specs.Explained.{HasNoSource, IsSourceFile, TellsPlace, TellsRecord, TellsSource, further_line, record_wanted, source_named};
+ghost use Rattle.std.specs.Prelude.{◌≡◌, ◌<◌, ◌≤◌, ◌++◌, ℕ, length, take, codes, decimal, IfOk, IfSome, OnOk, None};
+ghost use Rattle.graph_commands.specs.Explained.{TellsPlace, TellsRecord, further_line, record_wanted};
 ghost use Rattle.graph_commands.specs.Records.{IsStart, begins_at, is_end, line_at, up_to_end};
-ghost use Rattle.graph_show.specs.graph_base.Graphs.{is_source, name_at, task_at};
-ghost use Rattle.graph_show.specs.graph_base.declared.place.Place.TheVariants as place;
-ghost use Rattle.graph_show.specs.watched_io.Files.{HasBytes};
 ghost use Rattle.std.specs.List.{position_from};
-ghost use Rattle.std.specs.Str.{bytes_eq};
 
 use crate::further::put_line;
 use csv::{ByteRecord, ReaderBuilder};
-use graph_show::graph_lang::{Graph, GraphRefusal, Place, TEXT_MAX, read_graph};
-use graph_show::watched_io::{FileFault, Files};
 use itoa::Buffer;
 use std::alloc::{AllocError, Global};
 
@@ -194,38 +188,6 @@ fn record_fault(alloc: Global, text: &[u8], number: usize) -> Result<&'static st
     Ok(field_fault(field))
 }
 
-/// Whether task number `t` is the source of this name.
-fn is_source_of(graph: &Graph, t: usize, name: &str) -> bool
-    requires { t < length graph.now.tasks }
-    ensures { result ≡ (is_source (task_at graph.now t).kind
-        && bytes_eq (name_at graph.now (place.Task t)) name.now) }
-{
-    graph.is_source(t) && graph.name(Place::Task(t)) == name
-}
-
-/// The number of the task that is the source of this name, where a graph has one.
-fn find_source(graph: &Graph, name: &str) -> Option<usize>
-    ensures { result ≡ source_named graph.now name.now }
-{
-    for t in 0..graph.tasks() {
-        if is_source_of(graph, t, name) {
-            return Some(t);
-        }
-    }
-    None
-}
-
-/// The file of the source of this name, where a graph has one.
-fn source_file<'a>(graph: &'a Graph, name: &str) -> Option<&'a str>
-    ensures some { IfSome result (λ file. IsSourceFile graph.now name.now file.now) }
-    ensures none { result ≡ None → source_named graph.now name.now ≡ None }
-{
-    match find_source(graph, name) {
-        Some(t) => Some(graph.file(graph.source_number(t))),
-        None => None,
-    }
-}
-
 /// Puts the number of a record and its place behind the name of its file, as a line for a person.
 fn put_place(
     alloc: Global,
@@ -260,15 +222,16 @@ fn line_text(alloc: Global, line: usize, shown: &[u8]) -> Result<Vec<u8>, AllocE
     Ok(text)
 }
 
-/// Tells the place of a record in these samples and why it is no sample, as lines for a person.
-fn place_told(
+/// Tells record number `number` of a file, counted from 1, which is no sample, by the file's text:
+/// where it stands and why it is none, as lines for a person. Where the text has no such record,
+/// its line is not told. It takes memory for the lines.
+pub(crate) fn record_told(
     alloc: Global,
     file: &str,
     number: usize,
     samples: &[u8],
 ) -> Result<Vec<u8>, AllocError>
-    ensures { IfOk result (λ front. (known : Option (List ℕ)) → HasBytes known samples.now
-        → TellsPlace known file.now number front.items) }
+    ensures { IfOk result (λ front. TellsPlace samples.now file.now number front.items) }
 {
     let mut front = Vec::new(alloc);
     let Some(at) = start_of(samples, number) else {
@@ -285,50 +248,6 @@ fn place_told(
     Ok(front)
 }
 
-/// Tells the place of a record in a file, which is read for that, as lines for a person.
-fn place_in_file<F: Files>(
-    alloc: Global,
-    files: &mut F,
-    file: &str,
-    number: usize,
-) -> Result<Vec<u8>, AllocError>
-    ensures { IfOk result (λ front.
-        TellsPlace (F.file files.old file.now) file.now number front.items) }
-{
-    match files.read(alloc, file, TEXT_MAX) {
-        Ok(samples) => place_told(alloc, file, number, &samples),
-        Err(FileFault::ReadFault) => {
-            let mut front = Vec::new(alloc);
-            put_place(alloc, &mut front, file, number, b"")?;
-            Ok(front)
-        }
-        Err(FileFault::OutOfMemory) => Err(AllocError),
-    }
-}
-
-/// Tells the place of a record of a source, whose file the graph's text declares, as lines for a
-/// person: nothing where it declares no such source.
-fn place_of_source<F: Files>(
-    alloc: Global,
-    files: &mut F,
-    text: &[u8],
-    source: &str,
-    number: usize,
-) -> Result<Vec<u8>, AllocError>
-    ensures { IfOk result (λ front.
-        TellsSource (F.file files.old) text.now source.now number front.items
-        ⊎ ((front.items ≡ []) × HasNoSource text.now source.now)) }
-{
-    match read_graph(alloc, text) {
-        Ok(graph) => match source_file(&graph, source) {
-            Some(file) => place_in_file(alloc, files, file, number),
-            None => Ok(Vec::new(alloc)),
-        },
-        Err(GraphRefusal::Fault(_)) => Ok(Vec::new(alloc)),
-        Err(GraphRefusal::OutOfMemory) => Err(AllocError),
-    }
-}
-
 /// Puts what a sample is behind a text.
 fn put_wanted(more: &mut Vec<u8>) -> Result<(), AllocError>
     ensures { OnOk result (more.new.items ≡ more.old.items ++ record_wanted) }
@@ -338,20 +257,15 @@ fn put_wanted(more: &mut Vec<u8>) -> Result<(), AllocError>
     )
 }
 
-/// Explains that record number `number` of a source is no sample, as lines for a person: the file,
-/// the record and its line, why it is none, and what a sample is. The file is read again for that.
-/// Where it is refused now, or has no such record, its line is not told.
-pub(crate) fn record_explained<F: Files>(
-    alloc: Global,
-    files: &mut F,
-    text: &[u8],
-    source: &str,
-    number: usize,
-) -> Result<Vec<u8>, AllocError>
-    ensures { IfOk result (λ more.
-        TellsRecord (F.file files.old) text.now source.now number more.items) }
+/// Explains that a record is no sample, as lines for a person: where it stands and why it is none,
+/// as it was told, and what a sample is. Where memory ran out over that, or does now, it fails.
+pub(crate) fn record_explained(alloc: Global, told: &Option<Vec<u8>>) -> Result<Vec<u8>, AllocError>
+    ensures { IfOk result (λ more. TellsRecord told.now more.items) }
 {
-    let mut more = place_of_source(alloc, files, text, source, number)?;
+    let Some(front) = told else {
+        return Err(AllocError);
+    };
+    let mut more = Vec::from_slice(alloc, front.as_slice())?;
     put_wanted(&mut more)?;
     Ok(more)
 }

@@ -2,18 +2,48 @@
 ghost use Rattle.std.specs.Prelude.{◌≡◌, ◌<◌, ◌≤◌, ℕ, List, length, true, IfOk, IfErr};
 ghost use Rattle.std.specs.List.{All};
 ghost use Rattle.graph_show.specs.phase_accum.Sends.{AreSends};
-ghost use Rattle.graph_show.specs.graph_lang.Samples.{AreSamplesOf};
+ghost use Rattle.graph_show.specs.graph_lang.Samples.{AreSamplesOf, IsBadShortSample};
 ghost use Rattle.graph_show.specs.graph_lang.declared.sample.TheConstants.{TEXT_MAX};
 ghost use Rattle.graph_show.specs.graph_base.Graphs.{source_number, sources_of};
+ghost use Rattle.graph_show.specs.watched_io.Files.{HasBytes};
 ghost use Rattle.stream_eval.specs.stream_lists.JobFields.{items_of};
-ghost use Rattle.graph_commands.specs.FileJobs.{AreFirstSamples, AreSamples, Explains, IsGraphOf, IsReached, file_of};
+ghost use Rattle.graph_commands.specs.FileJobs.{AreFirstSamples, AreSamples, Explains, IsGraphOf, IsReached, Known, file_of};
 
 use crate::JobFault;
-use graph_show::graph_lang::{Graph, Place, SampleFault, SampleTexts, read_sample_file};
+use crate::records::record_told;
+use graph_show::graph_lang::{Graph, Place, SampleFault, SampleTexts, TEXT_MAX};
 use graph_show::watched_io::Files;
 use std::alloc::Global;
 
-/// Reads the samples of task number `t`, which is source number `source`.
+/// Why task number `t`, which is source number `source`, has no samples, where this record of its
+/// file's text is none.
+fn bad_sample(
+    alloc: Global,
+    graph: &Graph,
+    t: usize,
+    source: usize,
+    number: usize,
+    text: &[u8],
+) -> JobFault
+    requires task { t < length graph.now.tasks }
+    requires source { source < sources_of graph.now }
+    requires number { source ≡ source_number graph.now.tasks t }
+    requires bad { IsBadShortSample number text.now }
+    ensures { (known : Known) (name : List ℕ) → IsReached known name graph.now t
+        → HasBytes (known (file_of graph.now t)) text.now → Explains known name result }
+{
+    match String::from_str(alloc, graph.name(Place::Task(t))) {
+        Ok(name) => JobFault::BadSample {
+            name,
+            number,
+            told: record_told(alloc, graph.file(source), number, text).ok(),
+        },
+        Err(_) => JobFault::OutOfMemory,
+    }
+}
+
+/// Reads the samples of task number `t`, which is source number `source`, the whole file before the
+/// first record.
 fn read_source<F: Files, T: SampleTexts>(
     alloc: Global,
     files: &mut F,
@@ -34,13 +64,11 @@ fn read_source<F: Files, T: SampleTexts>(
         → IsReached (F.file files.old) name graph.now t → Explains (F.file files.old) name fault) }
     ensures same { (other : List ℕ) → F.file files.new other ≡ F.file files.old other }
 {
-    match read_sample_file(alloc, files, texts, graph.file(source)) {
+    let text = files.read(alloc, graph.file(source), TEXT_MAX)?;
+    match texts.samples(alloc, text.as_slice()) {
         Ok(values) => Ok(values),
         Err(SampleFault::BadSample { number }) => {
-            match String::from_str(alloc, graph.name(Place::Task(t))) {
-                Ok(name) => Err(JobFault::BadSample { name, number }),
-                Err(_) => Err(JobFault::OutOfMemory),
-            }
+            Err(bad_sample(alloc, graph, t, source, number, text.as_slice()))
         }
         Err(SampleFault::ReadFault) => Err(JobFault::ReadFault),
         Err(SampleFault::OutOfMemory) => Err(JobFault::OutOfMemory),

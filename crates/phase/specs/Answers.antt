@@ -1,5 +1,5 @@
 -- How the commands answer their words: which statuses may come, what is written, and what is told.
-use Rattle.std.specs.Prelude.{◌≡◌, ◌⊎◌, ℕ, List, [], Option}
+use Rattle.std.specs.Prelude.{◌≡◌, ◌⊎◌, ℕ, Bool, List, [], Option}
 use Rattle.clap.specs.Words.{Kinds, Text}
 use Rattle.phase_commands.specs.Ends.{EndsAs, LeavesAlone, MayEndAsked}
 use Rattle.phase_commands.specs.graph_commands.FileJobs.{Known}
@@ -9,11 +9,12 @@ use Rattle.phase_commands.specs.graph_commands.watched_io.declared.watched.Watch
 use Rattle.phase_commands.specs.phase_replay.Replays.{ReplayEnds}
 use Rattle.phase_commands.specs.phase_words.Answers.{AnswerEnds, IsUnbegun, MayEnd}
 use Rattle.phase_commands.specs.phase_words.CommandLine.{Asked, AskReplay, Asks, kinds_of}
-use Rattle.phase_commands.specs.phase_words.RunLine.{AsksRun, Run, run_kinds_of}
+use Rattle.phase_commands.specs.phase_words.RunLine.{AsksRun, AsksWorkers, Run, run_kinds_of, workers_kinds_of}
 use Rattle.phase_commands.specs.phase_words.StreamLine.{AsksStream, Stream, stream_kinds_of}
 use Rattle.phase_run.specs.phase_eval.Ends.{EndsAsEval, MayEndAsEval}
-use Rattle.phase_run.specs.Ends.{EndsAsRun, MayEndAsRun}
-use Rattle.phase_stream.specs.Ends.{EndsAsStream, MayEndAsStream}
+use Rattle.phase_run.specs.Ends.{AskNoCounts, EndsAsRun, MayEndAsRun}
+use Rattle.phase_stream.specs.Ends.{EndsAsAsked, EndsAsStream, MayEndAsStream}
+use Rattle.phase.specs.Ways.{run, way_of}
 
 -- ---- any command
 
@@ -39,11 +40,15 @@ RunAnswers words known contents status closed files old new before after =
     (λ (what : Run). EndsAsRun what known contents status old new before after)
     status closed files old new before after
 
+-- where the words are for a run, they ask for no counts
+abbrev pub AsksNoCounts : List Text → Type 0
+AsksNoCounts words = (own : List Text) → way_of words ≡ run own → AskNoCounts own
+
 -- `eval` by workers answers the words behind its name
 abbrev pub EvalAnswers : {F W : Type 0} → List Text → Known → (W → Option (List ℕ)) → Status
     → F → F → Watched W → Watched W → WriterState → WriterState → Type 0
 EvalAnswers words known contents status closed files old new before after =
-    Answers (run_kinds_of words) MayEndAsEval (AsksRun words)
+    Answers (workers_kinds_of words) MayEndAsEval (AsksWorkers words)
     (λ (what : Run). EndsAsEval what known contents status old new before after)
     status closed files old new before after
 
@@ -53,6 +58,16 @@ abbrev pub StreamAnswers : {F W : Type 0} → List Text → Known → (W → Opt
 StreamAnswers words known contents status closed files old new before after =
     Answers (stream_kinds_of words) MayEndAsStream (AsksStream words)
     (λ (what : Stream). EndsAsStream what known contents status old new before after)
+    status closed files old new before after
+
+-- and so it does what it writes to the files of sinks
+abbrev pub SinksAnswer : {F W V : Type 0} → List Text → Known → Bool → (W → Option (List ℕ))
+    → (V → Option (List ℕ)) → Status → F → F → Watched W → Watched W → List (Watched V)
+    → WriterState → WriterState → Type 0
+SinksAnswer words known knows of_output of_file status closed files old new made before after =
+    Answers (stream_kinds_of words) MayEndAsStream (AsksStream words)
+    (λ (what : Stream). EndsAsAsked what known knows of_output of_file status old new made
+    before after)
     status closed files old new before after
 
 -- the others answer all the words: a replay of the input ends as one also where memory ran out, a

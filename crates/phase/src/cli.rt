@@ -1,10 +1,12 @@
 //! A run of the program over any input, outputs and files.
 ghost use Rattle.std.specs.Prelude.{◌≡◌, ◌≢◌, List};
 ghost use Rattle.clap.specs.Words.{Text};
-ghost use Rattle.phase.specs.Answers.{EvalAnswers, OthersAnswer, RunAnswers, StreamAnswers};
+ghost use Rattle.phase.specs.Answers.{AsksNoCounts, EvalAnswers, OthersAnswer, RunAnswers};
+ghost use Rattle.phase.specs.Answers.{SinksAnswer, StreamAnswers};
 ghost use Rattle.phase.specs.Standing.{own_texts};
 ghost use Rattle.phase.specs.Ways.{by_workers, others, run, stream, way_of};
 ghost use Rattle.phase_commands.specs.graph_commands.watched_io.States.{writer_state};
+ghost use Rattle.phase_run.specs.Ends.{AskNoCounts};
 ghost use Rattle.phase_commands.specs.phase_words.Answers.{IsAnswer};
 ghost use Rattle.phase_commands.specs.phase_words.CommandLine.{texts};
 
@@ -18,6 +20,7 @@ use std::alloc::Global;
 use std::io::{Read, Write};
 use std::sync::Wait;
 use std::thread::Threads;
+use std::time::Clock;
 
 /// Runs the program on its words, without its own name, and answers its status: that of `run` or of
 /// `stream` on the words behind its name, of `eval` by workers on those behind its name where one
@@ -25,9 +28,10 @@ use std::thread::Threads;
 /// `run --help` does, and `help stream` for what `stream --help` does.
 ///
 /// A run waits, and it is not promised that it comes back. A stream comes back where each call of
-/// its readers and writers does.
+/// its readers and writers does. The writers of the files that it makes for sinks are left in
+/// `made`.
 pub fn run_cli<
-    H: Threads + Wait + Sync,
+    H: Threads + Wait + Clock + Sync,
     R: Read,
     W: Write,
     E: Write,
@@ -38,6 +42,7 @@ pub fn run_cli<
     words: &[String],
     input: &mut Watched<R>,
     streams: &mut Streams<W, E, F>,
+    made: &mut Vec<Watched<F::Writer>>,
 ) -> Status
     // How each command answers, by the words.
     ensures run { (own : List Text) → way_of (texts words.now) ≡ run own
@@ -48,6 +53,11 @@ pub fn run_cli<
     ensures stream { (own : List Text) → way_of (texts words.now) ≡ stream own
         → StreamAnswers own (F.file streams.old.files) W.contents result
         streams.old.files streams.new.files streams.old.output streams.new.output
+        (writer_state E.contents streams.old.faults)
+        (writer_state E.contents streams.new.faults) }
+    ensures sinks { (own : List Text) → way_of (texts words.now) ≡ stream own
+        → SinksAnswer own (F.file streams.old.files) F.knows W.contents F.Writer.contents result
+        streams.old.files streams.new.files streams.old.output streams.new.output made.new.items
         (writer_state E.contents streams.old.faults)
         (writer_state E.contents streams.new.faults) }
     ensures eval { (own : List Text) → way_of (texts words.now) ≡ by_workers own
@@ -64,18 +74,19 @@ pub fn run_cli<
 
     // That the input is left to the files by a run and by a stream.
     ensures unread { way_of (texts words.now) ≢ others → input.new ≡ input.old }
-    ensures quiet { result ≡ Status.Done → streams.new.faults ≡ streams.old.faults }
+    ensures quiet { result ≡ Status.Done → AsksNoCounts (texts words.now)
+        → streams.new.faults ≡ streams.old.faults }
 {
     match way_of(words) {
         Way::Run(own) => run_own(rt, alloc, own, streams),
-        Way::Stream(own) => stream_own(alloc, own, streams),
+        Way::Stream(own) => stream_own(alloc, own, streams, made),
         Way::Eval(words) => eval_own(rt, alloc, words, streams),
         Way::Others => phase_commands::run_cli(alloc, words, input, streams),
     }
 }
 
 /// Runs a graph by the words of `run`.
-fn run_own<H: Threads + Wait + Sync, W: Write, E: Write, F: Opens + Refuses + LooksBeside>(
+fn run_own<H: Threads + Wait + Clock + Sync, W: Write, E: Write, F: Opens + Refuses + LooksBeside>(
     rt: &H,
     alloc: Global,
     own: Own<'_>,
@@ -85,7 +96,8 @@ fn run_own<H: Threads + Wait + Sync, W: Write, E: Write, F: Opens + Refuses + Lo
         streams.old.files streams.new.files streams.old.output streams.new.output
         (writer_state E.contents streams.old.faults)
         (writer_state E.contents streams.new.faults) }
-    ensures quiet { result ≡ Status.Done → streams.new.faults ≡ streams.old.faults }
+    ensures quiet { result ≡ Status.Done → AskNoCounts (own_texts own.entry)
+        → streams.new.faults ≡ streams.old.faults }
 {
     match own {
         Own::Behind(words) => phase_run::run_cli(rt, alloc, words, streams),
@@ -117,17 +129,23 @@ fn stream_own<W: Write, E: Write, F: Opens + Refuses + LooksBeside>(
     alloc: Global,
     own: Own<'_>,
     streams: &mut Streams<W, E, F>,
+    made: &mut Vec<Watched<F::Writer>>,
 ) -> Status
     ensures answers { StreamAnswers (own_texts own.entry) (F.file streams.old.files) W.contents
         result streams.old.files streams.new.files streams.old.output streams.new.output
         (writer_state E.contents streams.old.faults)
         (writer_state E.contents streams.new.faults) }
+    ensures sinks { SinksAnswer (own_texts own.entry) (F.file streams.old.files) F.knows
+        W.contents F.Writer.contents result streams.old.files streams.new.files
+        streams.old.output streams.new.output made.new.items
+        (writer_state E.contents streams.old.faults)
+        (writer_state E.contents streams.new.faults) }
     ensures quiet { result ≡ Status.Done → streams.new.faults ≡ streams.old.faults }
 {
     match own {
-        Own::Behind(words) => phase_stream::run_cli(alloc, words, streams),
+        Own::Behind(words) => phase_stream::run_cli(alloc, words, streams, made),
         Own::Help => match help_word(alloc) {
-            Ok(words) => phase_stream::run_cli(alloc, words.as_slice(), streams),
+            Ok(words) => phase_stream::run_cli(alloc, words.as_slice(), streams, made),
             Err(_) => out_of_memory(streams),
         },
     }

@@ -37,6 +37,14 @@ fn main(rt: HostRuntime) -> ExitCode {
         faults,
         files: StreamFiles::new(&rt, rt.stdin()),
     };
-    let status = run_cli(&rt, rt.alloc(), words.as_slice(), &mut input, &mut streams);
+    let mut made = Vec::new(rt.alloc());
+    let status = run_cli(
+        &rt,
+        rt.alloc(),
+        words.as_slice(),
+        &mut input,
+        &mut streams,
+        &mut made,
+    );
     ExitCode::from(status.code())
 }

@@ -3,7 +3,7 @@ ghost use Rattle.std.specs.Prelude.{◌≡◌, ◌⊎◌};
 ghost use Rattle.phase_eval.specs.Ends.{EndsAsEval, MayEndAsEval};
 ghost use Rattle.phase_words.specs.Answers.{AnswerEnds, IsUnbegun, MayEnd};
 ghost use Rattle.phase_words.specs.CommandLine.{texts};
-ghost use Rattle.phase_words.specs.RunLine.{AreRunTaken, AsksRun, Run, run_kinds_of, run_of};
+ghost use Rattle.phase_words.specs.RunLine.{AreWorkersTaken, AsksWorkers, Run, run_of, workers_kinds_of};
 ghost use Rattle.graph_commands.specs.watched_io.States.{writer_state};
 
 use crate::texts::ByThreads;
@@ -29,11 +29,11 @@ pub fn run_cli<H: Threads + Sync, W: Write, E: Write, F: Files + Refuses + Looks
     streams: &mut Streams<W, E, F>,
 ) -> Status
     // Which statuses may come, by what the words ask for.
-    ensures status { MayEnd (run_kinds_of (texts words.now)) MayEndAsEval result }
+    ensures status { MayEnd (workers_kinds_of (texts words.now)) MayEndAsEval result }
 
     // What an evaluation of a graph wrote, whole or up to a fault, why there is no other answer,
     // and what is said further where that is asked for.
-    ensures eval { (what : Run) → AsksRun (texts words.now) what
+    ensures eval { (what : Run) → AsksWorkers (texts words.now) what
         → IsUnbegun result streams.old.files streams.new.files
         streams.old.output streams.new.output
         (writer_state E.contents streams.old.faults) (writer_state E.contents streams.new.faults)
@@ -43,12 +43,12 @@ pub fn run_cli<H: Threads + Sync, W: Write, E: Write, F: Files + Refuses + Looks
         (writer_state E.contents streams.new.faults) }
 
     // How other words are answered, and that they open no file.
-    ensures answered { (AreRunTaken (texts words.now) → ⊥)
-        → AnswerEnds (run_kinds_of (texts words.now)) result
+    ensures answered { (AreWorkersTaken (texts words.now) → ⊥)
+        → AnswerEnds (workers_kinds_of (texts words.now)) result
         streams.old.output streams.new.output
         (writer_state E.contents streams.old.faults)
         (writer_state E.contents streams.new.faults) }
-    ensures unopened { (AreRunTaken (texts words.now) → ⊥)
+    ensures unopened { (AreWorkersTaken (texts words.now) → ⊥)
         → streams.new.files ≡ streams.old.files }
     ensures quiet { result ≡ Status.Done → streams.new.faults ≡ streams.old.faults }
 {

@@ -15,7 +15,7 @@ use Rattle.stream_workers.specs.graph_commands.watched_io.declared.status.Status
 
 job-ends : (found : JobFault) → MayEndAsRun (job_status found)
 job-ends (fault.Graph found) = inr (inl refl)
-job-ends (fault.BadSample name number) = inr (inl refl)
+job-ends (fault.BadSample name number told) = inr (inl refl)
 job-ends fault.ReadFault = inr (inr (inr (inr refl)))
 job-ends fault.OutOfMemory = inr (inr (inr (inr refl)))
 

@@ -1,10 +1,12 @@
 -- How a run of the program may end, by what its words ask for.
-use Rattle.std.specs.Prelude.{◌≡◌, ◌⊎◌, ℕ, List, Option}
+use Rattle.std.specs.Prelude.{◌≡◌, ◌⊎◌, ℕ, Bool, true, false, List, Option}
 use Rattle.phase_run.specs.Runs.{RunEnds}
-use Rattle.phase_eval.specs.phase_words.RunLine.{Run}
+use Rattle.phase_eval.specs.phase_words.RunLine.{AreRunTaken, Run, run_in}
+use Rattle.stream_workers.specs.graph_commands.Explained.{AreFurtherLines}
 use Rattle.stream_workers.specs.graph_commands.FileJobs.{Known}
 use Rattle.stream_workers.specs.graph_commands.Folders.{known_by}
 use Rattle.stream_workers.specs.graph_commands.watched_io.States.{WriterState}
+use Rattle.stream_workers.specs.graph_commands.watched_io.Statuses.{Says}
 use Rattle.stream_workers.specs.graph_commands.watched_io.declared.status.Status.{Status}
 use Rattle.stream_workers.specs.graph_commands.watched_io.declared.status.Status.TheVariants.{Done, Failed, GraphRefused, Stalled, TooBig}
 use Rattle.stream_workers.specs.graph_commands.watched_io.declared.watched.Watched.{Watched}
@@ -15,9 +17,24 @@ MayEndAsRun status =
     (status ≡ Done) ⊎ ((status ≡ GraphRefused) ⊎ ((status ≡ TooBig) ⊎ ((status ≡ Stalled)
     ⊎ (status ≡ Failed))))
 
+-- lines for a person were told
+pub record TellsLines (before after : WriterState) : Type 0 where
+  pub lines : List ℕ
+  pub are : AreFurtherLines lines
+  pub says : Says lines before after
+
+-- behind all values nothing is told, or what each task did, where that is asked for
+abbrev pub TellsCounts : Bool → WriterState → WriterState → Type 0
+TellsCounts false before after = after ≡ before
+TellsCounts true before after = TellsLines before after
+
 -- how the run that words ask for ends
-abbrev pub EndsAsRun : {W : Type 0} → Run → Known → (W → Option (List ℕ)) → Status
-    → Watched W → Watched W → WriterState → WriterState → Type 0
-EndsAsRun what known contents status old new before after =
-    RunEnds what.explain (known_by what.beside what.graph known) what.graph what.sink status
-    contents old new before after
+pub record EndsAsRun {W : Type 0} (what : Run) (known : Known) (contents : W → Option (List ℕ))
+    (status : Status) (old new : Watched W) (before after : WriterState) : Type 0 where
+  pub ends : RunEnds what.explain (known_by what.beside what.graph known) what.graph what.sink
+      status contents old new before after
+  pub counts : status ≡ Done → TellsCounts what.counts before after
+
+-- words that are taken ask for no counts
+abbrev pub AskNoCounts : List (List ℕ) → Type 0
+AskNoCounts words = AreRunTaken words → (run_in words).counts ≡ false

@@ -68,6 +68,6 @@ RunFails known name asked contents old new found =
 abbrev pub RunEnds : {W : Type 0} → Explain → Known → List ℕ → Option (List ℕ) → Status
     → (W → Option (List ℕ)) → Watched W → Watched W → WriterState → WriterState → Type 0
 RunEnds explain known name asked status contents old new before after =
-    EndsBy explain known
+    EndsBy explain
     (Runs known name asked (writer_state contents old) (writer_state contents new))
     (RunFails known name asked contents old new) status before after

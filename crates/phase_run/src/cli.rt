@@ -1,9 +1,10 @@
 //! A run of the program over any outputs and files.
-ghost use Rattle.std.specs.Prelude.{◌≡◌, ◌⊎◌};
-ghost use Rattle.phase_run.specs.Ends.{EndsAsRun, MayEndAsRun};
+ghost use Rattle.std.specs.Prelude.{◌≡◌, ◌⊎◌, false};
+ghost use Rattle.phase_run.specs.Ends.{AskNoCounts, EndsAsRun, MayEndAsRun, TellsCounts};
 ghost use Rattle.phase_eval.specs.phase_words.Answers.{AnswerEnds, IsUnbegun, MayEnd};
 ghost use Rattle.phase_eval.specs.phase_words.CommandLine.{texts};
 ghost use Rattle.phase_eval.specs.phase_words.RunLine.{AreRunTaken, AsksRun, Run, run_kinds_of, run_of};
+ghost use Rattle.stream_workers.specs.graph_commands.Explained.{AreFurtherLines};
 ghost use Rattle.stream_workers.specs.graph_commands.watched_io.States.{writer_state};
 
 use crate::graph_run::run;
@@ -12,8 +13,9 @@ use std::alloc::Global;
 use std::io::Write;
 use std::sync::Wait;
 use std::thread::Threads;
-use stream_workers::graph_commands::watched_io::{Files, Status, Streams};
-use stream_workers::graph_commands::{LooksBeside, Refuses, end, look_by};
+use std::time::Clock;
+use stream_workers::graph_commands::watched_io::{Files, Status, Streams, Watched};
+use stream_workers::graph_commands::{LooksBeside, Refuses, look_by, report, tell_bytes};
 
 /// Runs the program on its words, those behind `phase run`, and answers its status: `Done` where
 /// the graph was run, or help or the version was shown, `GraphRefused` where the graph or its
@@ -21,14 +23,15 @@ use stream_workers::graph_commands::{LooksBeside, Refuses, end, look_by};
 /// refused, `TooBig` where a value of the graph is out of range, `Stalled` where every task that is
 /// left waits for another, and `Failed` after a fault.
 ///
-/// A refusal's text goes to the fault stream, and so does a fault's line. Where that stream fails
-/// too, the status stands alone. A run waits, and it is not promised that it comes back.
-pub fn run_cli<H: Threads + Wait + Sync, W: Write, E: Write, F: Files + Refuses + LooksBeside>(
-    rt: &H,
-    alloc: Global,
-    words: &[String],
-    streams: &mut Streams<W, E, F>,
-) -> Status
+/// A refusal's text goes to the fault stream, and so does a fault's line, and what each task did
+/// where the words ask for that, behind all values. Where that stream fails too, the status stands
+/// alone. A run waits, and it is not promised that it comes back.
+pub fn run_cli<
+    H: Threads + Wait + Clock + Sync,
+    W: Write,
+    E: Write,
+    F: Files + Refuses + LooksBeside,
+>(rt: &H, alloc: Global, words: &[String], streams: &mut Streams<W, E, F>) -> Status
     // Which statuses may come, by what the words ask for.
     ensures status { MayEnd (run_kinds_of (texts words.now)) MayEndAsRun result }
 
@@ -51,7 +54,8 @@ pub fn run_cli<H: Threads + Wait + Sync, W: Write, E: Write, F: Files + Refuses 
         (writer_state E.contents streams.new.faults) }
     ensures unopened { (AreRunTaken (texts words.now) → ⊥)
         → streams.new.files ≡ streams.old.files }
-    ensures quiet { result ≡ Status.Done → streams.new.faults ≡ streams.old.faults }
+    ensures quiet { result ≡ Status.Done → AskNoCounts (texts words.now)
+        → streams.new.faults ≡ streams.old.faults }
 {
     match read_run_words(alloc, words) {
         Ok(call) => run_call(rt, alloc, call, streams),
@@ -60,7 +64,7 @@ pub fn run_cli<H: Threads + Wait + Sync, W: Write, E: Write, F: Files + Refuses 
 }
 
 /// Runs a graph as a call asks for it, reports why there is no answer, and answers the status.
-fn run_call<H: Threads + Wait + Sync, W: Write, E: Write, F: Files + Refuses + LooksBeside>(
+fn run_call<H: Threads + Wait + Clock + Sync, W: Write, E: Write, F: Files + Refuses + LooksBeside>(
     rt: &H,
     alloc: Global,
     call: RunCall<'_>,
@@ -71,18 +75,35 @@ fn run_call<H: Threads + Wait + Sync, W: Write, E: Write, F: Files + Refuses + L
         streams.old.output streams.new.output
         (writer_state E.contents streams.old.faults)
         (writer_state E.contents streams.new.faults) }
-    ensures quiet { result ≡ Status.Done → streams.new.faults ≡ streams.old.faults }
+    ensures quiet { result ≡ Status.Done → call.entry.counts ≡ false
+        → streams.new.faults ≡ streams.old.faults }
 {
-    let graph = call.graph;
-    let explain = call.explain;
+    let (graph, explain, counts) = (call.graph, call.explain, call.counts);
     look_by(alloc, &mut streams.files, call.beside, graph);
-    let done = run(rt, alloc, call, &mut streams.output, &mut streams.files);
-    end(
-        alloc,
-        done,
-        graph,
-        explain,
-        &mut streams.faults,
-        &mut streams.files,
-    )
+    match run(rt, alloc, call, &mut streams.output, &mut streams.files) {
+        Ok(lines) => {
+            tell_counts(counts, &lines, &mut streams.faults);
+            Status::Done
+        }
+        Err(failure) => report(
+            alloc,
+            &failure,
+            graph,
+            explain,
+            &mut streams.faults,
+            &mut streams.files,
+        ),
+    }
+}
+
+/// Tells what each task did, where that is asked for.
+fn tell_counts<E: Write>(is_asked: bool, lines: &[u8], faults: &mut Watched<E>)
+    requires { AreFurtherLines lines.now }
+    ensures told { TellsCounts is_asked
+        (writer_state E.contents faults.old) (writer_state E.contents faults.new) }
+    ensures quiet { is_asked ≡ false → faults.new ≡ faults.old }
+{
+    if is_asked {
+        tell_bytes(lines, faults);
+    }
 }

@@ -10,6 +10,7 @@
 #![tactic(auto)]
 
 mod cli;
+mod counts;
 mod graph_run;
 pub mod laws;
 

@@ -1,17 +1,19 @@
 -- A session before its first read.
 use Rattle.std.proofs.Common.{◌≡◌, ℕ, ℤ, zero, suc, List, [], ◌∷◌, Option, false, get_or, map, refl, sym, subst}
-use Rattle.std.proofs.KnownBytes.{Appends-nil}
-use Rattle.std.specs.List.{range_with_len}
+use Rattle.std.specs.Io.KnownBytes.{Appends}
+use Rattle.std.specs.List.{flat_map, range_with_len}
 use Rattle.graph_commands.specs.FileJobs.{Known}
+use Rattle.graph_commands.specs.OutputTexts.{value_text}
 use Rattle.stream_job.specs.Machines.{none_given}
 use Rattle.stream_job.specs.Streams.{IsSourceAt, none_came}
 use Rattle.stream_job.specs.graph_base.Graphs.{file_at, sources_of}
 use Rattle.stream_job.specs.graph_runs.Beginnings.{opening}
 use Rattle.stream_job.specs.stream_lists.Jobs.{Job}
-use Rattle.phase_stream.specs.Sessions.{IsStreamAtOpening, StandsBy}
+use Rattle.phase_stream.specs.Sessions.{IsStreamAtOpening, StandsBy, task_for}
 use Rattle.phase_stream.specs.Sources.{AreUnopened, HasComeOf, IsSource}
 use Rattle.phase_stream.specs.declared.session.Session.{Session}
 use Rattle.phase_stream.proofs.Reading.{nothing_came}
+use Rattle.phase_stream.proofs.Targets.{none_values}
 
 -- no source has samples
 none_of : (xs : List ℕ) (k : ℕ) → get_or (map {B = List ℤ} (λ x. []) xs) k [] ≡ []
@@ -20,10 +22,11 @@ none_of (x ∷ xs) zero = refl
 none_of (x ∷ xs) (suc k) = none_of xs k
 
 pub stands_first : {R : Type 0} (remaining : R → Option (List ℕ)) (held : Known)
-    (old : Option (List ℕ)) (session : Session R) (job : Job) → IsStreamAtOpening session.stream
+    (old now : ℕ → Option (List ℕ)) (session : Session R) (job : Job)
+    → IsStreamAtOpening session.stream
     → job ≡ session.stream.job → AreUnopened remaining held job session.sources.items
-    → StandsBy remaining held old old session
-stands_first {R} remaining held old session job opened same sources = record {
+    → ((k : ℕ) → Appends (old k) (now k) []) → StandsBy remaining held old now session
+stands_first {R} remaining held old now session job opened same sources bare = record {
   samples = none_came session.stream.job;
   moment = opening session.stream.job;
   given = none_given;
@@ -43,5 +46,6 @@ stands_first {R} remaining held old session job opened same sources = record {
             (sym (none_of (range_with_len 0 (sources_of session.stream.job.graph)) k))
             (subst (λ (j : Job). IsSource remaining (held (file_at j.graph k)) [] source) same it.1),
       );
-  written = Appends-nil old;
+  written = λ k. subst (λ l. Appends (old k) (now k) (flat_map value_text l))
+      (sym (none_values (task_for session.targets.items k))) (bare k);
 }

@@ -1,6 +1,8 @@
 -- How a stream ends, by what its parts answered.
-use Rattle.std.proofs.Common.{◌≡◌, ◌≢◌, inl, inr, ℕ, List, Option, Ok, Err, refl, sym, subst, ◌∙◌}
+use Rattle.std.proofs.Common.{◌≡◌, ◌≢◌, ◌⊎◌, ◌≤◌, ◌+◌, inl, inr, ℕ, zero, suc, Bool, true, false, List, [], ◌∷◌, Option, Some, None, Ok, Err, length, slice_get, refl, sym, ap, subst, ◌∙◌, arith}
+use Rattle.std.proofs.KnownBytes.{Appends-nil}
 use Rattle.std.specs.Prelude.{IfErr, OnOk}
+use Rattle.std.specs.Io.KnownBytes.{Appends, Keeps}
 use Rattle.std.specs.declared.result.Result.{Result}
 use Rattle.graph_commands.specs.Ends.{IsTold}
 use Rattle.graph_commands.specs.Failures.{failure_status}
@@ -10,20 +12,27 @@ use Rattle.graph_commands.specs.declared.failure.Failure.{Failure}
 use Rattle.graph_commands.specs.declared.failure.Failure.TheVariants as failure
 use Rattle.graph_commands.specs.declared.fault.JobFault.{JobFault}
 use Rattle.graph_commands.specs.declared.fault.JobFault.TheVariants as fault
-use Rattle.graph_commands.specs.watched_io.States.{WriterState, writer_state}
-use Rattle.graph_commands.specs.watched_io.declared.explain.Explain.{Explain}
+use Rattle.graph_commands.specs.declared.graph_file.TheConstants.{GRAPH_MAX}
+use Rattle.graph_commands.specs.watched_io.Files.{HasBytes, MayNeedMemory}
+use Rattle.graph_commands.specs.watched_io.States.{WriterState}
+use Rattle.graph_commands.specs.watched_io.declared.fault.IoFault.{IoFault}
+use Rattle.graph_commands.specs.watched_io.declared.fault.IoFault.TheVariants as io_fault
 use Rattle.graph_commands.specs.watched_io.declared.status.Status.{Status}
 use Rattle.graph_commands.specs.watched_io.declared.status.Status.TheVariants.{Done}
 use Rattle.graph_commands.specs.watched_io.declared.watched.Watched.{Watched}
+use Rattle.phase_words.specs.Outputs.{Pair}
+use Rattle.phase_words.specs.StreamLine.{Stream}
+use Rattle.stream_job.specs.graph_base.Graphs.{Graph}
 use Rattle.stream_job.specs.stream_lists.Jobs.{Job}
 use Rattle.phase_stream.specs.Ends.{MayEndAsStream}
-use Rattle.phase_stream.specs.Streams.{AsksOne, StreamEnds, StreamFails, Streams, StopsOf, WritesWhole, explained}
+use Rattle.phase_stream.specs.Outputs.{AreNoSources, AreBare, HasSinks, IsAsAsked, IsUnbegunStream, IsUnmadeFile, IsUnreadGraph, StopOf, StreamDoes, StreamEndsBy, StreamFailsBy, WriteWhole, bare_at, bare_file, task_to, writers_at}
+use Rattle.phase_stream.specs.Streams.{explained}
 
 -- ---- statuses
 
 job_ends : (found : JobFault) → MayEndAsStream (job_status found)
 job_ends (fault.Graph found) = inr (inl refl)
-job_ends (fault.BadSample name number) = inr (inl refl)
+job_ends (fault.BadSample name number told) = inr (inl refl)
 job_ends fault.ReadFault = inr (inr (inr (inr refl)))
 job_ends fault.OutOfMemory = inr (inr (inr (inr refl)))
 
@@ -36,7 +45,7 @@ failure_ends (failure.Io found) = inr (inr (inr (inr refl)))
 
 job_not_done : (found : JobFault) → job_status found ≢ Done
 job_not_done (fault.Graph found) = λ e. (cc e)
-job_not_done (fault.BadSample name number) = λ e. (cc e)
+job_not_done (fault.BadSample name number told) = λ e. (cc e)
 job_not_done fault.ReadFault = λ e. (cc e)
 job_not_done fault.OutOfMemory = λ e. (cc e)
 
@@ -49,20 +58,22 @@ failure_not_done (failure.Io found) = λ e. (cc e)
 
 -- ---- the end
 
-pub stream_ends : {A W : Type 0} (Quiet : Type 0) (explain : Explain) (known : Known)
-    (name : List ℕ) (asked : Option (List ℕ)) (contents : W → Option (List ℕ)) (old new : Watched W)
-    (done : Result A Failure) (status : Status) (before after : WriterState)
-    → OnOk done (Streams known name asked (writer_state contents old) (writer_state contents new))
-    → IfErr done (StreamFails known name asked contents old new)
+pub stream_ends : {A W V : Type 0} (Quiet : Type 0) (known : Known) (what : Stream) (knows : Bool)
+    (of_output : W → Option (List ℕ)) (of_file : V → Option (List ℕ)) (old new : Watched W)
+    (made : List (Watched V)) (done : Result A Failure) (status : Status)
+    (before after : WriterState)
+    → OnOk done (StreamDoes known what (bare_at knows what.files (of_output old.inner))
+    (λ k. (writers_at of_output of_file new made k).written))
+    → IfErr done (StreamFailsBy known what knows of_output of_file old new made)
     → OnOk done ((status ≡ Done) × Quiet)
     → IfErr done (λ found. status ≡ failure_status found)
-    → IfErr done (λ found. IsTold (explained found explain) known found before after)
-    → StreamEnds explain known name asked status contents old new before after
-stream_ends Quiet explain known name asked contents old new (Ok unit) status before after does fails
-    quiet is told =
+    → IfErr done (λ found. IsTold (explained found what.explain) found before after)
+    → StreamEndsBy known what knows of_output of_file status old new made before after
+stream_ends Quiet known what knows of_output of_file old new made (Ok unit) status before after does
+    fails quiet is told =
     record { done = λ e. does; stops = λ other. absurd (other quiet.0) }
-stream_ends Quiet explain known name asked contents old new (Err found) status before after does fails
-    quiet is told =
+stream_ends Quiet known what knows of_output of_file old new made (Err found) status before after does
+    fails quiet is told =
     record {
       done = λ e. absurd (failure_not_done found (sym is ∙ e));
       stops = λ other. record { found = found; fails = fails; status_is = is; told = told };
@@ -76,42 +87,105 @@ status_ends Quiet (Err found) status quiet is = subst MayEndAsStream (sym is) (f
 
 -- ---- a stream that began
 
-pub with_ok : {A E : Type 0} (r : Result A E) (P Q : Type 0) → (P → Q) → OnOk r P → OnOk r Q
-with_ok (Ok x) P Q f p = f p
-with_ok (Err e) P Q f p = tt
-
-pub with_err : {A E : Type 0} (r : Result A E) (P Q : E → Type 0) → ((e : E) → P e → Q e)
-    → IfErr r P → IfErr r Q
-with_err (Ok x) P Q f p = tt
-with_err (Err e) P Q f p = f e p
-
-pub begun_done : {A : Type 0} (known : Known) (name : List ℕ) (asked : Option (List ℕ))
-    (job : Job) (sink : ℕ) (old new : WriterState) (done : Result A Failure)
-    → IsGraphOf known name job.graph → AsksOne job asked sink
-    → OnOk done (WritesWhole known job sink old.written new.written)
-    → OnOk done (Streams known name asked old new)
-begun_done known name asked job sink old new (Ok unit) graph asks whole = record {
-  job = job;
-  graph_of = graph;
-  sink = sink;
-  asks = asks;
-  whole = whole;
+-- what the words ask for is there
+pub there_of : (known : Known) (what : Stream) (job now : Job) (graph : Graph) → now ≡ job
+    → graph ≡ now.graph → IsGraphOf known what.graph job.graph → HasSinks job what.sink what.files
+    → AreNoSources what.beside what.graph graph what.files → IsAsAsked known what now
+there_of known what job now graph same is of_graph sinks apart = record {
+  graph_of = subst (λ (j : Job). IsGraphOf known what.graph j.graph) (sym same) of_graph;
+  sinks = subst (λ j. HasSinks j what.sink what.files) (sym same) sinks;
+  apart = subst (λ g. AreNoSources what.beside what.graph g what.files) is apart;
 }
-begun_done known name asked job sink old new (Err found) graph asks whole = tt
 
-pub begun_fails : {A W : Type 0} (known : Known) (name : List ℕ) (asked : Option (List ℕ))
-    (job : Job) (sink : ℕ) (contents : W → Option (List ℕ)) (old new : Watched W)
-    (done : Result A Failure) → IsGraphOf known name job.graph → AsksOne job asked sink
-    → IfErr done (StopsOf known job sink (writer_state contents old) (writer_state contents new))
-    → IfErr done (StreamFails known name asked contents old new)
-begun_fails known name asked job sink contents old new (Ok unit) graph asks stops = tt
-begun_fails known name asked job sink contents old new (Err found) graph asks stops = inr (record {
+pub begun_does : (known : Known) (what : Stream) (job : Job) (goes : ℕ → Option ℕ)
+    (old now : ℕ → Option (List ℕ)) → IsAsAsked known what job
+    → ((k : ℕ) → goes k ≡ task_to job what.sink what.files k) → WriteWhole known job goes old now
+    → StreamDoes known what old now
+begun_does known what job goes old now there same whole = record {
   job = job;
-  graph_of = graph;
-  sink = sink;
-  asks = asks;
-  stops = stops;
-})
+  there = there;
+  whole = subst (λ goes. WriteWhole known job goes old now) (λ i. λ k. same k i) whole;
+}
+
+pub begun_stops : {W V : Type 0} (known : Known) (what : Stream) (knows : Bool)
+    (of_output : W → Option (List ℕ)) (of_file : V → Option (List ℕ)) (old new : Watched W)
+    (made : List (Watched V)) (job : Job) (goes : ℕ → Option ℕ) (many : ℕ) (found : Failure)
+    → IsAsAsked known what job → ((k : ℕ) → goes k ≡ task_to job what.sink what.files k)
+    → many ≡ length what.files + 1
+    → StopOf known job goes many (bare_at knows what.files (of_output old.inner))
+    (writers_at of_output of_file new made) found
+    → StreamFailsBy known what knows of_output of_file old new made found
+begun_stops known what knows of_output of_file old new made job goes many found there same long stops =
+    inr (record {
+      job = job;
+      there = there;
+      stops = subst (λ goes. StopOf known job goes (length what.files + 1)
+          (bare_at knows what.files (of_output old.inner)) (writers_at of_output of_file new made) found)
+          (λ i. λ k. same k i)
+          (subst (λ n. StopOf known job goes n
+          (bare_at knows what.files (of_output old.inner)) (writers_at of_output of_file new made) found)
+          long stops);
+    })
+
+-- ---- one that did not begin
+
+-- no file was made
+pub none_bare : {V : Type 0} (knows : Bool) (of_file : V → Option (List ℕ)) (made : List (Watched V))
+    → made ≡ [] → AreBare knows of_file made
+none_bare knows of_file [] e = λ k writer there. absurd (let bad : None ≡ Some writer = there in cc)
+none_bare knows of_file (w ∷ ws) e = absurd (cc)
+
+-- memory may run out over a graph that was read
+pub graph_memory : (known : Known) (name : List ℕ) (graph : Graph) → IsGraphOf known name graph
+    → MayNeedMemory GRAPH_MAX (known name)
+graph_memory known name graph of_file = by (known name) of_file.bytes
+  where
+    by : (held : Option (List ℕ)) → HasBytes held of_file.text → MayNeedMemory GRAPH_MAX held
+    by None bytes = tt
+    by (Some held) bytes = subst (λ text. length text ≤ GRAPH_MAX) bytes of_file.short
+
+-- no file was made, or not all
+pub unmade_unbegun : (known : Known) (what : Stream) (fault : IoFault) (graph : Graph)
+    → IsGraphOf known what.graph graph
+    → (fault ≡ io_fault.OutOfMemory) ⊎ ((fault ≡ io_fault.WriteFault) × (what.files ≢ []))
+    → IsUnmadeFile known what fault
+unmade_unbegun known what fault graph of_graph (inl memory) =
+    inl (memory, graph_memory known what.graph graph of_graph)
+unmade_unbegun known what fault graph of_graph (inr unmade) = inr unmade
+
+-- nothing was read
+pub unread_unbegun : (known : Known) (what : Stream) (found : Failure)
+    → IsUnreadGraph known what.graph found → IsUnbegunStream known what found
+unread_unbegun known what (failure.Graph found text) why = why
+unread_unbegun known what (failure.NoSink job wanted) why = absurd why
+unread_unbegun known what (failure.TooBig other at phase) why = why
+unread_unbegun known what (failure.Stalled further) why = why
+unread_unbegun known what (failure.Io found) why = absurd why
+
+-- ---- the writers before anything is written
+
+bare_keeps : (knows : Bool) (held : Option (List ℕ)) → Keeps (bare_file knows) held
+    → Appends (bare_file knows) held []
+bare_keeps false held keeps = tt
+bare_keeps true None keeps = keeps
+bare_keeps true (Some xs) keeps = keeps
+
+-- each stands as it is told
+pub writers_bare : {W V : Type 0} (knows : Bool) (of_output : W → Option (List ℕ))
+    (of_file : V → Option (List ℕ)) (output : Watched W) (files : List Pair)
+    (made : List (Watched V)) → AreBare knows of_file made → length made ≡ length files → (k : ℕ)
+    → Appends (bare_at knows files (of_output output.inner) k)
+    (writers_at of_output of_file output made k).written []
+writers_bare knows of_output of_file output files made bare many zero =
+    Appends-nil (of_output output.inner)
+writers_bare knows of_output of_file output [] made bare many (suc k) = tt
+writers_bare knows of_output of_file output (file ∷ files) [] bare many (suc k) =
+    absurd (omega (arith, many))
+writers_bare knows of_output of_file output (file ∷ files) (writer ∷ made) bare many (suc zero) =
+    bare_keeps knows (of_file writer.inner) (bare 0 writer refl)
+writers_bare knows of_output of_file output (file ∷ files) (writer ∷ made) bare many (suc (suc k)) =
+    writers_bare knows of_output of_file output files made
+    (λ j other there. bare (suc j) other there) (omega (arith, many)) (suc k)
 
 -- files that are known alike
 pub known_same : (now first : Known) → ((other : List ℕ) → now other ≡ first other) → now ≡ first

@@ -1,10 +1,7 @@
 -- More of a source that waited for samples.
 use Rattle.std.proofs.Common.{◌≡◌, ◌≢◌, ◌⊎◌, inl, inr, ◌<◌, ◌≤◌, ◌++◌, ℕ, ℤ, Bool, true, false, eqb, List, [], ◌∷◌, Option, Some, length, get_or, set, slice_get, take, zero, suc, refl, sym, ap, subst, ◌∙◌, arith, rules}
 use Rattle.std.specs.Prelude.{◌||◌, is_some, nat_lt}
-use Rattle.std.specs.List.{flat_map}
-use Rattle.graph_commands.specs.OutputTexts.{value_text}
 use Rattle.stream_job.specs.stream_lists.Jobs.{Job}
-use Rattle.std.specs.Io.KnownBytes.{Appends}
 use Rattle.std.proofs.lemmas.Bool.{eq-eqb, eqb-true, ltb-false, ltb-true}
 use Rattle.std.proofs.lemmas.List.{length-take-le}
 use Rattle.graph_commands.specs.FileJobs.{Known}
@@ -12,7 +9,7 @@ use Rattle.stream_job.specs.Streams.{FeedTakes, IsSameBut, IsSourceAt, IsStreamA
 use Rattle.stream_job.specs.declared.stopped.Stopped.TheVariants.{Hungry}
 use Rattle.stream_job.specs.graph_base.Graphs.{Graph, file_at, sources_of}
 use Rattle.stream_job.specs.graph_runs.Moments.{Moment}
-use Rattle.phase_stream.specs.Sessions.{AreCome, AreSources, IsKnownAs, KeptStill, Reaches, StandsBy, StandsLacking, StandsStopped}
+use Rattle.phase_stream.specs.Sessions.{AreCome, AreSources, AreWritten, IsKnownAs, KeptStill, Reaches, StandsBy, StandsLacking, StandsStopped}
 use Rattle.phase_stream.specs.Sources.{GivesSource, HasComeOf, IsSource, Lacks}
 use Rattle.phase_stream.specs.declared.source.Lack.{Lack}
 use Rattle.phase_stream.specs.declared.session.Session.{Session}
@@ -24,7 +21,7 @@ use Rattle.phase_stream.proofs.Standing.{set_get, sources_set}
 
 -- what was fed of source number k: these samples, of which so many were taken
 pub record Fed {R : Type 0} (remaining : R → Option (List ℕ)) (held : Known)
-    (old now : Option (List ℕ)) (before : Session R) (mid : StreamState) (k took : ℕ)
+    (old now : ℕ → Option (List ℕ)) (before : Session R) (mid : StreamState) (k took : ℕ)
     (one other : Source R) (room : List ℤ) (piece : Piece) (st : StandsBy remaining held old now before)
     : Type 0 where
   pub there : slice_get before.sources.items k ≡ Some other
@@ -43,7 +40,7 @@ or_true true c e = refl
 or_true false c e = e
 
 took_none : {R : Type 0} (remaining : R → Option (List ℕ)) (held : Known)
-    (old now : Option (List ℕ)) (before : Session R) (mid : StreamState) (k took : ℕ)
+    (old now : ℕ → Option (List ℕ)) (before : Session R) (mid : StreamState) (k took : ℕ)
     (one other : Source R) (room : List ℤ) (piece : Piece) (st : StandsBy remaining held old now before)
     → Fed remaining held old now before mid k took one other room piece st
     → has_ended before.stream.inputs k ≡ true → took ≡ 0
@@ -55,7 +52,7 @@ took_none remaining held old now before mid k took one other room piece st fed e
 
 -- the samples that came, with those that were taken
 came_now : {R : Type 0} (remaining : R → Option (List ℕ)) (held : Known)
-    (old now : Option (List ℕ)) (before : Session R) (mid : StreamState) (k took : ℕ)
+    (old now : ℕ → Option (List ℕ)) (before : Session R) (mid : StreamState) (k took : ℕ)
     (one other : Source R) (room : List ℤ) (piece : Piece) (st : StandsBy remaining held old now before)
     → Fed remaining held old now before mid k took one other room piece st
     → (took ≢ 0 → piece.is_last ≡ false)
@@ -70,11 +67,11 @@ came_now remaining held old now before mid k took one other room piece st it las
     (get_or st.samples k [] ++ take piece.count room)) (last some) it.gives.come)
 
 pub fed_short : {R : Type 0} (remaining : R → Option (List ℕ)) (held : Known)
-    (old now : Option (List ℕ)) (before after : Session R) (k took : ℕ)
+    (old now : ℕ → Option (List ℕ)) (before after : Session R) (k took : ℕ)
     (one other : Source R) (room : List ℤ) (piece : Piece) (st : StandsBy remaining held old now before)
     → Fed remaining held old now before after.stream k took one other room piece st
     → took < piece.count → after.sources.items ≡ set before.sources.items k one
-    → after.task ≡ before.task → StandsLacking held old now after k lack.ReadFault
+    → after.targets.items ≡ before.targets.items → StandsLacking held old now after k lack.ReadFault
 fed_short {R} remaining held old now before after k took one other room piece st it short items task =
     record {
       samples = fed st.samples k (take took (take piece.count room));
@@ -85,7 +82,7 @@ fed_short {R} remaining held old now before after k took one other room piece st
         came = came_now remaining held old now before after.stream k took one other room piece st it
             (λ some. last_not piece.is_last refl some);
       };
-      written = subst (λ t. Appends old now (flat_map value_text (st.given t))) (sym task) st.written;
+      written = subst (λ ts. AreWritten ts st.given old now) (sym task) st.written;
       there = λ source got. here source (set_get before.sources.items k k one source
           (ap (λ l. slice_get l k) (sym items) ∙ got));
       still = λ number is. absurd (cc);
@@ -123,7 +120,7 @@ at_least a b c never same = by (nat_lt a b) refl
 
 -- the sources behind them
 sources_now : {R : Type 0} (remaining : R → Option (List ℕ)) (held : Known)
-    (old now : Option (List ℕ)) (before after : Session R) (mid : StreamState) (k took : ℕ)
+    (old now : ℕ → Option (List ℕ)) (before after : Session R) (mid : StreamState) (k took : ℕ)
     (one other : Source R) (room : List ℤ) (piece : Piece) (st : StandsBy remaining held old now before)
     → Fed remaining held old now before mid k took one other room piece st
     → (took < piece.count → ⊥) → after.sources.items ≡ set before.sources.items k one
@@ -143,11 +140,11 @@ sources_now remaining held old now before after mid k took one other room piece 
     ∙ ap (λ l. get_or st.samples k [] ++ l) whole)) it.gives.source_is)
 
 pub fed_more : {R : Type 0} (remaining : R → Option (List ℕ)) (held : Known)
-    (old now : Option (List ℕ)) (before after : Session R) (k took : ℕ)
+    (old now : ℕ → Option (List ℕ)) (before after : Session R) (k took : ℕ)
     (one other : Source R) (room : List ℤ) (piece : Piece) (st : StandsBy remaining held old now before)
     → Fed remaining held old now before after.stream k took one other room piece st
     → (took < piece.count → ⊥) → piece.is_last ≡ false
-    → after.sources.items ≡ set before.sources.items k one → after.task ≡ before.task
+    → after.sources.items ≡ set before.sources.items k one → after.targets.items ≡ before.targets.items
     → StandsBy remaining held old now after
 fed_more remaining held old now before after k took one other room piece st it all more items task =
     record {
@@ -161,12 +158,12 @@ fed_more remaining held old now before after k took one other room piece st it a
       };
       sources = sources_now remaining held old now before after after.stream k took one other room
           piece st it all items it.same.job;
-      written = subst (λ t. Appends old now (flat_map value_text (st.given t))) (sym task) st.written;
+      written = subst (λ ts. AreWritten ts st.given old now) (sym task) st.written;
     }
 
 -- where the file has ended, all came
 came_last : {R : Type 0} (remaining : R → Option (List ℕ)) (held : Known)
-    (old now : Option (List ℕ)) (before after : Session R) (mid : StreamState) (k took : ℕ)
+    (old now : ℕ → Option (List ℕ)) (before after : Session R) (mid : StreamState) (k took : ℕ)
     (one other : Source R) (room : List ℤ) (piece : Piece) (st : StandsBy remaining held old now before)
     → Fed remaining held old now before mid k took one other room piece st
     → (took < piece.count → ⊥) → piece.is_last ≡ true
@@ -203,7 +200,7 @@ came_last remaining held old now before after mid k took one other room piece st
     (st.reaches.came j (subst (λ (i : Job). j < sources_of i.graph) job inside))
 
 pub fed_last : {R : Type 0} (remaining : R → Option (List ℕ)) (held : Known)
-    (old now : Option (List ℕ)) (before after : Session R) (mid : StreamState) (k took : ℕ)
+    (old now : ℕ → Option (List ℕ)) (before after : Session R) (mid : StreamState) (k took : ℕ)
     (one other : Source R) (room : List ℤ) (piece : Piece) (st : StandsBy remaining held old now before)
     → Fed remaining held old now before mid k took one other room piece st
     → (took < piece.count → ⊥) → piece.is_last ≡ true
@@ -211,7 +208,7 @@ pub fed_last : {R : Type 0} (remaining : R → Option (List ℕ)) (held : Known)
     → IsStreamAt after.stream s m given)
     → IsSameBut mid after.stream
     → ((j : ℕ) → has_ended after.stream.inputs j ≡ ended_with mid.inputs k j)
-    → after.sources.items ≡ set before.sources.items k one → after.task ≡ before.task
+    → after.sources.items ≡ set before.sources.items k one → after.targets.items ≡ before.targets.items
     → StandsBy remaining held old now after
 fed_last remaining held old now before after mid k took one other room piece st it all last stands
     same over items task =
@@ -227,16 +224,16 @@ fed_last remaining held old now before after mid k took one other room piece st 
       };
       sources = sources_now remaining held old now before after mid k took one other room piece st
           it all items (same.job ∙ it.same.job);
-      written = subst (λ t. Appends old now (flat_map value_text (st.given t))) (sym task) st.written;
+      written = subst (λ ts. AreWritten ts st.given old now) (sym task) st.written;
     }
 
 -- no more came
 pub lacks_so : {R : Type 0} (remaining : R → Option (List ℕ)) (held : Known)
-    (old now : Option (List ℕ)) (before after : Session R) (k : ℕ) (one other : Source R) (why : Lack)
+    (old now : ℕ → Option (List ℕ)) (before after : Session R) (k : ℕ) (one other : Source R) (why : Lack)
     (hungry : ℕ) (stopped : StandsStopped remaining held old now before (Hungry hungry))
     → slice_get before.sources.items k ≡ Some other
     → one.task ≡ other.task → after.sources.items ≡ set before.sources.items k one
-    → after.stream ≡ before.stream → after.task ≡ before.task
+    → after.stream ≡ before.stream → after.targets.items ≡ before.targets.items
     → Lacks (held (file_at before.stream.job.graph k)) (length (get_or stopped.stands.samples k []))
     why
     → StandsLacking held old now after k why
@@ -248,12 +245,12 @@ lacks_so {R} remaining held old now before after k one other why hungry stopped 
       moment = st.moment;
       given = st.given;
       reaches = subst (λ w. Reaches held w st.samples st.moment st.given) (sym stream) st.reaches;
-      written = subst (λ t. Appends old now (flat_map value_text (st.given t))) (sym sink) st.written;
+      written = subst (λ ts. AreWritten ts st.given old now) (sym sink) st.written;
       there = λ source got. here source (set_get before.sources.items k k one source
           (ap (λ l. slice_get l k) (sym items) ∙ got));
       still = λ number is.
-          subst (λ (w : StreamState). KeptStill w after.task st.samples st.moment st.given)
-          (sym stream) (subst (λ t. KeptStill before.stream t st.samples st.moment st.given)
+          subst (λ (w : StreamState). KeptStill w after.targets.items st.samples st.moment st.given)
+          (sym stream) (subst (λ ts. KeptStill before.stream ts st.samples st.moment st.given)
           (sym sink) (record { whole = stopped.whole; rest = stopped.stopped_is }));
       lacks = subst (λ (w : StreamState). Lacks (held (file_at w.job.graph k))
           (length (get_or st.samples k [])) why) (sym stream) lacks;
@@ -293,7 +290,7 @@ lacks_as remaining here there values other why same lacks is =
     (lacks values (subst (λ known. IsSource remaining known values other) (sym same) is))
 
 pub fed_of : {R : Type 0} (remaining : R → Option (List ℕ)) (held : Known)
-    (old now : Option (List ℕ)) (before : Session R) (mid : StreamState) (k took : ℕ)
+    (old now : ℕ → Option (List ℕ)) (before : Session R) (mid : StreamState) (k took : ℕ)
     (one other : Source R) (room : List ℤ) (piece : Piece) (st : StandsBy remaining held old now before)
     → slice_get before.sources.items k ≡ Some other → k < sources_of before.stream.job.graph
     → GivesSource remaining (held (file_at before.stream.job.graph k)) (get_or st.samples k []) room
@@ -319,7 +316,7 @@ fed_of remaining held old now before mid k took one other room piece st there wi
 
 -- where there is no source of the number
 pub lacks_none : {R : Type 0} (remaining : R → Option (List ℕ)) (held : Known)
-    (old now : Option (List ℕ)) (session : Session R) (k : ℕ) → StandsBy remaining held old now session
+    (old now : ℕ → Option (List ℕ)) (session : Session R) (k : ℕ) → StandsBy remaining held old now session
     → StandsLacking held old now session k lack.ReadFault
 lacks_none remaining held old now session k st = record {
   samples = st.samples;

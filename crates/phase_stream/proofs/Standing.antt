@@ -271,11 +271,10 @@ sources_set {R} remaining held old new s later k one other are job items there t
               (sym (same j apart.0)) it.1,
         )
 
--- the same graph and sink twice
+-- the same graph and sinks twice
 pub same_session : {R : Type 0} (old now new : Session R) → IsSameSession old now
     → IsSameSession now new → IsSameSession old new
 same_session old now new first then = record {
   job = then.job ∙ first.job;
-  task = then.task ∙ first.task;
-  sink = then.sink ∙ first.sink;
+  targets = then.targets ∙ first.targets;
 }

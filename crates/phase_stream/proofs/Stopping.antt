@@ -1,5 +1,5 @@
 -- How a session ends, by the one that it began as.
-use Rattle.std.proofs.Common.{◌≡◌, ℕ, ℤ, Bool, List, [], Option, append-nil, refl, sym, subst, ◌∙◌, true}
+use Rattle.std.proofs.Common.{◌≡◌, ℕ, ℤ, Bool, List, [], Option, Some, length, append-nil, refl, sym, ap, subst, ◌∙◌, true}
 use Rattle.std.specs.Prelude.{⊤}
 use Rattle.graph_commands.specs.FileJobs.{Known}
 use Rattle.graph_commands.specs.declared.failure.Failure.{Failure}
@@ -17,77 +17,90 @@ use Rattle.stream_job.specs.graph_runs.Moments.{Moment, started}
 use Rattle.stream_job.specs.graph_runs.Settled.{IsFaultAt, IsPlaceThere}
 use Rattle.stream_job.specs.stream_lists.Jobs.{Job, samples_in, with_samples}
 use Rattle.stream_job.specs.stream_lists.Ranges.{Where}
-use Rattle.phase_stream.specs.Sessions.{IsKnownAs, IsKeptRight, IsKeptWhole, IsSameSession, IsSinkNumber, StandsPart, StandsStopped}
-use Rattle.phase_stream.specs.Streams.{IsStandstill, StopsBehind, StopsKept, StopsOf, WritesKept, WritesWhole}
+use Rattle.phase_stream.specs.Outputs.{StopBehind, StopKept, StopOf, WriteKept, WriteWhole}
+use Rattle.phase_stream.specs.Sessions.{AreKeptRight, AreTargets, HasFailed, IsKnownAs, IsKeptWhole, IsSameSession, StandsPart, StandsStopped, task_for}
+use Rattle.phase_stream.specs.Streams.{IsStandstill}
 use Rattle.phase_stream.specs.declared.session.Session.{Session}
+use Rattle.phase_stream.specs.declared.sink.Sink.{Sink}
 use Rattle.stream_job.proofs.StillStays.{all_still}
 use Rattle.phase_stream.proofs.Writing.{kept_of, left_of, part_of, whole_of}
 
-pub sink_same : {R : Type 0} (old new : Session R) → IsSameSession old new
-    → IsSinkNumber old.stream.job old.task old.sink → IsSinkNumber new.stream.job new.task new.sink
-sink_same old new same is =
-    subst (λ j. IsSinkNumber j new.task new.sink) (sym same.job)
-    (subst (λ t. IsSinkNumber old.stream.job t new.sink) (sym same.task)
-    (subst (λ s. IsSinkNumber old.stream.job old.task s) (sym same.sink) is))
+pub targets_same : {R : Type 0} (old new : Session R) → IsSameSession old new
+    → AreTargets old.stream.job old.targets.items → AreTargets new.stream.job new.targets.items
+targets_same old new same are =
+    subst (λ j. AreTargets j new.targets.items) (sym same.job)
+    (subst (AreTargets old.stream.job) (sym same.targets) are)
 
--- by the job and the task that it began with
-moved : {R : Type 0} (P : Job → ℕ → Type 0) (old new : Session R) → IsSameSession old new
-    → P new.stream.job new.task → P old.stream.job old.task
+-- by the job and the sinks that it began with
+moved : {R : Type 0} (P : Job → List (Option Sink) → Type 0) (old new : Session R)
+    → IsSameSession old new
+    → P new.stream.job new.targets.items → P old.stream.job old.targets.items
 moved P old new same is =
-    subst (λ j. P j old.task) same.job (subst (P new.stream.job) same.task is)
+    subst (λ j. P j old.targets.items) same.job (subst (P new.stream.job) same.targets is)
 
-pub io_stops : {R : Type 0} (held : Known) (old new : WriterState) (first session : Session R)
-    → IsSameSession first session → IsKeptRight session.stream session.task
-    → StandsPart held old.written new.written session
-    → StopsBehind held first.stream.job first.task old new (λ samples ended starts. ⊤)
-io_stops held old new first session same right st =
-    moved (λ j t. StopsBehind held j t old new (λ samples ended starts. ⊤)) first session same (record {
-      part = part_of held session.stream session.task old.written new.written st.samples st.moment
-          st.given st.values st.reaches st.begins right st.written;
+-- one of as many writers has failed
+pub failed_same : {R : Type 0} (old new : Session R) (now : ℕ → WriterState) → IsSameSession old new
+    → HasFailed (length new.targets.items) now → HasFailed (length old.targets.items) now
+failed_same old new now same failed =
+    subst (λ ts. HasFailed (length ts) now) same.targets failed
+
+pub io_stops : {R : Type 0} (held : Known) (old now : ℕ → Option (List ℕ))
+    (first session : Session R) → IsSameSession first session
+    → AreKeptRight session.stream session.targets.items → StandsPart held old now session
+    → StopBehind held first.stream.job (task_for first.targets.items) old now
+    (λ samples ended starts. ⊤)
+io_stops held old now first session same right st =
+    moved (λ j ts. StopBehind held j (task_for ts) old now (λ samples ended starts. ⊤)) first session
+    same (record {
+      part = part_of held session.stream session.targets.items old now st.samples st.moment st.given
+          st.values st.reaches st.begins st.none right st.written;
       cause = tt;
     })
 
 pub done_writes : {R : Type 0} (remaining : R → Option (List ℕ)) (held : Known)
-    (old now : Option (List ℕ)) (first session : Session R) → IsSameSession first session
-    → IsSinkNumber session.stream.job session.task session.sink
+    (old now : ℕ → Option (List ℕ)) (first session : Session R) → IsSameSession first session
+    → AreTargets session.stream.job session.targets.items
     → StandsStopped remaining held old now session stopped.Done
-    → WritesWhole held first.stream.job first.task old now
-done_writes remaining held old now first session same sink st =
-    moved (λ j t. WritesWhole held j t old now) first session same
-    (whole_of remaining held old now session sink st)
+    → WriteWhole held first.stream.job (task_for first.targets.items) old now
+done_writes remaining held old now first session same are st =
+    moved (λ j ts. WriteWhole held j (task_for ts) old now) first session same
+    (whole_of remaining held old now session are st)
 
 pub left_writes : {R : Type 0} (remaining : R → Option (List ℕ)) (held : Known)
-    (old now : Option (List ℕ)) (first session : Session R) (stop : Stopped)
+    (old now : ℕ → Option (List ℕ)) (first session : Session R) (stop : Stopped)
     → IsSameSession first session
-    → IsSinkNumber session.stream.job session.task session.sink
-    → ((s : List (List ℤ)) (m : Moment) (given : ℕ → List ℤ) → IsStreamAt session.stream s m given
-    → has_gone session.stream.job m session.task ≡ true)
-    → IsKeptWhole session.stream session.task
+    → AreTargets session.stream.job session.targets.items
+    → ((k t : ℕ) → task_for session.targets.items k ≡ Some t → (s : List (List ℤ)) (m : Moment)
+    (given : ℕ → List ℤ) → IsStreamAt session.stream s m given
+    → has_gone session.stream.job m t ≡ true)
+    → ((k t : ℕ) → task_for session.targets.items k ≡ Some t → IsKeptWhole session.stream t)
     → StandsStopped remaining held old now session stop
-    → WritesWhole held first.stream.job first.task old now
-left_writes remaining held old now first session stop same sink gone whole st =
-    moved (λ j t. WritesWhole held j t old now) first session same
-    (left_of remaining held old now session stop sink gone whole st)
+    → WriteWhole held first.stream.job (task_for first.targets.items) old now
+left_writes remaining held old now first session stop same are gone whole st =
+    moved (λ j ts. WriteWhole held j (task_for ts) old now) first session same
+    (left_of remaining held old now session stop are gone whole st)
 
 -- what a session that stopped has written
 abbrev stopped_kept : {R : Type 0} (remaining : R → Option (List ℕ)) (held : Known)
-    (old now : Option (List ℕ)) (session : Session R) (stop : Stopped)
-    → IsKeptRight session.stream session.task → StandsStopped remaining held old now session stop
-    → WritesKept held session.stream.job session.task old now
+    (old now : ℕ → Option (List ℕ)) (session : Session R) (stop : Stopped)
+    → AreKeptRight session.stream session.targets.items
+    → StandsStopped remaining held old now session stop
+    → WriteKept held session.stream.job (task_for session.targets.items) old now
 stopped_kept remaining held old now session stop right st =
-    kept_of held session.stream session.task old now st.stands.samples st.stands.moment
+    kept_of held session.stream session.targets.items old now st.stands.samples st.stands.moment
     st.stands.given st.stands.reaches st.whole right st.stands.written
 
 pub stall_stops : {R : Type 0} (remaining : R → Option (List ℕ)) (held : Known)
-    (old new : WriterState) (first session : Session R) → IsSameSession first session
-    → IsKeptRight session.stream session.task
-    → StandsStopped remaining held old.written new.written session stopped.Stalled
-    → StopsKept held first.stream.job first.task old new
+    (old now : ℕ → Option (List ℕ)) (first session : Session R) → IsSameSession first session
+    → AreKeptRight session.stream session.targets.items
+    → StandsStopped remaining held old now session stopped.Stalled
+    → StopKept held first.stream.job (task_for first.targets.items) old now
     (λ samples ended m. IsStandstill first.stream.job samples ended m)
-stall_stops remaining held old new first session same right st =
-    moved (λ j t. StopsKept held j t old new (λ samples ended m. IsStandstill j samples ended m)) first
+stall_stops remaining held old now first session same right st =
+    moved (λ j ts. StopKept held j (task_for ts) old now
+    (λ samples ended m. IsStandstill j samples ended m)) first
     session same (record {
-      kept = stopped_kept remaining held old.written new.written session stopped.Stalled right st;
+      kept = stopped_kept remaining held old now session stopped.Stalled right st;
       cause = record {
         live = st.stopped_is.0;
         rest = st.stopped_is.1;
@@ -97,17 +110,19 @@ stall_stops remaining held old new first session same right st =
     })
 
 pub too_big_stops : {R : Type 0} (remaining : R → Option (List ℕ)) (held : Known)
-    (old new : WriterState) (first session : Session R) (at : Place) (n : ℕ)
-    → IsSameSession first session
-    → IsKeptRight session.stream session.task
-    → StandsStopped remaining held old.written new.written session (stopped.TooBig at n)
-    → StopsOf held first.stream.job first.task old new (failure.TooBig session.stream.job at n)
+    (old : ℕ → Option (List ℕ)) (new : ℕ → WriterState) (first session : Session R) (at : Place)
+    (n : ℕ) → IsSameSession first session
+    → AreKeptRight session.stream session.targets.items
+    → StandsStopped remaining held old (λ k. (new k).written) session (stopped.TooBig at n)
+    → StopOf held first.stream.job (task_for first.targets.items) (length first.targets.items) old
+    new (failure.TooBig session.stream.job at n)
 too_big_stops remaining held old new first session at n same right st =
-    moved (λ j t. StopsOf held j t old new (failure.TooBig session.stream.job at n)) first session
+    moved (λ j ts. StopOf held j (task_for ts) (length ts) old new
+    (failure.TooBig session.stream.job at n)) first session
     same (
       refl,
       record {
-        kept = stopped_kept remaining held old.written new.written session (stopped.TooBig at n)
+        kept = stopped_kept remaining held old (λ k. (new k).written) session (stopped.TooBig at n)
             right st;
         cause = record {
           fault = λ more goes. st.stopped_is.0 more goes.feeds goes.ready;
@@ -118,7 +133,7 @@ too_big_stops remaining held old new first session at n same right st =
 
 -- and it stands on a line of the graph
 pub too_big_there : {R : Type 0} (remaining : R → Option (List ℕ)) (held : Known)
-    (old now : Option (List ℕ)) (session : Session R) (at : Place) (n : ℕ)
+    (old now : ℕ → Option (List ℕ)) (session : Session R) (at : Place) (n : ℕ)
     → ((job : Job) (where_is : Where) → IsFaultAt job where_is → IsPlaceThere job where_is)
     → StandsStopped remaining held old now session (stopped.TooBig at n)
     → IsPlace session.stream.job.graph at
@@ -141,12 +156,14 @@ too_big_there remaining held old now session at n there st =
     of job (place.Phaser p) is = is
     of job (place.Task t) is = is
 
-pub lack_stops : {R : Type 0} (held : Known) (old new : WriterState) (first session : Session R)
-    (found : Failure) → IsSameSession first session
-    → StopsOf held session.stream.job session.task old new found
-    → StopsOf held first.stream.job first.task old new found
+pub lack_stops : {R : Type 0} (held : Known) (old : ℕ → Option (List ℕ)) (new : ℕ → WriterState)
+    (first session : Session R) (found : Failure) → IsSameSession first session
+    → StopOf held session.stream.job (task_for session.targets.items)
+    (length session.targets.items) old new found
+    → StopOf held first.stream.job (task_for first.targets.items) (length first.targets.items) old
+    new found
 lack_stops held old new first session found same is =
-    moved (λ j t. StopsOf held j t old new found) first session same is
+    moved (λ j ts. StopOf held j (task_for ts) (length ts) old new found) first session same is
 
 -- the files are known as before
 pub held_later : (held first now : Known) → ((other : List ℕ) → now other ≡ first other)

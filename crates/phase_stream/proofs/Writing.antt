@@ -17,7 +17,7 @@ use Rattle.stream_job.specs.Gone.{has_gone}
 use Rattle.stream_job.specs.SinkLines.{kept_by}
 use Rattle.std.specs.Prelude.{◌⊎◌, string_bytes}
 use Rattle.std.specs.Global.{Global}
-use Rattle.std.proofs.Common.{inl, inr, String}
+use Rattle.std.proofs.Common.{inl, inr, String, Vec}
 use Rattle.phase_stream.proofs.Handing.{whole_part}
 use Rattle.stream_job.proofs.GivenLines.{sink_there}
 use Rattle.phase_stream.specs.declared.source.Lack.{Lack}
@@ -32,9 +32,12 @@ use Rattle.stream_job.specs.stream_lists.Jobs.{Job, with_samples}
 use Rattle.stream_job.specs.stream_lists.Lists.{lines_of, numbers_of, sinks_of, start_in, taken_from, with_start}
 use Rattle.stream_job.specs.stream_lists.Ranges.{Fits, Where, answer_of, first_too_big}
 use Rattle.stream_job.specs.stream_lists.Spans.{span_in}
-use Rattle.phase_stream.specs.Sessions.{IsKeptRight, IsKeptWhole, IsSinkNumber, IsFaultWithoutText, Reaches, StandsLacking, StandsStopped, sink_list}
-use Rattle.phase_stream.specs.Streams.{GoesOnBehind, StopsOf, WritesKept, WritesPart, WritesWhole}
+use Rattle.phase_stream.specs.Outputs.{StopOf, WriteKept, WriteParts, WriteWhole}
+use Rattle.phase_stream.specs.Sessions.{AllHanded, AreKeptRight, AreTargets, AreWritten, IsKeptWhole, IsFaultWithoutText, Reaches, StandsLacking, StandsStopped, sink_list, task_for, values_for}
+use Rattle.phase_stream.specs.Streams.{GoesOnBehind}
 use Rattle.phase_stream.specs.declared.session.Session.{Session}
+use Rattle.phase_stream.specs.declared.sink.Sink.{Sink}
+use Rattle.phase_stream.proofs.Targets.{number_of_task}
 
 -- ---- a part
 
@@ -56,36 +59,46 @@ begins_further xs ys zs first then = (
   sym (append_assoc xs first.0 then.0) ∙ ap (λ l. l ++ then.0) first.1 ∙ then.1,
 )
 
-abbrev pub part_of : (held : Known) (stream : StreamState) (t : ℕ) (old now : Option (List ℕ))
-    (s : List (List ℤ)) (m : Moment) (given : ℕ → List ℤ) (values : List ℤ)
-    → Reaches held stream s m given → IsPrefix values (kept_by stream.job m t)
-    → IsKeptRight stream t → AppendsPrefix old now (flat_map value_text values)
-    → WritesPart held stream.job t old now
-part_of held stream t old now s m given values reaches begins right written = record {
+abbrev pub part_of : (held : Known) (stream : StreamState) (targets : List (Option Sink))
+    (old now : ℕ → Option (List ℕ)) (s : List (List ℤ)) (m : Moment) (given values : ℕ → List ℤ)
+    → Reaches held stream s m given
+    → ((k t : ℕ) → task_for targets k ≡ Some t → IsPrefix (values k) (kept_by stream.job m t))
+    → ((k : ℕ) → task_for targets k ≡ None → values k ≡ [])
+    → AreKeptRight stream targets
+    → ((k : ℕ) → AppendsPrefix (old k) (now k) (flat_map value_text (values k)))
+    → WriteParts held stream.job (task_for targets) old now
+part_of held stream targets old now s m given values reaches begins none right written = record {
   samples = s;
   ended = has_ended stream.inputs;
   came = reaches.came;
   starts = (started stream.job m).starts;
   values = values;
-  right = λ more goes. begins_further values (kept_by stream.job m t)
-      (sink_list (started (with_samples more stream.job) m) t) begins
-      (right s m given more reaches.at goes.feeds goes.ready);
+  right = λ k t goes more behind. begins_further (values k) (kept_by stream.job m t)
+      (sink_list (started (with_samples more stream.job) m) t) (begins k t goes)
+      (right k t goes s m given more reaches.at behind.feeds behind.ready);
+  none = none;
   written = written;
 }
 
--- all that the sink has kept
-abbrev pub kept_of : (held : Known) (stream : StreamState) (t : ℕ) (old now : Option (List ℕ))
-    (s : List (List ℤ)) (m : Moment) (given : ℕ → List ℤ) → Reaches held stream s m given
-    → given t ≡ kept_by stream.job m t → IsKeptRight stream t
-    → Appends old now (flat_map value_text (given t)) → WritesKept held stream.job t old now
-kept_of held stream t old now s m given reaches whole right written = record {
+-- all that the sinks have kept
+abbrev pub kept_of : (held : Known) (stream : StreamState) (targets : List (Option Sink))
+    (old now : ℕ → Option (List ℕ)) (s : List (List ℤ)) (m : Moment) (given : ℕ → List ℤ)
+    → Reaches held stream s m given
+    → AllHanded stream.job targets m given → AreKeptRight stream targets
+    → AreWritten targets given old now
+    → WriteKept held stream.job (task_for targets) old now
+kept_of held stream targets old now s m given reaches whole right written = record {
   samples = s;
   ended = has_ended stream.inputs;
   came = reaches.came;
   moment = m;
   reached = reaches.at.machine.reached;
-  right = λ more goes. right s m given more reaches.at goes.feeds goes.ready;
-  written = subst (λ l. Appends old now (flat_map value_text l)) whole written;
+  right = λ k t goes more behind. right k t goes s m given more reaches.at behind.feeds behind.ready;
+  written = λ k t goes. subst (λ l. Appends (old k) (now k) (flat_map value_text l))
+      (whole k t goes) (subst (λ o. Appends (old k) (now k) (flat_map value_text (values_for o given)))
+      goes (written k));
+  none = λ k free. subst (λ o. Appends (old k) (now k) (flat_map value_text (values_for o given)))
+      free (written k);
 }
 
 -- ---- all
@@ -155,77 +168,88 @@ whole_by job kept sink t there is answer =
     )
 
 pub whole_of : {R : Type 0} (remaining : R → Option (List ℕ)) (held : Known)
-    (old now : Option (List ℕ)) (session : Session R)
-    → IsSinkNumber session.stream.job session.task session.sink
+    (old now : ℕ → Option (List ℕ)) (session : Session R)
+    → AreTargets session.stream.job session.targets.items
     → StandsStopped remaining held old now session stopped.Done
-    → WritesWhole held session.stream.job session.task old now
-whole_of remaining held old now session sink st =
+    → WriteWhole held session.stream.job (task_for session.targets.items) old now
+whole_of remaining held old now session are st =
     let stands = st.stands in
     let stream = session.stream in
     let m = stands.moment in
     let machine = stands.reaches.at.machine in
+    let ts = session.targets.items in
     record {
       samples = stands.samples;
       ended = has_ended stream.inputs;
       came = stands.reaches.came;
       ready = record { graph = machine.graph; apart = machine.apart };
       starts = (started stream.job m).starts;
-      values = stands.given session.task;
-      whole = λ more goes. (by more goes).1 ∙ ap (flat_map value_text) (sym st.whole);
-      in_time = λ more goes.
-          (st.stopped_is more goes.feeds goes.ready).1 session.task
-          (subst (λ t. t < length stream.job.graph.tasks) sink.task
-          (sink_there stream.job session.sink sink.there).1);
-      ends = inl (λ more goes. (by more goes).0);
+      values = λ k. values_for (task_for ts k) stands.given;
+      whole = λ k t goes more behind. (by k t goes more behind).1
+          ∙ ap (flat_map value_text) (sym (ap (λ o. values_for o stands.given) goes
+          ∙ st.whole k t goes));
+      in_time = λ k t goes more behind.
+          (let number = number_of_task stream.job ts k t are goes in
+          (st.stopped_is more behind.feeds behind.ready).1 t
+          (subst (λ u. u < length stream.job.graph.tasks) number.2
+          (sink_there stream.job number.0 number.1).1));
+      ends = inl (λ more behind. answer_fits (started (with_samples more stream.job) m) _
+          (st.stopped_is more behind.feeds behind.ready).0);
+      none = λ k free. ap (λ o. values_for o stands.given) free;
       written = stands.written;
     }
   where
-    by : (more : List (List ℤ))
+    by : (k t : ℕ) → task_for session.targets.items k ≡ Some t → (more : List (List ℤ))
         → GoesOnBehind session.stream.job (has_ended session.stream.inputs) st.stands.samples more
         → Fits (started (with_samples more session.stream.job) st.stands.moment)
-        × (sinks_text (started (with_samples more session.stream.job) st.stands.moment)
-        (Some session.task)
-        ≡ flat_map value_text (kept_by session.stream.job st.stands.moment session.task))
-    by more goes =
+        × (sinks_text (started (with_samples more session.stream.job) st.stands.moment) (Some t)
+        ≡ flat_map value_text (kept_by session.stream.job st.stands.moment t))
+    by k t goes more behind =
+        let number = number_of_task session.stream.job session.targets.items k t are goes in
         whole_by (started (with_samples more session.stream.job) st.stands.moment)
-        (kept_by session.stream.job st.stands.moment) session.sink session.task sink.there sink.task
-        (st.stopped_is more goes.feeds goes.ready).0
+        (kept_by session.stream.job st.stands.moment) number.0 t number.1 number.2
+        (st.stopped_is more behind.feeds behind.ready).0
 
--- where the sink has left, whatever the others do
+-- where the sinks have left, whatever the others do
 pub left_of : {R : Type 0} (remaining : R → Option (List ℕ)) (held : Known)
-    (old now : Option (List ℕ)) (session : Session R) (stop : Stopped)
-    → IsSinkNumber session.stream.job session.task session.sink
-    → ((s : List (List ℤ)) (m : Moment) (given : ℕ → List ℤ) → IsStreamAt session.stream s m given
-    → has_gone session.stream.job m session.task ≡ true)
-    → IsKeptWhole session.stream session.task
+    (old now : ℕ → Option (List ℕ)) (session : Session R) (stop : Stopped)
+    → AreTargets session.stream.job session.targets.items
+    → ((k t : ℕ) → task_for session.targets.items k ≡ Some t → (s : List (List ℤ)) (m : Moment)
+    (given : ℕ → List ℤ) → IsStreamAt session.stream s m given
+    → has_gone session.stream.job m t ≡ true)
+    → ((k t : ℕ) → task_for session.targets.items k ≡ Some t → IsKeptWhole session.stream t)
     → StandsStopped remaining held old now session stop
-    → WritesWhole held session.stream.job session.task old now
-left_of remaining held old now session stop sink gone whole st =
+    → WriteWhole held session.stream.job (task_for session.targets.items) old now
+left_of remaining held old now session stop are gone whole st =
     let stands = st.stands in
     let stream = session.stream in
     let m = stands.moment in
     let machine = stands.reaches.at.machine in
+    let ts = session.targets.items in
     record {
       samples = stands.samples;
       ended = has_ended stream.inputs;
       came = stands.reaches.came;
       ready = record { graph = machine.graph; apart = machine.apart };
       starts = (started stream.job m).starts;
-      values = stands.given session.task;
-      whole = λ more goes.
-          text_of_list (started (with_samples more stream.job) m) session.sink session.task
-          sink.there sink.task
-          ∙ ap (flat_map value_text) (sym (st.whole ∙ (whole stands.samples m stands.given more
-          stands.reaches.at goes.feeds goes.ready).0));
-      in_time = λ more goes.
-          (whole stands.samples m stands.given more stands.reaches.at goes.feeds goes.ready).1;
-      ends = inr (record {
+      values = λ k. values_for (task_for ts k) stands.given;
+      whole = λ k t goes more behind.
+          (let number = number_of_task stream.job ts k t are goes in
+          text_of_list (started (with_samples more stream.job) m) number.0 t number.1 number.2
+          ∙ ap (flat_map value_text) (sym (ap (λ o. values_for o stands.given) goes
+          ∙ (st.whole k t goes ∙ (whole k t goes stands.samples m stands.given more
+          stands.reaches.at behind.feeds behind.ready).0))));
+      in_time = λ k t goes more behind.
+          (whole k t goes stands.samples m stands.given more stands.reaches.at behind.feeds
+          behind.ready).1;
+      ends = inr (λ k t goes. record {
         moment = m;
         reached = machine.reached;
         starts_are = refl;
-        gone = gone stands.samples m stands.given stands.reaches.at;
-        kept = st.whole;
+        gone = gone k t goes stands.samples m stands.given stands.reaches.at;
+        kept = ap (λ o. values_for o stands.given) goes ∙ st.whole k t goes;
       });
+      none = λ k free. ap (λ o. values_for o stands.given) free;
       written = stands.written;
     }
 
@@ -242,48 +266,65 @@ unread_stops fault (failure.Stalled further) P is at = absurd is
 unread_stops fault (failure.Io other) P is at = absurd is
 
 -- no more samples came, and nothing is said of why
-pub lacking_stops : {R : Type 0} (held : Known) (old new : WriterState) (session : Session R)
-    (k : ℕ) (lack : Lack) (fault : JobFault) (found : Failure)
-    → ((s : List (List ℤ)) (m : Moment) (given : ℕ → List ℤ) → IsStreamAt session.stream s m given
-    → IsPrefix (given session.task) (kept_by session.stream.job m session.task))
-    → IsKeptRight session.stream session.task
-    → (st : StandsLacking held old.written new.written session k lack) → IsFaultWithoutText fault found
+pub lacking_stops : {R : Type 0} (held : Known) (old : ℕ → Option (List ℕ)) (new : ℕ → WriterState)
+    (session : Session R) (k : ℕ) (lack : Lack) (fault : JobFault) (found : Failure)
+    → ((k t : ℕ) → task_for session.targets.items k ≡ Some t → (s : List (List ℤ)) (m : Moment)
+    (given : ℕ → List ℤ) → IsStreamAt session.stream s m given
+    → IsPrefix (given t) (kept_by session.stream.job m t))
+    → AreKeptRight session.stream session.targets.items
+    → (st : StandsLacking held old (λ k. (new k).written) session k lack)
+    → IsFaultWithoutText fault found
     → ((fault ≡ faults.ReadFault) ⊎ (fault ≡ faults.OutOfMemory))
-    → StopsOf held session.stream.job session.task old new found
-lacking_stops held old new session k lack fault found begins right st is which =
-    unread_stops fault found (StopsOf held session.stream.job session.task old new) is
+    → StopOf held session.stream.job (task_for session.targets.items)
+    (length session.targets.items) old new found
+lacking_stops {R} held old new session k lack fault found begins right st is which =
+    unread_stops fault found (StopOf held session.stream.job (task_for session.targets.items)
+    (length session.targets.items) old new) is
     (λ text. by fault which text)
   where
-    part : WritesPart held session.stream.job session.task old.written new.written
-    part = part_of held session.stream session.task old.written new.written st.samples st.moment
-        st.given (st.given session.task) st.reaches
-        (begins st.samples st.moment st.given st.reaches.at) right
-        (whole_part old.written new.written (flat_map value_text (st.given session.task)) st.written)
+    part : WriteParts held session.stream.job (task_for session.targets.items) old
+        (λ k. (new k).written)
+    part =
+        let ts = session.targets.items in
+        part_of held session.stream ts old (λ k. (new k).written) st.samples st.moment
+        st.given (λ k. values_for (task_for ts k) st.given) st.reaches
+        (λ k t goes. subst (λ o. IsPrefix (values_for o st.given)
+        (kept_by session.stream.job st.moment t)) (sym goes)
+        (begins k t goes st.samples st.moment st.given st.reaches.at))
+        (λ k free. ap (λ o. values_for o st.given) free) right
+        (λ k. whole_part (old k) (new k).written
+        (flat_map value_text (values_for (task_for ts k) st.given)) (st.written k))
 
     by : (fault : JobFault) → ((fault ≡ faults.ReadFault) ⊎ (fault ≡ faults.OutOfMemory))
-        → (text : _) → StopsOf held session.stream.job session.task old new (failure.Graph fault text)
+        → (text : _) → StopOf held session.stream.job (task_for session.targets.items)
+        (length session.targets.items) old new (failure.Graph fault text)
     by fault (inl e) text =
-        subst (λ f. StopsOf held session.stream.job session.task old new (failure.Graph f text)) (sym e)
+        subst (λ f. StopOf held session.stream.job (task_for session.targets.items)
+        (length session.targets.items) old new (failure.Graph f text)) (sym e)
         (record { part = part; cause = tt })
     by fault (inr e) text =
-        subst (λ f. StopsOf held session.stream.job session.task old new (failure.Graph f text)) (sym e)
+        subst (λ f. StopOf held session.stream.job (task_for session.targets.items)
+        (length session.targets.items) old new (failure.Graph f text)) (sym e)
         (record { part = part; cause = tt })
 
 -- a record is none
-pub bad_stops : {R : Type 0} (held : Known) (old new : WriterState) (session : Session R)
-    (k number task : ℕ) (name : String Global) (found : Failure)
-    → IsKeptRight session.stream session.task
-    → (st : StandsLacking held old.written new.written session k (lack.BadRecord number))
-    → IsFaultWithoutText (faults.BadSample name number) found
+pub bad_stops : {R : Type 0} (held : Known) (old : ℕ → Option (List ℕ)) (new : ℕ → WriterState)
+    (session : Session R) (k number task : ℕ) (name : String Global)
+    (told : Option (Vec ℕ Global)) (found : Failure)
+    → AreKeptRight session.stream session.targets.items
+    → (st : StandsLacking held old (λ k. (new k).written) session k (lack.BadRecord number))
+    → IsFaultWithoutText (faults.BadSample name number told) found
     → IsSourceAt session.stream.job task k
     → string_bytes name ≡ name_at session.stream.job.graph (place.Task task)
-    → StopsOf held session.stream.job session.task old new found
-bad_stops held old new session k number task name found right st is there named =
-    unread_stops (faults.BadSample name number) found
-    (StopsOf held session.stream.job session.task old new) is
+    → StopOf held session.stream.job (task_for session.targets.items)
+    (length session.targets.items) old new found
+bad_stops held old new session k number task name told found right st is there named =
+    unread_stops (faults.BadSample name number told) found
+    (StopOf held session.stream.job (task_for session.targets.items)
+    (length session.targets.items) old new) is
     (λ text. record {
-      kept = kept_of held session.stream session.task old.written new.written st.samples st.moment
-          st.given st.reaches (st.still number refl).whole right st.written;
+      kept = kept_of held session.stream session.targets.items old (λ k. (new k).written) st.samples
+          st.moment st.given st.reaches (st.still number refl).whole right st.written;
       cause = record {
         task = task;
         source = k;

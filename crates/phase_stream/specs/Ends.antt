@@ -1,11 +1,12 @@
 -- How a run of the program may end, by what its words ask for.
-use Rattle.std.specs.Prelude.{◌≡◌, ◌⊎◌, ℕ, List, Option}
+use Rattle.std.specs.Prelude.{◌≡◌, ◌⊎◌, ℕ, Bool, List, [], Option}
 use Rattle.graph_commands.specs.FileJobs.{Known}
 use Rattle.graph_commands.specs.Folders.{known_by}
 use Rattle.graph_commands.specs.watched_io.States.{WriterState}
 use Rattle.graph_commands.specs.watched_io.declared.status.Status.{Status}
 use Rattle.graph_commands.specs.watched_io.declared.status.Status.TheVariants.{Done, Failed, GraphRefused, Stalled, TooBig}
 use Rattle.graph_commands.specs.watched_io.declared.watched.Watched.{Watched}
+use Rattle.phase_stream.specs.Outputs.{StreamEndsBy}
 use Rattle.phase_stream.specs.Streams.{StreamEnds}
 use Rattle.phase_words.specs.StreamLine.{Stream}
 
@@ -15,9 +16,17 @@ MayEndAsStream status =
     (status ≡ Done) ⊎ ((status ≡ GraphRefused) ⊎ ((status ≡ TooBig) ⊎ ((status ≡ Stalled)
     ⊎ (status ≡ Failed))))
 
--- how the stream that words ask for ends
+-- how the stream that words ask for ends, where its values go to the output alone
 abbrev pub EndsAsStream : {W : Type 0} → Stream → Known → (W → Option (List ℕ)) → Status
     → Watched W → Watched W → WriterState → WriterState → Type 0
-EndsAsStream what known contents status old new before after =
-    StreamEnds what.explain (known_by what.beside what.graph known) what.graph what.sink status
+EndsAsStream what known contents status old new before after = what.files ≡ []
+    → StreamEnds what.explain (known_by what.beside what.graph known) what.graph what.sink status
     contents old new before after
+
+-- and where they go to files too, which were made, and of which it may be known what is written
+abbrev pub EndsAsAsked : {W V : Type 0} → Stream → Known → Bool → (W → Option (List ℕ))
+    → (V → Option (List ℕ)) → Status → Watched W → Watched W → List (Watched V) → WriterState
+    → WriterState → Type 0
+EndsAsAsked what known knows of_output of_file status old new made before after =
+    StreamEndsBy (known_by what.beside what.graph known) what knows of_output of_file status
+    old new made before after

@@ -1,4 +1,5 @@
 pub mod Ends
+pub mod Outputs
 pub mod Sources
 pub mod Sessions
 pub mod Streams

@@ -1,11 +1,12 @@
--- A run of a graph over the files of its sources, and what of one sink was written.
-use Rattle.std.specs.Prelude.{◌≡◌, ◌<◌, ◌++◌, ◌||◌, Bool, ℕ, ℤ, List, [], Option, Some, Ok, length, get_or, map, slice_get, false, true}
+-- A run of a graph over the files of its sources, and what of its sinks was written.
+use Rattle.std.specs.Prelude.{◌≡◌, ◌<◌, ◌≤◌, ◌++◌, ◌||◌, Bool, ℕ, ℤ, List, [], Option, Some, None, Ok, length, get_or, map, slice_get, false, true}
 use Rattle.std.specs.List.{flat_map, list_all}
 use Rattle.std.specs.Io.KnownBytes.{Appends}
 use mathlib.Core.List.{IsPrefix}
 use Rattle.graph_commands.specs.FileJobs.{Known}
 use Rattle.graph_commands.specs.OutputTexts.{value_text}
 use Rattle.graph_commands.specs.watched_io.Prefix.{AppendsPrefix}
+use Rattle.graph_commands.specs.watched_io.States.{WriterState}
 use Rattle.graph_commands.specs.declared.failure.Failure.{Failure}
 use Rattle.graph_commands.specs.declared.failure.Failure.TheVariants as failure
 use Rattle.graph_commands.specs.declared.fault.JobFault.{JobFault}
@@ -27,6 +28,7 @@ use Rattle.stream_job.specs.stream_lists.Ranges.{Where, answer_of}
 use Rattle.stream_job.specs.stream_lists.Spans.{span_in}
 use Rattle.phase_stream.specs.Sources.{HasComeOf, IsSource, Lacks}
 use Rattle.phase_stream.specs.declared.session.Session.{Session}
+use Rattle.phase_stream.specs.declared.sink.Sink.{Sink}
 use Rattle.phase_stream.specs.declared.source.Source.{Source}
 use Rattle.phase_stream.specs.declared.source.Lack.{Lack}
 use Rattle.phase_stream.specs.declared.source.Lack.TheVariants as lacks
@@ -68,6 +70,51 @@ pub record IsSinkNumber (job : Job) (t sink : ℕ) : Type 0 where
   pub there : sink < length (sinks_of job)
   pub task : get_or (sinks_of job) sink 0 ≡ t
 
+-- ---- what goes where
+
+-- the sink whose values go to writer number k, where one does
+abbrev pub sink_for : List (Option Sink) → ℕ → Option Sink
+sink_for targets k = of (slice_get targets k)
+  where
+    of : Option (Option Sink) → Option Sink
+    of None = None
+    of (Some target) = target
+
+-- its task
+abbrev pub task_for : List (Option Sink) → ℕ → Option ℕ
+task_for targets k = of (sink_for targets k)
+  where
+    of : Option Sink → Option ℕ
+    of None = None
+    of (Some sink) = Some sink.task
+
+-- each has the number of its task
+abbrev pub AreTargets : Job → List (Option Sink) → Type 0
+AreTargets job targets = (k : ℕ) (sink : Sink) → sink_for targets k ≡ Some sink
+    → IsSinkNumber job sink.task sink.number
+
+-- of these values of each sink, those of the sink of this task, or none
+abbrev pub values_for : Option ℕ → (ℕ → List ℤ) → List ℤ
+values_for None given = []
+values_for (Some t) given = given t
+
+-- each writer got what was handed over of its sink, and no more
+abbrev pub AreWritten : List (Option Sink) → (ℕ → List ℤ) → (ℕ → Option (List ℕ))
+    → (ℕ → Option (List ℕ)) → Type 0
+AreWritten targets given old now = (k : ℕ)
+    → Appends (old k) (now k) (flat_map value_text (values_for (task_for targets k) given))
+
+-- of each sink that goes somewhere all that it has kept was handed over
+abbrev pub AllHanded : Job → List (Option Sink) → Moment → (ℕ → List ℤ) → Type 0
+AllHanded job targets m given = (k t : ℕ) → task_for targets k ≡ Some t
+    → given t ≡ kept_by job m t
+
+-- what each of them has kept begins its values in every run whose samples go on so
+abbrev pub AreKeptRight : StreamState → List (Option Sink) → Type 0
+AreKeptRight stream targets = (k t : ℕ) → task_for targets k ≡ Some t → IsKeptRight stream t
+
+-- ---- what came
+
 -- of each source these samples came of its file
 abbrev pub AreCome : Known → StreamState → List (List ℤ) → Type 0
 AreCome held stream s = (k : ℕ) → k < sources_of stream.job.graph
@@ -87,15 +134,15 @@ AreSources {R} remaining held session s = (k : ℕ) (source : Source R)
     → IsSourceAt session.stream.job source.task k
     × IsSource remaining (held (file_at session.stream.job.graph k)) (get_or s k []) source
 
--- the writer got what was handed over of the session's sink, and no more
+-- each writer got what was handed over of its sink, and no more
 pub record StandsBy {R : Type 0} (remaining : R → Option (List ℕ)) (held : Known)
-    (old now : Option (List ℕ)) (session : Session R) : Type 0 where
+    (old now : ℕ → Option (List ℕ)) (session : Session R) : Type 0 where
   pub samples : List (List ℤ)
   pub moment : Moment
   pub given : ℕ → List ℤ
   pub reaches : Reaches held session.stream samples moment given
   pub sources : AreSources remaining held session samples
-  pub written : Appends old now (flat_map value_text (given session.task))
+  pub written : AreWritten session.targets.items given old now
 
 -- ---- a stop
 
@@ -144,43 +191,45 @@ HasStopped stream s m stopped.Stalled =
     × (list_all (is_held_up (with_samples s stream.job) m) (all_tasks stream.job) ≡ true)
 HasStopped stream s m stop = Unit {0}
 
--- the session stands so, it stopped so, and all that its sink has kept was written
+-- the session stands so, it stopped so, and all that its sinks have kept was written
 pub record StandsStopped {R : Type 0} (remaining : R → Option (List ℕ)) (held : Known)
-    (old now : Option (List ℕ)) (session : Session R) (stop : Stopped) : Type 0 where
+    (old now : ℕ → Option (List ℕ)) (session : Session R) (stop : Stopped) : Type 0 where
   pub stands : StandsBy remaining held old now session
-  pub whole : stands.given session.task ≡ kept_by session.stream.job stands.moment session.task
+  pub whole : AllHanded session.stream.job session.targets.items stands.moment stands.given
   pub stopped_is : HasStopped session.stream stands.samples stands.moment stop
 
--- a prefix of what the session's sink has kept was written
-pub record StandsPart {R : Type 0} (held : Known) (old now : Option (List ℕ))
+-- a prefix of what its sink has kept was written to each writer
+pub record StandsPart {R : Type 0} (held : Known) (old now : ℕ → Option (List ℕ))
     (session : Session R) : Type 0 where
   pub samples : List (List ℤ)
   pub moment : Moment
   pub given : ℕ → List ℤ
   pub reaches : Reaches held session.stream samples moment given
-  pub values : List ℤ
-  pub begins : IsPrefix values (kept_by session.stream.job moment session.task)
-  pub written : AppendsPrefix old now (flat_map value_text values)
+  pub values : ℕ → List ℤ
+  pub begins : (k t : ℕ) → task_for session.targets.items k ≡ Some t
+      → IsPrefix (values k) (kept_by session.stream.job moment t)
+  pub none : (k : ℕ) → task_for session.targets.items k ≡ None → values k ≡ []
+  pub written : (k : ℕ) → AppendsPrefix (old k) (now k) (flat_map value_text (values k))
 
--- all that task t has kept was handed over, and no task makes an event now
-pub record KeptStill (stream : StreamState) (t : ℕ) (s : List (List ℤ)) (m : Moment)
-    (given : ℕ → List ℤ) : Type 0 where
-  pub whole : given t ≡ kept_by stream.job m t
+-- all that the sinks have kept was handed over, and no task makes an event now
+pub record KeptStill (stream : StreamState) (targets : List (Option Sink)) (s : List (List ℤ))
+    (m : Moment) (given : ℕ → List ℤ) : Type 0 where
+  pub whole : AllHanded stream.job targets m given
   pub rest : AllWait stream.job (has_ended stream.inputs) s m
 
--- the writer got what was handed over, and the source of this number got no more samples, of this
--- cause: where that is its file's, all that the sink had
-pub record StandsLacking {R : Type 0} (held : Known) (old now : Option (List ℕ))
+-- each writer got what was handed over, and the source of this number got no more samples, of this
+-- cause: where that is its file's, all that the sinks had
+pub record StandsLacking {R : Type 0} (held : Known) (old now : ℕ → Option (List ℕ))
     (session : Session R) (k : ℕ) (lack : Lack) : Type 0 where
   pub samples : List (List ℤ)
   pub moment : Moment
   pub given : ℕ → List ℤ
   pub reaches : Reaches held session.stream samples moment given
-  pub written : Appends old now (flat_map value_text (given session.task))
+  pub written : AreWritten session.targets.items given old now
   pub there : (source : Source R) → slice_get session.sources.items k ≡ Some source
       → IsSourceAt session.stream.job source.task k
   pub still : (number : ℕ) → lack ≡ lacks.BadRecord number
-      → KeptStill session.stream session.task samples moment given
+      → KeptStill session.stream session.targets.items samples moment given
   pub lacks : Lacks (held (file_at session.stream.job.graph k)) (length (get_or samples k [])) lack
 
 -- the files hold what is known of them
@@ -189,45 +238,95 @@ IsKnownAs held files = (name : List ℕ) → files name ≡ held name
 
 -- it stands so for some of that
 abbrev pub MayStand : {R : Type 0} → (R → Option (List ℕ)) → Known → Session R → Type 0
-MayStand remaining files session = (held : Known) × (old now : Option (List ℕ))
+MayStand remaining files session = (held : Known) × (old now : ℕ → Option (List ℕ))
     × IsKnownAs held files × StandsBy remaining held old now session
 
 -- ---- a handing over
 
--- the values of the sink that were not handed over yet were written
-pub record HandsOverAll {R : Type 0} (old now : Option (List ℕ)) (before after : Session R)
-    : Type 0 where
-  pub values : List ℤ
-  pub written : Appends old now (flat_map value_text values)
-  pub stands : (s : List (List ℤ)) (m : Moment) (given : ℕ → List ℤ)
-      → IsStreamAt before.stream s m given
-      → (given before.task ++ values ≡ kept_by before.stream.job m before.task)
-      × (later : ℕ → List ℤ) × IsStreamAt after.stream s m later
-      × (later before.task ≡ kept_by before.stream.job m before.task)
-  pub inputs : after.stream.inputs ≡ before.stream.inputs
-  pub sources : after.sources ≡ before.sources
+-- writer number k got these bytes, and the others none
+pub record WritesTo (old now : ℕ → WriterState) (k : ℕ) (bytes : List ℕ) : Type 0 where
+  pub here : Appends (old k).written (now k).written bytes
+  pub others : (j : ℕ) → (j ≡ k → ⊥) → now j ≡ old j
 
--- a prefix of them was
-pub record HandsPart {R : Type 0} (old now : Option (List ℕ)) (before after : Session R)
-    : Type 0 where
-  pub values : List ℤ
-  pub written : AppendsPrefix old now (flat_map value_text values)
-  pub stands : (s : List (List ℤ)) (m : Moment) (given : ℕ → List ℤ)
-      → IsStreamAt before.stream s m given
-      → (given before.task ++ values ≡ kept_by before.stream.job m before.task)
-      × IsStreamAt after.stream s m given
-  pub inputs : after.stream.inputs ≡ before.stream.inputs
+-- it got a prefix of them
+pub record WritesPrefixTo (old now : ℕ → WriterState) (k : ℕ) (bytes : List ℕ) : Type 0 where
+  pub here : AppendsPrefix (old k).written (now k).written bytes
+  pub others : (j : ℕ) → (j ≡ k → ⊥) → now j ≡ old j
 
--- a stream stands for the same samples at the same moment, and what was all handed over is so still
-pub record IsForgetful (old new : StreamState) : Type 0 where
+-- one of so many writers has failed
+pub record HasFailed (many : ℕ) (now : ℕ → WriterState) : Type 0 where
+  pub number : ℕ
+  pub there : number < many
+  pub failed : (now number).failed ≡ true
+
+-- these are the values of the sink that goes to writer number k that were not handed over yet, or
+-- none
+pub record AreLeft (stream : StreamState) (targets : List (Option Sink)) (k : ℕ)
+    (values : List ℤ) : Type 0 where
+  pub rest : (t : ℕ) → task_for targets k ≡ Some t → (s : List (List ℤ)) (m : Moment)
+      (given : ℕ → List ℤ) → IsStreamAt stream s m given
+      → given t ++ values ≡ kept_by stream.job m t
+  pub none : task_for targets k ≡ None → values ≡ []
+
+-- what was left of one sink was written
+pub record WritesLeft (stream : StreamState) (targets : List (Option Sink)) (k : ℕ)
+    (old now : ℕ → WriterState) : Type 0 where
+  pub values : List ℤ
+  pub left : AreLeft stream targets k values
+  pub writes : WritesTo old now k (flat_map value_text values)
+
+-- a prefix of it was
+pub record WritesLeftPart (stream : StreamState) (targets : List (Option Sink)) (k : ℕ)
+    (old now : ℕ → WriterState) : Type 0 where
+  pub values : List ℤ
+  pub left : AreLeft stream targets k values
+  pub writes : WritesPrefixTo old now k (flat_map value_text values)
+
+-- what was left of the sinks of the first so many writers was written
+pub record WritesFirst (stream : StreamState) (targets : List (Option Sink)) (n : ℕ)
+    (old now : ℕ → WriterState) : Type 0 where
+  pub values : ℕ → List ℤ
+  pub left : (k : ℕ) → k < n → AreLeft stream targets k (values k)
+  pub others : (k : ℕ) → n ≤ k → values k ≡ []
+  pub written : (k : ℕ)
+      → Appends (old k).written (now k).written (flat_map value_text (values k))
+
+-- a prefix of what was left of each sink was written
+pub record WritesSome (stream : StreamState) (targets : List (Option Sink))
+    (old now : ℕ → WriterState) : Type 0 where
+  pub values : ℕ → List ℤ
+  pub begins : (k t : ℕ) → task_for targets k ≡ Some t → (s : List (List ℤ)) (m : Moment)
+      (given : ℕ → List ℤ) → IsStreamAt stream s m given
+      → IsPrefix (given t) (kept_by stream.job m t)
+      → IsPrefix (given t ++ values k) (kept_by stream.job m t)
+  pub none : (k : ℕ) → task_for targets k ≡ None → values k ≡ []
+  pub written : (k : ℕ)
+      → AppendsPrefix (old k).written (now k).written (flat_map value_text (values k))
+
+-- a stream stands for the same samples at the same moment, and of the first so many sinks all that
+-- they have kept was handed over
+pub record Forgets (n : ℕ) (old new : StreamState) : Type 0 where
   pub stands : (s : List (List ℤ)) (m : Moment) (given : ℕ → List ℤ) → IsStreamAt old s m given
       → (later : ℕ → List ℤ) × IsStreamAt new s m later
-      × ((t : ℕ) → given t ≡ kept_by old.job m t → later t ≡ kept_by old.job m t)
+      × ((sink : ℕ) → sink < n → later (get_or (sinks_of old.job) sink 0)
+      ≡ kept_by old.job m (get_or (sinks_of old.job) sink 0))
   pub job : new.job ≡ old.job
   pub inputs : new.inputs ≡ old.inputs
 
--- it is of the same graph and the same sink
+-- the values of the sinks that were not handed over yet were written
+pub record HandsOverAll {R : Type 0} (old now : ℕ → WriterState) (before after : Session R)
+    : Type 0 where
+  pub writes : WritesFirst before.stream before.targets.items (length before.targets.items) old now
+  pub forgets : Forgets (length (sinks_of before.stream.job)) before.stream after.stream
+  pub sources : after.sources ≡ before.sources
+
+-- a prefix of them was
+pub record HandsPart {R : Type 0} (old now : ℕ → WriterState) (before after : Session R)
+    : Type 0 where
+  pub writes : WritesSome before.stream before.targets.items old now
+  pub same : after.stream ≡ before.stream
+
+-- it is of the same graph, and the same sinks go to the same writers
 pub record IsSameSession {R : Type 0} (old new : Session R) : Type 0 where
   pub job : new.stream.job ≡ old.stream.job
-  pub task : new.task ≡ old.task
-  pub sink : new.sink ≡ old.sink
+  pub targets : new.targets.items ≡ old.targets.items

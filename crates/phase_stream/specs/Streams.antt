@@ -185,7 +185,7 @@ pub record IsFaultBehind (job : Job) (samples : List (List ℤ)) (ended : ℕ �
 -- why it stopped once it had begun
 abbrev pub StopsOf : Known → Job → ℕ → WriterState → WriterState → Failure → Type 0
 StopsOf held job sink old new (failure.Graph (fault.Graph found) text) = ⊥
-StopsOf held job sink old new (failure.Graph (fault.BadSample named number) text) =
+StopsOf held job sink old new (failure.Graph (fault.BadSample named number told) text) =
     StopsKept held job sink old new
     (λ samples ended m. EndsInRecord held job (string_bytes named) number samples ended m)
 StopsOf held job sink old new (failure.Graph fault.ReadFault text) =
@@ -214,7 +214,7 @@ pub record MayMeetOnLine (known : Known) (name : List ℕ) (line : ℕ) : Type 0
 abbrev pub GivesNoRun : Known → List ℕ → JobFault → Type 0
 GivesNoRun known name (fault.Graph found) =
     IsFaultOf known name found ⊎ ((found.kind ≡ AnyMeets) × MayMeetOnLine known name found.line)
-GivesNoRun known name (fault.BadSample named number) = ⊥
+GivesNoRun known name (fault.BadSample named number told) = ⊥
 GivesNoRun known name fault.ReadFault = MayBeRefused GRAPH_MAX (known name)
 GivesNoRun known name fault.OutOfMemory = MayNeedMemory GRAPH_MAX (known name)
 
@@ -252,7 +252,7 @@ explained (failure.Graph (fault.Graph found) text) explain = of found.kind
     of : FaultKind → Explain
     of AnyMeets = No
     of kind = explain
-explained (failure.Graph (fault.BadSample named number) text) explain = No
+explained (failure.Graph (fault.BadSample named number told) text) explain = No
 explained found explain = explain
 
 -- it failed of a cause, which was told
@@ -261,7 +261,7 @@ pub record StopsTold (explain : Explain) (known : Known) (Fails : Failure → Ty
   pub found : Failure
   pub fails : Fails found
   pub status_is : status ≡ failure_status found
-  pub told : IsTold (explained found explain) known found before after
+  pub told : IsTold (explained found explain) found before after
 
 -- how a stream ends
 pub record StreamEnds {W : Type 0} (explain : Explain) (known : Known) (name : List ℕ)

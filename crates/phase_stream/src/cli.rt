@@ -1,9 +1,9 @@
 //! A run of the program over any outputs and files.
-ghost use Rattle.std.specs.Prelude.{◌≡◌, ◌≢◌, ◌⊎◌, OnOk, IfErr};
+ghost use Rattle.std.specs.Prelude.{◌≡◌, ◌≢◌, ◌⊎◌, [], OnOk, IfErr};
 ghost use Rattle.graph_commands.specs.Ends.{IsTold};
 ghost use Rattle.graph_commands.specs.Failures.{HasPlace, failure_status};
 ghost use Rattle.graph_commands.specs.watched_io.States.{writer_state};
-ghost use Rattle.phase_stream.specs.Ends.{EndsAsStream, MayEndAsStream};
+ghost use Rattle.phase_stream.specs.Ends.{EndsAsAsked, EndsAsStream, MayEndAsStream};
 ghost use Rattle.phase_stream.specs.Streams.{explained};
 ghost use Rattle.phase_words.specs.Answers.{AnswerEnds, IsUnbegun, MayEnd};
 ghost use Rattle.phase_words.specs.CommandLine.{texts};
@@ -26,10 +26,14 @@ use std::io::Write;
 ///
 /// A refusal's text goes to the fault stream, and so does a fault's line. Where that stream fails
 /// too, the status stands alone. It comes back where each call of its readers and writers does.
+///
+/// The writers of the files that are made for sinks are left in `made`, in the order of the words,
+/// and what was there before is let go.
 pub fn run_cli<W: Write, E: Write, F: Opens + Refuses + LooksBeside>(
     alloc: Global,
     words: &[String],
     streams: &mut Streams<W, E, F>,
+    made: &mut Vec<Watched<F::Writer>>,
 ) -> Status
     // Which statuses may come, by what the words ask for.
     ensures status { MayEnd (stream_kinds_of (texts words.now)) MayEndAsStream result }
@@ -45,7 +49,17 @@ pub fn run_cli<W: Write, E: Write, F: Opens + Refuses + LooksBeside>(
         (writer_state E.contents streams.old.faults)
         (writer_state E.contents streams.new.faults) }
 
-    // How other words are answered, and that they open no file.
+    // And the same of what it wrote to files too, behind the output.
+    ensures files { (what : AskedStream) → AsksStream (texts words.now) what
+        → IsUnbegun result streams.old.files streams.new.files
+        streams.old.output streams.new.output
+        (writer_state E.contents streams.old.faults) (writer_state E.contents streams.new.faults)
+        ⊎ EndsAsAsked what (F.file streams.old.files) F.knows W.contents F.Writer.contents result
+        streams.old.output streams.new.output made.new.items
+        (writer_state E.contents streams.old.faults)
+        (writer_state E.contents streams.new.faults) }
+
+    // How other words are answered, and that they open no file and make none.
     ensures answered { (AreStreamTaken (texts words.now) → ⊥)
         → AnswerEnds (stream_kinds_of (texts words.now)) result
         streams.old.output streams.new.output
@@ -53,10 +67,12 @@ pub fn run_cli<W: Write, E: Write, F: Opens + Refuses + LooksBeside>(
         (writer_state E.contents streams.new.faults) }
     ensures unopened { (AreStreamTaken (texts words.now) → ⊥)
         → streams.new.files ≡ streams.old.files }
+    ensures unmade { (AreStreamTaken (texts words.now) → ⊥) → made.new.items ≡ [] }
     ensures quiet { result ≡ Status.Done → streams.new.faults ≡ streams.old.faults }
 {
+    made.clear();
     match read_stream_words(alloc, words) {
-        Ok(call) => run_call(alloc, call, streams),
+        Ok(call) => run_call(alloc, &call, streams, made),
         Err(none) => answer(&none, &mut streams.output, &mut streams.faults),
     }
 }
@@ -64,24 +80,25 @@ pub fn run_cli<W: Write, E: Write, F: Opens + Refuses + LooksBeside>(
 /// Streams a graph as a call asks for it, reports why it stopped, and answers the status.
 fn run_call<W: Write, E: Write, F: Opens + Refuses + LooksBeside>(
     alloc: Global,
-    call: StreamCall<'_>,
+    call: &StreamCall<'_>,
     streams: &mut Streams<W, E, F>,
+    made: &mut Vec<Watched<F::Writer>>,
 ) -> Status
+    requires { made.old.items ≡ [] }
     ensures status { MayEndAsStream result }
-    ensures ends { EndsAsStream (stream_asked call.entry) (F.file streams.old.files) W.contents
-        result streams.old.output streams.new.output
+    ensures ends { EndsAsAsked (stream_asked call.now) (F.file streams.old.files) F.knows
+        W.contents F.Writer.contents result streams.old.output streams.new.output made.new.items
         (writer_state E.contents streams.old.faults)
         (writer_state E.contents streams.new.faults) }
     ensures quiet { result ≡ Status.Done → streams.new.faults ≡ streams.old.faults }
 {
-    let (graph, explain) = (call.graph, call.explain);
-    look_by(alloc, &mut streams.files, call.beside, graph);
-    let done = stream(alloc, call, &mut streams.output, &mut streams.files);
+    look_by(alloc, &mut streams.files, call.beside, call.graph);
+    let done = stream(alloc, call, &mut streams.output, made, &mut streams.files);
     end(
         alloc,
         done,
-        graph,
-        explain,
+        call.graph,
+        call.explain,
         &mut streams.faults,
         &mut streams.files,
     )
@@ -101,8 +118,7 @@ fn end<E: Write, F: Files + Refuses>(
     ensures done { OnOk done.entry ((result ≡ Status.Done) × (faults.new ≡ faults.old)) }
     ensures status { IfErr done.entry (λ found. result ≡ failure_status found) }
     ensures quiet { result ≡ Status.Done → faults.new ≡ faults.old }
-    ensures told { IfErr done.entry (λ found. IsTold (explained found explain)
-        (F.file files.old) found
+    ensures told { IfErr done.entry (λ found. IsTold (explained found explain) found
         (writer_state E.contents faults.old) (writer_state E.contents faults.new)) }
 {
     match done {

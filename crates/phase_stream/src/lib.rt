@@ -1,14 +1,14 @@
 //! The command `stream` of the program `phase`: a graph of filters over phasers whose samples come
-//! piece by piece, and the values of one sink of it, written as they come.
+//! piece by piece, and the values of its sinks, written as they come, to the output or to files.
 //!
 //! `run_cli` reads the words behind `stream`. `stream` reads the graph of a file, then the samples
 //! of its sources, a piece of a source that waits for some at a time, and writes what comes out
 //! before it reads again; or answers why not. `StreamFiles` are the files of the disk.
 //!
-//! Proved: what is written at status 0 is all values of the sink, of the samples that came and of
+//! Proved: what is written of a sink at status 0 is all its values, of the samples that came and of
 //! all that may follow them; whatever the status it begins that, each status has its cause, and
 //! where that is in the samples or the graph, all that the sink had by then was written. Only
-//! tested: when bytes are read and written, and what is told of a stall.
+//! tested: when files are made, when bytes are read and written, and what is told of a stall.
 #![tactic(auto)]
 
 mod cli;
@@ -17,6 +17,7 @@ mod session;
 mod sink;
 mod source;
 mod streamed;
+mod writers;
 
 pub use cli::run_cli;
 pub use graph_commands;

@@ -1,23 +1,37 @@
-//! Files that are read piece by piece.
-ghost use Rattle.std.specs.Prelude.{◌≡◌, ℕ, List, IfOk};
+//! Files that are read piece by piece, and files that are made.
+ghost use Rattle.std.specs.Prelude.{◌≡◌, ℕ, Bool, List, IfOk, false};
 ghost use Rattle.std.specs.Io.KnownBytes.{Keeps};
+ghost use Rattle.phase_stream.specs.Outputs.{bare_file};
 
-use graph_commands::watched_io::{FileFault, Files, ReadFailed};
+use graph_commands::watched_io::{FileFault, Files, ReadFailed, WriteFailed};
 use graph_commands::{FileRefusal, LooksBeside, Refuses, TellingFiles};
 use std::alloc::Global;
 use std::fs::File;
 use std::io;
-use std::io::{ErrorKind, Read};
+use std::io::{ErrorKind, Read, Write};
 
-/// Files that are also read piece by piece.
+/// Files that are also read piece by piece, or made.
 pub trait Opens: Files {
     /// What reads a file.
     type Reader: Read + Drop;
+
+    /// What writes to a file.
+    type Writer: Write + Drop;
+
+    /// Whether it is known what is written to the files that are made.
+    ghost knows: { Bool } = { false };
 
     /// Opens the file of a name, to be read from its front.
     fn open(&mut self, alloc: Global, name: &str) -> Result<Self::Reader, ReadFailed>
         ensures bytes { IfOk result (λ reader.
             Keeps (Self.file self.old name.now) (Self.Reader.remaining reader)) }
+        ensures same { (other : List ℕ) → Self.file self.new other ≡ Self.file self.old other };
+
+    /// Makes the file of a name anew, and opens it, to be written from its front. Where there is a
+    /// pipe of the name, it waits for its reader.
+    fn make(&mut self, name: &str) -> Result<Self::Writer, WriteFailed>
+        ensures bare { IfOk result (λ writer.
+            Keeps (bare_file knows) (Self.Writer.contents writer)) }
         ensures same { (other : List ℕ) → Self.file self.new other ≡ Self.file self.old other };
 }
 
@@ -91,6 +105,8 @@ fn is_folder<R: std::rt::Files>(rt: &R, name: &str) -> bool {
 impl<R: std::rt::Files, I: Read + Drop> Opens for StreamFiles<'_, R, I> {
     type Reader = Samples<R::File, I>;
 
+    type Writer = R::File;
+
     fn open(&mut self, alloc: Global, name: &str) -> Result<Samples<R::File, I>, ReadFailed> {
         let Ok(path) = self.files.path(alloc, name) else {
             return Err(ReadFailed);
@@ -108,6 +124,13 @@ impl<R: std::rt::Files, I: Read + Drop> Opens for StreamFiles<'_, R, I> {
             }
             Ok(file) => Ok(Samples::File(file)),
             Err(error) => Err(self.refuse(alloc, name, why_unopened(error.kind()))),
+        }
+    }
+
+    fn make(&mut self, name: &str) -> Result<R::File, WriteFailed> {
+        match File::create(self.rt, name) {
+            Ok(file) => Ok(file),
+            Err(_) => Err(WriteFailed),
         }
     }
 }

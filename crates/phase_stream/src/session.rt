@@ -1,7 +1,7 @@
-//! A run of a graph over the files of its sources, of which the values of one sink are written.
-ghost use Rattle.std.specs.Prelude.{◌≡◌, ◌≢◌, ◌<◌, ℕ, ℤ, List, Option, IfOk, IfErr, OnOk, OnErr, IsErrOf, false, true};
+//! A run of a graph over the files of its sources, of which the values of sinks are written.
+ghost use Rattle.std.specs.Prelude.{◌≡◌, ◌≢◌, ◌<◌, ◌≤◌, ℕ, ℤ, List, Option, Some, [], IfOk, IfErr, OnOk, OnErr, IsErrOf, length, false, true};
+ghost use Rattle.std.specs.Io.KnownBytes.{Appends};
 ghost use Rattle.graph_commands.specs.FileJobs.{Known};
-ghost use Rattle.graph_commands.specs.watched_io.Watched.{has_failed_of, inner_of};
 ghost use Rattle.graph_commands.specs.watched_io.declared.fault.IoFault.TheVariants as io_fault;
 ghost use Rattle.stream_job.specs.graph_base.Graphs.{sources_of};
 ghost use Rattle.stream_job.specs.graph_runs.Moments.{Moment};
@@ -11,59 +11,58 @@ ghost use Rattle.stream_job.specs.SinkLines.{kept_by};
 ghost use Rattle.stream_job.specs.Streams.{IsStreamAt};
 ghost use Rattle.stream_job.specs.declared.stopped.Stopped.{Stopped as StoppedValue};
 ghost use Rattle.stream_job.specs.declared.stopped.Stopped.TheVariants.{Hungry};
-ghost use Rattle.phase_stream.specs.Sessions.{HandsOverAll, HandsPart, IsForgetful, IsKeptRight, IsKeptWhole, IsStreamAtOpening, IsFaultWithoutText, MayStand, HasStopped, IsKnownAs, IsSameSession, IsSinkNumber, StandsBy, StandsLacking, StandsPart, StandsStopped};
+ghost use Rattle.stream_job.specs.stream_lists.Lists.{sinks_of};
+ghost use Rattle.phase_stream.specs.Outputs.{StopOf, writers_at};
+ghost use Rattle.phase_stream.specs.Sessions.{AreKeptRight, AreTargets, Forgets, HandsOverAll, HandsPart, HasFailed, IsKeptRight, IsKeptWhole, IsStreamAtOpening, IsFaultWithoutText, MayStand, HasStopped, IsKnownAs, IsSameSession, StandsBy, StandsLacking, StandsPart, StandsStopped, WritesFirst, WritesLeft, WritesLeftPart, WritesSome, task_for};
 ghost use Rattle.phase_stream.specs.Sources.{AreUnopened};
-ghost use Rattle.phase_stream.specs.Streams.{StopsOf};
 ghost use Rattle.graph_commands.specs.Explained.{AreFurtherLines};
 ghost use Rattle.graph_commands.specs.Failures.{HasPlace};
 ghost use Rattle.graph_commands.specs.watched_io.States.{WriterState};
 
 use crate::opens::Opens;
+use crate::sink::Sink;
 use crate::source::{Lack, Room, Source};
+use crate::writers::write_to;
 use graph_commands::watched_io::{Explain, IoFault, Watched, WriteFailed};
-use graph_commands::{Failure, JobFault, stall_told, write_values};
+use graph_commands::{Failure, JobFault, stall_told};
 use std::alloc::{AllocError, Global};
 use std::io::{Read, Write};
 use stream_job::graph_base::Place;
 use stream_job::{Job, Stopped, Stream, starts_are_in_time};
 
-/// A run of a graph over the files of its sources, of which the values of one sink are written.
+/// A run of a graph over the files of its sources, of which the values of sinks are written.
 #[derive(Drop)]
 pub struct Session<R> {
     pub stream: Stream,
     pub sources: Vec<Source<R>>,
-    /// The sink, by its task.
-    pub task: usize,
-    /// The sink, by its number among the sinks.
-    pub sink: usize,
+    /// The sink whose values go to each writer, by the writer's number, or none.
+    pub targets: Vec<Option<Sink>>,
 }
 
 impl<R: Read + Drop> Session<R> {
-    /// Makes it of a stream at its opening, for the sink of this task and number.
+    /// Makes it of a stream at its opening, for these sinks.
     pub fn new(
         alloc: Global,
         stream: Stream,
-        task: usize,
-        sink: usize,
+        targets: Vec<Option<Sink>>,
     ) -> Result<Session<R>, AllocError>
         requires { IsStreamAtOpening stream }
-        ensures stands { IfOk result (λ session. (held : Known) (old : Option (List ℕ))
-            → StandsBy R.remaining held old old session) }
+        ensures stands { IfOk result (λ session. (held : Known) (old now : ℕ → Option (List ℕ))
+            → ((k : ℕ) → Appends (old k) (now k) []) → StandsBy R.remaining held old now session) }
         ensures job { IfOk result (λ session. session.stream.job ≡ stream.job) }
-        ensures sink { IfOk result (λ session. (session.task ≡ task) × (session.sink ≡ sink)) }
+        ensures targets { IfOk result (λ session. session.targets.items ≡ targets.items) }
     {
         let sources = unopened(alloc, stream.job())?;
         Ok(Session {
             stream,
             sources,
-            task,
-            sink,
+            targets,
         })
     }
 
     /// Gives turns to the tasks until none can move, and returns why.
     fn run(&mut self) -> Result<Stopped, AllocError>
-        ensures stands { (held : Known) (old now : Option (List ℕ))
+        ensures stands { (held : Known) (old now : ℕ → Option (List ℕ))
             → StandsBy R.remaining held old now self.old
             → StandsBy R.remaining held old now self.new }
         ensures stops { IfOk result (λ stop. (s : List (List ℤ)) (m : Moment)
@@ -75,34 +74,98 @@ impl<R: Read + Drop> Session<R> {
         self.stream.run()
     }
 
-    /// Writes the values of the sink that were not handed over, and forgets those of all sinks.
-    fn hand_over<W: Write>(&mut self, output: &mut Watched<W>) -> Result<(), WriteFailed>
-        requires { IsSinkNumber self.old.stream.job self.old.task self.old.sink }
-        ensures ok { OnOk result (HandsOverAll (W.contents (inner_of output.old))
-            (W.contents (inner_of output.new)) self.old self.new) }
-        ensures err { OnErr result (HandsPart (W.contents (inner_of output.old))
-            (W.contents (inner_of output.new)) self.old self.new) }
-        ensures failed { OnErr result (has_failed_of output.new ≡ true) }
+    /// Writes to a writer the values of its sink that were not handed over.
+    fn write_left<W: Write, V: Write>(
+        &self,
+        number: usize,
+        output: &mut Watched<W>,
+        made: &mut Vec<Watched<V>>,
+    ) -> Result<(), WriteFailed>
+        requires there { number < length self.now.targets.items }
+        requires targets { AreTargets self.now.stream.job self.now.targets.items }
+        ensures ok { OnOk result (WritesLeft self.now.stream self.now.targets.items number
+            (writers_at W.contents V.contents output.old made.old.items)
+            (writers_at W.contents V.contents output.new made.new.items)) }
+        ensures err { OnErr result (WritesLeftPart self.now.stream self.now.targets.items number
+            (writers_at W.contents V.contents output.old made.old.items)
+            (writers_at W.contents V.contents output.new made.new.items)) }
+        ensures failed { OnErr result ((writers_at W.contents V.contents output.new made.new.items
+            number).failed ≡ true) }
+    {
+        match self.targets[number] {
+            Some(sink) => write_to(output, made, number, self.stream.values(sink.number)),
+            None => Ok(()),
+        }
+    }
+
+    /// Writes the values of each sink that were not handed over.
+    fn write_all<W: Write, V: Write>(
+        &self,
+        output: &mut Watched<W>,
+        made: &mut Vec<Watched<V>>,
+    ) -> Result<(), WriteFailed>
+        requires { AreTargets self.now.stream.job self.now.targets.items }
+        ensures ok { OnOk result (WritesFirst self.now.stream self.now.targets.items
+            (length self.now.targets.items)
+            (writers_at W.contents V.contents output.old made.old.items)
+            (writers_at W.contents V.contents output.new made.new.items)) }
+        ensures err { OnErr result (WritesSome self.now.stream self.now.targets.items
+            (writers_at W.contents V.contents output.old made.old.items)
+            (writers_at W.contents V.contents output.new made.new.items)) }
+        ensures failed { OnErr result (HasFailed (length self.now.targets.items)
+            (writers_at W.contents V.contents output.new made.new.items)) }
+    {
+        for number in 0..self.targets.len() {
+            self.write_left(number, output, made)?;
+        }
+        Ok(())
+    }
+
+    /// Writes the values of the sinks that were not handed over, and forgets those of all sinks.
+    fn hand_over<W: Write, V: Write>(
+        &mut self,
+        output: &mut Watched<W>,
+        made: &mut Vec<Watched<V>>,
+    ) -> Result<(), WriteFailed>
+        requires { AreTargets self.old.stream.job self.old.targets.items }
+        ensures ok { OnOk result (HandsOverAll
+            (writers_at W.contents V.contents output.old made.old.items)
+            (writers_at W.contents V.contents output.new made.new.items) self.old self.new) }
+        ensures err { OnErr result (HandsPart
+            (writers_at W.contents V.contents output.old made.old.items)
+            (writers_at W.contents V.contents output.new made.new.items) self.old self.new) }
+        ensures failed { OnErr result (HasFailed (length self.old.targets.items)
+            (writers_at W.contents V.contents output.new made.new.items)) }
         ensures same { IsSameSession self.old self.new }
     {
-        write_values(output, self.stream.values(self.sink))?;
-        self.stream.forget(self.sink);
+        self.write_all(output, made)?;
         forget_all(&mut self.stream);
         Ok(())
     }
 
-    /// Goes on until no task can move, and writes what the sink has then.
-    pub fn turn<W: Write>(&mut self, output: &mut Watched<W>) -> Result<Stopped, IoFault>
-        requires { IsSinkNumber self.old.stream.job self.old.task self.old.sink }
-        ensures ok { IfOk result (λ stop. (held : Known) (old : Option (List ℕ))
-            → StandsBy R.remaining held old (W.contents (inner_of output.old)) self.old
-            → StandsStopped R.remaining held old (W.contents (inner_of output.new)) self.new
+    /// Goes on until no task can move, and writes what the sinks have then.
+    pub fn turn<W: Write, V: Write>(
+        &mut self,
+        output: &mut Watched<W>,
+        made: &mut Vec<Watched<V>>,
+    ) -> Result<Stopped, IoFault>
+        requires { AreTargets self.old.stream.job self.old.targets.items }
+        ensures ok { IfOk result (λ stop. (held : Known) (old : ℕ → Option (List ℕ))
+            → StandsBy R.remaining held old
+            (λ k. (writers_at W.contents V.contents output.old made.old.items k).written) self.old
+            → StandsStopped R.remaining held old
+            (λ k. (writers_at W.contents V.contents output.new made.new.items k).written) self.new
             stop) }
-        ensures err { OnErr result ((held : Known) (old : Option (List ℕ))
-            → StandsBy R.remaining held old (W.contents (inner_of output.old)) self.old
-            → StandsPart held old (W.contents (inner_of output.new)) self.new) }
-        ensures right { OnErr result (IsKeptRight self.new.stream self.new.task) }
-        ensures failed { IsErrOf result io_fault.WriteFault → has_failed_of output.new ≡ true }
+        ensures err { OnErr result ((held : Known) (old : ℕ → Option (List ℕ))
+            → StandsBy R.remaining held old
+            (λ k. (writers_at W.contents V.contents output.old made.old.items k).written) self.old
+            → StandsPart held old
+            (λ k. (writers_at W.contents V.contents output.new made.new.items k).written)
+            self.new) }
+        ensures right { OnErr result (AreKeptRight self.new.stream self.new.targets.items) }
+        ensures failed { IsErrOf result io_fault.WriteFault → HasFailed
+            (length self.old.targets.items)
+            (writers_at W.contents V.contents output.new made.new.items) }
         ensures fault { IfErr result (λ fault. fault ≢ io_fault.ReadFault) }
         ensures same { IsSameSession self.old self.new }
     {
@@ -113,7 +176,7 @@ impl<R: Read + Drop> Session<R> {
                 return Err(IoFault::OutOfMemory);
             }
         };
-        match self.hand_over(output) {
+        match self.hand_over(output, made) {
             Ok(()) => Ok(stop),
             Err(_) => {
                 self.kept_is_right();
@@ -131,10 +194,10 @@ impl<R: Read + Drop> Session<R> {
         k: usize,
     ) -> Result<(), Lack>
         requires { MayStand R.remaining (F.file files.old) self.old }
-        ensures ok { OnOk result ((held : Known) (old now : Option (List ℕ))
+        ensures ok { OnOk result ((held : Known) (old now : ℕ → Option (List ℕ))
             → IsKnownAs held (F.file files.old) → StandsBy R.remaining held old now self.old
             → StandsBy R.remaining held old now self.new) }
-        ensures err { IfErr result (λ lack. (held : Known) (old now : Option (List ℕ))
+        ensures err { IfErr result (λ lack. (held : Known) (old now : ℕ → Option (List ℕ))
             (hungry : ℕ) → IsKnownAs held (F.file files.old)
             → StandsStopped R.remaining held old now self.old (Hungry hungry)
             → StandsLacking held old now self.new k lack) }
@@ -161,24 +224,50 @@ impl<R: Read + Drop> Session<R> {
         Ok(())
     }
 
-    /// Returns whether the sink has left: it gets no more values.
-    pub fn has_left(&self) -> bool
-        requires { IsSinkNumber self.now.stream.job self.now.task self.now.sink }
-        ensures gone { (s : List (List ℤ)) (m : Moment) (given : ℕ → List ℤ)
+    /// Returns whether the sink that goes to a writer has left, where one does: it gets no more
+    /// values.
+    fn has_left(&self, number: usize) -> bool
+        requires there { number < length self.now.targets.items }
+        requires targets { AreTargets self.now.stream.job self.now.targets.items }
+        ensures gone { (t : ℕ) → task_for self.now.targets.items number ≡ Some t
+            → (s : List (List ℤ)) (m : Moment) (given : ℕ → List ℤ)
             → IsStreamAt self.now.stream s m given
-            → has_gone self.now.stream.job m self.now.task ≡ result }
-        ensures whole { result ≡ true → IsKeptWhole self.now.stream self.now.task }
+            → has_gone self.now.stream.job m t ≡ result }
+        ensures whole { (t : ℕ) → task_for self.now.targets.items number ≡ Some t
+            → result ≡ true → IsKeptWhole self.now.stream t }
     {
         starts_are_in_time();
-        self.stream.has_left(self.sink)
+        match self.targets[number] {
+            Some(sink) => self.stream.has_left(sink.number),
+            None => true,
+        }
+    }
+
+    /// Returns whether all sinks that go somewhere have left.
+    pub fn have_left(&self) -> bool
+        requires { AreTargets self.now.stream.job self.now.targets.items }
+        ensures gone { result ≡ true → (k t : ℕ) → task_for self.now.targets.items k ≡ Some t
+            → (s : List (List ℤ)) (m : Moment) (given : ℕ → List ℤ)
+            → IsStreamAt self.now.stream s m given
+            → has_gone self.now.stream.job m t ≡ true }
+        ensures whole { result ≡ true → (k t : ℕ) → task_for self.now.targets.items k ≡ Some t
+            → IsKeptWhole self.now.stream t }
+    {
+        for number in 0..self.targets.len() {
+            if !self.has_left(number) {
+                return false;
+            }
+        }
+        true
     }
 
     /// Returns why it stops, where a source got no more samples of this cause.
     pub fn lacking<'a>(&self, alloc: Global, k: usize, lack: Lack) -> Failure<'a>
-        requires { IsSinkNumber self.now.stream.job self.now.task self.now.sink }
-        ensures stops { (held : Known) (old new : WriterState)
-            → StandsLacking held old.written new.written self.now k lack
-            → StopsOf held self.now.stream.job self.now.task old new result }
+        requires { AreTargets self.now.stream.job self.now.targets.items }
+        ensures stops { (held : Known) (old : ℕ → Option (List ℕ)) (new : ℕ → WriterState)
+            → StandsLacking held old (λ k. (new k).written) self.now k lack
+            → StopOf held self.now.stream.job (task_for self.now.targets.items)
+            (length self.now.targets.items) old new result }
         ensures place { HasPlace result }
     {
         self.kept_is_right();
@@ -194,7 +283,14 @@ impl<R: Read + Drop> Session<R> {
             return unread(alloc, JobFault::OutOfMemory);
         }
         match String::from_str(alloc, graph.name(Place::Task(task))) {
-            Ok(name) => unread(alloc, JobFault::BadSample { name, number }),
+            Ok(name) => unread(
+                alloc,
+                JobFault::BadSample {
+                    name,
+                    number,
+                    told: None,
+                },
+            ),
             Err(_) => unread(alloc, JobFault::OutOfMemory),
         }
     }
@@ -212,16 +308,35 @@ impl<R: Read + Drop> Session<R> {
         }
     }
 
-    /// What was handed over of the sink begins what it has kept, and that begins its values in each
-    /// run whose samples go on behind those that came.
-    pub fn kept_is_right(&self)
-        requires { IsSinkNumber self.now.stream.job self.now.task self.now.sink }
-        ensures given { (s : List (List ℤ)) (m : Moment) (given : ℕ → List ℤ)
+    /// What was handed over of the sink that goes to a writer begins what it has kept, and that
+    /// begins its values in each run whose samples go on behind those that came.
+    fn is_right(&self, number: usize)
+        requires there { number < length self.now.targets.items }
+        requires targets { AreTargets self.now.stream.job self.now.targets.items }
+        ensures given { (t : ℕ) → task_for self.now.targets.items number ≡ Some t
+            → (s : List (List ℤ)) (m : Moment) (given : ℕ → List ℤ)
             → IsStreamAt self.now.stream s m given
-            → IsPrefix (given self.now.task) (kept_by self.now.stream.job m self.now.task) }
-        ensures right { IsKeptRight self.now.stream self.now.task }
+            → IsPrefix (given t) (kept_by self.now.stream.job m t) }
+        ensures right { (t : ℕ) → task_for self.now.targets.items number ≡ Some t
+            → IsKeptRight self.now.stream t }
     {
-        let _values = self.stream.values(self.sink);
+        if let Some(sink) = self.targets[number] {
+            let _values = self.stream.values(sink.number);
+        }
+    }
+
+    /// The same of each.
+    pub fn kept_is_right(&self)
+        requires { AreTargets self.now.stream.job self.now.targets.items }
+        ensures given { (k t : ℕ) → task_for self.now.targets.items k ≡ Some t
+            → (s : List (List ℤ)) (m : Moment) (given : ℕ → List ℤ)
+            → IsStreamAt self.now.stream s m given
+            → IsPrefix (given t) (kept_by self.now.stream.job m t) }
+        ensures right { AreKeptRight self.now.stream self.now.targets.items }
+    {
+        for number in 0..self.targets.len() {
+            self.is_right(number);
+        }
     }
 
     /// Returns the job of the graph, and drops all else.
@@ -234,7 +349,7 @@ impl<R: Read + Drop> Session<R> {
 
     /// Closes the files of the sources that have left.
     pub fn close_left(&mut self)
-        ensures stands { (held : Known) (old now : Option (List ℕ)) (stop : StoppedValue)
+        ensures stands { (held : Known) (old now : ℕ → Option (List ℕ)) (stop : StoppedValue)
             → StandsStopped R.remaining held old now self.old stop
             → StandsStopped R.remaining held old now self.new stop }
         ensures same { IsSameSession self.old self.new }
@@ -248,7 +363,7 @@ impl<R: Read + Drop> Session<R> {
 
     /// Closes the file of a source, where it is open.
     fn close(&mut self, k: usize)
-        ensures stands { (held : Known) (old now : Option (List ℕ)) (stop : StoppedValue)
+        ensures stands { (held : Known) (old now : ℕ → Option (List ℕ)) (stop : StoppedValue)
             → StandsStopped R.remaining held old now self.old stop
             → StandsStopped R.remaining held old now self.new stop }
         ensures same { IsSameSession self.old self.new }
@@ -261,7 +376,7 @@ impl<R: Read + Drop> Session<R> {
 
 /// Forgets the values of all sinks.
 fn forget_all(stream: &mut Stream)
-    ensures { IsForgetful stream.old stream.new }
+    ensures { Forgets (length (sinks_of stream.old.job)) stream.old stream.new }
 {
     for sink in 0..stream.sinks() {
         stream.forget(sink);

@@ -1,10 +1,14 @@
-//! The sink that is asked for.
-ghost use Rattle.std.specs.Prelude.{◌≡◌, ◌<◌, ◌∷◌, [], ℕ, None, IfSome, length, true, option_map};
+//! The sinks that are asked for.
+ghost use Rattle.std.specs.Prelude.{◌≡◌, ◌<◌, ◌∷◌, [], ℕ, None, IfOk, IfErr, IfSome, length, true, option_map};
 ghost use Rattle.stream_job.specs.stream_lists.Lists.{is_sink_at, sinks_of};
+ghost use Rattle.phase_words.specs.StreamLine.{stream_asked};
+ghost use Rattle.phase_stream.specs.Outputs.{AreTargetsOf, IsOutputTarget, IsUntargeted, LacksSink};
 ghost use Rattle.phase_stream.specs.Sessions.{IsSinkNumber};
 ghost use Rattle.phase_stream.specs.Streams.{AsksNone, AsksOne};
 
 use graph_commands::find_sink;
+use phase_words::StreamCall;
+use std::alloc::Global;
 use stream_job::Job;
 
 /// A sink: its task, and its number among the sinks.
@@ -12,6 +16,63 @@ use stream_job::Job;
 pub struct Sink {
     pub task: usize,
     pub number: usize,
+}
+
+/// What stands in place of a name where there are several sinks, or none, and none is named.
+const UNNAMED: &str = "is named";
+
+/// Why there is nothing to write for some writer.
+#[derive(Clone, Copy, Debug, PartialEq, Eq)]
+pub enum Untargeted<'a> {
+    /// There is no sink of this name.
+    NoSink(&'a str),
+    /// Memory ran out.
+    OutOfMemory,
+}
+
+/// The sinks that are asked for, by the numbers of their writers.
+pub fn targets<'a>(
+    alloc: Global,
+    job: &Job,
+    call: &StreamCall<'a>,
+) -> Result<Vec<Option<Sink>>, Untargeted<'a>>
+    ensures targets { IfOk result (λ targets.
+        AreTargetsOf job.now (stream_asked call.now) targets.items) }
+    ensures none { IfErr result (λ none. IsUntargeted job.now (stream_asked call.now) none) }
+{
+    let Some(output) = output_target(job, call) else {
+        return Err(Untargeted::NoSink(call.sink.unwrap_or(UNNAMED)));
+    };
+    let mut targets = Vec::new(alloc);
+    let Ok(()) = targets.push(output) else {
+        return Err(Untargeted::OutOfMemory);
+    };
+    for file in &call.files {
+        let Some(sink) = asked_sink(job, Some(file.sink)) else {
+            return Err(Untargeted::NoSink(file.sink));
+        };
+        let Ok(()) = targets.push(Some(sink)) else {
+            return Err(Untargeted::OutOfMemory);
+        };
+    }
+    Ok(targets)
+}
+
+/// What goes to the output: a sink, or none where others alone are named; nothing where the sink is
+/// not there.
+fn output_target(job: &Job, call: &StreamCall<'_>) -> Option<Option<Sink>>
+    ensures some { IfSome result (λ target.
+        IsOutputTarget job.now (stream_asked call.now) target) }
+    ensures none { result ≡ None
+        → LacksSink job.now (stream_asked call.now).sink (stream_asked call.now).files }
+{
+    if call.sink.is_none() && !call.files.is_empty() {
+        return Some(None);
+    }
+    match asked_sink(job, call.sink) {
+        Some(sink) => Some(Some(sink)),
+        None => None,
+    }
 }
 
 /// The sink that is asked for: the one of a name, or the only one.

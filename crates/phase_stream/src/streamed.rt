@@ -1,20 +1,20 @@
-//! The command: a graph over the files of its sources, of which one sink is written as it comes.
-ghost use Rattle.std.specs.Prelude.{◌≡◌, ℕ, List, Option, OnOk, IfOk, IfErr, option_map};
-ghost use Rattle.std.specs.Io.KnownBytes.{Appends};
+//! The command: a graph over the files of its sources, of which sinks are written as they come.
+ghost use Rattle.std.specs.Prelude.{◌≡◌, ℕ, [], List, Option, OnOk, IfOk, IfErr, length};
 ghost use Rattle.graph_commands.specs.Explained.{IsTextOf};
 ghost use Rattle.graph_commands.specs.Failures.{HasPlace};
 ghost use Rattle.graph_commands.specs.declared.failure.Failure.TheVariants as failure;
 ghost use Rattle.graph_commands.specs.FileJobs.{IsGraphOf, Known};
-ghost use Rattle.graph_commands.specs.watched_io.States.{WriterState, writer_state};
 ghost use Rattle.graph_commands.specs.watched_io.Watched.{inner_of};
 ghost use Rattle.phase_words.specs.StreamLine.{stream_asked};
-ghost use Rattle.phase_stream.specs.Sessions.{IsKnownAs, IsStreamAtOpening, IsSinkNumber, StandsBy};
-ghost use Rattle.phase_stream.specs.Streams.{GivesNoRun, IsNoStream, StopsOf, StreamFails, Streams, WritesWhole};
+ghost use Rattle.phase_stream.specs.Outputs.{AreTargetsOf, IsUnreadGraph, StopOf, StreamDoes, StreamFailsBy, WriteWhole, bare_at, writers_at};
+ghost use Rattle.phase_stream.specs.Sessions.{AreTargets, IsKnownAs, IsStreamAtOpening, StandsBy, task_for};
+ghost use Rattle.phase_stream.specs.Streams.{GivesNoRun};
 
 use crate::opens::Opens;
 use crate::session::Session;
-use crate::sink::asked_sink;
+use crate::sink::{Sink, Untargeted, targets};
 use crate::source::{Lack, Room};
+use crate::writers::make_files;
 use graph_commands::watched_io::{Explain, Files, IoFault, Watched};
 use graph_commands::{Failure, GRAPH_MAX, JobFault};
 use phase_words::StreamCall;
@@ -25,27 +25,27 @@ use stream_job::graph_base::Place;
 use stream_job::graph_runs::outcomes;
 use stream_job::{Job, JobRefusal, Stopped, Stream};
 
-/// What stands in place of a name where there are several sinks, or none, and none is named.
-const UNNAMED: &str = "is named";
-
 /// Reads the graph of a file, and then the samples of its sources as they come, and writes the
-/// values of the sink that is asked for as they come.
+/// values of the sinks that are asked for as they come.
 ///
-/// It reads of the source that waits for samples and is the first in the order of the lines, at
-/// most `PIECE` bytes, feeds them, goes on, writes what the sink has, and only then reads again. It
-/// comes back where each call of its readers and its writer does.
+/// It makes the files that they go to, once all of them are known to be right. It reads of the
+/// source that waits for samples and is the first in the order of the lines, at most `PIECE` bytes,
+/// feeds them, goes on, writes what the sinks have, and only then reads again. It comes back where
+/// each call of its readers and its writers does.
 pub fn stream<'a, W: Write, F: Opens>(
     alloc: Global,
-    call: StreamCall<'a>,
+    call: &StreamCall<'a>,
     output: &mut Watched<W>,
+    made: &mut Vec<Watched<F::Writer>>,
     files: &mut F,
 ) -> Result<(), Failure<'a>>
-    ensures done { OnOk result (Streams (F.file files.old)
-        (stream_asked call.entry).graph (stream_asked call.entry).sink
-        (writer_state W.contents output.old) (writer_state W.contents output.new)) }
-    ensures failed { IfErr result (λ found. StreamFails (F.file files.old)
-        (stream_asked call.entry).graph (stream_asked call.entry).sink
-        W.contents output.old output.new found) }
+    requires { made.old.items ≡ [] }
+    ensures done { OnOk result (StreamDoes (F.file files.old) (stream_asked call.now)
+        (bare_at F.knows (stream_asked call.now).files (W.contents (inner_of output.old)))
+        (λ k. (writers_at W.contents F.Writer.contents output.new made.new.items k).written)) }
+    ensures failed { IfErr result (λ found. StreamFailsBy (F.file files.old)
+        (stream_asked call.now) F.knows W.contents F.Writer.contents output.old output.new
+        made.new.items found) }
     ensures place { IfErr result HasPlace }
     ensures same { (other : List ℕ) → F.file files.new other ≡ F.file files.old other }
 {
@@ -53,15 +53,48 @@ pub fn stream<'a, W: Write, F: Opens>(
         Ok(stream) => stream,
         Err(failure) => return Err(failure),
     };
-    let Some(sink) = asked_sink(stream.job(), call.sink) else {
-        return Err(Failure::NoSink {
+    match targets(alloc, stream.job(), call) {
+        Ok(targets) => begin(alloc, stream, targets, call, output, made, files),
+        Err(Untargeted::NoSink(name)) => Err(Failure::NoSink {
             job: stream.into_job(),
-            name: call.sink.unwrap_or(UNNAMED),
-        });
+            name,
+        }),
+        Err(Untargeted::OutOfMemory) => Err(Failure::Io(IoFault::OutOfMemory)),
+    }
+}
+
+/// Makes the files that are asked for, and streams the graph.
+fn begin<'a, W: Write, F: Opens>(
+    alloc: Global,
+    stream: Stream,
+    targets: Vec<Option<Sink>>,
+    call: &StreamCall<'a>,
+    output: &mut Watched<W>,
+    made: &mut Vec<Watched<F::Writer>>,
+    files: &mut F,
+) -> Result<(), Failure<'a>>
+    requires made { made.old.items ≡ [] }
+    requires opening { IsStreamAtOpening stream }
+    requires targets { AreTargetsOf stream.job (stream_asked call.now) targets.items }
+    ensures done { OnOk result ((known : Known) → IsKnownAs known (F.file files.old)
+        → IsGraphOf known (stream_asked call.now).graph stream.job.graph
+        → StreamDoes known (stream_asked call.now)
+        (bare_at F.knows (stream_asked call.now).files (W.contents (inner_of output.old)))
+        (λ k. (writers_at W.contents F.Writer.contents output.new made.new.items k).written)) }
+    ensures failed { IfErr result (λ found. (known : Known) → IsKnownAs known (F.file files.old)
+        → IsGraphOf known (stream_asked call.now).graph stream.job.graph
+        → StreamFailsBy known
+        (stream_asked call.now) F.knows W.contents F.Writer.contents output.old output.new
+        made.new.items found) }
+    ensures place { IfErr result HasPlace }
+    ensures same { (other : List ℕ) → F.file files.new other ≡ F.file files.old other }
+{
+    let Ok(session) = Session::new(alloc, stream, targets) else {
+        return Err(Failure::Io(IoFault::OutOfMemory));
     };
-    match Session::new(alloc, stream, sink.task, sink.number) {
-        Ok(session) => go(alloc, session, call.explain, output, files),
-        Err(_) => Err(Failure::Io(IoFault::OutOfMemory)),
+    match make_files(alloc, session.stream.graph(), call, made, files) {
+        Ok(()) => go(alloc, session, call.explain, output, made, files),
+        Err(fault) => Err(Failure::Io(fault)),
     }
 }
 
@@ -73,8 +106,7 @@ fn read_stream<'a, F: Files>(
 ) -> Result<Stream, Failure<'a>>
     ensures ok { IfOk result (λ stream. IsGraphOf (F.file files.old) name.now stream.job.graph
         × IsStreamAtOpening stream) }
-    ensures failed { IfErr result (λ found.
-        (asked : Option (List ℕ)) → IsNoStream (F.file files.old) name.now asked found) }
+    ensures failed { IfErr result (IsUnreadGraph (F.file files.old) name.now) }
     ensures place { IfErr result HasPlace }
     ensures same { (other : List ℕ) → F.file files.new other ≡ F.file files.old other }
 {
@@ -109,40 +141,49 @@ fn stream_of_text(alloc: Global, text: &[u8]) -> Result<Stream, JobFault>
     }
 }
 
-/// Goes on until the sink has left, the run is over, or a cause stops it: a read fault after
+/// Goes on until the sinks have left, the run is over, or a cause stops it: a read fault after
 /// 2^64 - 1 rounds.
 fn go<'a, W: Write, F: Opens>(
     alloc: Global,
     mut session: Session<F::Reader>,
     explain: Explain,
     output: &mut Watched<W>,
+    made: &mut Vec<Watched<F::Writer>>,
     files: &mut F,
 ) -> Result<(), Failure<'a>>
-    requires sink { IsSinkNumber session.stream.job session.task session.sink }
-    requires stands { (held : Known) × (old : Option (List ℕ)) × IsKnownAs held (F.file files.old)
-        × StandsBy F.Reader.remaining held old (W.contents (inner_of output.old)) session }
-    ensures done { OnOk result ((held : Known) (old : Option (List ℕ))
+    requires targets { AreTargets session.stream.job session.targets.items }
+    requires stands { (held : Known) × (old : ℕ → Option (List ℕ))
+        × IsKnownAs held (F.file files.old) × StandsBy F.Reader.remaining held old
+        (λ k. (writers_at W.contents F.Writer.contents output.old made.old.items k).written)
+        session }
+    ensures done { OnOk result ((held : Known) (old : ℕ → Option (List ℕ))
         → IsKnownAs held (F.file files.old)
-        → StandsBy F.Reader.remaining held old (W.contents (inner_of output.old)) session
-        → WritesWhole held session.stream.job session.task old
-        (W.contents (inner_of output.new))) }
-    ensures failed { IfErr result (λ found. (held : Known) (old : WriterState)
+        → StandsBy F.Reader.remaining held old
+        (λ k. (writers_at W.contents F.Writer.contents output.old made.old.items k).written)
+        session
+        → WriteWhole held session.stream.job (task_for session.targets.items) old
+        (λ k. (writers_at W.contents F.Writer.contents output.new made.new.items k).written)) }
+    ensures failed { IfErr result (λ found. (held : Known) (old : ℕ → Option (List ℕ))
         → IsKnownAs held (F.file files.old)
-        → StandsBy F.Reader.remaining held old.written (W.contents (inner_of output.old)) session
-        → StopsOf held session.stream.job session.task old
-        (writer_state W.contents output.new) found) }
+        → StandsBy F.Reader.remaining held old
+        (λ k. (writers_at W.contents F.Writer.contents output.old made.old.items k).written)
+        session
+        → StopOf held session.stream.job (task_for session.targets.items)
+        (length session.targets.items) old
+        (writers_at W.contents F.Writer.contents output.new made.new.items) found) }
     ensures place { IfErr result HasPlace }
     ensures same { (other : List ℕ) → F.file files.new other ≡ F.file files.old other }
 {
     let mut room = Room::empty();
     for _ in 0..u64::MAX {
-        let stop = match session.turn(output) {
+        let stop = match session.turn(output, made) {
             Ok(stop) => stop,
             Err(fault) => return Err(Failure::Io(fault)),
         };
-        if session.has_left() {
+        if session.have_left() {
             return Ok(());
         }
+        session.kept_is_right();
         match stop {
             Stopped::Done => return Ok(()),
             Stopped::Hungry { source } => {
@@ -153,12 +194,10 @@ fn go<'a, W: Write, F: Opens>(
             }
             Stopped::Full { .. } | Stopped::Paused => {}
             Stopped::Stalled => {
-                session.kept_is_right();
                 let further = session.stall_told(alloc, explain);
                 return Err(Failure::Stalled { further });
             }
             Stopped::TooBig { place, phase } => {
-                session.kept_is_right();
                 outcomes::faults_are_there();
                 return Err(too_big(session.into_job(), place, phase));
             }

@@ -1,8 +1,10 @@
 -- What the words behind `phase stream` ask for, by what clap makes of them.
-use Rattle.std.specs.Prelude.{◌≡◌, Bool, false, List, [], ◌∷◌, Option, codes, option_map}
+use Rattle.std.specs.Prelude.{◌≡◌, Bool, false, List, [], ◌∷◌, Option, codes, map, option_map}
 use Rattle.clap.specs.Words.{App, Kinds, Row, Text, fault_of, first_of, matches_of, with_rule}
+use Rattle.clap.specs.Kinds.{or_else}
 use Rattle.clap.specs.declared.error.kind.ErrorKind.TheVariants.{DisplayHelp, DisplayVersion}
 use Rattle.phase_words.specs.CommandLine.{Refuse, explain_of, explain_rule, is_given}
+use Rattle.phase_words.specs.Outputs.{Pair, files_in, output_kinds, pair_as, pairs_in, sink_in, to_rule}
 use Rattle.phase_words.specs.SinkLine.{graph_by, sink_app}
 use Rattle.watched_io.specs.declared.explain.Explain.{Explain}
 use Rattle.watched_io.specs.declared.explain.Explain.TheVariants.{No, Yes}
@@ -10,15 +12,19 @@ use Rattle.phase_words.specs.declared.call.StreamCall.{StreamCall}
 
 -- ---- the command line
 
--- the words behind `phase stream`: a graph's file, a sink, `--beside` and `--explain`
+-- the words behind `phase stream`: a graph's file, a sink, `--beside`, sinks with their files and
+-- `--explain`
 unfoldable pub stream_app : App
-stream_app = with_rule sink_app explain_rule
+stream_app = with_rule (with_rule sink_app to_rule) explain_rule
 
 -- ---- what the words ask for
 
--- the kinds of answer that clap may give in place of taking the words
+-- the kinds of answer that may be given in place of taking the words: those of clap, and where it
+-- has none, those of words of which one behind `--to` names no file, or that name a sink or a file
+-- twice
 unfoldable pub stream_kinds_of : List Text → Kinds
-stream_kinds_of words = fault_of stream_app words
+stream_kinds_of words =
+    or_else (fault_of stream_app words) (output_kinds (matches_of stream_app words))
 
 -- clap takes the words: they ask for no help and no version, and nothing is refused
 abbrev pub AreStreamTaken : List Text → Type 0
@@ -37,22 +43,29 @@ abbrev pub AreStreamRefused : List Text → Type 0
 AreStreamRefused words = Refuse (stream_kinds_of words)
 
 -- the values of a sink, of the name or of the only one, of the graph in the file of a name, as they
--- come, with an explanation of a fault or without, and with the files of its sources opened beside
--- it or not
+-- come, and those of other sinks to files, with an explanation of a fault or without, and with the
+-- files of its sources opened beside it or not. Where other sinks are named, none goes to the
+-- output but that of the name
 pub record Stream : Type 0 where
   pub graph : Text
   pub sink : Option Text
+  pub files : List Pair
   pub explain : Explain
   pub beside : Bool
 
--- by what clap finds in the words
-abbrev pub stream_by : List Row → Stream
-stream_by rows = record {
+-- by what clap finds in the words, and which sinks go where
+abbrev pub stream_with : List Row → List Pair → Stream
+stream_with rows pairs = record {
   graph = graph_by rows;
-  sink = first_of (codes "sink") rows;
+  sink = sink_in pairs;
+  files = files_in pairs;
   explain = explain_of (first_of (codes "explain") rows);
   beside = is_given (first_of (codes "beside") rows);
 }
+
+-- by what clap finds in the words
+abbrev pub stream_by : List Row → Stream
+stream_by rows = stream_with rows (pairs_in rows)
 
 -- the stream that the words ask for, by what clap finds in them
 unfoldable pub stream_in : List Text → Stream
@@ -67,18 +80,31 @@ pub record AsksStream (words : List Text) (what : Stream) : Type 0 where
 -- file of this name, without an explanation of a fault
 abbrev pub AskStream : List Text → Text → Option Text → Type 0
 AskStream words name sink =
-    AsksStream words (record { graph = name; sink = sink; explain = No; beside = false })
+    AsksStream words (record {
+      graph = name;
+      sink = sink;
+      files = [];
+      explain = No;
+      beside = false;
+    })
 
 -- and for such a stream with an explanation of a fault
 abbrev pub AskStreamExplained : List Text → Text → Option Text → Type 0
 AskStreamExplained words name sink =
-    AsksStream words (record { graph = name; sink = sink; explain = Yes; beside = false })
+    AsksStream words (record {
+      graph = name;
+      sink = sink;
+      files = [];
+      explain = Yes;
+      beside = false;
+    })
 
 -- what a call asks for
 abbrev pub stream_asked : StreamCall → Stream
 stream_asked call = record {
   graph = call.graph.now;
   sink = option_map (λ s. s.now) call.sink;
+  files = map pair_as call.files.items;
   explain = call.explain;
   beside = call.beside;
 }

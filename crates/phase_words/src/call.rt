@@ -64,14 +64,27 @@ pub struct RunCall<'a> {
     pub workers: usize,
     pub explain: Explain,
     pub beside: bool,
+    /// Whether it is told at the end what each task did.
+    pub counts: bool,
 }
 
-/// What the words behind `phase stream` ask for: the values, as they come, of the sink of a name,
-/// or of the only one, of the graph in the file of a name.
+/// A sink, and the file that its values go to, each by its name.
 #[derive(Clone, Copy, Debug, PartialEq, Eq)]
+pub struct SinkFile<'a> {
+    pub sink: &'a str,
+    pub file: &'a str,
+}
+
+/// What the words behind `phase stream` ask for: the values, as they come, of sinks of the graph in
+/// the file of a name.
+#[derive(Debug, Drop)]
 pub struct StreamCall<'a> {
     pub graph: &'a str,
+    /// The sink whose values go to the output. Where none is named, and no other either, it is the
+    /// only one.
     pub sink: Option<&'a str>,
+    /// The sinks whose values go to files.
+    pub files: Vec<SinkFile<'a>>,
     pub explain: Explain,
     pub beside: bool,
 }

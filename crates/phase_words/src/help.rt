@@ -37,6 +37,17 @@ pub(crate) const GRAPH: &str =
 /// What the word behind `--sink` is.
 pub(crate) const SINK: &str = "Write the values of this sink alone, each on a line";
 
+/// What the word behind `--to` is.
+pub(crate) const TO: &str = "Write the values of this sink to this file, which is made anew";
+
+/// What is said of a word behind `--to` that names no file.
+pub(crate) const TO_LACKS: &str =
+    "a value of '--to <SINK=FILE>' has no '=' between a sink and a file";
+
+/// What is said of a sink or a file that stands twice.
+pub(crate) const TO_TWICE: &str =
+    "'--to <SINK=FILE>' and '--sink <NAME>' cannot name one sink, or one file, twice";
+
 /// What the word `--columns` is.
 pub(crate) const COLUMNS: &str =
     "Write a table: a line of the sinks' names, then one for each step, with commas";
@@ -59,7 +70,10 @@ threads.";
 /// What `phase stream` does.
 pub(crate) const STREAM: &str = "\
 Writes the values of a sink of a graph as its samples come, a line each, for as
-long as they come.";
+long as they come, and those of others to files.";
+
+/// What the word `--counts` is.
+pub(crate) const COUNTS: &str = "Tell what each task did, behind all values, on standard error";
 
 /// What the word behind `--workers` is.
 pub(crate) const WORKERS_WORD: &str =
@@ -190,10 +204,15 @@ and the lines 1, 2 and 3 come on standard input, `phase stream sums` writes
   5
 and each of them as soon as its sample is in.
 
-The values are of the sink of the name, or of the only one. The file of a source
-may be a pipe, and - is standard input, for one source. It is opened when the
-graph waits for its first sample. There is no limit on how many samples come,
-and memory does not grow with them.
+The values are of the sink of the name, or of the only one. Behind --to, which
+may stand there more than once, are a sink and the file that its values go to:
+with `--to x=log --to y=-` those of `x` go to the file `log`, and those of `y`
+to standard output, as with --sink y. The files are made anew before the first
+sample is read, and a pipe of the name waits for its reader. A sink that is
+named nowhere is read and thrown away. The file of a source may be a pipe, and -
+is standard input, for one source. It is opened when the graph waits for its
+first sample. There is no limit on how many samples come, and memory does not
+grow with them.
 
 Files are opened from the current folder, by their names as they are written,
 and with --beside those of the sources in the folder of the graph.
@@ -201,4 +220,5 @@ and with --beside those of the sources in the folder of the graph.
 Exit status: 0 done; 1 the graph or its samples are refused, no sink has the
 name, or none is named of several; 2 the words were not understood; 3 a value is
 out of range; 4 every task that was left waited for another; 5 a read or a write
-failed, or memory ran out. The values before a fault are written.";
+failed, a file could not be made or is that of a source, or memory ran out. The
+values before a fault are written.";

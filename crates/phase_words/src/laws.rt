@@ -1,12 +1,12 @@
 //! What clap makes of the words that the program's pages name.
-ghost use Rattle.std.specs.Prelude.{◌≤◌, ℕ, List, Option, [], ◌∷◌, Some, None, codes, true};
+ghost use Rattle.std.specs.Prelude.{◌≤◌, ℕ, List, Option, [], ◌∷◌, Some, None, codes, false, true};
 ghost use Rattle.phase_words.specs.CommandLine.{AreRefused, AskCheck, AskColumns, AskDraw, AskEval};
 ghost use Rattle.phase_words.specs.CommandLine.{AskColumnsExplained, AskHelp, Asks, check, columns, eval};
 ghost use Rattle.phase_words.specs.CommandLine.{AskCheckExplained, AskDrawExplained};
 ghost use Rattle.phase_words.specs.CommandLine.{AskEvalExplained, AskReplay};
 ghost use Rattle.phase_words.specs.CommandLine.{AskReplayFile, AskReplayStrictly, AskVersion};
 ghost use Rattle.phase_words.specs.RunLine.{AreRunRefused, AskRun, AskRunExplained, AskRunHelp};
-ghost use Rattle.phase_words.specs.RunLine.{AskRunVersion, AsksRun, Run};
+ghost use Rattle.phase_words.specs.RunLine.{AreWorkersRefused, AskRunVersion, AsksRun, Run};
 ghost use Rattle.phase_words.specs.StreamLine.{AreStreamRefused, AskStream, AskStreamExplained};
 ghost use Rattle.phase_words.specs.StreamLine.{AskStreamHelp, AskStreamVersion, AsksStream};
 
@@ -96,10 +96,12 @@ pub fn words_for_files_beside()
       workers = 4;
       explain = Explain.No;
       beside = true;
+      counts = false;
     }) }
     ensures stream { AsksStream (codes "d/g" ∷ codes "--beside" ∷ []) (record {
       graph = codes "d/g";
       sink = None;
+      files = [];
       explain = Explain.No;
       beside = true;
     }) }
@@ -151,6 +153,23 @@ pub fn words_for_runs()
     ensures version { AskRunVersion (codes "-V" ∷ []) }
 {}
 
+/// `--counts` asks of a run that it is told at the end what each task did. An evaluation by workers
+/// and a stream refuse it.
+pub fn words_for_counts()
+    ensures run { AsksRun (codes "g" ∷ codes "--counts" ∷ []) (record {
+      graph = codes "g";
+      sink = None;
+      workers = 4;
+      explain = Explain.No;
+      beside = false;
+      counts = true;
+    }) }
+    ensures twice { AreRunRefused (codes "g" ∷ codes "--counts" ∷ codes "--counts" ∷ []) }
+    ensures eval { AreWorkersRefused
+        (codes "g" ∷ codes "--workers" ∷ codes "2" ∷ codes "--counts" ∷ []) }
+    ensures stream { AreStreamRefused (codes "g" ∷ codes "--counts" ∷ []) }
+{}
+
 /// Whatever the words are, a run that they ask for is one by 1 to 16 workers.
 pub fn runs_have_workers()
     ensures least { (words : List (List ℕ)) (name : List ℕ) (sink : Option (List ℕ)) (workers : ℕ)
@@ -198,4 +217,41 @@ pub fn words_refused_of_streams()
         (codes "g" ∷ codes "--sink=out" ∷ codes "--sink=in" ∷ []) }
     ensures workers { AreStreamRefused (codes "g" ∷ codes "--workers" ∷ codes "2" ∷ []) }
     ensures elsewhere { AreRefused (codes "stream" ∷ codes "g" ∷ []) }
+{}
+
+/// `--to` asks of a stream that the values of a sink go to a file, and may stand there more than
+/// once. What stands before its first `=` is the sink. `-` is the output, so `--to out=-` asks for
+/// what `--sink out` does.
+pub fn words_for_files_of_sinks()
+    ensures file { AsksStream (codes "g" ∷ codes "--to" ∷ codes "out=f" ∷ []) (record {
+      graph = codes "g";
+      sink = None;
+      files = (codes "out", codes "f") ∷ [];
+      explain = Explain.No;
+      beside = false;
+    }) }
+    ensures files { AsksStream
+        (codes "--to=a=f" ∷ codes "g" ∷ codes "--to" ∷ codes "b=x=y" ∷ codes "--sink=c" ∷ [])
+        (record {
+          graph = codes "g";
+          sink = Some (codes "c");
+          files = (codes "a", codes "f") ∷ (codes "b", codes "x=y") ∷ [];
+          explain = Explain.No;
+          beside = false;
+        }) }
+    ensures output { AskStream (codes "g" ∷ codes "--to" ∷ codes "out=-" ∷ [])
+        (codes "g") (Some (codes "out")) }
+{}
+
+/// A word behind `--to` that names no file is refused, and so are words that name a sink twice, or
+/// a file. Behind `eval` and `run` `--to` is no word.
+pub fn words_refused_of_files_of_sinks()
+    ensures no_file { AreStreamRefused (codes "g" ∷ codes "--to" ∷ codes "out" ∷ []) }
+    ensures sink_twice { AreStreamRefused (codes "g" ∷ codes "--to=a=f" ∷ codes "--to=a=h" ∷ []) }
+    ensures sink_again { AreStreamRefused (codes "g" ∷ codes "--to=a=f" ∷ codes "--sink=a" ∷ []) }
+    ensures file_twice { AreStreamRefused (codes "g" ∷ codes "--to=a=f" ∷ codes "--to=b=f" ∷ []) }
+    ensures output_twice { AreStreamRefused
+        (codes "g" ∷ codes "--to=a=-" ∷ codes "--sink=b" ∷ []) }
+    ensures eval { AreRefused (codes "eval" ∷ codes "g" ∷ codes "--to=a=f" ∷ []) }
+    ensures run { AreRunRefused (codes "g" ∷ codes "--to=a=f" ∷ []) }
 {}

@@ -10,12 +10,13 @@ mod command_line;
 mod escape;
 mod help;
 pub mod laws;
+mod outputs;
 mod run_line;
 mod sink_line;
 mod stream_line;
 mod told;
 
-pub use call::{Call, NoCall, RunCall, StreamCall, Strict, WORKERS, WORKERS_MAX};
+pub use call::{Call, NoCall, RunCall, SinkFile, StreamCall, Strict, WORKERS, WORKERS_MAX};
 pub use command_line::read_words;
 pub use run_line::{read_eval_words, read_run_words};
 pub use stream_line::read_stream_words;

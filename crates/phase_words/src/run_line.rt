@@ -1,16 +1,18 @@
-//! The words behind `phase run`, as clap reads them.
-ghost use Rattle.std.specs.Prelude.{◌≡◌, IfOk, IfErr, false, option_map};
-ghost use Rattle.clap.specs.Words.{FailsBy, app_of, found_of, rows_of, rule_of};
+//! The words behind `phase run`, and behind `phase eval` by workers, as clap reads them.
+ghost use Rattle.std.specs.Prelude.{◌≡◌, IfOk, IfErr, false, true, option_map};
+ghost use Rattle.clap.specs.Words.{App, FailsBy, app_of, fault_of, found_of, is_simple};
+ghost use Rattle.clap.specs.Words.{is_simple_and_free, matches_of, rows_of, rule_of};
 ghost use Rattle.phase_words.specs.CommandLine.{ExplainsNone, texts};
-ghost use Rattle.phase_words.specs.RunLine.{AsksRun, run_app, run_by, run_in, run_kinds_of, run_of};
+ghost use Rattle.phase_words.specs.RunLine.{AsksRun, AsksWorkers, counts_rule, run_app, run_by};
+ghost use Rattle.phase_words.specs.RunLine.{run_kinds_of, run_of, workers_app, workers_kinds_of};
 ghost use Rattle.phase_words.specs.RunLine.{workers_of, workers_rule};
 
 use crate::command_line::{explain_of, explain_word, found_by, is_given, no_call};
-use crate::help::{EVAL, EVAL_END, RUN, RUN_END, WORKERS_WORD};
+use crate::help::{COUNTS, EVAL, EVAL_END, RUN, RUN_END, WORKERS_WORD};
 use crate::sink_line::{graph_of, sink_command};
 use crate::{NoCall, RunCall, WORKERS, WORKERS_MAX};
 use clap::builder::ValueParser;
-use clap::{Arg, ArgMatches, Command, Error};
+use clap::{Arg, ArgAction, ArgMatches, Command, Error};
 use std::alloc::{AllocError, Global};
 
 /// The word behind `--workers`, which may be given: how many worker threads run a graph.
@@ -25,19 +27,37 @@ fn workers_word<'a>(alloc: Global) -> Arg<'a>
         .help(WORKERS_WORD)
 }
 
-/// The command line behind `phase run`, or behind `phase eval` with `--workers`, of this name and
-/// with these texts of help.
+/// The word `--counts`, which may be given.
+fn counts_word<'a>(alloc: Global) -> Arg<'a>
+    ensures rule { rule_of result ≡ counts_rule }
+    ensures local { result.global ≡ false }
+{
+    Arg::new(alloc, "counts")
+        .long("counts")
+        .action(ArgAction::SetTrue)
+        .help(COUNTS)
+}
+
+/// The command line behind `phase eval` with `--workers`, and the front of that behind `phase run`,
+/// of this name and with these texts of help.
 fn workers_command<'a>(
     alloc: Global,
     name: &'a str,
     about: &'a str,
     end: &'a str,
 ) -> Result<Command<'a>, AllocError>
-    ensures { IfOk result (λ c. app_of c ≡ run_app) }
+    ensures { IfOk result (λ c. app_of c ≡ workers_app) }
 {
     sink_command(alloc, name, about, end)?
         .arg(workers_word(alloc))?
         .arg(explain_word(alloc))
+}
+
+/// The command line behind `phase run`.
+fn run_command<'a>(alloc: Global) -> Result<Command<'a>, AllocError>
+    ensures { IfOk result (λ c. app_of c ≡ run_app) }
+{
+    workers_command(alloc, "phase run", RUN, RUN_END)?.arg(counts_word(alloc))
 }
 
 /// What the words ask for, by what clap found in them.
@@ -50,6 +70,7 @@ fn call_of<'a>(matches: &ArgMatches<'a>) -> RunCall<'a>
         workers: workers_of(matches.get_str("workers")),
         explain: explain_of(matches.get_str("explain")),
         beside: is_given(matches.get_str("beside")),
+        counts: is_given(matches.get_str("counts")),
     }
 }
 
@@ -71,9 +92,12 @@ fn parse<'a>(
     command: Result<Command<'a>, AllocError>,
     words: &'a [String],
 ) -> Result<RunCall<'a>, Error>
-    requires { IfOk command (λ c. app_of c ≡ run_app) }
-    ensures fails { FailsBy (run_kinds_of (texts words.now)) result }
-    ensures call { IfOk result (λ call. run_of call ≡ run_in (texts words.now)) }
+    ensures fails { (app : App) → is_simple_and_free app ≡ true
+        → IfOk command.entry (λ c. app_of c ≡ app)
+        → FailsBy (fault_of app (texts words.now)) result }
+    ensures call { (app : App) → is_simple app ≡ true
+        → IfOk command.entry (λ c. app_of c ≡ app)
+        → IfOk result (λ call. run_of call ≡ run_by (matches_of app (texts words.now))) }
 {
     let matches = found_by(command, words)?;
     Ok(call_of(&matches))
@@ -85,17 +109,18 @@ pub fn read_run_words<'a>(alloc: Global, words: &'a [String]) -> Result<RunCall<
     ensures call { IfOk result (λ call. AsksRun (texts words.now) (run_of call)) }
     ensures no_call { IfErr result (λ none. ExplainsNone (run_kinds_of (texts words.now)) none) }
 {
-    match parse(workers_command(alloc, "phase run", RUN, RUN_END), words) {
+    match parse(run_command(alloc), words) {
         Ok(call) => Ok(call),
         Err(error) => Err(no_call(alloc, &error)),
     }
 }
 
-/// Reads the words behind `phase eval`, of which one is `--workers`, by the rules of those behind
-/// `phase run`. Where they ask for help or for the version, or are refused, the text is clap's.
+/// Reads the words behind `phase eval`, of which one is `--workers`. Where they ask for help or for
+/// the version, or are refused, the text is clap's.
 pub fn read_eval_words<'a>(alloc: Global, words: &'a [String]) -> Result<RunCall<'a>, NoCall>
-    ensures call { IfOk result (λ call. AsksRun (texts words.now) (run_of call)) }
-    ensures no_call { IfErr result (λ none. ExplainsNone (run_kinds_of (texts words.now)) none) }
+    ensures call { IfOk result (λ call. AsksWorkers (texts words.now) (run_of call)) }
+    ensures no_call { IfErr result (λ none.
+        ExplainsNone (workers_kinds_of (texts words.now)) none) }
 {
     match parse(workers_command(alloc, "phase eval", EVAL, EVAL_END), words) {
         Ok(call) => Ok(call),

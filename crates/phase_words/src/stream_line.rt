@@ -1,14 +1,18 @@
 //! The words behind `phase stream`, as clap reads them.
-ghost use Rattle.std.specs.Prelude.{◌≡◌, IfOk, IfErr};
-ghost use Rattle.clap.specs.Words.{FailsBy, app_of, found_of, rows_of};
+ghost use Rattle.std.specs.Prelude.{◌≡◌, ◌∷◌, [], IfOk, IfErr, map};
+ghost use Rattle.std.specs.Option.{option_map_or};
+ghost use Rattle.clap.specs.Words.{FailsBy, HasKind, app_of, found_of, kind_of, rows_of};
 ghost use Rattle.phase_words.specs.CommandLine.{ExplainsNone, texts};
+ghost use Rattle.phase_words.specs.Outputs.{output_kinds, output_kinds_by, pair_as, pairs_in, words_by};
 ghost use Rattle.phase_words.specs.StreamLine.{AsksStream, stream_app, stream_by, stream_in};
-ghost use Rattle.phase_words.specs.StreamLine.{stream_kinds_of, stream_asked};
+ghost use Rattle.phase_words.specs.StreamLine.{stream_kinds_of, stream_asked, stream_with};
 
 use crate::command_line::{explain_of, explain_word, found_by, is_given, no_call};
-use crate::help::{STREAM, STREAM_END};
+use crate::help::{STREAM, STREAM_END, TO_LACKS, TO_TWICE};
+use crate::outputs::{files_of, has_clash, lack_file, output_sink, pairs, to_word, to_words};
 use crate::sink_line::{graph_of, sink_command};
-use crate::{NoCall, StreamCall};
+use crate::{NoCall, SinkFile, StreamCall};
+use clap::error::ErrorKind;
 use clap::{ArgMatches, Command, Error};
 use std::alloc::{AllocError, Global};
 
@@ -16,19 +20,59 @@ use std::alloc::{AllocError, Global};
 fn stream_command<'a>(alloc: Global) -> Result<Command<'a>, AllocError>
     ensures { IfOk result (λ c. app_of c ≡ stream_app) }
 {
-    sink_command(alloc, "phase stream", STREAM, STREAM_END)?.arg(explain_word(alloc))
+    sink_command(alloc, "phase stream", STREAM, STREAM_END)?
+        .arg(to_word(alloc))?
+        .arg(explain_word(alloc))
 }
 
-/// What the words ask for, by what clap found in them.
-fn call_of<'a>(matches: &ArgMatches<'a>) -> StreamCall<'a>
-    ensures { stream_asked result ≡ stream_by (rows_of (found_of matches.now)) }
+/// What the words ask for, by what clap found in them, and which sinks go where.
+fn call_of<'a>(
+    alloc: Global,
+    matches: &ArgMatches<'a>,
+    pairs: &[SinkFile<'a>],
+) -> Result<StreamCall<'a>, AllocError>
+    ensures { IfOk result (λ call. stream_asked call
+        ≡ stream_with (rows_of (found_of matches.now)) (map pair_as pairs.now)) }
 {
-    StreamCall {
+    Ok(StreamCall {
         graph: graph_of(matches),
-        sink: matches.get_str("sink"),
+        sink: output_sink(pairs),
+        files: files_of(alloc, pairs)?,
         explain: explain_of(matches.get_str("explain")),
         beside: is_given(matches.get_str("beside")),
+    })
+}
+
+/// Why words are refused by which sinks go where: one behind `--to` names no file, or a sink or a
+/// file stands twice.
+fn refusal(lacks: bool, clashes: bool) -> Option<(ErrorKind, &'static str)>
+    ensures { output_kinds_by lacks clashes ≡ option_map_or (λ r. r.0 ∷ []) result [] }
+{
+    if lacks {
+        return Some((ErrorKind::ValueValidation, TO_LACKS));
     }
+    if clashes {
+        return Some((ErrorKind::ArgumentConflict, TO_TWICE));
+    }
+    None
+}
+
+/// The error of a refusal, as clap tells of one.
+fn refused(alloc: Global, kind: ErrorKind, text: &str) -> Error
+    ensures { HasKind (kind ∷ []) result }
+{
+    match refused_error(alloc, kind, text) {
+        Ok(error) => error,
+        Err(lack) => Error::from(lack),
+    }
+}
+
+/// The same, where there is memory for its text.
+fn refused_error(alloc: Global, kind: ErrorKind, text: &str) -> Result<Error, AllocError>
+    ensures { IfOk result (λ e. kind_of e ≡ kind) }
+{
+    let mut command = stream_command(alloc)?;
+    command.error(kind, text)
 }
 
 /// Reads the words by clap.
@@ -37,7 +81,12 @@ fn parse<'a>(alloc: Global, words: &'a [String]) -> Result<StreamCall<'a>, Error
     ensures call { IfOk result (λ call. stream_asked call ≡ stream_in (texts words.now)) }
 {
     let matches = found_by(stream_command(alloc), words)?;
-    Ok(call_of(&matches))
+    let named = to_words(alloc, &matches)?;
+    let pairs = pairs(alloc, matches.get_str("sink"), &named)?;
+    if let Some((kind, text)) = refusal(lack_file(&named), has_clash(&pairs)) {
+        return Err(refused(alloc, kind, text));
+    }
+    Ok(call_of(alloc, &matches, &pairs)?)
 }
 
 /// Reads the words behind `phase stream`. Where they ask for help or for the version, or are

@@ -1,6 +1,7 @@
 -- What the calls of C on a graph that is fed do to the run behind a handle.
 use Rattle.std.specs.Prelude.{◌≡◌, ◌≢◌, ℕ, ℤ, ◌<◌, ◌≤◌, ◌⊎◌, ◌++◌, List, Option, Some, None, Ok, Err, length, map, take, drop, get_or, false}
 use mathlib.Core.List.{IsPrefix}
+use Rattle.graph_commands.specs.Explained.{AreFurtherLines}
 use Rattle.graph_numbers.specs.graph_lang.Reads.{ReadsText}
 use Rattle.graph_numbers.specs.graph_lang.graph_text.Texts.{lines_of as text_lines}
 use Rattle.graph_numbers.specs.graph_lang.declared.fault.FaultKind.TheVariants.{AnyMeets}
@@ -136,3 +137,13 @@ abbrev pub BeginsAt : ℕ → StreamState → Option ℕ → Type 0
 BeginsAt sink run start = (s : List (List ℤ)) (m : Moment) (given : ℕ → List ℤ)
     → IsStreamAt run s m given
     → sink_begins_at run.job m (get_or (sinks_of run.job) sink 0) ≡ start
+
+-- ---- how its tasks stand
+
+-- lines for a person were written in the first places, and what stands behind them stays
+pub record WritesLines (old new : List ℕ) (count : ℕ) : Type 0 where
+  pub lines : List ℕ
+  pub are : AreFurtherLines lines
+  pub count_is : count ≡ length lines
+  pub enough : length lines ≤ length old
+  pub written : new ≡ lines ++ drop (length lines) old

@@ -1,5 +1,6 @@
 //! Calls of the run of a handle.
 ghost use Rattle.std.specs.Prelude.{◌≡◌, ◌<◌, Some, IsSome, IsSomeAnd, IfOk, IfErr, OnErr, length};
+ghost use Rattle.graph_commands.specs.Explained.{AreFurtherLines};
 ghost use Rattle.stream_job.specs.graph_base.Graphs.{sources_of};
 ghost use Rattle.stream_job.specs.phase_accum.Sends.{AreSends};
 ghost use Rattle.stream_job.specs.stream_lists.Lists.{sinks_of};
@@ -9,7 +10,7 @@ ghost use Rattle.stream_job.specs.declared.stream_turns.TheConstants.{ROUNDS};
 ghost use Rattle.stream_handle.specs.Runs.{BeginsAt, Feeds, Finishes, HandsOver, HasCounts, LacksRoom, StopsFor};
 
 use crate::handle::Handle;
-use crate::reading::hand_over;
+use crate::reading::{hand_over, waits_told};
 use graph_numbers::PhaseCounts;
 use std::alloc::{AllocError, Global};
 use stream_job::Stopped;
@@ -107,5 +108,18 @@ impl Handle {
         let start = run.start(sink);
         self.put(run);
         start
+    }
+
+    /// Returns what each task that is left waits for, as lines for a person; nothing where memory
+    /// ran out.
+    pub fn waits(&mut self, alloc: Global) -> Vec<u8>
+        requires { IsSome self.old.place.stream }
+        ensures lines { AreFurtherLines result.items }
+        ensures same { self.new.place.stream ≡ self.old.place.stream }
+    {
+        let run = self.take(alloc);
+        let lines = waits_told(alloc, &run);
+        self.put(run);
+        lines
     }
 }

@@ -20,5 +20,5 @@ pub use feed_exports::{phase_stream_feed, phase_stream_finish, phase_stream_run}
 pub use graph_numbers;
 pub use handle::Handle;
 pub use stream_job;
-pub use take_exports::{phase_stream_start, phase_stream_take};
+pub use take_exports::{phase_stream_start, phase_stream_take, phase_stream_waits};
 pub use told::PhaseStop;

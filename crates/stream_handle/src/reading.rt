@@ -1,12 +1,15 @@
-//! The values of a sink, handed over.
+//! The values of a sink, handed over, and what each task waits for.
 ghost use Rattle.std.specs.Prelude.{◌≡◌, ◌≤◌, ◌<◌, ◌++◌, length, drop, IfOk, IfErr, OnErr};
+ghost use Rattle.graph_commands.specs.Explained.{AreFurtherLines};
 ghost use Rattle.stream_job.specs.stream_lists.Lists.{sinks_of};
 ghost use Rattle.stream_handle.specs.Runs.{HandsOver, LacksRoom};
 
+use graph_commands::stall_told;
+use std::alloc::Global;
 use stream_job::Stream;
 
 /// Writes these values in the first places. What stands behind them stays.
-fn write_first(out: &mut [i64], values: &[i64])
+pub(crate) fn write_first<T: Copy>(out: &mut [T], values: &[T])
     requires { length values.now ≤ length out.old }
     ensures { out.new ≡ values.now ++ drop (length values.now) out.old }
 {
@@ -30,4 +33,14 @@ pub(crate) fn hand_over(run: &mut Stream, sink: usize, out: &mut [i64]) -> Resul
     write_first(out, values);
     run.forget(sink);
     Ok(count)
+}
+
+/// What each task that is left waits for, as lines for a person; nothing where memory ran out.
+pub(crate) fn waits_told(alloc: Global, run: &Stream) -> Vec<u8>
+    ensures { AreFurtherLines result.items }
+{
+    match run.stands(alloc) {
+        Ok(stands) => stall_told(alloc, run.job(), &stands),
+        Err(_) => Vec::new(alloc),
+    }
 }

@@ -1,13 +1,14 @@
-//! What C calls to read a run.
-ghost use Rattle.std.specs.Prelude.{◌≡◌, ◌≢◌, ◌≤◌, ◌<◌, ◌⊎◌, Some, None, IsSomeAnd, length};
+//! What C calls to read a run, and to be told how its tasks stand.
+ghost use Rattle.std.specs.Prelude.{◌≡◌, ◌≢◌, ◌≤◌, ◌<◌, ◌⊎◌, Some, None, IsSome, IsSomeAnd, length};
 ghost use Rattle.stream_job.specs.stream_lists.Lists.{sinks_of};
 ghost use Rattle.stream_job.specs.Streams.{StreamState};
-ghost use Rattle.stream_handle.specs.Runs.{HandsOver, LacksRoom};
+ghost use Rattle.stream_handle.specs.Runs.{HandsOver, LacksRoom, WritesLines};
 ghost use Rattle.stream_handle.specs.Told.{BeginsAsTold};
 ghost use Rattle.stream_handle.specs.declared.numbers.TheConstants.{GOOD, ROOM, NO_STREAM, NO_SINK};
 
 use crate::handle::Handle;
 use crate::numbers::*;
+use crate::reading::write_first;
 use crate::told::start_told;
 use std::alloc::Global;
 
@@ -81,5 +82,38 @@ pub extern "C" fn phase_stream_start(
         return NO_SINK;
     }
     *start = start_told(stream.start(alloc, sink));
+    GOOD
+}
+
+/// Writes, of a run that is stalled, what each task that is left waits for, and how far the waiters
+/// are of each phaser that a task may not signal, in the first places, and how many bytes that is:
+/// lines for a person, as `phase stream --explain` has them, none where memory runs out. Where they
+/// are more than there are places it answers `ROOM`, and writes how many they are. What stands
+/// behind the lines stays. It takes memory, and gives it back.
+#[unsafe(no_mangle)]
+pub extern "C" fn phase_stream_waits(
+    alloc: Global,
+    stream: &mut Handle,
+    text: &mut [u8],
+    count: &mut usize,
+) -> i32
+    ensures good { result ≡ GOOD → WritesLines text.old text.new count.new }
+    ensures room { result ≡ ROOM → length text.old < count.new }
+
+    ensures answers { IsSome stream.old.place.stream → (result ≡ GOOD) ⊎ (result ≡ ROOM) }
+    ensures no_stream { stream.old.place.stream ≡ None → result ≡ NO_STREAM }
+    ensures unwritten { result ≢ GOOD → text.new ≡ text.old }
+    ensures uncounted { result ≢ GOOD → result ≢ ROOM → count.new ≡ count.old }
+    ensures same { stream.new.place.stream ≡ stream.old.place.stream }
+{
+    if !stream.live {
+        return NO_STREAM;
+    }
+    let lines = stream.waits(alloc);
+    *count = lines.len();
+    if lines.len() > text.len() {
+        return ROOM;
+    }
+    write_first(text, &lines);
     GOOD
 }

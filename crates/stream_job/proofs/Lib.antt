@@ -29,6 +29,7 @@ pub mod Taking
 pub mod TaskLists
 pub mod Tellings
 pub mod Exchanges
+pub mod Filtered
 pub mod FirstTurns
 pub mod Waits
 pub mod WhatNext

@@ -4,7 +4,7 @@ use Rattle.std.specs.Prelude.{Result, Ok, Err, nat_lt, min, slice_range, take, d
 use Rattle.std.specs.List.{range_with_len}
 use Rattle.std.proofs.Math.Seq.{take-append_seam}
 use Rattle.std.proofs.lemmas.List.FromFn.{length-range_with_len}
-use Rattle.std.proofs.lemmas.List.{length-map, length-take-le, length-drop}
+use Rattle.std.proofs.lemmas.List.{length-map, length-take-le, length-drop, take-take}
 use Rattle.phase_any.specs.phase_accum.declared.outcome.Outcome.{Outcome}
 use Rattle.phase_any.specs.phase_base.Limits.{Limits}
 use Rattle.phase_any.specs.phase_history.declared.got.Got.{Got}
@@ -153,21 +153,22 @@ got_all job m p n steps phase count old now reply is =
       complete = complete;
     }
 
+-- and so in the first places of a list
+pub got_answered : (job : Job) (m : Moment) (p n steps phase count : ℕ) (given : GotBlock)
+    (old now : List Outcome) → given ≡ block.Values phase count
+    → wait_block_reply (limits_at job p) (m.history p) n steps ≡ Ok given
+    → take steps now
+    ≡ written (Ok given) (stream_of (value_at job p) (m.history p)) (take steps old)
+    → GotAll job m p n steps phase count (take count now)
+got_answered job m p n steps phase count given old now is reply places =
+    let all = got_all job m p n steps phase count (take steps old) (take steps now)
+    (reply ∙ ap (λ g. Ok g) is)
+    (places ∙ ap (λ g. written (Ok g) (stream_of (value_at job p) (m.history p)) (take steps old)) is) in
+    subst (GotAll job m p n steps phase count) (take-take count steps now all.few) all
+
 -- ---- the last phase
 
 -- no phase past the last is complete
--- and so do the outcomes that were answered
-pub got_answered : (job : Job) (m : Moment) (p n steps phase count : ℕ) (given : GotBlock)
-    (old now : List Outcome) → length old ≡ steps → given ≡ block.Values phase count
-    → wait_block_reply (limits_at job p) (m.history p) n (length old) ≡ Ok given
-    → now ≡ written (Ok given) (stream_of (value_at job p) (m.history p)) old
-    → GotAll job m p n steps phase count (take count now)
-got_answered job m p n steps phase count given old now long is reply out =
-    got_all job m p n steps phase count old now
-    (subst (λ i. wait_block_reply (limits_at job p) (m.history p) n i ≡ Ok (block.Values phase count))
-    long (reply ∙ ap (λ g. Ok g) is))
-    (out ∙ ap (λ g. written (Ok g) (stream_of (value_at job p) (m.history p)) old) is)
-
 pub done_few : (job : Job) (m : Moment) (p : ℕ) → HasRun job m → p < length job.graph.phasers
     → done_of (m.history p) ≤ PHASES_MAX
 done_few job m p ran there =

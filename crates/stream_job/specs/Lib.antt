@@ -1,5 +1,6 @@
 pub mod Blocking
 pub mod Buffers
+pub mod Filtering
 pub mod Gone
 pub mod InRange
 pub mod Stepping

@@ -113,23 +113,25 @@ impl Machine {
         self.cores[p].signal_values(number, values, single, parcels)
     }
 
-    /// Waits on phaser `p` for a block, for at most as many phases as there are places.
-    pub fn wait_block_on(
+    /// Waits on phaser `p` for a block, for at most so many phases, into the first of these places.
+    fn wait_block_on(
         &mut self,
         job: &Job,
         p: usize,
         number: u64,
-        out: &mut [Outcome],
+        places: &mut [Outcome],
+        many: usize,
     ) -> Result<GotBlock, WaitRefusal>
         requires cores { HasSomeCores job.now self.old.cores.items }
         requires phaser { p < length job.now.graph.phasers }
+        requires room { many ≤ length places.old }
         ensures reply { (h : ℕ → History)
             → HasCores job.now h self.old.cores.items
-            → wait_block_reply (limits_at job.now p) (h p) number (length out.old)
-            ≡ result }
-        ensures out { (h : ℕ → History)
-            → HasCores job.now h self.old.cores.items
-            → out.new ≡ written result (stream_of (value_at job.now p) (h p)) out.old }
+            → wait_block_reply (limits_at job.now p) (h p) number many ≡ result }
+        ensures places { (h : ℕ → History)
+            → HasCores job.now h self.old.cores.items → take many places.new
+            ≡ written result (stream_of (value_at job.now p) (h p)) (take many places.old) }
+        ensures room { length places.new ≡ length places.old }
         ensures cores { (h : ℕ → History)
             → HasCores job.now h self.old.cores.items
             → HasCores job.now (with_at p (after_wait_block result number (h p)) h)
@@ -137,37 +139,69 @@ impl Machine {
         ensures tasks { self.new.tasks ≡ self.old.tasks }
         ensures lines { self.new.lines ≡ self.old.lines }
     {
-        self.cores[p].wait_block(number, out)
+        self.cores[p].wait_block(number, &mut places[..many])
     }
 
-    /// Waits on phaser `p` for a block of values in range, for at most as many phases as there are
-    /// places.
+    /// The same into the first places of a list, which stays as long.
+    pub fn wait_block_into(
+        &mut self,
+        job: &Job,
+        p: usize,
+        number: u64,
+        places: &mut Vec<Outcome>,
+        many: usize,
+    ) -> Result<GotBlock, WaitRefusal>
+        requires cores { HasSomeCores job.now self.old.cores.items }
+        requires phaser { p < length job.now.graph.phasers }
+        requires room { many ≤ length places.old.items }
+        ensures reply { (h : ℕ → History)
+            → HasCores job.now h self.old.cores.items
+            → wait_block_reply (limits_at job.now p) (h p) number many ≡ result }
+        ensures places { (h : ℕ → History)
+            → HasCores job.now h self.old.cores.items → take many places.new.items
+            ≡ written result (stream_of (value_at job.now p) (h p)) (take many places.old.items) }
+        ensures room { length places.new.items ≡ length places.old.items }
+        ensures cores { (h : ℕ → History)
+            → HasCores job.now h self.old.cores.items
+            → HasCores job.now (with_at p (after_wait_block result number (h p)) h)
+            self.new.cores.items }
+        ensures tasks { self.new.tasks ≡ self.old.tasks }
+        ensures lines { self.new.lines ≡ self.old.lines }
+    {
+        self.wait_block_on(job, p, number, places, many)
+    }
+
+    /// Waits on phaser `p` for a block of values in range, for at most so many phases, into the
+    /// first of these places.
     pub fn wait_in_range_on(
         &mut self,
         job: &Job,
         p: usize,
         number: u64,
-        out: &mut [Outcome],
+        places: &mut [Outcome],
+        many: usize,
     ) -> Result<GotBlock, WaitRefusal>
         requires cores { HasSomeCores job.now self.old.cores.items }
         requires phaser { p < length job.now.graph.phasers }
+        requires room { many ≤ length places.old }
         ensures reply { (h : ℕ → History)
             → HasCores job.now h self.old.cores.items
             → before_too_big (stream_of (value_at job.now p) (h p))
-            (wait_block_reply (limits_at job.now p) (h p) number (length out.old)) ≡ result }
+            (wait_block_reply (limits_at job.now p) (h p) number many) ≡ result }
         ensures got { (phase count : ℕ) → result ≡ Ok (GotBlock.Values phase count) → 0 < count
             → (h : ℕ → History) → HasCores job.now h self.old.cores.items
             → (wait_block_reply (limits_at job.now p) (h p) number count ≡ result)
-            × (take count out.new
+            × (take count places.new
             ≡ slice_range (stream_of (value_at job.now p) (h p)) phase (phase + count)) }
         ensures few { (phase count : ℕ) → result ≡ Ok (GotBlock.Values phase count)
-            → count ≤ length out.old }
+            → count ≤ many }
         ensures too_big { (phase : ℕ) → result ≡ Ok (GotBlock.Values phase 0)
             → (h : ℕ → History) → HasCores job.now h self.old.cores.items
             → (wait_block_reply (limits_at job.now p) (h p) number 1
             ≡ Ok (GotBlock.Values phase 1))
             × (slice_range (stream_of (value_at job.now p) (h p)) phase (phase + 1)
             ≡ Outcome.TooBig ∷ []) × (self.new.cores ≡ self.old.cores) }
+        ensures room { length places.new ≡ length places.old }
         ensures cores { (h : ℕ → History)
             → HasCores job.now h self.old.cores.items
             → HasCores job.now (with_at p (after_in_range result number (h p)) h)
@@ -175,7 +209,46 @@ impl Machine {
         ensures err { OnErr result (self.new.cores ≡ self.old.cores) }
         ensures others { (self.new.tasks ≡ self.old.tasks) × (self.new.lines ≡ self.old.lines) }
     {
-        self.cores[p].wait_in_range(number, out)
+        self.cores[p].wait_in_range(number, &mut places[..many])
+    }
+
+    /// The same into the first places of a list, which stays as long.
+    pub fn wait_in_range_into(
+        &mut self,
+        job: &Job,
+        p: usize,
+        number: u64,
+        places: &mut Vec<Outcome>,
+        many: usize,
+    ) -> Result<GotBlock, WaitRefusal>
+        requires cores { HasSomeCores job.now self.old.cores.items }
+        requires phaser { p < length job.now.graph.phasers }
+        requires room { many ≤ length places.old.items }
+        ensures reply { (h : ℕ → History)
+            → HasCores job.now h self.old.cores.items
+            → before_too_big (stream_of (value_at job.now p) (h p))
+            (wait_block_reply (limits_at job.now p) (h p) number many) ≡ result }
+        ensures got { (phase count : ℕ) → result ≡ Ok (GotBlock.Values phase count) → 0 < count
+            → (h : ℕ → History) → HasCores job.now h self.old.cores.items
+            → (wait_block_reply (limits_at job.now p) (h p) number count ≡ result)
+            × (take count places.new.items
+            ≡ slice_range (stream_of (value_at job.now p) (h p)) phase (phase + count)) }
+        ensures few { (phase count : ℕ) → result ≡ Ok (GotBlock.Values phase count)
+            → count ≤ many }
+        ensures too_big { (phase : ℕ) → result ≡ Ok (GotBlock.Values phase 0)
+            → (h : ℕ → History) → HasCores job.now h self.old.cores.items
+            → (wait_block_reply (limits_at job.now p) (h p) number 1
+            ≡ Ok (GotBlock.Values phase 1))
+            × (slice_range (stream_of (value_at job.now p) (h p)) phase (phase + 1)
+            ≡ Outcome.TooBig ∷ []) × (self.new.cores ≡ self.old.cores) }
+        ensures room { length places.new.items ≡ length places.old.items }
+        ensures cores { (h : ℕ → History)
+            → HasCores job.now h self.old.cores.items
+            → HasCores job.now (with_at p (after_in_range result number (h p)) h)
+            self.new.cores.items }
+        ensures others { (self.new.tasks ≡ self.old.tasks) × (self.new.lines ≡ self.old.lines) }
+    {
+        self.wait_in_range_on(job, p, number, places, many)
     }
 
     /// Registers a task as this child of a task on phaser `p`, at the first phase that is not

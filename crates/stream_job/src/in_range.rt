@@ -139,8 +139,8 @@ impl Machine {
         let number = self.tasks[t].numbers[k];
         let steps = plan.block(job, t, self.tasks[t].begun, most) as usize;
         let sink = self.sink_of(job, t);
-        let out = &mut buffers.outcomes[..steps];
-        let Ok(answer) = self.wait_in_range_on(job, phaser, number, out) else {
+        let places = &mut buffers.outcomes;
+        let Ok(answer) = self.wait_in_range_into(job, phaser, number, places, steps) else {
             return Went::Stays;
         };
         let GotBlock::Values { phase, count } = answer else {
@@ -150,8 +150,8 @@ impl Machine {
             let place = Place::Phaser(phaser);
             return Went::Before { place, phase };
         }
-        let got = &out[..count as usize];
-        self.tasks[t].take(job, t, got);
+        let got = &buffers.outcomes[..count as usize];
+        self.tasks[t].take(job, t, got, &mut buffers.values);
         self.keep(sink, got);
         Went::On
     }
@@ -168,7 +168,7 @@ impl Machine {
             unreachable!()
         };
         let mut out = [Outcome::Empty; 1];
-        let Ok(answer) = self.wait_in_range_on(job, phaser, number, &mut out) else {
+        let Ok(answer) = self.wait_in_range_on(job, phaser, number, &mut out, 1) else {
             return Went::Stays;
         };
         let GotBlock::Values { phase, count } = answer else {

@@ -13,9 +13,10 @@ ghost use Rattle.graph_runs.specs.Moments.{Moment};
 ghost use Rattle.graph_runs.specs.Nexts.{first_missing, is_live};
 ghost use Rattle.graph_runs.specs.TaskPlaces.{StandsUpTo};
 
+use crate::filtering::filter_all;
 use graph_lang::graph_base::Kind;
 use graph_lang::stream_filters::{Fir, TooBigValue};
-use graph_runs::{Owed, filtered, kind_of, number_taken, owed_after_wait};
+use graph_runs::{Owed, kind_of, number_taken, owed_after_wait};
 use phase_any::phase_accum::Outcome;
 use smallvec::SmallVec;
 use stream_eval::stream_lists::Job;
@@ -65,30 +66,34 @@ impl TaskState {
         self.is_registered(job, t) && self.left < self.numbers.len()
     }
 
-    /// Takes what the first wait of the next steps got, of which it owes nothing yet.
-    pub fn take(&mut self, job: &Job, t: usize, outcomes: &[Outcome])
+    /// Takes what the first wait of the next steps got, of which it owes nothing yet. It uses the
+    /// places of the values meanwhile.
+    pub fn take(&mut self, job: &Job, t: usize, outcomes: &[Outcome], values: &mut Vec<i64>)
         requires task { t < length job.now.graph.tasks }
         requires begun { self.old.begun + length outcomes.now ≤ 18446744073709551615 }
         requires filter { (taken : List ℤ)
             × HasFilter (task_at job.now.graph t) self.old.filter taken }
-        requires some { 1 ≤ length outcomes.now }
-        requires block { IsBlock (task_at job.now.graph t).kind (length outcomes.now) }
+        requires block { (1 ≤ length outcomes.now)
+            × IsBlock (task_at job.now.graph t).kind (length outcomes.now) }
         requires nothing { (self.old.owed ≡ Nothing) × (self.old.made.items ≡ []) }
-        requires room { (task_at job.now.graph t).kind ≡ filters
-            → length outcomes.now ≤ vec_capacity self.old.made }
-        ensures { StateHasTaken (task_at job.now.graph t) (map number outcomes.now)
+        requires room { (length outcomes.now ≤ vec_capacity values.old)
+            × ((task_at job.now.graph t).kind ≡ filters
+            → length outcomes.now ≤ vec_capacity self.old.made) }
+        ensures taken { StateHasTaken (task_at job.now.graph t) (map number outcomes.now)
             self.old self.new }
+        ensures places { vec_capacity values.new ≡ vec_capacity values.old }
     {
-        for outcome in outcomes {
-            let x = number_taken(*outcome);
-            if kind_of(job, t) == Kind::Fir {
-                self.made
-                    .push_reserved(filtered(job, t, &mut self.filter, x));
-            } else {
+        match kind_of(job, t) {
+            Kind::Fir => {
+                filter_all(job, t, &mut self.filter, outcomes, values, &mut self.made);
+            }
+            Kind::Source | Kind::Sink => {}
+            Kind::Split | Kind::Join | Kind::Peer => {
+                let x = number_taken(outcomes[0]);
                 self.owed = owed_after_wait(job, t, self.begun, &mut self.filter, x);
             }
-            self.begun += 1;
         }
+        self.begun += outcomes.len() as u64;
     }
 
     /// Whether what the task owes is values that are all in range.

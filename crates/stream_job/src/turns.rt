@@ -230,11 +230,11 @@ impl Machine {
         let number = self.tasks[t].numbers[k];
         let steps = plan.block(job, t, self.tasks[t].begun, most) as usize;
         let sink = self.sink_of(job, t);
-        let out = &mut buffers.outcomes[..steps];
-        match self.wait_block_on(job, phaser, number, out) {
+        let places = &mut buffers.outcomes;
+        match self.wait_block_into(job, phaser, number, places, steps) {
             Ok(GotBlock::Values { phase, count }) => {
-                let got = &out[..count as usize];
-                self.tasks[t].take(job, t, got);
+                let got = &buffers.outcomes[..count as usize];
+                self.tasks[t].take(job, t, got, &mut buffers.values);
                 self.keep(sink, got);
                 Made::Event {
                     phaser,

@@ -28,7 +28,7 @@ use Rattle.graph_runs.specs.TaskEnds.{IsChildOf, HasNumbers, HasOwnCalls}
 use Rattle.graph_runs.specs.Steps.{HasFilter}
 use Rattle.stream_tasks.specs.Holds.{HasMade}
 use Rattle.stream_tasks.specs.Registering.{HasFirstHolds}
-use Rattle.stream_tasks.specs.Tasks.{IsOn, IsHeldOn, HasGivenNumbers, IsOwnTaskAt, IsWhole, place_of_state}
+use Rattle.stream_tasks.specs.Tasks.{DealsNothing, IsOn, IsHeldOn, HasGivenNumbers, IsOwnTaskAt, IsWhole, place_of_state}
 use Rattle.stream_tasks.specs.declared.child.Child.{Child}
 use Rattle.stream_tasks.specs.declared.hold.Hold.{Hold}
 use Rattle.stream_tasks.specs.declared.hold.Hold.TheVariants.{On, Gone}
@@ -95,7 +95,7 @@ module _ (job : Job) (spots : ℕ → Spot) (m after : Moment) (s : TaskState) (
     (numbers : List ℕ) (child_holds : List Hold) (event : ℕ → Event) (old new child : AnyMember)
     (before : History) (kids : Vec Child Global) (whole : IsWhole job s)
     (at : IsOwnTaskAt job spots m s) (first_holds : HasFirstHolds job spots m c numbers child_holds)
-    (of_task : IsChildOf job c s.number) (going : s.over ≡ false)
+    (of_task : IsChildOf job c s.number) (going : s.over ≡ false) (undealt : DealsNothing s)
     (room : length numbers < length (registrations_at job c))
     (next : (registration_at job c (length numbers)).phaser ≡ p)
     (few : k < length (registrations_at job s.number))
@@ -183,7 +183,8 @@ module _ (job : Job) (spots : ℕ → Spot) (m after : Moment) (s : TaskState) (
           part = has.part;
           own = has.own.0;
           knows = has.knows;
-          place = has.place s.most (place_of_state s) at.place;
+          place = λ empty. has.place s.most (place_of_state s) (at.place empty);
+          deals = λ some. absurd (some undealt);
           start = λ joins. has.same.offset ∙ at.start joins;
           holds = holds_go job spots m after t k p s.holds.items s.lefts.items (On new) whole.graph
               whole.there few here whole.holds (omega arith)

@@ -27,7 +27,7 @@ use Rattle.graph_runs.proofs.CallsFollow.{calls_begin, calls_wait}
 use Rattle.graph_runs.specs.Steps.{HasFilter}
 use Rattle.stream_tasks.specs.Holds.{HasSeenOthers}
 use Rattle.stream_tasks.specs.Registering.{HasFirstHolds}
-use Rattle.stream_tasks.specs.Tasks.{IsOn, HasLeftOn, IsHeldOn, HasHolds, IsOwnTaskAt, IsWhole, OwesNothing, owed_by, place_of_state}
+use Rattle.stream_tasks.specs.Tasks.{DealsNothing, IsOn, HasLeftOn, IsHeldOn, HasHolds, IsOwnTaskAt, IsWhole, OwesNothing, owed_by, place_of_state}
 use Rattle.stream_tasks.specs.declared.child.Child.{Child}
 use Rattle.stream_tasks.specs.declared.hold.Hold.{Hold}
 use Rattle.stream_tasks.specs.declared.hold.Hold.TheVariants.{On, Gone}
@@ -113,23 +113,25 @@ holds_go job spots m after t k p holds lefts new is there few here long kept num
 pub first_holds_begin : (job : Job) (spots : ℕ → Spot) (m : Moment) (s : TaskState) (c : ℕ)
     → IsWhole job s → IsOwnTaskAt job spots m s
     → (child : IsChildOf job c s.number) → s.begun ≡ child.parent.at → s.over ≡ false
+    → DealsNothing s
     → ((p : ℕ) → m.number p c ≡ None)
     → HasNewChild job m (with_child c m) s.number c []
     × IsOwnTaskAt job spots (with_child c m) s × HasFirstHolds job spots (with_child c m) c [] []
-first_holds_begin job spots m s c whole at child boundary going nowhere =
+first_holds_begin job spots m s c whole at child boundary going undealt nowhere =
     let t = s.number in
     let after = with_child c m in
     let new : HasNewChild job m after t c [] =
     child_is_new job m t c child.parent whole.graph whole.there child.there at.part child.has
     child.by nowhere in
     let calls = calls_begin job m after t c whole.graph whole.there child new
-    (at.place.begun ∙ boundary) (at.knows.offset c) nowhere at.own in (
+    ((at.place undealt).begun ∙ boundary) (at.knows.offset c) nowhere at.own in (
       new,
       record {
         part = new.part;
         own = calls.0;
         knows = known_begins job m after t c new at.knows;
-        place = new.place s.most (place_of_state s) at.place;
+        place = λ none. new.place s.most (place_of_state s) (at.place none);
+        deals = λ some. absurd (some undealt);
         start = λ joins. new.offset t ∙ at.start joins;
         holds = record {
           on = λ i lt le.
@@ -158,7 +160,8 @@ first_holds_begin job spots m s c whole at child boundary going nowhere =
 pub first_holds_wait : (job : Job) (spots : ℕ → Spot) (m : Moment) (s : TaskState) (c k p : ℕ)
     (numbers : List ℕ) (child_holds : List Hold) (old new : AnyMember) → IsWhole job s
     → IsOwnTaskAt job spots m s → HasFirstHolds job spots m c numbers child_holds
-    → IsChildOf job c s.number → s.over ≡ false → k < length (registrations_at job s.number)
+    → IsChildOf job c s.number → s.over ≡ false → DealsNothing s
+    → k < length (registrations_at job s.number)
     → (registration_at job s.number k).phaser ≡ p → m.number p c ≡ None
     → IsOn job spots m s.number p old → HasSeenOthers old new
     → HasSeenBoth job m (with_history p (member_in new).seen m) s.number c p numbers
@@ -166,7 +169,7 @@ pub first_holds_wait : (job : Job) (spots : ℕ → Spot) (m : Moment) (s : Task
     × IsOwnTaskAt job spots (with_history p (member_in new).seen m)
     (record s { holds = with_item s.holds k (On new) })
     × HasFirstHolds job spots (with_history p (member_in new).seen m) c numbers child_holds
-first_holds_wait job spots m s c k p numbers child_holds old new whole at first_holds child going few here nowhere on goes =
+first_holds_wait job spots m s c k p numbers child_holds old new whole at first_holds child going undealt few here nowhere on goes =
     let t = s.number in
     let now = (member_in new).seen in
     let after = with_history p now m in
@@ -183,7 +186,8 @@ first_holds_wait job spots m s c k p numbers child_holds old new whole at first_
         part = moved.part;
         own = calls.0;
         knows = known_moved job m after t p now moved at.knows;
-        place = both.place s.most (place_of_state s) at.place;
+        place = λ none. both.place s.most (place_of_state s) (at.place none);
+        deals = λ some. absurd (some undealt);
         start = λ joins. moved.offset t ∙ at.start joins;
         holds = holds_go job spots m after t k p s.holds.items s.lefts.items (On new) whole.graph
             whole.there few here whole.holds (omega arith) (λ q. moved.numbers q t)
@@ -280,7 +284,8 @@ child_goes_alone job spots m parent child numbers child_holds is of_task knows f
       own = first_holds.own;
       knows = known_child job m parent child.number of_task.parent is of_task.there of_task.has
           of_task.by knows;
-      place = rw place_is at (first_holds.joining.place child.most);
+      place = λ none. rw place_is at (first_holds.joining.place child.most);
+      deals = λ some. absurd (some owes.2);
       start = start;
       holds = record {
         on = λ i lt le.

@@ -70,7 +70,7 @@ module _ (job : Job) (spots : ℕ → Spot) (m : Moment) (s : TaskState) (c k : 
       (RegisteredNow n a ∷ added.before)
   has =
       child_is_added_now job m t c n a of_task.parent (place_of_state s) s.most [] added.before
-      whole.graph whole.there of_task.there at.part at.place (owed_none s owes) boundary of_task.has of_task.by
+      whole.graph whole.there of_task.there at.part (at.place owes.2) (owed_none s owes) boundary of_task.has of_task.by
       first_holds.joining room
       (record { numbered = sees.numbered; others = sees.others; legal = sees.legal.0 })
       joins refl sees.legal.1
@@ -103,7 +103,7 @@ module _ (job : Job) (spots : ℕ → Spot) (m : Moment) (s : TaskState) (c k : 
       × (after.offset c ≡ start)
   first_holds_register_now =
       let then = first_holds_add job spots m after s c k p [] child_holds (registration_now_of a)
-      old new child added.before kids whole at first_holds of_task going room refl few here on
+      old new child added.before kids whole at first_holds of_task going owes.2 room refl few here on
       (record { made = added.made; op = added.op; at = added.at; seen = added.seen }) added_one
       given in
       (then.0, then.1, has.start_is ∙ sym added.start_is)

@@ -71,7 +71,7 @@ module _ (job : Job) (spots : ℕ → Spot) (m : Moment) (s : TaskState) (c k : 
   has : HasAddedChild job m after t c p a numbers (Registered n a mode ∷ added.before)
   has =
       child_is_added job m t c n a of_task.parent (place_of_state s) s.most numbers added.before
-      whole.graph whole.there of_task.there at.part at.place (owed_none s owes) boundary of_task.has of_task.by
+      whole.graph whole.there of_task.there at.part (at.place owes.2) (owed_none s owes) boundary of_task.has of_task.by
       first_holds.joining room
       (record { numbered = sees.numbered; others = sees.others; legal = sees.legal.0 })
       (at.knows.offset c stays) (at.knows.offset t (parent_stays job c t whole.graph of_task))
@@ -104,6 +104,6 @@ module _ (job : Job) (spots : ℕ → Spot) (m : Moment) (s : TaskState) (c k : 
       × HasFirstHolds job spots after c (numbers ++ a ∷ []) (child_holds ++ On child ∷ [])
   first_holds_register =
       first_holds_add job spots m after s c k p numbers child_holds (registration_of a mode) old new
-      child added.before kids whole at first_holds of_task going room refl few here on
+      child added.before kids whole at first_holds of_task going owes.2 room refl few here on
       (record { made = added.made; op = added.op; at = added.at; seen = added.seen }) added_one
       given

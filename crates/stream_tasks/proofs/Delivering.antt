@@ -36,9 +36,11 @@ goes_on job spots i seed old new child task has = subst (IsTask job spots) (sym 
     staying = whole.staying;
     room = whole.room;
     places = places_stay job old (record old { child_holds = seed.holds }) refl refl refl
-        refl refl refl whole.places;
+        refl refl refl refl whole.places;
     filters = whole.filters;
     others = whole.others;
+    splitters = whole.splitters;
+    dealers = whole.dealers;
   };
   stands = λ met.
       (let at = (task.stands met).1 in (
@@ -48,6 +50,7 @@ goes_on job spots i seed old new child task has = subst (IsTask job spots) (sym 
           own = at.own;
           knows = at.knows;
           place = at.place;
+          deals = at.deals;
           start = at.start;
           holds = at.holds;
           filter = at.filter;
@@ -57,6 +60,7 @@ goes_on job spots i seed old new child task has = subst (IsTask job spots) (sym 
               (let end = at.at_end over in record {
                 ended = end.ended;
                 nothing_owed = end.nothing_owed;
+                nothing_dealt = end.nothing_dealt;
                 children = end.children;
               });
         },
@@ -116,7 +120,7 @@ module _ (job : Job) (spots : ℕ → Spot) (i : ℕ) (seed old new child : Task
       child_goes_alone job spots registering.moment old.number made kid.numbers.items
       old.child_holds.items whole.graph (subst (λ c. IsChildOf job c old.number) task_is registering.child)
       registering.at.knows first_holds count numbers_are refl ready.seed.lefts ready.seed.begun
-      (ready.seed.owed, ready.seed.made) ready.seed.staying ready.seed.lines starts
+      (ready.seed.owed, ready.seed.made, ready.seed.dealt) ready.seed.staying ready.seed.lines starts
       ready.seed.filter
       (λ j one e.
       let unregistered = ready.seed.children.each j one e in (
@@ -139,9 +143,11 @@ module _ (job : Job) (spots : ℕ → Spot) (i : ℕ) (seed old new child : Task
     children = knows_children job seed.number seed.children.items ready.seed.children;
     staying = λ over. ap length ready.seed.lefts;
     room = let wide = ready.room.lefts in let few = registered.few in omega arith;
-    places = places_stay job seed made refl refl refl refl refl refl ready.seed.places;
+    places = places_stay job seed made refl refl refl refl refl refl refl ready.seed.places;
     filters = λ filter. ready.seed.owed;
     others = λ other. ready.seed.made;
+    splitters = λ split. ready.seed.owed;
+    dealers = λ other. ready.seed.dealt;
   }
 
   pub is_delivered : IsTask job spots child

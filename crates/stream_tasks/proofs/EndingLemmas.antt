@@ -110,10 +110,12 @@ over_whole job s whole = record {
   children = whole.children;
   staying = λ no. absurd (let clash : true ≡ false = no in cc);
   room = whole.room;
-  places = places_stay job s (record s { over = true }) refl refl refl refl refl refl
+  places = places_stay job s (record s { over = true }) refl refl refl refl refl refl refl
       whole.places;
   filters = whole.filters;
   others = whole.others;
+  splitters = whole.splitters;
+  dealers = whole.dealers;
 }
 
 -- a task that has ended makes no further step
@@ -132,6 +134,7 @@ at_end job spots s met owes children ended task = record {
           own = at.own;
           knows = at.knows;
           place = at.place;
+          deals = at.deals;
           start = at.start;
           holds = at.holds;
           filter = at.filter;
@@ -140,6 +143,7 @@ at_end job spots s met owes children ended task = record {
           at_end = λ over. record {
             ended = ended m at;
             nothing_owed = owed_none s owes;
+            nothing_dealt = owes.2;
             children = children spots m at;
           };
         },
@@ -189,7 +193,7 @@ runs_out job spots s k p old new lines entered outcomes met going owes never fir
     (with_history q now m) (task_at job.graph t) t k) input
     (sees_end job m t k n now whole.graph whole.there at.part
     (subst (λ q. SeesOthers job m t q n now) (sym input) sees)
-    (staying_at job m t (place_of_state s) whole.graph whole.there at.part.ran at.place none)
+    (staying_at job m t (place_of_state s) whole.graph whole.there at.part.ran (at.place owes.2) none)
     input_there
     (subst (λ q. wait_reply (value_at job q) (limits_at job q) now n ≡ Ok Ended) (sym input) reply)) in
     let then = state_sees job spots m after s k p x y lines entered outcomes s.places whole few (omega arith) here same at on
@@ -213,9 +217,11 @@ runs_out job spots s k p old new lines entered outcomes met going owes never fir
               outcomes = outcomes;
               holds = with_item s.holds k new;
             })
-            refl refl refl refl refl many whole.places;
+            refl refl refl refl refl refl many whole.places;
         filters = whole.filters;
         others = whole.others;
+        splitters = whole.splitters;
+        dealers = whole.dealers;
       };
       stands = λ again. (
         after,
@@ -224,15 +230,17 @@ runs_out job spots s k p old new lines entered outcomes met going owes never fir
           own = then.own;
           knows = then.knows;
           place = then.place;
+          deals = then.deals;
           start = then.start;
           holds = subst (λ h. HasHolds job spots after t (set s.holds.items k h) s.lefts.items) (sym both.1.2) then.holds;
           filter = then.filter;
           lines = then.lines;
           given = then.given;
           at_end = λ over. record {
-            ended = ended_no_input job after t (place_of_state s) whole.there then.part then.place owed_is never
+            ended = ended_no_input job after t (place_of_state s) whole.there then.part (then.place owes.2) owed_is never
                 (let R : ℕ → Type 0 = λ i. RanOut after (task_at job.graph t) t i in subst R first ended.1);
             nothing_owed = owed_is;
+            nothing_dealt = owes.2;
             children = children_stay job m after t p s.begun now ended.0.moved (children spots m at);
           };
         },
@@ -318,7 +326,7 @@ task_leaves job spots s p old new left lefts met over few here looked g more roo
           (subst (λ l. IsLegal l (left_in left).seen) (ap limits_on on.at ∙ on.limits) one.legal);
     } in
     let gone = left_phaser job m t p n one.before whole.graph whole.there at.part sees end.ended
-    (none_due_at job m t p (place_of_state s) whole.graph at.part at.place end.children) in
+    (none_due_at job m t p (place_of_state s) whole.graph at.part (at.place end.nothing_dealt) end.children) in
     let is_off : HasLeftOn job spots after t p left = record {
       op = one.op ∙ on.op;
       at = one.at ∙ on.at;
@@ -344,9 +352,11 @@ task_leaves job spots s p old new left lefts met over few here looked g more roo
         room = omega arith;
         places = places_stay job s
             (record s { holds = with_item s.holds (length s.lefts.items) new; lefts = lefts })
-            refl refl refl refl refl refl whole.places;
+            refl refl refl refl refl refl refl whole.places;
         filters = whole.filters;
         others = whole.others;
+        splitters = whole.splitters;
+        dealers = whole.dealers;
       };
       stands = λ again. (
         after,
@@ -354,15 +364,16 @@ task_leaves job spots s p old new left lefts met over few here looked g more roo
           part = gone.moved.part;
           own = calls_left job m after t p whole.graph whole.there n one.before sees gone at.own;
           knows = known_moved job m after t p now gone.moved at.knows;
-          place = subst (λ i. StandsUpTo s.most job after t (record {
+          place = λ none. subst (λ i. StandsUpTo s.most job after t (record {
             numbers = s.numbers.items;
             left = i;
             begun = s.begun;
             owed = owed_by s.owed s.made.items;
           }))
               (sym count)
-              (left_follows job m after t p n (place_of_state s) one.before whole.graph whole.there at.place
+              (left_follows job m after t p n (place_of_state s) one.before whole.graph whole.there (at.place none)
               (omega arith) here on.numbered gone);
+          deals = λ some. absurd (some end.nothing_dealt);
           start = λ joins. gone.moved.offset t ∙ at.start joins;
           holds = subst (λ ls. HasHolds job spots after t (set s.holds.items k new) ls) (sym more)
               (subst (λ h. HasHolds job spots after t (set s.holds.items k h) (s.lefts.items ++ left ∷ []))
@@ -375,6 +386,7 @@ task_leaves job spots s p old new left lefts met over few here looked g more roo
           at_end = λ yes. record {
             ended = gone.ended;
             nothing_owed = end.nothing_owed;
+            nothing_dealt = end.nothing_dealt;
             children = children_stay job m after t p s.begun now gone.moved end.children;
           };
         },
@@ -386,6 +398,55 @@ task_leaves job spots s p old new left lefts met over few here looked g more roo
         → (x : AnyMember) × ((old ≡ On x) × (new ≡ Gone) × holds.LeavesHold x left × IsOn job spots m t p x)
     leaver job spots m t p (On x) new left g on = (x, (refl, g.0, g.1, on))
     leaver job spots m t p Gone new left g on = absurd on
+
+-- a task whose holds are as they were
+pub task_held : (job : Job) (spots : ℕ → Spot) (s : TaskState) (holds : Vec Hold Global)
+    → holds.items ≡ s.holds.items → IsTask job spots s → IsTask job spots (record s { holds = holds })
+task_held job spots s holds same task = record {
+  whole = held_whole job s holds same task.whole;
+  stands = λ met.
+      let m = (task.stands met).0 in
+      let at = (task.stands met).1 in (
+        m,
+        record {
+          part = at.part;
+          own = at.own;
+          knows = at.knows;
+          place = at.place;
+          deals = at.deals;
+          start = at.start;
+          holds = subst (λ l. HasHolds job spots m s.number l s.lefts.items) (sym same) at.holds;
+          filter = at.filter;
+          lines = at.lines;
+          given = at.given;
+          at_end = λ over. let end = at.at_end over in record {
+            ended = end.ended;
+            nothing_owed = end.nothing_owed;
+            nothing_dealt = end.nothing_dealt;
+            children = end.children;
+          };
+        },
+      );
+}
+  where
+    held_whole : (job : Job) (s : TaskState) (holds : Vec Hold Global)
+        → holds.items ≡ s.holds.items → IsWhole job s → IsWhole job (record s { holds = holds })
+    held_whole job s holds same whole = record {
+      graph = whole.graph;
+      there = whole.there;
+      samples = whole.samples;
+      numbers = whole.numbers;
+      holds = ap length same ∙ whole.holds;
+      children = whole.children;
+      staying = whole.staying;
+      room = whole.room;
+      places = places_stay job s (record s { holds = holds }) refl refl refl refl refl refl refl
+          whole.places;
+      filters = whole.filters;
+      others = whole.others;
+      splitters = whole.splitters;
+      dealers = whole.dealers;
+    }
 
 -- a task whose list has more room, or whose next step was entered
 pub task_lines : (job : Job) (spots : ℕ → Spot) (s : TaskState) (lines : Vec ℤ Global)
@@ -401,6 +462,7 @@ task_lines job spots s lines same task = record {
           own = at.own;
           knows = at.knows;
           place = at.place;
+          deals = at.deals;
           start = at.start;
           holds = at.holds;
           filter = at.filter;
@@ -409,6 +471,7 @@ task_lines job spots s lines same task = record {
           at_end = λ over. let end = at.at_end over in record {
             ended = end.ended;
             nothing_owed = end.nothing_owed;
+            nothing_dealt = end.nothing_dealt;
             children = end.children;
           };
         },
@@ -426,10 +489,12 @@ task_lines job spots s lines same task = record {
       children = whole.children;
       staying = whole.staying;
       room = whole.room;
-      places = places_stay job s (record s { lines = lines }) refl refl refl refl refl refl
+      places = places_stay job s (record s { lines = lines }) refl refl refl refl refl refl refl
           whole.places;
       filters = whole.filters;
       others = whole.others;
+      splitters = whole.splitters;
+      dealers = whole.dealers;
     }
 
 -- a kind that is a source's, and one that is not

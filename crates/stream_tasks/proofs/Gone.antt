@@ -70,8 +70,9 @@ gone_left job spots s gone task =
     let whole = task.whole in
     let m = (task.stands gone.met).0 in
     let at = (task.stands gone.met).1 in
+    let undealt = (at.at_end gone.over).nothing_dealt in
     let all : length s.numbers.items ≡ length (registrations_at job s.number) = whole.numbers in
-    let few : length s.lefts.items ≤ length s.numbers.items = at.place.few_left in
+    let few : length s.lefts.items ≤ length s.numbers.items = (at.place undealt).few_left in
     let many : length s.numbers.items ≤ length s.lefts.items = gone.left in
     let count : length s.lefts.items ≡ length s.numbers.items = omega arith in
     record {
@@ -82,7 +83,7 @@ gone_left job spots s gone task =
         own = at.own;
         most = s.most;
         at = place_of_state s;
-        stands = at.place;
+        stands = at.place undealt;
         begun = refl;
         start = at.start;
         numbers = refl;
@@ -99,7 +100,7 @@ gone_left job spots s gone task =
           (let off = at.holds.off i l left in
           let less = slice_get_within s.numbers.items i n number in
           let same : Some off.number ≡ Some n =
-          sym off.numbered ∙ at.place.numbered i (omega arith) ∙ number in
+          sym off.numbered ∙ (at.place undealt).numbered i (omega arith) ∙ number in
           record {
             op = off.op;
             at = off.at;

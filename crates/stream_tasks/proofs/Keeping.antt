@@ -1,12 +1,14 @@
 -- What a task keeps from one state to the next.
-use Rattle.std.proofs.Common.{◌≡◌, ℕ, ◌≤◌, ℤ, length, sym, ap, subst, ◌∙◌, arith}
+use Rattle.std.proofs.Common.{◌≡◌, ◌≢◌, ℕ, ◌≤◌, ℤ, length, sym, ap, subst, ◌∙◌, arith}
 use Rattle.std.specs.Global.{Global}
 use Rattle.std.specs.Prelude.{Vec}
 use Rattle.graph_runs.specs.graph_base.Graphs.{task_at}
+use Rattle.graph_runs.specs.graph_base.declared.line.Kind.TheVariants.{Split}
 use Rattle.graph_runs.specs.Places.{IsMost}
 use Rattle.graph_runs.specs.TaskPlaces as turns
 use Rattle.graph_runs.specs.declared.owed.Owed.TheVariants.{Nothing}
 use Rattle.stream_eval.specs.stream_lists.Jobs.{Job}
+use Rattle.stream_tasks.specs.Deals.{HasDealRoom, ServesOutputs}
 use Rattle.stream_tasks.specs.Tasks.{HasStepPlaces, OwesNothing, SignalsBlocks, owed_by, sends_room}
 use Rattle.stream_tasks.specs.declared.task_state.TaskState.{TaskState}
 
@@ -17,10 +19,10 @@ owed_none s owes =
 
 -- the places of a task stay where another state has as many of them
 pub places_stay : (job : Job) (s after : TaskState) → after.number ≡ s.number → after.most ≡ s.most
-    → after.own ≡ s.own → after.made ≡ s.made → after.places ≡ s.places
+    → after.own ≡ s.own → after.made ≡ s.made → after.places ≡ s.places → after.deal ≡ s.deal
     → length after.outcomes.items ≡ length s.outcomes.items
     → HasStepPlaces job s → HasStepPlaces job after
-places_stay job s after number most own same_made same_places many places =
+places_stay job s after number most own same_made same_places same_deal many places =
     let few = places.own_few in
     let block = places.block in
     let made = places.made in
@@ -41,6 +43,9 @@ places_stay job s after number most own same_made same_places many places =
       few_made = omega arith;
       outcomes = omega arith;
       sends = sends;
+      few_dealt = few_dealt;
+      deal = deal;
+      served = served;
     }
   where
     sends : SignalsBlocks job after.number → after.most ≤ sends_room job after.number after.places
@@ -49,6 +54,16 @@ places_stay job s after number most own same_made same_places many places =
         (λ signals. subst (λ p. after.most ≤ sends_room job s.number p) (sym same_places)
         (subst (λ n. n ≤ sends_room job s.number s.places) (sym most) (places.sends signals)))
 
-    able : IsMost job after.number after.most
+    able : (task_at job.graph after.number).kind ≢ Split → IsMost job after.number after.most
     able =
         rw most (rw number places.most)
+
+    few_dealt : length after.deal.values.items ≤ after.most
+    few_dealt = rw same_deal (rw most places.few_dealt)
+
+    deal : (task_at job.graph after.number).kind ≡ Split → HasDealRoom after.most after.deal
+    deal = rw same_deal (rw most (rw number places.deal))
+
+    served : (task_at job.graph after.number).kind ≡ Split → 2 ≤ after.most
+        → ServesOutputs job after.number after.most after.places
+    served = rw same_places (rw most (rw number places.served))

@@ -1,8 +1,12 @@
 mod Holding
 mod Taking
 mod Keeping
+mod Shares
+mod DealWaits
+mod Dealing
 mod Turning
 mod Waiting
+mod DealStates
 mod EndingLemmas
 mod Gone
 mod ChildHolds

@@ -291,7 +291,8 @@ stands_first job spots s m is root seed has all first own = record {
   part = first.part;
   own = own;
   knows = known_first job m s.number s.numbers.items (seen_by s.holds.items) is first;
-  place = place;
+  place = λ none. place;
+  deals = λ some. absurd (some seed.dealt);
   start = λ now. absurd (not_now job s.number is seed.there root now);
   holds = record {
     on = λ i lt le. held i lt;
@@ -399,6 +400,8 @@ is_whole job spots s is seed has all room = record {
   places = seed.places;
   filters = λ kind. seed.owed;
   others = λ kind. seed.made;
+  splitters = λ kind. seed.owed;
+  dealers = λ kind. seed.dealt;
 }
 
 -- a root that has received all its registrations is a task of its run

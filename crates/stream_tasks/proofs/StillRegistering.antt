@@ -58,7 +58,7 @@ registering_begins job spots s i met due none empty task =
     known_nowhere job m s.number c child.parent whole.graph child.there child.has child.by
     (λ k few. has.numbered k few ∙ ap (λ l. slice_get l k) none
     ∙ slice_get_past [] k (omega arith)) at.knows in
-    let then = first_holds_begin job spots m s c whole at child boundary due.going nowhere in
+    let then = first_holds_begin job spots m s c whole at child boundary due.going due.owes.2 nowhere in
     record {
       kid = kid;
       found = due.missing.found;
@@ -142,7 +142,7 @@ registering_waits job spots s i k old new whole n room few here looked g =
     (held job spots n.moment s k p old whole n.at few here (omega arith) looked) in
     let y = both.1.0 in
     let then = first_holds_wait job spots n.moment s n.kid.task k p n.kid.numbers.items s.child_holds.items
-    both.0 y whole n.at n.first_holds n.child n.going few here
+    both.0 y whole n.at n.first_holds n.child n.going n.owes.2 few here
     (next_absent job spots n.moment n.kid.task n.kid.numbers.items s.child_holds.items n.first_holds room)
     both.1.4 both.1.3 in
     let after = with_history p (member_in y).seen n.moment in
@@ -223,6 +223,7 @@ module _ (job : Job) (spots : ℕ → Spot) (s : TaskState) (i : ℕ) (a : ℕ) 
           own = task_now.own;
           knows = task_now.knows;
           place = task_now.place;
+          deals = task_now.deals;
           start = task_now.start;
           holds = task_now.holds;
           filter = task_now.filter;
@@ -340,9 +341,11 @@ whole_keeps job s i k new kids child_holds before kid whole found is_kids task a
   room = whole.room;
   places = places_stay job s
       (record s { holds = with_item s.holds k new; children = kids; child_holds = child_holds })
-      refl refl refl refl refl refl whole.places;
+      refl refl refl refl refl refl refl whole.places;
   filters = whole.filters;
   others = whole.others;
+  splitters = whole.splitters;
+  dealers = whole.dealers;
 }
   where
     few : i < length s.children.items

@@ -38,11 +38,14 @@ use Rattle.graph_runs.specs.Steps.{HasFilter}
 use Rattle.graph_runs.specs.declared.owed.Owed.{Owed}
 use Rattle.graph_runs.specs.declared.owed.Owed.TheVariants.{Value, Nothing}
 use Rattle.stream_tasks.specs.Holds.{HoldGoesOn, HasSeenOthers, HasSendPlaces, MemberHasSignalled, signal_event}
-use Rattle.stream_tasks.specs.Tasks.{IsOn, IsHeldOn, HasGivenNumbers, HasStepPlaces, IsOwnTaskAt, IsWhole, IsTask, SignalsBlocks, owed_by, place_of_state, sends_room}
+use Rattle.stream_tasks.specs.Deals.{HasDealRoom}
+use Rattle.stream_tasks.specs.Tasks.{DealsAt, IsOn, IsHeldOn, HasGivenNumbers, HasStepPlaces, IsOwnTaskAt, IsWhole, IsTask, SignalsBlocks, owed_by, place_of_state, sends_room}
 use Rattle.stream_tasks.specs.declared.child.Child.{Child}
+use Rattle.stream_tasks.specs.declared.deal.Deal.{Deal}
 use Rattle.stream_tasks.specs.declared.hold.Hold.{Hold}
 use Rattle.stream_tasks.specs.declared.hold.Hold.TheVariants.{On, Gone}
 use Rattle.stream_tasks.specs.declared.task_state.TaskState.{TaskState}
+use Rattle.stream_tasks.proofs.Dealing.{deal_stays}
 use Rattle.stream_tasks.proofs.Holding.{sees_others, sees_own, on_after, holds_move}
 
 -- ---- what changes
@@ -57,6 +60,7 @@ pub record Changes : Type 0 where
   pub entered : Bool
   pub outcomes : Vec Outcome Global
   pub places : Places
+  pub deal : Deal
 
 -- the state with these changes
 abbrev pub changed : TaskState → Changes → Vec Hold Global → TaskState
@@ -69,6 +73,7 @@ changed s x holds = record s {
   entered = x.entered;
   outcomes = x.outcomes;
   places = x.places;
+  deal = x.deal;
   holds = holds;
 }
 
@@ -83,13 +88,15 @@ as_it_is s = record {
   entered = s.entered;
   outcomes = s.outcomes;
   places = s.places;
+  deal = s.deal;
 }
 
 -- there are as many places for sends of each operation
 abbrev pub StayPlaces : Places → Places → Type 0
 StayPlaces old new = (op : Op) → room_for op new ≡ room_for op old
 
--- the places stay as many, a filter owes what it has made, and other tasks make nothing
+-- the places stay as many, a filter owes what it has made, and other tasks make nothing; the same
+-- of a splitter and what it deals
 pub record FitPlaces (job : Job) (s : TaskState) (x : Changes) : Type 0 where
   pub made : x.made.cap ≡ s.made.cap
   pub few_made : length x.made.items ≤ s.most
@@ -97,6 +104,10 @@ pub record FitPlaces (job : Job) (s : TaskState) (x : Changes) : Type 0 where
   pub sends : StayPlaces s.places x.places
   pub filters : (task_at job.graph s.number).kind ≡ Fir → x.owed ≡ s.owed
   pub others : (task_at job.graph s.number).kind ≢ Fir → x.made.items ≡ []
+  pub few_dealt : length x.deal.values.items ≤ s.most
+  pub deal : (task_at job.graph s.number).kind ≡ Split → HasDealRoom s.most x.deal
+  pub splitters : (task_at job.graph s.number).kind ≡ Split → x.owed ≡ s.owed
+  pub dealers : (task_at job.graph s.number).kind ≢ Split → x.deal.values.items ≡ []
 
 -- a hold that was looked up by its own value
 pub looked_up : (holds : List Hold) (k : ℕ) (old : Hold) → k < length holds
@@ -146,7 +157,10 @@ state_sees job spots m after s k p old new lines entered outcomes places whole f
       own = calls_seen job m after t p whole.graph whole.there (member_in old).number now s_o
           is_seen at.own;
       knows = known_moved job m after t p now is_seen.moved at.knows;
-      place = seen_follows job m after t p (place_of_state s) now at.place is_seen;
+      place = λ none. seen_follows job m after t p (place_of_state s) now (at.place none) is_seen;
+      deals = λ some.
+          deal_stays job m after t p s.begun s.deal.turn s.numbers.items s.deal.values.items now
+          (at.deals some) is_seen;
       start = λ joins. is_seen.moved.offset t ∙ at.start joins;
       holds = holds_move job spots m after t k p now s.holds.items s.lefts.items (On new)
           whole.graph whole.there few here whole.holds kept is_seen.moved at.holds
@@ -158,6 +172,7 @@ state_sees job spots m after s k p old new lines entered outcomes places whole f
       at_end = λ over. let end = at.at_end over in record {
         ended = is_seen.ended end.ended;
         nothing_owed = end.nothing_owed;
+        nothing_dealt = end.nothing_dealt;
         children = children_stay job m after t p s.begun now is_seen.moved end.children;
       };
     }
@@ -170,18 +185,21 @@ pub state_moves : (job : Job) (spots : ℕ → Spot) (m after : Moment) (s : Tas
     → k < length (registrations_at job s.number) → length s.lefts.items ≤ k
     → (registration_at job s.number k).phaser ≡ p → s.over ≡ false → IsOwnTaskAt job spots m s
     → HasMovedOn job m after s.number p now → HasOwnCalls job after s.number
-    → StandsUpTo s.most job after s.number
-    (place_of_state (changed s x (with_item s.holds k (On new))))
+    → (x.deal.values.items ≡ [] → StandsUpTo s.most job after s.number
+    (place_of_state (changed s x (with_item s.holds k (On new)))))
+    → ((x.deal.values.items ≡ [] → ⊥)
+    → DealsAt job after (changed s x (with_item s.holds k (On new))))
     → IsOn job spots after s.number p new
     → HasFilter (task_at job.graph s.number) x.filter (after.taken s.number 0)
     → ((task_at job.graph s.number).kind ≡ Sink → x.lines.items ≡ after.taken s.number 0)
     → IsOwnTaskAt job spots after (changed s x (with_item s.holds k (On new)))
-state_moves job spots m after s k p now new x whole few kept here going at moved own place on has taken =
+state_moves job spots m after s k p now new x whole few kept here going at moved own place deals on has taken =
     let t = s.number in record {
       part = moved.part;
       own = own;
       knows = known_moved job m after t p now moved at.knows;
       place = place;
+      deals = deals;
       start = λ joins. moved.offset t ∙ at.start joins;
       holds = holds_move job spots m after t k p now s.holds.items s.lefts.items (On new)
           whole.graph whole.there few here whole.holds kept moved at.holds on;
@@ -190,6 +208,17 @@ state_moves job spots m after s k p now new x whole few kept here going at moved
       given = given_stay job m after t p now s.children.items moved at.given;
       at_end = λ over. absurd (let no = sym going ∙ over in cc);
     }
+
+-- a task that owes something and is no filter that has made it deals nothing: it is no splitter
+pub owes_values : (job : Job) (s : TaskState) (owed : turns.Owed) → IsWhole job s
+    → owed_by s.owed s.made.items ≡ owed → (owed ≡ turns.nothing → ⊥)
+    → (task_at job.graph s.number).kind ≢ Split
+owes_values job s owed whole owes some split =
+    let none : owed_by s.owed s.made.items ≡ turns.nothing =
+    ap (λ o. owed_by o s.made.items) (whole.splitters split)
+    ∙ ap (owed_by Nothing)
+    (whole.others (λ fir. (let no : Split ≡ Fir = sym split ∙ fir in cc))) in
+    some (sym owes ∙ none)
 
 -- it has put the values that it owed on output j, phaser p
 pub state_puts : (job : Job) (spots : ℕ → Spot) (m : Moment) (s : TaskState) (j k p : ℕ)
@@ -211,8 +240,12 @@ state_puts job spots m s j k p vs old new owed made places whole few here out go
     let now = put_event job p n vs ∷ before in
     let after = after_signals job t j p n vs (m.begun t) (with_history p before m) in
     let left : length s.lefts.items ≡ 0 = whole.staying going in
+    let apart = owes_values job s (turns.values j (map (λ v. Ok v) vs)) whole owes (λ e. (cc)) in
+    let undealt = whole.dealers apart in
+    let stands = at.place undealt in
+    let able = whole.places.most apart in
     let next = subst (λ q. AreNextValues job m t j q vs) out
-    (next_values_are job m t j s.most vs (place_of_state s) whole.graph whole.there at.part whole.places.most at.place left owes) in
+    (next_values_are job m t j s.most vs (place_of_state s) whole.graph whole.there at.part able stands left owes) in
     let sees = sees_own job spots m t p (signal_event vs (phaser_at job.graph p).single) old new before on is_made.1 in
     let put : HasPut job m after t j p vs (m.begun t) now =
     puts_values job m t p n before whole.graph whole.there at.part j vs sees next in (
@@ -221,9 +254,10 @@ state_puts job spots m s j k p vs old new owed made places whole few here out go
           (record (as_it_is s) { owed = owed; made = made; places = places })
           whole few (omega arith) here going at put.moved
           (calls_put job m after t p whole.graph whole.there j n (m.begun t) vs before sees put at.own)
-          (subst (λ o. StandsUpTo s.most job after t (record { numbers = s.numbers.items; left = length s.lefts.items; begun = s.begun; owed = o }))
+          (λ none. subst (λ o. StandsUpTo s.most job after t (record { numbers = s.numbers.items; left = length s.lefts.items; begun = s.begun; owed = o }))
           (sym then)
-          (put_follows job m after t j p s.most vs (place_of_state s) now whole.graph whole.there at.part whole.places.most at.place left owes put))
+          (put_follows job m after t j p s.most vs (place_of_state s) now whole.graph whole.there at.part able stands left owes put))
+          (λ some. absurd (some undealt))
           (on_after job spots m after t p now old new on is_made.1.same put.moved is_made.1.seen)
           (subst (λ taken. HasFilter (task_at job.graph t) s.filter taken) (sym (put.taken 0)) at.filter)
           (λ sink. at.lines sink ∙ sym (put.taken 0)),
@@ -254,9 +288,16 @@ whole_moves job s k new x fit whole = record {
     sends = λ signals.
         subst (λ n. s.most ≤ n) (sym (fit.sends (phaser_at job.graph (output_at job s.number 0)).op))
         (whole.places.sends signals);
+    few_dealt = fit.few_dealt;
+    deal = fit.deal;
+    served = λ split several j lt.
+        subst (λ n. s.most ≤ n) (sym (fit.sends (phaser_at job.graph (output_at job s.number j)).op))
+        (whole.places.served split several j lt);
   };
   filters = λ fir. fit.filters fir ∙ whole.filters fir;
   others = fit.others;
+  splitters = λ split. fit.splitters split ∙ whole.splitters split;
+  dealers = fit.dealers;
 }
 
 -- a call that changes no more than what a wait writes, and the room of a list, fits
@@ -273,6 +314,10 @@ fits job s lines entered outcomes places many sends whole = record {
   sends = sends;
   filters = λ fir. refl;
   others = whole.others;
+  few_dealt = whole.places.few_dealt;
+  deal = whole.places.deal;
+  splitters = λ split. refl;
+  dealers = whole.dealers;
 }
 
 -- the registrations of a hold that has gone on
@@ -376,7 +421,9 @@ owed_output job spots s j vs met owes task =
     let m = (task.stands met).0 in
     let at = (task.stands met).1 in
     (owed job m s.number j
-    (owes_as job m s.number (place_of_state s) (turns.values j (map (λ v. Ok v) vs)) at.place owes).0).0
+    (owes_as job m s.number (place_of_state s) (turns.values j (map (λ v. Ok v) vs))
+    (at.place (task.whole.dealers
+    (owes_values job s (turns.values j (map (λ v. Ok v) vs)) task.whole owes (λ e. (cc))))) owes).0).0
 
 -- the registration of an output
 pub output_on : (job : Job) (s : TaskState) (j k p : ℕ) → IsWhole job s
@@ -407,6 +454,11 @@ value_fits job s j v owed whole owes = record {
   sends = λ op. refl;
   filters = λ fir. absurd (let no : Nothing ≡ Value j (Ok v) = sym (whole.filters fir) ∙ owes in cc);
   others = whole.others;
+  few_dealt = whole.places.few_dealt;
+  deal = whole.places.deal;
+  splitters = λ split.
+      absurd (let no : Nothing ≡ Value j (Ok v) = sym (whole.splitters split) ∙ owes in cc);
+  dealers = whole.dealers;
 }
 
 -- a filter that has made these values owes them
@@ -456,4 +508,8 @@ made_fits job s made places whole none room sends = record {
   sends = sends;
   filters = λ fir. refl;
   others = λ no. none;
+  few_dealt = whole.places.few_dealt;
+  deal = whole.places.deal;
+  splitters = λ split. refl;
+  dealers = whole.dealers;
 }

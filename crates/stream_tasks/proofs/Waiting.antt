@@ -42,7 +42,7 @@ use Rattle.stream_tasks.specs.declared.hold.Hold.{Hold}
 use Rattle.stream_tasks.specs.declared.hold.Hold.TheVariants.{On}
 use Rattle.stream_tasks.specs.declared.task_state.TaskState.{TaskState}
 use Rattle.stream_tasks.proofs.Holding.{sees_own, on_after}
-use Rattle.stream_tasks.proofs.Turning.{Changes, changed, as_it_is, FitPlaces, StayPlaces, fits, state_moves, whole_moves, goes, held}
+use Rattle.stream_tasks.proofs.Turning.{Changes, changed, as_it_is, FitPlaces, StayPlaces, fits, owes_values, state_moves, whole_moves, goes, held}
 
 -- who owes nothing owes nothing by the definitions
 pub owes_none : (s : TaskState) → OwesNothing s → owed_by s.owed s.made.items ≡ turns.nothing
@@ -68,6 +68,7 @@ state_samples job spots m s k p begun vs old new entered places whole few here o
     let after = after_signals job t 0 p n vs (further (m.begun t) vs) (with_history p before m) in
     let left : length s.lefts.items ≡ 0 = whole.staying going in
     let owed_is = owes_none s owes in
+    let undealt = owes.2 in
     let sees = sees_own job spots m t p (signal_event vs (phaser_at job.graph p).single) old new before on made.1 in
     let put : HasPut job m after t 0 p vs (m.begun t + length vs) now =
     puts_samples job m t p n before whole.graph whole.there at.part 0 vs sees
@@ -77,11 +78,12 @@ state_samples job spots m s k p begun vs old new entered places whole few here o
           (record (as_it_is s) { begun = begun; entered = entered; places = places })
           whole few (omega arith) here going at put.moved
           (calls_put job m after t p whole.graph whole.there 0 n (m.begun t + length vs) vs before sees put at.own)
-          (subst (λ b. StandsUpTo s.most job after t (record { numbers = s.numbers.items; left = length s.lefts.items; begun = b; owed = owed_by s.owed s.made.items }))
+          (λ none. subst (λ b. StandsUpTo s.most job after t (record { numbers = s.numbers.items; left = length s.lefts.items; begun = b; owed = owed_by s.owed s.made.items }))
           (sym more)
           (subst (λ o. StandsUpTo s.most job after t (record { numbers = s.numbers.items; left = length s.lefts.items; begun = s.begun + length vs; owed = o }))
           (sym owed_is)
-          (sampled_follows job m after t p vs (place_of_state s) now whole.graph whole.there at.part at.place left owed_is source put)))
+          (sampled_follows job m after t p vs (place_of_state s) now whole.graph whole.there at.part (at.place undealt) left owed_is source put)))
+          (λ some. absurd (some undealt))
           (on_after job spots m after t p now old new on made.1.same put.moved made.1.seen)
           (subst (λ taken. HasFilter (task_at job.graph t) s.filter taken) (sym (put.taken 0)) at.filter)
           (λ sink. at.lines sink ∙ sym (put.taken 0)),
@@ -117,10 +119,11 @@ pub state_takes : (job : Job) (spots : ℕ → Spot) (m : Moment) (s : TaskState
     → HasFilter (task_at job.graph s.number) x.filter (taken ++ map number os))
     → ((task_at job.graph s.number).kind ≡ kind.Sink
     → x.lines.items ≡ s.lines.items ++ map number os)
+    → x.deal.values.items ≡ []
     → BeginsSteps job m s.number k p (length os) → 1 ≤ length os → length os ≤ s.most
     → IsOwnTaskAt job spots m s → IsOn job spots m s.number p old → MemberHasWaited os old new
     → (after : Moment) × IsOwnTaskAt job spots after (changed s x (with_item s.holds k (On new)))
-state_takes job spots m s k p os old new x whole few here going owes first more fit then follows keeps next some room at on w =
+state_takes job spots m s k p os old new x whole few here going owes first more fit then follows keeps undealt next some room at on w =
     let t = s.number in
     let n = (member_in old).number in
     let now = Waited n (length os) ∷ w.before in
@@ -137,11 +140,12 @@ state_takes job spots m s k p os old new x whole few here going owes first more 
       after,
       state_moves job spots m after s k p now new x whole few (omega arith) here going at got.moved
           (calls_got job m after t p whole.graph whole.there k n (m.begun t + length os) os w.before sees answer fit got at.own)
-          (subst (λ b. StandsUpTo s.most job after t (record { numbers = s.numbers.items; left = length s.lefts.items; begun = b; owed = owed_by x.owed x.made.items }))
+          (λ none. subst (λ b. StandsUpTo s.most job after t (record { numbers = s.numbers.items; left = length s.lefts.items; begun = b; owed = owed_by x.owed x.made.items }))
           (sym more)
           (subst (λ o. StandsUpTo s.most job after t (record { numbers = s.numbers.items; left = length s.lefts.items; begun = s.begun + length os; owed = o }))
           (sym owed_then)
-          (first_wait_follows job m after t k p s.most os (place_of_state s) now whole.graph whole.there at.part at.place left owed_is next some room got)))
+          (first_wait_follows job m after t k p s.most os (place_of_state s) now whole.graph whole.there at.part (at.place owes.2) left owed_is next some room got)))
+          (λ some_dealt. absurd (some_dealt undealt))
           (on_after job spots m after t p now old new on w.made.same got.moved w.made.seen)
           (λ fir. subst (λ taken. HasFilter (task_at job.graph t) x.filter taken)
           (sym (took (first ∙ first_zero (task_at job.graph t) s.begun fir))) (follows (m.taken t 0) at.filter) fir)
@@ -170,8 +174,11 @@ state_exchanges job spots m s p x outcome old new owed outcomes whole few here i
     let left : length s.lefts.items ≡ 0 = whole.staying going in
     let sees = sees_own job spots m t p (wait_event 1) old new w.before on w.made in
     let answer = answered_on job spots m t p (outcome ∷ []) old new on w in
+    let apart = owes_values job s (turns.exchange x) whole owes (λ e. (cc)) in
+    let undealt = whole.dealers apart in
+    let stands = at.place undealt in
     let next = subst (λ q. IsExchange job m t q) input
-    (next_exchange_is job m t x (place_of_state s) whole.graph whole.there at.part at.place left owes) in
+    (next_exchange_is job m t x (place_of_state s) whole.graph whole.there at.part stands left owes) in
     let got : HasGot job m after t 1 p (outcome ∷ []) (m.begun t) now =
     gets_exchange job m t p n w.before whole.graph whole.there at.part outcome sees answer next in
     let stay : after.taken t 0 ≡ m.taken t 0 = got.other_takes 0 (λ clash. omega arith) in
@@ -184,9 +191,10 @@ state_exchanges job spots m s p x outcome old new owed outcomes whole few here i
           (record (as_it_is s) { owed = owed; outcomes = outcomes })
           whole few (omega arith) here going at got.moved
           (calls_got job m after t p whole.graph whole.there 1 n (m.begun t) (outcome ∷ []) w.before sees answer (All-cons (λ o. is_too_big o ≡ false) outcome [] fit (All-nil (λ o. is_too_big o ≡ false))) got at.own)
-          (subst (λ o. StandsUpTo s.most job after t (record { numbers = s.numbers.items; left = length s.lefts.items; begun = s.begun; owed = o }))
+          (λ no_deal. subst (λ o. StandsUpTo s.most job after t (record { numbers = s.numbers.items; left = length s.lefts.items; begun = s.begun; owed = o }))
           (sym owed_then)
-          (exchanged_follows job m after t p s.most x outcome (place_of_state s) now whole.graph whole.there at.part whole.places.most at.place left owes got))
+          (exchanged_follows job m after t p s.most x outcome (place_of_state s) now whole.graph whole.there at.part (whole.places.most apart) stands left owes got))
+          (λ some. absurd (some undealt))
           (on_after job spots m after t p now old new on w.made.same got.moved w.made.seen)
           (subst (λ taken. HasFilter (task_at job.graph t) s.filter taken) (sym stay) at.filter)
           (λ sink. at.lines sink ∙ sym stay),
@@ -211,7 +219,8 @@ exchange_on job spots s x met going owes task =
     let t = s.number in
     let at = (task.stands met).1 in
     let next = next_exchange_is job (task.stands met).0 t x (place_of_state s) whole.graph whole.there at.part
-    at.place (whole.staying going) owes in
+    (at.place (whole.dealers (owes_values job s (turns.exchange x) whole owes (λ e. (cc)))))
+    (whole.staying going) owes in
     let few : 1 < length (task_at job.graph t).inputs = next.few in
     let all : length (registrations_at job t) ≡ length (task_at job.graph t).inputs + length (task_at job.graph t).outputs =
     many job t whole.graph whole.there in
@@ -261,6 +270,11 @@ exchange_fits job s x owed outcomes many whole owes = record {
   sends = λ op. refl;
   filters = λ fir. absurd (let no : Nothing ≡ Exchange x = sym (whole.filters fir) ∙ owes in cc);
   others = whole.others;
+  few_dealt = whole.places.few_dealt;
+  deal = whole.places.deal;
+  splitters = λ split.
+      absurd (let no : Nothing ≡ Exchange x = sym (whole.splitters split) ∙ owes in cc);
+  dealers = whole.dealers;
 }
 
 -- who may make so many steps may make fewer
@@ -300,6 +314,10 @@ task_samples job spots s k p begun vs old new entered places sends few here out 
             sends = sends;
             filters = λ fir. refl;
             others = task.whole.others;
+            few_dealt = task.whole.places.few_dealt;
+            deal = task.whole.places.deal;
+            splitters = λ split. refl;
+            dealers = task.whole.dealers;
           })
           task.whole;
       stands = λ again.
@@ -307,7 +325,7 @@ task_samples job spots s k p begun vs old new entered places sends few here out 
           let at = (task.stands step.met).1 in
           let both = goes (MemberHasSignalled vs (phaser_at job.graph p).single) job spots m s.number p old new g
           (held job spots m s k p old task.whole at few here (omega arith) looked) in
-          let next_is = next_samples_at job m s.number vs (place_of_state s) task.whole.graph task.whole.there at.part at.place none
+          let next_is = next_samples_at job m s.number vs (place_of_state s) task.whole.graph task.whole.there at.part (at.place step.owed.2) none
           (owes_none s step.owed) source samples may (step.children spots m at) in
           let next = state_samples job spots m s k p begun vs both.0 both.1.0 entered places task.whole few here out
           step.over step.owed source more next_is at both.1.4 both.1.3 in (
@@ -323,6 +341,7 @@ pub task_takes : (job : Job) (spots : ℕ → Spot) (s : TaskState) (k p allowed
     → k < length (registrations_at job s.number) → (registration_at job s.number k).phaser ≡ p
     → input_at (task_at job.graph s.number) k ≡ p → (step : MayStep job s)
     → ((task_at job.graph s.number).kind ≡ kind.Source → ⊥)
+    → (task_at job.graph s.number).kind ≢ kind.Split
     → k ≡ first_input (task_at job.graph s.number) s.begun → x.begun ≡ s.begun + length os
     → MayMake job s.number s.begun allowed → 1 ≤ length os → length os ≤ allowed
     → length os ≤ s.most
@@ -337,7 +356,7 @@ pub task_takes : (job : Job) (spots : ℕ → Spot) (s : TaskState) (k p allowed
     → FitPlaces job s x
     → old ≡ get_or s.holds.items k old → HoldGoesOn (MemberHasWaited os) old new → IsTask job spots s
     → IsTask job spots (changed s x (with_item s.holds k new))
-task_takes job spots s k p allowed os old new x few here input step never first more may some less room fit then follows keeps places looked g task =
+task_takes job spots s k p allowed os old new x few here input step never apart first more may some less room fit then follows keeps places looked g task =
     let none : length s.lefts.items ≡ 0 = task.whole.staying step.over in
     record {
       whole = whole_moves job s k new x places task.whole;
@@ -349,9 +368,9 @@ task_takes job spots s k p allowed os old new x few here input step never first 
           let next_is = subst (λ q. BeginsSteps job m s.number k q (length os)) input
           (rw first
           (next_waits_at job m s.number s.most allowed (length os) (place_of_state s) task.whole.graph task.whole.there at.part
-          task.whole.places.most at.place none (owes_none s step.owed) never may (step.children spots m at) some less room)) in
+          (task.whole.places.most apart) (at.place step.owed.2) none (owes_none s step.owed) never may (step.children spots m at) some less room)) in
           let next = state_takes job spots m s k p os both.0 both.1.0 x task.whole
-          few here step.over step.owed first more fit then follows keeps next_is some room at both.1.4 both.1.3 in (
+          few here step.over step.owed first more fit then follows keeps (places.dealers apart) next_is some room at both.1.4 both.1.3 in (
             next.0,
             subst (λ h. IsOwnTaskAt job spots next.0 (changed s x (with_item s.holds k h))) (sym both.1.2) next.1,
           );

@@ -5,6 +5,7 @@ pub mod Founders
 pub mod Gatherings
 pub mod Holds
 pub mod Children
+pub mod Deals
 pub mod Joinings
 pub mod Openings
 pub mod Registering

@@ -9,7 +9,7 @@ use Rattle.stream_members.specs.declared.any_member.AnyMember.{AnyMember}
 use Rattle.graph_runs.specs.Steps.{HasFilter}
 use Rattle.graph_runs.specs.declared.owed.Owed.TheVariants.{Nothing}
 use Rattle.stream_tasks.specs.Openings.{IsRootMember}
-use Rattle.stream_tasks.specs.Tasks.{AreDistinctChildren, HasStepPlaces}
+use Rattle.stream_tasks.specs.Tasks.{AreDistinctChildren, DealsNothing, HasStepPlaces}
 use Rattle.stream_tasks.specs.declared.child.Child.{Child}
 use Rattle.stream_tasks.specs.declared.hold.Hold.{Hold}
 use Rattle.stream_tasks.specs.declared.hold.Hold.TheVariants.{On}
@@ -50,6 +50,7 @@ pub record IsSeed (job : Job) (s : TaskState) : Type 0 where
   pub begun : s.begun ≡ 0
   pub owed : s.owed ≡ Nothing
   pub made : s.made.items ≡ []
+  pub dealt : DealsNothing s
   pub places : HasStepPlaces job s
   pub filter : HasFilter (task_at job.graph s.number) s.filter []
   pub lines : s.lines.items ≡ []

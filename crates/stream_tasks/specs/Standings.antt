@@ -16,6 +16,7 @@ use Rattle.stream_eval.specs.stream_lists.declared.stand.Stand.{Stand}
 use Rattle.stream_eval.specs.stream_lists.declared.stand.End.{End}
 use Rattle.stream_eval.specs.stream_lists.declared.stand.End.TheVariants as end
 use Rattle.stream_members.specs.AnyMembers.{member_in}
+use Rattle.stream_tasks.specs.Deals.{next_output_of}
 use Rattle.stream_tasks.specs.declared.hold.Hold.{Hold}
 use Rattle.stream_tasks.specs.declared.hold.Hold.TheVariants.{On, Gone}
 use Rattle.stream_tasks.specs.declared.task_state.TaskState.{TaskState}
@@ -37,15 +38,21 @@ owed_end job t steps (owed.Value output value) = end.Output output
 owed_end job t steps (owed.Exchange x) = end.Input 1
 owed_end job t steps owed.Nothing = first_end job t steps
 
--- the same, where what its filter has made comes first, on its first output
+-- the same, where what its filter has made comes first, on its first output, or what it deals, on
+-- that output
 abbrev pub made_end : List ℤ → End → End
 made_end [] owed = owed
 made_end (v ∷ vs) owed = end.Output 0
 
+abbrev pub deal_end : List ℤ → ℕ → End → End
+deal_end [] output owed = owed
+deal_end (v ∷ vs) output owed = end.Output output
+
 -- the end at which a task in this state makes its next call, where no child comes first
 abbrev pub end_of_state : Job → TaskState → End
 end_of_state job s = if s.over then end.Nowhere
-    else made_end s.made.items (owed_end job s.number s.begun s.owed)
+    else made_end s.made.items
+    (deal_end s.deal.values.items (next_output_of job s) (owed_end job s.number s.begun s.owed))
 
 -- it tells of task t on the phaser of one of its registrations, and of a call on that one alone
 pub record IsStandOf (job : Job) (t : ℕ) (stand : Stand) : Type 0 where

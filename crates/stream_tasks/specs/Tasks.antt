@@ -2,7 +2,7 @@
 -- just the history that it has seen.
 use Rattle.std.specs.Prelude.{◌≡◌, ◌≢◌, ◌⊎◌, ℕ, ◌<◌, ◌≤◌, ℤ, List, [], ◌∷◌, length, map, get_or, slice_get, Some, Ok, true, false}
 use Rattle.graph_runs.specs.graph_base.declared.line.Parent.{Parent}
-use Rattle.graph_runs.specs.graph_base.declared.line.Kind.TheVariants.{Fir, Sink, Source}
+use Rattle.graph_runs.specs.graph_base.declared.line.Kind.TheVariants.{Fir, Sink, Source, Split}
 use Rattle.graph_runs.specs.graph_base.Graphs.{task_at, phaser_at}
 use Rattle.graph_runs.specs.graph_base.TaskLines.{IsGraph}
 use Rattle.stream_eval.specs.stream_lists.Jobs.{Job, samples_at}
@@ -22,6 +22,7 @@ use Rattle.graph_runs.specs.declared.owed.Owed.{Owed}
 use Rattle.graph_runs.specs.declared.owed.Owed.TheVariants.{Nothing}
 use Rattle.graph_runs.specs.Parts.{HasPart}
 use Rattle.graph_runs.specs.Places.{HasChildrenBy, IsMost, KnowsOthers}
+use Rattle.stream_tasks.specs.Deals.{HasDealRoom, IsDealing, ServesOutputs}
 use Rattle.stream_tasks.specs.declared.child.Child.{Child}
 use Rattle.stream_tasks.specs.declared.hold.Hold.{Hold}
 use Rattle.stream_tasks.specs.declared.hold.Hold.TheVariants.{On, Gone}
@@ -95,9 +96,13 @@ abbrev pub owed_by : Owed → List ℤ → turns.Owed
 owed_by owed [] = owed_of owed
 owed_by owed (v ∷ vs) = turns.values 0 (map (λ x. Ok x) (v ∷ vs))
 
+-- it has nothing to deal
+abbrev pub DealsNothing : TaskState → Type 0
+DealsNothing s = s.deal.values.items ≡ []
+
 -- it owes nothing
 abbrev pub OwesNothing : TaskState → Type 0
-OwesNothing s = (s.owed ≡ Nothing) × (s.made.items ≡ [])
+OwesNothing s = (s.owed ≡ Nothing) × (s.made.items ≡ []) × DealsNothing s
 
 -- ---- the whole
 
@@ -110,11 +115,17 @@ place_of_state s = record {
   owed = owed_by s.owed s.made.items;
 }
 
+-- a task in this state deals what it has taken
+abbrev pub DealsAt : Job → Moment → TaskState → Type 0
+DealsAt job m s =
+    IsDealing job m s.number s.numbers.items s.begun s.deal.turn s.deal.values.items
+
 -- a task that makes no further step has ended: it owes nothing, and its children that come now are
 -- all there
 pub record IsAtEnd (job : Job) (m : Moment) (s : TaskState) : Type 0 where
   pub ended : HasEnded job m s.number
   pub nothing_owed : owed_by s.owed s.made.items ≡ turns.nothing
+  pub nothing_dealt : DealsNothing s
   pub children : HasChildrenBy job m s.number s.begun
 
 -- a task in this state at a moment of its own
@@ -122,7 +133,8 @@ pub record IsOwnTaskAt (job : Job) (spots : ℕ → Spot) (m : Moment) (s : Task
   pub part : HasPart job m s.number
   pub own : HasOwnCalls job m s.number
   pub knows : KnowsOthers job m s.number
-  pub place : StandsUpTo s.most job m s.number (place_of_state s)
+  pub place : DealsNothing s → StandsUpTo s.most job m s.number (place_of_state s)
+  pub deals : (DealsNothing s → ⊥) → DealsAt job m s
   pub start : (task_at job.graph s.number).joins_now ≡ true → m.offset s.number ≡ s.start
   pub holds : HasHolds job spots m s.number s.holds.items s.lefts.items
   pub filter : HasFilter (task_at job.graph s.number) s.filter (m.taken s.number 0)
@@ -142,7 +154,7 @@ sends_room job t places = room_for (phaser_at job.graph (output_at job t 0)).op 
 -- the places of a task for the steps of one event: for so many of its own accord, and for a block
 -- of its line. Each step finds a place for the outcome of a wait, and for the send of a signal
 pub record HasStepPlaces (job : Job) (s : TaskState) : Type 0 where
-  pub most : IsMost job s.number s.most
+  pub most : (task_at job.graph s.number).kind ≢ Split → IsMost job s.number s.most
   pub own : 1 ≤ s.own
   pub own_few : s.own ≤ s.most
   pub block : (task_at job.graph s.number).block ≤ s.most
@@ -150,6 +162,11 @@ pub record HasStepPlaces (job : Job) (s : TaskState) : Type 0 where
   pub few_made : length s.made.items ≤ s.most
   pub outcomes : s.most ≤ length s.outcomes.items
   pub sends : SignalsBlocks job s.number → s.most ≤ sends_room job s.number s.places
+  -- a splitter finds one for each value that it deals, and, where it takes several, for their sends
+  pub few_dealt : length s.deal.values.items ≤ s.most
+  pub deal : (task_at job.graph s.number).kind ≡ Split → HasDealRoom s.most s.deal
+  pub served : (task_at job.graph s.number).kind ≡ Split → 2 ≤ s.most
+      → ServesOutputs job s.number s.most s.places
 
 -- what holds of a task always, whatever it met
 pub record IsWhole (job : Job) (s : TaskState) : Type 0 where
@@ -166,6 +183,9 @@ pub record IsWhole (job : Job) (s : TaskState) : Type 0 where
   -- a filter owes what it has made, and other tasks make nothing
   pub filters : (task_at job.graph s.number).kind ≡ Fir → s.owed ≡ Nothing
   pub others : (task_at job.graph s.number).kind ≢ Fir → s.made.items ≡ []
+  -- a splitter owes what it deals, and other tasks deal nothing
+  pub splitters : (task_at job.graph s.number).kind ≡ Split → s.owed ≡ Nothing
+  pub dealers : (task_at job.graph s.number).kind ≢ Split → DealsNothing s
 
 -- each child of a task that comes now has as many numbers as registrations
 abbrev pub HasAllNow : Job → TaskState → Type 0

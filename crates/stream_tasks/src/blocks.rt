@@ -1,11 +1,16 @@
 //! How many steps a task makes in one event, and the places for them.
-ghost use Rattle.std.specs.Prelude.{◌≡◌, ◌<◌, ◌≤◌, length, IfOk};
+ghost use Rattle.std.specs.Prelude.{◌≡◌, ◌≢◌, ◌<◌, ◌≤◌, length, true, IfOk};
 ghost use Rattle.graph_runs.specs.Places.{MayMake, IsMost};
+ghost use Rattle.graph_runs.specs.Answers.{output_at};
+ghost use Rattle.graph_runs.specs.graph_base.Graphs.{task_at, phaser_at};
+ghost use Rattle.graph_runs.specs.graph_base.declared.line.Kind.TheVariants as kind;
+ghost use Rattle.stream_tasks.specs.Deals.{HasOneOp};
 ghost use Rattle.stream_tasks.specs.Tasks.{IsWhole, SignalsBlocks, sends_room};
 ghost use Rattle.graph_runs.specs.NextBlocks.{until_allows};
 ghost use Rattle.stream_tasks.specs.Children.{ChildrenAllow, MayStep};
 
 use crate::child::Child;
+use crate::deal::outputs_of;
 use crate::gate::Gate;
 use crate::opening::founders::registration_of;
 use crate::task_state::TaskState;
@@ -26,12 +31,70 @@ const SMALL_BOUND: u64 = 64;
 /// where its kind has blocks, and no more than the bound of each of its phasers.
 pub fn own_steps(job: &Job, task: usize) -> u64
     requires task { task < length job.now.graph.tasks }
-    ensures { IsMost job.now task result }
+    ensures some { 1 ≤ result }
+    ensures most { (task_at job.now.graph task).kind ≢ kind.Split → IsMost job.now task result }
+    ensures one_op { (task_at job.now.graph task).kind ≡ kind.Split → 2 ≤ result
+        → HasOneOp job.now task }
 {
     match kind_of(job, task) {
         Kind::Source | Kind::Fir | Kind::Sink => steps_within(least_bound(job, task)),
-        Kind::Split | Kind::Join | Kind::Peer => 1,
+        Kind::Split => split_steps(job, task),
+        Kind::Join | Kind::Peer => 1,
     }
+}
+
+/// The same of a splitter: one where its outputs have several operations, since its places for
+/// sends are for one.
+fn split_steps(job: &Job, task: usize) -> u64
+    requires task { task < length job.now.graph.tasks }
+    requires kind { (task_at job.now.graph task).kind ≡ kind.Split }
+    ensures some { 1 ≤ result }
+    ensures one_op { 2 ≤ result → HasOneOp job.now task }
+{
+    if !has_one_op(job, task) {
+        return 1;
+    }
+    steps_within(least_bound(job, task))
+}
+
+/// Whether the phasers of the outputs of task number `task`, a splitter, have one operation.
+fn has_one_op(job: &Job, task: usize) -> bool
+    requires task { task < length job.now.graph.tasks }
+    requires kind { (task_at job.now.graph task).kind ≡ kind.Split }
+    ensures { result ≡ true → HasOneOp job.now task }
+{
+    let outputs = outputs_of(job, task);
+    let first = output_op(job, task, 0);
+    for j in 0..outputs {
+        if output_op(job, task, j) != first {
+            return false;
+        }
+    }
+    true
+}
+
+/// The operation of output `j` of task number `task`, a splitter.
+fn output_op(job: &Job, task: usize, j: usize) -> Op
+    requires task { task < length job.now.graph.tasks }
+    requires kind { (task_at job.now.graph task).kind ≡ kind.Split }
+    requires output { j < length (task_at job.now.graph task).outputs }
+    ensures { result ≡ (phaser_at job.now.graph (output_at job.now task j)).op }
+{
+    let _lines = job.graph().tasks();
+    let (_, phaser) = output_of(job, task, j);
+    job.graph().phaser(phaser).op
+}
+
+/// For how many values task number `task` has a place to deal them, where it makes so many steps in
+/// one event: none, where it is no splitter.
+pub fn dealt_most(job: &Job, task: usize, most: usize) -> usize
+    requires task { task < length job.now.graph.tasks }
+    ensures { (task_at job.now.graph task).kind ≡ kind.Split → result ≡ most }
+{
+    if kind_of(job, task) == Kind::Split {
+        return most;
+    }
+    0
 }
 
 /// How many steps a task makes at once on phasers of this bound.
@@ -55,20 +118,22 @@ fn least_bound(job: &Job, task: usize) -> u64
     least.max(1)
 }
 
-/// Makes the places for the sends of so many phases on the output of task number `task`, where its
+/// Makes the places for the sends of so many phases on the outputs of task number `task`, where its
 /// kind signals blocks. It takes memory for them.
 pub fn places_for(alloc: Global, job: &Job, task: usize, most: usize) -> Result<Places, AllocError>
     requires task { task < length job.now.graph.tasks }
-    ensures { IfOk result (λ places. SignalsBlocks job.now task
+    ensures sends { IfOk result (λ places. SignalsBlocks job.now task
+        → sends_room job.now task places ≡ most) }
+    ensures shares { IfOk result (λ places. (task_at job.now.graph task).kind ≡ kind.Split
         → sends_room job.now task places ≡ most) }
 {
     let _lines = job.graph().tasks();
     match kind_of(job, task) {
-        Kind::Source | Kind::Fir => {
+        Kind::Source | Kind::Fir | Kind::Split => {
             let (_, phaser) = output_of(job, task, 0);
             Places::new(alloc, job.graph().phaser(phaser).op, most)
         }
-        Kind::Split | Kind::Join | Kind::Peer | Kind::Sink => Places::new(alloc, Op::Sum, 0),
+        Kind::Join | Kind::Peer | Kind::Sink => Places::new(alloc, Op::Sum, 0),
     }
 }
 
@@ -90,7 +155,7 @@ impl<'a> TaskState<'a> {
     }
 
     /// How many steps it would make, if only `until` and its children allow them: a block of its
-    /// line; or, of a line that names none, as many as there is room for on its output, where
+    /// line; or, of a line that names none, as many as there is room for on its outputs, where
     /// nobody looks at steps.
     fn wanted<G: Gate>(&self, job: &Job, gate: &G) -> u64
         requires { IsWhole job.now self.now }
@@ -106,7 +171,8 @@ impl<'a> TaskState<'a> {
                 let (k, _) = output_of(job, self.number, 0);
                 self.holds[k].room().clamp(1, self.own)
             }
-            Kind::Split | Kind::Join | Kind::Peer | Kind::Sink => self.own,
+            Kind::Split => self.dealt_steps(job),
+            Kind::Join | Kind::Peer | Kind::Sink => self.own,
         }
     }
 }

@@ -24,7 +24,7 @@ impl<'a> TaskState<'a> {
         ensures none { result ≡ None → HasNoneDue job.now self.now }
         ensures some { IfSome result (IsDue job.now self.now) }
     {
-        if self.over || !self.made.is_empty() {
+        if self.over || !self.made.is_empty() || !self.deal.values.is_empty() {
             return None;
         }
         match self.owed {

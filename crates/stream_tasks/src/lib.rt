@@ -31,6 +31,7 @@
 mod blocks;
 mod child;
 mod children;
+mod deal;
 mod delivery;
 mod ending;
 mod gate;

@@ -6,8 +6,9 @@ ghost use Rattle.stream_tasks.specs.Seeds.{seed_state, IsSeed, HasRegistrationRo
 ghost use Rattle.stream_tasks.specs.Children.{TellsChild};
 ghost use Rattle.stream_eval.specs.stream_lists.Jobs.{Job as JobValue};
 
-use crate::blocks::{own_steps, places_for};
+use crate::blocks::{dealt_most, own_steps, places_for};
 use crate::child::Child;
+use crate::deal::Deal;
 use crate::hold::Hold;
 use crate::task_state::TaskState;
 use graph_runs::phase_accum::Outcome;
@@ -46,6 +47,7 @@ impl<'a> Seed<'a> {
         };
         let outcomes = vec![in alloc; Outcome::Empty; most]?;
         let made = Vec::with_capacity(alloc, most)?;
+        let deal = Deal::new(alloc, dealt_most(job, task, most))?;
         let places = places_for(alloc, job, task, most)?;
         let filter = first_filter(alloc, job, task)?;
         let children = children_of(alloc, job, task)?;
@@ -65,6 +67,7 @@ impl<'a> Seed<'a> {
                 start: 0,
                 owed: Owed::Nothing,
                 made,
+                deal,
                 filter,
                 lines: Vec::new(alloc),
                 numbers: SmallVec::new(alloc),

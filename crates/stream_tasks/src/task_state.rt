@@ -1,9 +1,11 @@
 //! How far a task has come, with its registrations.
-ghost use Rattle.std.specs.Prelude.{◌≡◌, ◌<◌, length, true};
+ghost use Rattle.std.specs.Prelude.{◌≡◌, true};
 ghost use Rattle.stream_tasks.specs.TaskLefts.{IsGone, left_by};
 ghost use Rattle.stream_tasks.specs.Standings.{end_of_state};
+ghost use Rattle.stream_tasks.specs.Tasks.{IsWhole};
 
 use crate::child::Child;
+use crate::deal::Deal;
 use crate::ending::task_left::{TaskKnowledge, TaskLeft};
 use crate::hold::Hold;
 use graph_runs::phase_accum::Outcome;
@@ -28,10 +30,12 @@ pub struct TaskState<'a> {
     pub begun: u64,
     /// The phase at which it began, of a sink that joined now.
     pub start: u64,
-    /// What these steps owe next, of a task that is no filter.
+    /// What these steps owe next, of a task that is neither a filter nor a splitter.
     pub owed: Owed,
     /// What these steps owe, of a filter.
     pub made: Vec<i64>,
+    /// What these steps owe, of a splitter, on all its outputs.
+    pub deal: Deal,
     /// The filter of a task that is one.
     pub filter: Option<Fir>,
     /// What a sink has taken.
@@ -73,7 +77,7 @@ impl<'a> TaskState<'a> {
 
     /// The end at which it makes its next call, where no child comes first.
     pub fn next_end(&self, job: &Job) -> End
-        requires { self.now.number < length job.now.graph.tasks }
+        requires { IsWhole job.now self.now }
         ensures { result ≡ end_of_state job.now self.now }
     {
         if self.over {
@@ -81,6 +85,9 @@ impl<'a> TaskState<'a> {
         }
         if !self.made.is_empty() {
             return End::Output(0);
+        }
+        if !self.deal.values.is_empty() {
+            return End::Output(self.next_output(job));
         }
         match self.owed {
             Owed::Value { output, value: _ } => End::Output(output),
@@ -103,6 +110,7 @@ impl<'a> TaskState<'a> {
             start,
             owed: _,
             made: _,
+            deal: _,
             filter: _,
             lines,
             numbers,

@@ -47,6 +47,9 @@ impl<'a> TaskState<'a> {
         if !self.made.is_empty() {
             return self.put_made(job);
         }
+        if !self.deal.values.is_empty() {
+            return self.put_share(job);
+        }
         match self.owed {
             Owed::Value {
                 output,
@@ -164,10 +167,10 @@ impl<'a> TaskState<'a> {
             self.over = true;
             return Went::Ready;
         }
-        if job.graph().is_source(self.number) {
-            self.put_samples(job, gate)
-        } else {
-            self.first_wait(job, gate)
+        match kind_of(job, self.number) {
+            Kind::Source => self.put_samples(job, gate),
+            Kind::Split => self.take_deal(job, gate),
+            _ => self.first_wait(job, gate),
         }
     }
 
@@ -198,10 +201,11 @@ impl<'a> TaskState<'a> {
         }
     }
 
-    /// Begins steps of another task, by their first wait.
+    /// Begins steps of a task that is neither a source nor a splitter, by their first wait.
     fn first_wait<G: Gate>(&mut self, job: &Job, gate: &G) -> Went
         requires step { MayStep job.now self.old }
         requires kind { (task_at job.now.graph self.old.number).kind ≢ kind.Source }
+        requires split { (task_at job.now.graph self.old.number).kind ≢ kind.Split }
         ensures { KeepsTask job.now self.old self.new }
     {
         let steps = self.steps(job, gate) as usize;
@@ -248,7 +252,7 @@ fn get_first(hold: &mut Hold, places: &mut [Outcome], most: usize) -> Result<Giv
 }
 
 /// The same into a list of places, which stays as long.
-fn get_into(hold: &mut Hold, places: &mut Vec<Outcome>, most: usize) -> Result<Given, Held>
+pub fn get_into(hold: &mut Hold, places: &mut Vec<Outcome>, most: usize) -> Result<Given, Held>
     requires { most ≤ vec_len places.old }
     ensures call { HoldGoesOn (WaitGave result (take most places.new.items)) hold.old hold.new }
     ensures few { IfOk result (IsAtMost most) }
@@ -258,7 +262,7 @@ fn get_into(hold: &mut Hold, places: &mut Vec<Outcome>, most: usize) -> Result<G
 }
 
 /// Whether none of these outcomes is out of range.
-fn all_fit(outcomes: &[Outcome]) -> bool
+pub fn all_fit(outcomes: &[Outcome]) -> bool
     ensures { result ≡ true → All (λ outcome. is_too_big outcome ≡ false) outcomes.now }
 {
     for outcome in outcomes {
@@ -360,7 +364,7 @@ fn numbers_of(outcomes: &[Outcome]) -> [i64; AT_ONCE]
 }
 
 /// Enters the next step of a task, where no worker has.
-fn enter<G: Gate>(gate: &G, entered: &mut bool, task: usize, step: u64) {
+pub fn enter<G: Gate>(gate: &G, entered: &mut bool, task: usize, step: u64) {
     if !*entered {
         *entered = true;
         gate.at(task, step);
@@ -391,9 +395,10 @@ fn keep(lines: &mut Vec<i64>, sink: bool, outcomes: &[Outcome])
 }
 
 /// KeepsTask the numbers of these outcomes, for which there is room.
-fn keep_all(lines: &mut Vec<i64>, outcomes: &[Outcome])
+pub fn keep_all(lines: &mut Vec<i64>, outcomes: &[Outcome])
     requires { vec_len lines.old + length outcomes.now ≤ vec_capacity lines.old }
-    ensures { lines.new.items ≡ lines.old.items ++ map number outcomes.now }
+    ensures kept { lines.new.items ≡ lines.old.items ++ map number outcomes.now }
+    ensures room { vec_capacity lines.new ≡ vec_capacity lines.old }
 {
     for outcome in outcomes {
         lines.push_reserved(number_taken(*outcome));

@@ -6,12 +6,13 @@ ghost use Rattle.stream_workers.specs.TasksLeft.{AreTasksLeft};
 use crate::endings::{dismiss_all, run_slots};
 use crate::opening::open_pool;
 use crate::stopped::Stopped;
+use crate::watch::Watch;
 use std::alloc::Global;
 use std::sync::Wait;
 use std::thread::Threads;
 use stream_tasks::stream_lists::Job;
 use stream_tasks::stream_members::{AnyPhaser, AnyReg};
-use stream_tasks::{FounderLeft, Gate, Run, TaskLeft, dismiss_founders, found, leave_all};
+use stream_tasks::{FounderLeft, Run, TaskLeft, dismiss_founders, found, leave_all};
 use worker_pool::Fault;
 
 /// What the founders and the tasks of a run have left behind, in the order of the lines.
@@ -23,7 +24,7 @@ pub struct Behind<'a> {
 
 /// Runs a job on these phasers, by so many workers. Where a worker tells of a fault, it is told
 /// where the tasks stood.
-pub fn run_on<'a, J: Run + Send + Sync, G: Gate + Sync, R: Threads + Wait + Sync>(
+pub fn run_on<'a, J: Run + Send + Sync, G: Watch + Sync, R: Threads + Wait + Sync>(
     rt: &R,
     alloc: Global,
     job: &'a Job,

@@ -4,17 +4,18 @@ ghost use Rattle.stream_workers.specs.TasksLeft.{AreTasksLeft};
 
 use crate::slot::{Slot, TaskSlot};
 use crate::stopped::Stopped;
+use crate::watch::Watch;
 use std::alloc::Global;
 use std::sync::Wait;
 use std::thread::Threads;
 use stream_tasks::stream_lists::Stand;
-use stream_tasks::{Gate, Run, TaskLeft};
+use stream_tasks::{Run, TaskLeft};
 use worker_pool::{Fault, Pool};
 
 /// Runs the tasks of a pool by so many workers, and gives what each leaves behind, in the order in
 /// which they were put in, and nothing for one that never came. Where there is a fault all leave
 /// their phasers, by waiting, and it is told where they stood.
-pub fn run_slots<'a, J: Run + Send + Sync, G: Gate + Sync, R: Threads + Wait + Sync>(
+pub fn run_slots<'a, J: Run + Send + Sync, G: Watch + Sync, R: Threads + Wait + Sync>(
     rt: &R,
     alloc: Global,
     pool: Pool<Slot<'a, J, G>>,
@@ -42,7 +43,7 @@ pub fn run_slots<'a, J: Run + Send + Sync, G: Gate + Sync, R: Threads + Wait + S
 
 /// Lets all tasks leave, by waiting, and gives where each of them stood, in the order in which they
 /// were put in; nothing where memory runs out.
-fn dismiss_and_tell<J: Run, G: Gate, W: Wait>(
+fn dismiss_and_tell<J: Run, G: Watch, W: Wait>(
     rt: &W,
     alloc: Global,
     pool: Pool<Slot<'_, J, G>>,
@@ -63,7 +64,7 @@ fn dismiss_and_tell<J: Run, G: Gate, W: Wait>(
 }
 
 /// Lets all tasks leave, by waiting.
-pub fn dismiss_all<J: Run, G: Gate, W: Wait>(rt: &W, pool: Pool<Slot<'_, J, G>>) {
+pub fn dismiss_all<J: Run, G: Watch, W: Wait>(rt: &W, pool: Pool<Slot<'_, J, G>>) {
     let mut pool = pool;
     while let Some(Slot { place, gate: _ }) = pool.pop() {
         place.dismiss(rt);
@@ -91,7 +92,7 @@ fn end_one<'a, J: Run, W: Wait>(
 
 // Takes all tasks apart, the last one first, and turns what they leave behind round. Where one has
 // not left, all the others leave, by waiting.
-fn end_all<'a, J: Run, G: Gate, W: Wait>(
+fn end_all<'a, J: Run, G: Watch, W: Wait>(
     rt: &W,
     pool: Pool<Slot<'a, J, G>>,
     ends: Vec<Option<TaskLeft<'a>>>,

@@ -4,11 +4,12 @@ ghost use Rattle.stream_tasks.specs.Openings.{AreFounders};
 
 use crate::endings::dismiss_all;
 use crate::slot::{Slot, TaskSlot};
+use crate::watch::Watch;
 use std::alloc::{AllocError, Global};
 use std::sync::Wait;
 use stream_tasks::graph_runs::parent_of;
 use stream_tasks::stream_lists::Job;
-use stream_tasks::{Founder, Gate, Run, Task, Unregistered};
+use stream_tasks::{Founder, Run, Task, Unregistered};
 use worker_pool::Pool;
 
 /// Makes a task's place: the founders register a task without a parent, and another one waits for
@@ -35,7 +36,7 @@ fn open_place<'a, J: Run, W: Wait>(
 }
 
 /// Puts a place into a pool. Where there is no memory the task leaves, by waiting.
-fn put_in<'a, J: Run, G: Gate, W: Wait>(
+fn put_in<'a, J: Run, G: Watch, W: Wait>(
     rt: &W,
     pool: &mut Pool<Slot<'a, J, G>>,
     place: TaskSlot<'a, J>,
@@ -61,7 +62,7 @@ fn put_in<'a, J: Run, G: Gate, W: Wait>(
 
 /// Makes the pool of all tasks of a job, in the order of the lines, those without a parent
 /// registered by the founders. Where there is no memory all leave, by waiting.
-pub fn open_pool<'a, J: Run, G: Gate, W: Wait>(
+pub fn open_pool<'a, J: Run, G: Watch, W: Wait>(
     rt: &W,
     alloc: Global,
     founders: &mut [Founder<'a>],

@@ -2,11 +2,12 @@
 ghost use Rattle.std.specs.Prelude.{◌≡◌, IfOk, IfSome};
 ghost use Rattle.stream_tasks.specs.TaskLefts.{IsTaskLeft};
 
+use crate::watch::Watch;
 use std::alloc::AllocError;
 use std::mem;
 use std::sync::Wait;
 use stream_tasks::stream_lists::Stand;
-use stream_tasks::{Gate, Run, Task, TaskLeft, Unregistered};
+use stream_tasks::{Run, Task, TaskLeft, Unregistered};
 use worker_pool::{Fault, Progress, Work};
 
 /// A task of a graph, or its place before it is registered.
@@ -92,7 +93,7 @@ impl<'a, J: Run> TaskSlot<'a, J> {
 /// A task of a graph in a pool of workers, with the gate that it calls.
 ///
 /// **End.** It cannot be thrown away, since its task cannot.
-pub struct Slot<'a, J: Run, G: Gate> {
+pub struct Slot<'a, J: Run, G: Watch> {
     pub place: TaskSlot<'a, J>,
     pub gate: &'a G,
 }
@@ -112,7 +113,7 @@ fn progress_of(went: stream_tasks::Went) -> Progress {
     }
 }
 
-impl<'a, J: Run, G: Gate> Work for Slot<'a, J, G> {
+impl<'a, J: Run, G: Watch> Work for Slot<'a, J, G> {
     fn phasers(&self) -> u64 {
         match &self.place {
             TaskSlot::Task(task) => task.phasers(),
@@ -123,7 +124,12 @@ impl<'a, J: Run, G: Gate> Work for Slot<'a, J, G> {
     fn turn(&mut self) -> Progress {
         let gate = self.gate;
         match &mut self.place {
-            TaskSlot::Task(task) => progress_of(task.turn(gate)),
+            TaskSlot::Task(task) => {
+                let began = gate.begins();
+                let went = task.turn(gate);
+                gate.ends(task.number(), began, went);
+                progress_of(went)
+            }
             _ => Progress::Failed(Fault::Stalled),
         }
     }

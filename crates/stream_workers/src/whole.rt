@@ -9,6 +9,7 @@ use crate::behind::{Behind, run_on};
 use crate::finishing::finish_run;
 use crate::laws::starts_are_in_time;
 use crate::stopped::Stopped;
+use crate::watch::{Unwatched, Watch};
 use std::alloc::Global;
 use std::marker::Brand;
 use std::sync::Wait;
@@ -72,7 +73,7 @@ pub fn after_fault(alloc: Global, job: &Job, fault: Fault) -> Result<Vec<Lines>,
 }
 
 /// Runs a job on these phasers to its end.
-fn run_named<'a, J: Run + Send + Sync, G: Gate + Sync, R: Threads + Wait + Sync>(
+fn run_named<'a, J: Run + Send + Sync, G: Watch + Sync, R: Threads + Wait + Sync>(
     rt: &R,
     alloc: Global,
     job: &'a Job,
@@ -116,6 +117,22 @@ fn run_named<'a, J: Run + Send + Sync, G: Gate + Sync, R: Threads + Wait + Sync>
 /// waits. `Stalled` is said where every task that is left waits for another, with where it stands;
 /// nothing is promised of it. It is not promised that a run comes back.
 pub fn run<R: Threads + Wait + Sync, G: Gate + Sync>(
+    rt: &R,
+    alloc: Global,
+    job: &Job,
+    workers: usize,
+    gate: &G,
+) -> Result<Vec<Lines>, RunFault>
+    ensures done { IfOk result (λ lines. AreLinesOf job.now lines.items) }
+    ensures too_big { (place : PlaceValue) (n : ℕ) → result ≡ Err (RunFault.TooBig place n)
+        → first_too_big job.now ≡ Some (place, n) }
+{
+    run_watched(rt, alloc, job, workers, &Unwatched { gate })
+}
+
+/// Runs a job as `run` does, and calls the gate around each turn of a task, too. It takes memory as
+/// that does, and waits.
+pub fn run_watched<R: Threads + Wait + Sync, G: Watch + Sync>(
     rt: &R,
     alloc: Global,
     job: &Job,

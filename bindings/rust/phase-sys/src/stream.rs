@@ -93,4 +93,13 @@ unsafe extern "C" {
     /// # Safety
     /// As of `phase_stream_new`.
     pub fn phase_stream_start(stream: *mut PhaseStream, sink: usize, start: *mut i64) -> i32;
+
+    /// # Safety
+    /// As of `phase_stream_new`.
+    pub fn phase_stream_waits(
+        stream: *mut PhaseStream,
+        text: *mut u8,
+        text_len: usize,
+        count: *mut usize,
+    ) -> i32;
 }

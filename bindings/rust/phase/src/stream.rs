@@ -320,6 +320,39 @@ impl Stream {
             status => Err(refused(status, sink)),
         }
     }
+
+    /// Tells, where `run` has failed as `Stalled`, what each task that is left waits for: a line
+    /// for each, and one for each phaser that a task may not signal, with how far its waiters are.
+    /// There are no lines where memory runs out over them.
+    ///
+    /// # Example
+    ///
+    /// The joiner takes from x at half the rate of the splitter beside it, and falls behind.
+    ///
+    /// ```
+    /// use phase::{Error, Stream};
+    /// let graph = "phaser x sum 1\nphaser a sum 1\nphaser b sum 1\nphaser y sum 1\n\
+    ///              source s s.csv -> x\nsplit d x -> a b\njoin j x a -> y\nsink out y\n";
+    /// let mut stream = Stream::new(graph)?;
+    /// stream.feed(0, &[1; 20])?;
+    /// assert_eq!(stream.run(), Err(Error::Stalled));
+    /// let waits = stream.waits();
+    /// assert_eq!(waits[0], "s may not signal phase 4 of x: bound 1, and j stands at 3");
+    /// assert_eq!(waits[2], "j waits for phase 2 of a, which d has not signalled");
+    /// # Ok::<(), Error>(())
+    /// ```
+    pub fn waits(&self) -> Vec<String> {
+        let (mut text, mut count) = (Vec::new(), 0);
+        // SAFETY: as in `start`; the places are those of the list, and none behind them is written.
+        while unsafe {
+            phase_stream_waits(self.place.get(), text.as_mut_ptr(), text.len(), &mut count)
+        } == PHASE_E_ROOM
+        {
+            text.resize(count, 0);
+        }
+        text.truncate(count);
+        String::from_utf8_lossy(&text).lines().map(|line| line.trim().to_owned()).collect()
+    }
 }
 
 impl Drop for Stream {

@@ -21,11 +21,10 @@ returns-clause-status g c =
     (λ found fails. fails-status _ _ g.W.Write.contents _ _ found (MayEndAs (check c.args.beside c.args.explain c.args.graph.now))
     (λ found cause. inr (unread-status (g.F.Files.file c.look_by.new.files) c.args.graph.now found cause)) (inr (inr refl)) fails)
 
--- the files are known as before when a failure is told
+-- the files are known beside the graph where that is asked for, and a failure is told
 pub returns-clause-ends : goal.returns-clause-ends
 returns-clause-ends g c =
     let known = known_by c.args.beside c.args.graph.now (g.F.Files.file c.args.streams.now.files) in
     let moved = known-same (g.F.Files.file c.look_by.new.files) known c.look_by.ensures in
-    let same = known-same (g.F.Files.file c.check-done.new.files) (g.F.Files.file c.look_by.new.files) c.check-done.ensures.same in
-    ends-by _ c.args.explain known _ _ c.check-done.result c.end.result _ _ (rw moved at c.check-done.ensures.done)
-    (rw moved at c.check-done.ensures.failed) c.end.ensures.done c.end.ensures.status (rw (same, moved) at c.end.ensures.told)
+    ends-by _ c.args.explain _ _ c.check-done.result c.end.result _ _ (rw moved at c.check-done.ensures.done)
+    (rw moved at c.check-done.ensures.failed) c.end.ensures.done c.end.ensures.status c.end.ensures.told

@@ -20,10 +20,8 @@ returns-clause-status g c =
     (λ found fails. fails-status _ _ g.W.Write.contents _ _ found (MayEndAs (draw c.args.explain c.args.graph.now))
     (λ found cause. inr (undrawn-status (g.F.Files.file c.args.streams.now.files) c.args.graph.now found cause)) (inr (inr refl)) fails)
 
--- the files are known as before when a failure is told
+-- a failure is told
 pub returns-clause-ends : goal.returns-clause-ends
 returns-clause-ends g c =
-    let known = g.F.Files.file c.args.streams.now.files in
-    let same = known-same (g.F.Files.file c.draw-done.new.files) known c.draw-done.ensures.same in
-    ends-by _ c.args.explain known _ _ c.draw-done.result c.end.result _ _ c.draw-done.ensures.done
-    c.draw-done.ensures.failed c.end.ensures.done c.end.ensures.status (rw same at c.end.ensures.told)
+    ends-by _ c.args.explain _ _ c.draw-done.result c.end.result _ _ c.draw-done.ensures.done
+    c.draw-done.ensures.failed c.end.ensures.done c.end.ensures.status c.end.ensures.told

@@ -21,11 +21,10 @@ returns-clause-status g c =
     (λ found fails. fails-status _ _ g.W.Write.contents _ _ found (MayEndAs (eval c.args.beside c.args.explain c.args.graph.now (option_map (λ s. s.now) c.args.sink)))
     (λ found cause. inr (unanswered-status (g.F.Files.file c.look_by.new.files) c.args.graph.now (option_map (λ s. s.now) c.args.sink) found cause)) (inr (inr (inr refl))) fails)
 
--- the files are known as before when a failure is told
+-- the files are known beside the graph where that is asked for, and a failure is told
 pub returns-clause-ends : goal.returns-clause-ends
 returns-clause-ends g c =
     let known = known_by c.args.beside c.args.graph.now (g.F.Files.file c.args.streams.now.files) in
     let moved = known-same (g.F.Files.file c.look_by.new.files) known c.look_by.ensures in
-    let same = known-same (g.F.Files.file c.eval-done.new.files) (g.F.Files.file c.look_by.new.files) c.eval-done.ensures.same in
-    ends-by _ c.args.explain known _ _ c.eval-done.result c.end.result _ _ (rw moved at c.eval-done.ensures.done)
-    (rw moved at c.eval-done.ensures.failed) c.end.ensures.done c.end.ensures.status (rw (same, moved) at c.end.ensures.told)
+    ends-by _ c.args.explain _ _ c.eval-done.result c.end.result _ _ (rw moved at c.eval-done.ensures.done)
+    (rw moved at c.eval-done.ensures.failed) c.end.ensures.done c.end.ensures.status c.end.ensures.told

@@ -23,12 +23,11 @@ returns-clause-status g c =
     (λ found fails. fails-status _ _ g.W.Write.contents _ _ found MayEndAsEval
     (λ found cause. inr (unanswered-status (g.F.Files.file c.look_by.new.files) what.graph what.sink found cause)) (inr (inr (inr refl))) fails)
 
--- the files are known as before when a failure is told
+-- the files are known beside the graph where that is asked for, and a failure is told
 pub returns-clause-ends : goal.returns-clause-ends
 returns-clause-ends g c =
     let what = run_of c.args.call in
     let known = known_by what.beside what.graph (g.F.Files.file c.args.streams.now.files) in
     let moved = known-same (g.F.Files.file c.look_by.new.files) known c.look_by.ensures in
-    let same = known-same (g.F.Files.file c.eval_by-done.new.files) (g.F.Files.file c.look_by.new.files) c.eval_by-done.ensures.same in
-    ends-by _ what.explain known _ _ c.eval_by-done.result c.end.result _ _ (rw moved at c.eval_by-done.ensures.done)
-    (rw moved at c.eval_by-done.ensures.failed) c.end.ensures.done c.end.ensures.status (rw (same, moved) at c.end.ensures.told)
+    ends-by _ what.explain _ _ c.eval_by-done.result c.end.result _ _ (rw moved at c.eval_by-done.ensures.done)
+    (rw moved at c.eval_by-done.ensures.failed) c.end.ensures.done c.end.ensures.status c.end.ensures.told

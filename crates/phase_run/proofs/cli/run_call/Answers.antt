@@ -1,7 +1,6 @@
-use Rattle.std.proofs.Common.{inl, refl}
-use Rattle.std.proofs.lemmas.Result.{IfErr-weaker}
+use Rattle.std.proofs.Common.{◌∙◌, refl, sym, subst}
 use Rattle.stream_workers.proofs.graph_commands_lemmas.Counted.{known-same}
-use Rattle.stream_workers.proofs.graph_commands_lemmas.Ends.{ends-by, ends-status, fails-place, unanswered-place}
+use Rattle.stream_workers.proofs.graph_commands_lemmas.Ends.{failure-not-done, fails-place, unanswered-place}
 use Rattle.phase_eval.specs.phase_words.RunLine.{run_of}
 use Rattle.stream_workers.specs.graph_commands.Folders.{known_by}
 use Rattle.phase_run.specs.Ends.{MayEndAsRun}
@@ -10,25 +9,47 @@ use Rattle.phase_run.proofs.Asking.{failure-ends}
 use Rattle.phase_run.proofs.cli.run_call.Goals as goal
 
 -- its failure has the place that it tells of
-pub end-requires : goal.end-requires
-end-requires g c =
+pub report-requires : goal.report-requires
+report-requires g c =
     let known = g.F.Files.file c.look_by.new.files in
     let what = run_of c.args.call in
-    IfErr-weaker c.run-done.result _ _
-    (λ found fails. fails-place _ _ g.W.Write.contents _ _ found
-    (unanswered-place (Stalls known what.graph) known what.graph what.sink) fails)
-    c.run-done.ensures.failed
+    fails-place _ _ g.W.Write.contents _ _ c.in-Err.failure
+    (unanswered-place (Stalls known what.graph) known what.graph what.sink) c.in-Err.ensures.failed
 
-pub returns-clause-status : goal.returns-clause-status
-returns-clause-status g c =
-    ends-status _ _ MayEndAsRun c.run-done.result c.end.result c.run-done.ensures.failed c.end.ensures.done
-    c.end.ensures.status (inl refl) (λ found fails. failure-ends found)
+pub returns-in-Err-clause-status : goal.returns-in-Err-clause-status
+returns-in-Err-clause-status g c =
+    subst MayEndAsRun (sym c.report.ensures.status) (failure-ends c.in-Err.failure)
 
--- the files are known as before when a failure is told
-pub returns-clause-ends : goal.returns-clause-ends
-returns-clause-ends g c =
+-- the files are known beside the graph where that is asked for
+pub returns-in-Ok-clause-ends : goal.returns-in-Ok-clause-ends
+returns-in-Ok-clause-ends g c =
     let known = known_by c.args.call.beside c.args.call.graph.now (g.F.Files.file c.args.streams.now.files) in
     let moved = known-same (g.F.Files.file c.look_by.new.files) known c.look_by.ensures in
-    let same = known-same (g.F.Files.file c.run-done.new.files) (g.F.Files.file c.look_by.new.files) c.run-done.ensures.same in
-    ends-by _ c.args.call.explain known _ _ c.run-done.result c.end.result _ _ (rw moved at c.run-done.ensures.done)
-    (rw moved at c.run-done.ensures.failed) c.end.ensures.done c.end.ensures.status (rw (same, moved) at c.end.ensures.told)
+    record {
+      ends = record {
+        done = λ done. rw moved at c.in-Ok.ensures.done;
+        stops = λ other. absurd (other refl);
+      };
+      counts = λ done. c.tell_counts.ensures.told;
+    }
+
+pub returns-in-Err-clause-ends : goal.returns-in-Err-clause-ends
+returns-in-Err-clause-ends g c =
+    let known = known_by c.args.call.beside c.args.call.graph.now (g.F.Files.file c.args.streams.now.files) in
+    let moved = known-same (g.F.Files.file c.look_by.new.files) known c.look_by.ensures in
+    record {
+      ends = record {
+        done = λ done. absurd (failure-not-done c.in-Err.failure (sym c.report.ensures.status ∙ done));
+        stops = λ other. record {
+          found = c.in-Err.failure;
+          fails = rw moved at c.in-Err.ensures.failed;
+          status_is = c.report.ensures.status;
+          told = c.report.ensures.told;
+        };
+      };
+      counts = λ done. absurd (failure-not-done c.in-Err.failure (sym c.report.ensures.status ∙ done));
+    }
+
+pub returns-in-Err-clause-quiet : goal.returns-in-Err-clause-quiet
+returns-in-Err-clause-quiet g c =
+    λ done. absurd (failure-not-done c.in-Err.failure (sym c.report.ensures.status ∙ done))

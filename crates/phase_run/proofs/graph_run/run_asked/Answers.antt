@@ -11,7 +11,7 @@ use Rattle.phase_run.proofs.graph_run.run_asked.Goals as goal
 -- the lines are those of the job's sinks, which stand where they stood
 pub write_sinks-requires-clause-lines : goal.write_sinks-requires-clause-lines
 write_sinks-requires-clause-lines g c =
-    let told = c.in-Ok.ensures.done in
+    let told = c.in-Ok-run_watched.ensures.done in
     (told.starts, rw c.deref.ensures.value (answer-lines (with_starts told.starts c.args.asked.job) _ told.answer))
 
 -- a value is out of range
@@ -41,7 +41,7 @@ returns-clause-failed g c known name sink of asks =
 -- the lists were written
 pub returns-in-Ok-write_sinks-clause-done : goal.returns-in-Ok-write_sinks-clause-done
 returns-in-Ok-write_sinks-clause-done g c known name sink of asks =
-    let told = c.in-Ok.ensures.done in
+    let told = c.in-Ok-run_watched.ensures.done in
     let job : Job = with_starts told.starts c.args.asked.job in
     let lines = c.deref.result.now in
     let values : map sink_values lines ≡ lines_of job =
@@ -62,9 +62,9 @@ returns-in-Ok-write_sinks-clause-done g c known name sink of asks =
     }
 
 -- a prefix of them was
-pub returns-in-Ok-clause-failed : goal.returns-in-Ok-clause-failed
-returns-in-Ok-clause-failed g c known name sink of asks =
-    let told = c.in-Ok.ensures.done in
+pub returns-in-Ok-run_watched-clause-failed : goal.returns-in-Ok-run_watched-clause-failed
+returns-in-Ok-run_watched-clause-failed g c known name sink of asks =
+    let told = c.in-Ok-run_watched.ensures.done in
     let job : Job = with_starts told.starts c.args.asked.job in
     let lines = c.deref.result.now in
     let values : map sink_values lines ≡ lines_of job =

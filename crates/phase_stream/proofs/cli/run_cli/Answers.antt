@@ -2,7 +2,9 @@ use Rattle.std.proofs.Common.{inl, inr, sym, subst, ◌∙◌}
 use Rattle.phase_words.proofs.Answering.{may-end-answered, may-end-taken, refused-silent, unbegun}
 use Rattle.phase_words.specs.StreamLine.{Stream}
 use Rattle.graph_commands.specs.watched_io.States.{writer_state}
-use Rattle.phase_stream.specs.Ends.{EndsAsStream}
+use Rattle.graph_commands.specs.Folders.{known_by}
+use Rattle.phase_stream.specs.Ends.{EndsAsAsked}
+use Rattle.phase_stream.proofs.Alone.{ends_alone}
 use Rattle.phase_stream.proofs.cli.run_cli.Goals as goal
 
 -- ---- a stream was asked for
@@ -14,14 +16,33 @@ returns-in-Ok-clause-status g c =
 pub returns-in-Ok-clause-stream : goal.returns-in-Ok-clause-stream
 returns-in-Ok-clause-stream g c =
     λ what asks.
-    inr (subst (λ (what : Stream). EndsAsStream what (g.F.Files.file c.args.streams.now.files)
-    g.W.Write.contents c.run_call.result c.args.streams.now.output c.run_call.new.streams.output
+    inr (λ alone. ends_alone (known_by what.beside what.graph (g.F.Files.file c.args.streams.now.files))
+    what g.F.Opens.knows g.W.Write.contents g.F.Writer.Write.contents c.run_call.result
+    c.args.streams.now.output c.run_call.new.streams.output c.run_call.new.made.items
+    (writer_state g.E.Write.contents c.args.streams.now.faults)
+    (writer_state g.E.Write.contents c.run_call.new.streams.faults)
+    (subst (λ (what : Stream). EndsAsAsked what (g.F.Files.file c.args.streams.now.files)
+    g.F.Opens.knows g.W.Write.contents g.F.Writer.Write.contents c.run_call.result
+    c.args.streams.now.output c.run_call.new.streams.output c.run_call.new.made.items
+    (writer_state g.E.Write.contents c.args.streams.now.faults)
+    (writer_state g.E.Write.contents c.run_call.new.streams.faults))
+    (sym c.in-Ok.ensures.call.stream ∙ asks.stream) c.run_call.ensures.ends) alone)
+
+pub returns-in-Ok-clause-files : goal.returns-in-Ok-clause-files
+returns-in-Ok-clause-files g c =
+    λ what asks.
+    inr (subst (λ (what : Stream). EndsAsAsked what (g.F.Files.file c.args.streams.now.files)
+    g.F.Opens.knows g.W.Write.contents g.F.Writer.Write.contents c.run_call.result
+    c.args.streams.now.output c.run_call.new.streams.output c.run_call.new.made.items
     (writer_state g.E.Write.contents c.args.streams.now.faults)
     (writer_state g.E.Write.contents c.run_call.new.streams.faults))
     (sym c.in-Ok.ensures.call.stream ∙ asks.stream) c.run_call.ensures.ends)
 
 pub returns-in-Ok-clause-answered : goal.returns-in-Ok-clause-answered
 returns-in-Ok-clause-answered g c = λ untaken. absurd (untaken c.in-Ok.ensures.call.taken)
+
+pub returns-in-Ok-clause-unmade : goal.returns-in-Ok-clause-unmade
+returns-in-Ok-clause-unmade g c = λ untaken. absurd (untaken c.in-Ok.ensures.call.taken)
 
 pub returns-in-Ok-clause-unopened : goal.returns-in-Ok-clause-unopened
 returns-in-Ok-clause-unopened g c = λ untaken. absurd (untaken c.in-Ok.ensures.call.taken)
@@ -35,6 +56,11 @@ returns-in-Err-clause-status g c =
 
 pub returns-in-Err-clause-stream : goal.returns-in-Err-clause-stream
 returns-in-Err-clause-stream g c =
+    λ what asks. inl (unbegun _ c.in-Err.none _ _ _ _ _ _ asks.taken c.in-Err.ensures.no_call
+    c.answer.ensures.answer)
+
+pub returns-in-Err-clause-files : goal.returns-in-Err-clause-files
+returns-in-Err-clause-files g c =
     λ what asks. inl (unbegun _ c.in-Err.none _ _ _ _ _ _ asks.taken c.in-Err.ensures.no_call
     c.answer.ensures.answer)
 

@@ -1,6 +1,7 @@
 -- One sink more.
-use Rattle.std.proofs.Common.{length, ap, arith}
+use Rattle.std.proofs.Common.{◌≡◌, length, ap, subst, arith}
 use Rattle.stream_job.specs.stream_lists.Lists.{sinks_of}
+use Rattle.phase_stream.specs.Sessions.{Forgets}
 use Rattle.phase_stream.proofs.Forgetting.{forgets_more, forgets_none}
 use Rattle.phase_stream.proofs.session.forget_all.Goals as goal
 
@@ -20,4 +21,9 @@ loop-sink-preserved c =
     c.loop-sink.invariant c.forget.ensures.stands c.forget.ensures.others.0 c.forget.ensures.inputs
 
 pub returns : goal.returns
-returns c = c.loop-sink.invariant
+returns c =
+    let end = c.sinks-sink-end.ensures in
+    let far = c.loop-sink-test.false in
+    let near = c.loop-sink.auto.sink-end in
+    let all : c.loop-sink.sink ≡ length (sinks_of c.args.stream.now.job) = omega arith in
+    subst (λ n. Forgets n c.args.stream.now c.loop-sink.stream) all c.loop-sink.invariant

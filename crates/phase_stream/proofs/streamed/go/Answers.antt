@@ -1,51 +1,52 @@
 -- A turn more, and what stops it.
-use Rattle.std.proofs.Common.{Err, refl, ap, subst, sym, ◌∙◌}
+use Rattle.std.proofs.Common.{Err, length, refl, ap, subst, sym, ◌∙◌}
 use Rattle.graph_commands.specs.Failures.{HasPlace}
 use Rattle.graph_commands.specs.declared.failure.Failure.TheVariants as failure
 use Rattle.stream_job.specs.graph_base.Graphs.{IsPlace}
 use Rattle.stream_job.specs.stream_lists.Jobs.{Job}
-use Rattle.phase_stream.specs.Sessions.{StandsStopped}
-use Rattle.phase_stream.specs.Streams.{StopsOf}
+use Rattle.phase_stream.specs.Outputs.{StopOf, writers_at}
+use Rattle.phase_stream.specs.Sessions.{StandsStopped, task_for}
 use Rattle.phase_stream.proofs.Refilling.{lacks_none}
 use Rattle.phase_stream.proofs.Standing.{same_session}
-use Rattle.phase_stream.proofs.Stopping.{done_writes, held_later, io_stops, lack_stops, left_writes, sink_same, stall_stops, too_big_stops, too_big_there}
+use Rattle.phase_stream.proofs.Stopping.{done_writes, failed_same, held_later, io_stops, lack_stops, left_writes, targets_same, stall_stops, too_big_stops, too_big_there}
 use Rattle.phase_stream.proofs.streamed.go.Goals as goal
 use Rattle.phase_stream.proofs.streamed.go.Goals.{in-Full, in-Hungry+in_default}
 
 pub loop-init : goal.loop-init
 loop-init g c = (
-  record { job = refl; task = refl; sink = refl },
+  record { job = refl; targets = refl },
   λ other. refl,
   λ held old is st. st,
 )
 
 pub turn-requires : goal.turn-requires
-turn-requires g c = sink_same c.args.session c.loop.session c.loop.invariant.0 c.requires.sink
+turn-requires g c = targets_same c.args.session c.loop.session c.loop.invariant.0 c.requires.targets
 
 pub returns-in-Err-clause-failed : goal.returns-in-Err-clause-failed
 returns-in-Err-clause-failed g c = λ held old is st. (
-  (λ e. c.turn.ensures.failed (c.in-Err.is ∙ ap Err e)),
+  (λ e. failed_same c.args.session c.loop.session _ c.loop.invariant.0
+      (c.turn.ensures.failed (c.in-Err.is ∙ ap Err e))),
   io_stops held old _ c.args.session c.turn.new.self
       (same_session c.args.session c.loop.session c.turn.new.self c.loop.invariant.0
       c.turn.ensures.same)
       c.in-Err.ensures.right
-      (c.in-Err.ensures.err held old.written (c.loop.invariant.2 held old.written is st)),
+      (c.in-Err.ensures.err held old (c.loop.invariant.2 held old is st)),
 )
 
-pub has_left-requires : goal.has_left-requires
-has_left-requires g c =
-    sink_same c.args.session c.turn.new.self
+pub have_left-requires : goal.have_left-requires
+have_left-requires g c =
+    targets_same c.args.session c.turn.new.self
     (same_session c.args.session c.loop.session c.turn.new.self c.loop.invariant.0 c.turn.ensures.same)
-    c.requires.sink
+    c.requires.targets
 
-pub returns-then-has_left-clause-done : goal.returns-then-has_left-clause-done
-returns-then-has_left-clause-done g c = λ held old is st.
+pub returns-then-have_left-clause-done : goal.returns-then-have_left-clause-done
+returns-then-have_left-clause-done g c = λ held old is st.
     (let same = same_session c.args.session c.loop.session c.turn.new.self c.loop.invariant.0
     c.turn.ensures.same in
     left_writes g.F.Reader.Read.remaining held old _ c.args.session c.turn.new.self _ same
-    (sink_same c.args.session c.turn.new.self same c.requires.sink)
-    (λ s m given at. c.has_left.ensures.gone s m given at ∙ c.if-has_left.true)
-    (c.has_left.ensures.whole c.if-has_left.true)
+    (targets_same c.args.session c.turn.new.self same c.requires.targets)
+    (c.have_left.ensures.gone c.if-have_left.true)
+    (c.have_left.ensures.whole c.if-have_left.true)
     (c.in-Ok.ensures.ok held old (c.loop.invariant.2 held old is st)))
 
 pub returns-in-Done-clause-done : goal.returns-in-Done-clause-done
@@ -54,7 +55,7 @@ returns-in-Done-clause-done g c = λ held old is st.
     c.turn.ensures.same in
     let stopped = c.in-Ok.ensures.ok held old (c.loop.invariant.2 held old is st) in
     done_writes g.F.Reader.Read.remaining held old _ c.args.session c.turn.new.self same
-    (sink_same c.args.session c.turn.new.self same c.requires.sink)
+    (targets_same c.args.session c.turn.new.self same c.requires.targets)
     (subst (StandsStopped g.F.Reader.Read.remaining held old _ c.turn.new.self) c.in-Done.is stopped))
 
 pub refill-requires : goal.refill-requires
@@ -71,26 +72,26 @@ refill-requires g c =
 
 pub lacking-requires : goal.lacking-requires
 lacking-requires g c =
-    sink_same c.args.session c.refill.new.self
+    targets_same c.args.session c.refill.new.self
     (same_session c.args.session c.close_left.new.self c.refill.new.self
     (same_session c.args.session c.turn.new.self c.close_left.new.self
     (same_session c.args.session c.loop.session c.turn.new.self c.loop.invariant.0 c.turn.ensures.same)
     c.close_left.ensures.same) c.refill.ensures.same)
-    c.requires.sink
+    c.requires.targets
 
 pub returns-in-Err-refill-clause-failed : goal.returns-in-Err-refill-clause-failed
 returns-in-Err-refill-clause-failed g c = λ held old is st.
-    (let stopped = c.in-Ok.ensures.ok held old.written (c.loop.invariant.2 held old.written is st) in
+    (let stopped = c.in-Ok.ensures.ok held old (c.loop.invariant.2 held old is st) in
     lack_stops held old _ c.args.session c.refill.new.self c.lacking.result
     (same_session c.args.session c.close_left.new.self c.refill.new.self
     (same_session c.args.session c.turn.new.self c.close_left.new.self
     (same_session c.args.session c.loop.session c.turn.new.self c.loop.invariant.0 c.turn.ensures.same)
     c.close_left.ensures.same) c.refill.ensures.same)
     (c.lacking.ensures.stops held old _
-    (c.in-Err-refill.ensures.err held old.written _ c.in-Hungry.source
+    (c.in-Err-refill.ensures.err held old _ c.in-Hungry.source
     (held_later held (g.F.Files.file c.args.files.now) (g.F.Files.file c.loop.files)
-    c.loop.invariant.1 is) (c.close_left.ensures.stands held old.written _ _
-    (subst (StandsStopped g.F.Reader.Read.remaining held old.written _ c.turn.new.self) c.in-Hungry.is
+    c.loop.invariant.1 is) (c.close_left.ensures.stands held old _ _
+    (subst (StandsStopped g.F.Reader.Read.remaining held old _ c.turn.new.self) c.in-Hungry.is
     stopped)))))
 
 pub loop-preserved : goal.loop-preserved
@@ -120,9 +121,9 @@ loop-preserved g c = elim c.match-stop.branch [
 
 pub kept_is_right-requires : goal.kept_is_right-requires
 kept_is_right-requires g c =
-    sink_same c.args.session c.turn.new.self
+    targets_same c.args.session c.turn.new.self
     (same_session c.args.session c.loop.session c.turn.new.self c.loop.invariant.0 c.turn.ensures.same)
-    c.requires.sink
+    c.requires.targets
 
 pub returns-in-Stalled-clause-failed : goal.returns-in-Stalled-clause-failed
 returns-in-Stalled-clause-failed g c = λ held old is st. (
@@ -131,28 +132,25 @@ returns-in-Stalled-clause-failed g c = λ held old is st. (
       (same_session c.args.session c.loop.session c.turn.new.self c.loop.invariant.0
       c.turn.ensures.same)
       c.kept_is_right.ensures.right
-      (subst (StandsStopped g.F.Reader.Read.remaining held old.written _ c.turn.new.self)
+      (subst (StandsStopped g.F.Reader.Read.remaining held old _ c.turn.new.self)
       c.in-Stalled.is
-      (c.in-Ok.ensures.ok held old.written (c.loop.invariant.2 held old.written is st))),
+      (c.in-Ok.ensures.ok held old (c.loop.invariant.2 held old is st))),
 )
-
-pub kept_is_right-requires-in-TooBig : goal.kept_is_right-requires-in-TooBig
-kept_is_right-requires-in-TooBig g c =
-    sink_same c.args.session c.turn.new.self
-    (same_session c.args.session c.loop.session c.turn.new.self c.loop.invariant.0 c.turn.ensures.same)
-    c.requires.sink
 
 pub returns-in-TooBig-clause-failed : goal.returns-in-TooBig-clause-failed
 returns-in-TooBig-clause-failed g c = λ held old is st.
     let told = c.too_big.ensures ∙ ap (λ j. failure.TooBig j c.in-TooBig.place c.in-TooBig.phase)
     c.into_job.ensures in
-    subst (StopsOf held c.args.session.stream.job c.args.session.task old _) (sym told)
-    (too_big_stops g.F.Reader.Read.remaining held old _ c.args.session c.turn.new.self
+    subst (StopOf held c.args.session.stream.job (task_for c.args.session.targets.items)
+    (length c.args.session.targets.items) old _) (sym told)
+    (too_big_stops g.F.Reader.Read.remaining held old
+    (writers_at g.W.Write.contents g.F.Writer.Write.contents c.turn.new.output c.turn.new.made.items)
+    c.args.session c.turn.new.self
     c.in-TooBig.place c.in-TooBig.phase
     (same_session c.args.session c.loop.session c.turn.new.self c.loop.invariant.0 c.turn.ensures.same)
-    c.kept_is_right-in-TooBig.ensures.right
-    (subst (StandsStopped g.F.Reader.Read.remaining held old.written _ c.turn.new.self) c.in-TooBig.is
-    (c.in-Ok.ensures.ok held old.written (c.loop.invariant.2 held old.written is st))))
+    c.kept_is_right.ensures.right
+    (subst (StandsStopped g.F.Reader.Read.remaining held old _ c.turn.new.self) c.in-TooBig.is
+    (c.in-Ok.ensures.ok held old (c.loop.invariant.2 held old is st))))
 
 pub returns-in-Err-refill-clause-same : goal.returns-in-Err-refill-clause-same
 returns-in-Err-refill-clause-same g c = λ other.
@@ -170,11 +168,11 @@ returns-in-TooBig-clause-place g c =
 
 -- So many rounds: more samples than a stream may have.
 pub lacking-requires-2 : goal.lacking-requires-2
-lacking-requires-2 g c = sink_same c.args.session c.loop.session c.loop.invariant.0 c.requires.sink
+lacking-requires-2 g c = targets_same c.args.session c.loop.session c.loop.invariant.0 c.requires.targets
 
 pub returns-clause-failed : goal.returns-clause-failed
 returns-clause-failed g c = λ held old is st.
     lack_stops held old _ c.args.session c.loop.session c.lacking-2.result c.loop.invariant.0
     (c.lacking-2.ensures.stops held old _
-    (lacks_none g.F.Reader.Read.remaining held old.written _ c.loop.session 0
-    (c.loop.invariant.2 held old.written is st)))
+    (lacks_none g.F.Reader.Read.remaining held old _ c.loop.session 0
+    (c.loop.invariant.2 held old is st)))

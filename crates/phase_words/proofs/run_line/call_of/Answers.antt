@@ -21,4 +21,7 @@ returns c =
     let beside : c.is_given.result ≡ is_given (first_of (codes "beside") rows) =
     c.is_given.ensures ∙ ap is_given (c.get_str-4.ensures
     ∙ first_value-rows found (codes "beside")) in
-    rw (c.graph_of.ensures, sink, workers, explain, beside) refl
+    let counts : c.is_given-2.result ≡ is_given (first_of (codes "counts") rows) =
+    c.is_given-2.ensures ∙ ap is_given (c.get_str-5.ensures
+    ∙ first_value-rows found (codes "counts")) in
+    rw (c.graph_of.ensures, sink, workers, explain, beside, counts) refl

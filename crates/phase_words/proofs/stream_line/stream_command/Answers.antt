@@ -1,4 +1,4 @@
--- One more word.
+-- Two more words.
 use Rattle.std.proofs.Common.{◌∙◌, ap₂}
 use Rattle.std.proofs.lemmas.Result.{IfOk-weaker}
 use Rattle.clap.specs.Words.{with_rule}
@@ -8,6 +8,8 @@ use Rattle.phase_words.proofs.stream_line.stream_command.Goals as goal
 pub returns : goal.returns
 unfolding stream_app
 returns c =
-    IfOk-weaker c.arg.result _ _
+    let with_files = c.in_ok-arg.ensures.shape c.to_word.ensures.local
+    ∙ ap₂ with_rule c.in_ok-sink_command.ensures c.to_word.ensures.rule in
+    IfOk-weaker c.arg-2.result _ _
     (λ r adds. adds.shape c.explain_word.ensures.local
-    ∙ ap₂ with_rule c.in_ok-sink_command.ensures c.explain_word.ensures.rule) c.arg.ensures
+    ∙ ap₂ with_rule with_files c.explain_word.ensures.rule) c.arg-2.ensures

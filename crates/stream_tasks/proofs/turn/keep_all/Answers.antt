@@ -41,9 +41,12 @@ loop-outcome-preserved c =
       c.push_reserved.ensures.capacity ∙ c.loop-outcome.invariant.1,
     )
 
-pub returns : goal.returns
-returns c =
+pub returns-clause-kept : goal.returns-clause-kept
+returns-clause-kept c =
     let outcomes = c.args.outcomes.now in
     let over : length outcomes ≤ c.loop-outcome.outcome-index = c.loop-outcome-test.false in
     c.loop-outcome.invariant.0
     ∙ ap (λ l. c.args.lines.now.items ++ map number l) (take_all c.loop-outcome.outcome-index outcomes over)
+
+pub returns-clause-room : goal.returns-clause-room
+returns-clause-room c = c.loop-outcome.invariant.1

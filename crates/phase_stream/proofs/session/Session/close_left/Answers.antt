@@ -5,7 +5,7 @@ use Rattle.phase_stream.proofs.session.Session.close_left.Goals as goal
 use Rattle.phase_stream.proofs.session.Session.close_left.Goals.{then-k-sources+then-not-has_live, else-k-sources}
 
 pub loop-k-init : goal.loop-k-init
-loop-k-init g c = (λ held old now stop st. st, record { job = refl; task = refl; sink = refl })
+loop-k-init g c = (λ held old now stop st. st, record { job = refl; targets = refl })
 
 pub returns-clause-stands : goal.returns-clause-stands
 returns-clause-stands g c = c.loop-k.invariant.0

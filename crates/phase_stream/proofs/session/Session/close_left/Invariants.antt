@@ -6,7 +6,7 @@ use Rattle.phase_stream.proofs.session.Session.close_left.Given as goal
 
 -- the session stands as before
 abbrev pub invariant-loop-k : goal.invariant-loop-k
-invariant-loop-k g l = ((held : Known) (old now : Option (List ℕ)) (stop : Stopped)
+invariant-loop-k g l = ((held : Known) (old now : ℕ → Option (List ℕ)) (stop : Stopped)
     → StandsStopped g.R.Read.remaining held old now l.fn.self stop
     → StandsStopped g.R.Read.remaining held old now l.self stop)
     × IsSameSession l.fn.self l.self

@@ -125,7 +125,7 @@ is_one c some =
 
 -- the value
 abbrev value : In-Values → Outcome
-value c = get_or c.wait_in_range_on.new.out 0 (outcome.Value (pos 0))
+value c = get_or c.wait_in_range_on.new.places 0 (outcome.Value (pos 0))
 
 -- it is that of the phase
 value_is : (c : In-Values) → 0 < c.in-Values.count → (s : List (List ℤ)) (m : Moment)
@@ -140,7 +140,7 @@ value_is c some s m at =
     let got = c.in-Ok.ensures.got phase 1 (is_one c some) (omega arith) m.history
     (bare_cores s at.cores) in
     let slice = slice_range (stream_of (value_at job p) (m.history p)) phase (phase + 1) in
-    only_one c.wait_in_range_on.new.out slice (outcome.Value (pos 0)) got.1
+    only_one c.wait_in_range_on.new.places slice (outcome.Value (pos 0)) got.1
     (got_part job m p (get_or c.deref.result.now 1 0) phase 1 slice (got.0 ∙ is_one c some) refl).many
 
 -- and in range

@@ -1,16 +1,16 @@
 -- A task waits as the number that stands at the registration of its input, for the steps of its next
 -- block.
 use Rattle.std.proofs.Common.{◌≡◌, ◌<◌, ◌≤◌, ◌+◌, ◌*◌, ◌∷◌, length, get_or, map, set, take, sym, ap, subst, ◌∙◌, arith, List, ℤ}
-use Rattle.std.specs.Prelude.{Ok, Err, IfSome}
+use Rattle.std.proofs.lemmas.List.{length-take}
+use Rattle.std.specs.Prelude.{Ok, IfSome}
 use Rattle.std.specs.List.{All}
 use Rattle.phase_any.specs.phase_base.declared.limits.TheConstants.{PHASES_MAX}
 use Rattle.phase_any.specs.phase_history.declared.event.Event.TheVariants.{Waited}
-use Rattle.phase_any.specs.phase_history.declared.got.GotBlock.TheVariants as block
 use Rattle.phase_any.specs.phase_history.Histories.{done_of}
-use Rattle.phase_any.specs.phase_history.Replies.{wait_block_reply, after_wait_block}
+use Rattle.phase_any.specs.phase_history.Replies.{after_wait_block}
 use Rattle.graph_lang.specs.graph_base.Graphs.{task_at}
 use Rattle.stream_eval.specs.stream_lists.Lists.{number}
-use Rattle.graph_runs.specs.Moments.{Moment, limits_at}
+use Rattle.graph_runs.specs.Moments.{Moment}
 use Rattle.graph_runs.specs.Nexts.{waits}
 use Rattle.graph_runs.specs.Steps.{HasFilter}
 use Rattle.graph_runs.specs.Turned.{with_at}
@@ -18,20 +18,19 @@ use Rattle.stream_eval.specs.stream_lists.Jobs.{with_samples}
 use Rattle.stream_job.specs.Stepping.{with_more, HasRoomIn, IsNextIn}
 use Rattle.stream_job.specs.Places.{StateHasTaken}
 use Rattle.stream_job.specs.SinkLines.{kept_of}
-use Rattle.stream_job.specs.Turning.{HadTurn}
 use Rattle.stream_job.specs.Machines.{HasCores, HasRoom, IsMachineAt, kept_behind}
 use Rattle.stream_job.proofs.Lively.{state_read, state_there}
 use Rattle.stream_job.proofs.Setting.{read_same, bare_cores, full_cores}
 use Rattle.stream_job.proofs.Rooms.{room_of}
 use Rattle.stream_job.proofs.Waits.{AsksFirst, asks_places, GotAll, got_answered, done_few, first_waits_at, first_few}
-use Rattle.stream_job.proofs.FirstTurns.{MayTake, may_take, had_as, first_answer, first_turn, blocked_first, first_never_ended, sink_there}
-use Rattle.stream_job.proofs.machine.Machine.wait_first.Goals.{After-wait_block_on, In-Ok-Values, After-index_mut, in-Ok-Values, in-Err}
+use Rattle.stream_job.proofs.FirstTurns.{MayTake, may_take, first_answer, first_turn, blocked_first, first_never_ended, sink_there}
+use Rattle.stream_job.proofs.machine.Machine.wait_first.Goals.{After-wait_block_into, After-deref-in-Ok-Values, After-index_mut}
 use Rattle.stream_job.proofs.machine.Machine.wait_first.Goals as goal
 
 -- ---- what the answers share
 
 -- what the task asks of its phaser
-asks : (s : List (List ℤ)) (c : After-wait_block_on)
+asks : (s : List (List ℤ)) (c : After-wait_block_into)
     (next : IsNextIn c.args.most (with_samples s c.args.job.now) c.args.self.now c.args.t (waits c.args.k))
     → AsksFirst c.args.most (with_samples s c.args.job.now) c.args.self.now c.args.t c.args.k
     (get_or c.deref.result.now c.args.k 0) c.input_of-phaser.result c.block-steps.result
@@ -47,29 +46,34 @@ asks s c next =
           c.block-steps.ensures m (at.tasks c.args.t c.index-2.result.now again).stands.begun;
     }
 
--- the places that it hands over
-long : (s : List (List ℤ)) (c : After-wait_block_on)
+-- there is room for its block
+room : (s : List (List ℤ)) (c : After-wait_block_into)
     (next : IsNextIn c.args.most (with_samples s c.args.job.now) c.args.self.now c.args.t (waits c.args.k))
-    → length (take c.block-steps.result c.deref_mut.result.now) ≡ c.block-steps.result
-long s c next =
-    let items = ap length c.deref_mut.ensures.value in
+    → c.block-steps.result ≤ length c.buffers.inside.outcomes.items
+room s c next =
     let as_many = c.buffers.invariant.0 in
     let view = c.buffers.view_is in
-    asks_places (asks s c next) c.args.buffers.now c.deref_mut.result.now c.requires.places (omega arith)
+    let outcomes = c.buffers.inside.outcomes.items in
+    let cut = asks_places (asks s c next) c.args.buffers.now outcomes c.requires.places (omega arith) in
+    omega (arith, length-take c.block-steps.result outcomes)
 
--- all that it got stands in them
-all : (s : List (List ℤ)) (c : In-Ok-Values)
+-- all that it got stands in the first places
+all : (s : List (List ℤ)) (c : After-deref-in-Ok-Values)
     (next : IsNextIn c.args.most (with_samples s c.args.job.now) c.args.self.now c.args.t (waits c.args.k))
-    → length (take c.block-steps.result c.deref_mut.result.now) ≡ c.block-steps.result
     → (m : Moment) → IsMachineAt (with_samples s c.args.job.now) m c.args.self.now
     → GotAll (with_samples s c.args.job.now) m c.input_of-phaser.result (get_or c.deref.result.now c.args.k 0)
     c.block-steps.result c.in-Ok-Values.phase c.in-Ok-Values.count
-    (take c.in-Ok-Values.count c.wait_block_on.new.out)
-all s c next long m at =
+    (take c.in-Ok-Values.count c.deref-in-Ok-Values.result.now)
+all s c next m at =
+    let job = with_samples s c.args.job.now in
+    let n = get_or c.deref.result.now c.args.k 0 in
     let v = c.in-Ok-Values in
-    got_answered (with_samples s c.args.job.now) m c.input_of-phaser.result (get_or c.deref.result.now c.args.k 0)
-    c.block-steps.result v.phase v.count v.field-0 (take c.block-steps.result c.deref_mut.result.now)
-    c.wait_block_on.new.out long v.field-0-is (v.ensures.reply m.history (bare_cores s at.cores)) (v.ensures.out m.history (bare_cores s at.cores))
+    subst (λ l. GotAll job m c.input_of-phaser.result n c.block-steps.result v.phase v.count (take v.count l))
+    (sym c.deref-in-Ok-Values.ensures.value)
+    (got_answered job m c.input_of-phaser.result n c.block-steps.result v.phase v.count v.field-0
+    c.buffers.inside.outcomes.items c.wait_block_into.new.places.items v.field-0-is
+    (v.ensures.reply m.history (bare_cores s at.cores))
+    (v.ensures.places m.history (bare_cores s at.cores)))
 
 -- and its state may take it
 may : (s : List (List ℤ)) (c : After-index_mut)
@@ -80,18 +84,18 @@ may : (s : List (List ℤ)) (c : After-index_mut)
     → ((m : Moment) → IsMachineAt (with_samples s c.args.job.now) m c.args.self.now
     → GotAll (with_samples s c.args.job.now) m c.input_of-phaser.result (get_or c.deref.result.now c.args.k 0)
     c.block-steps.result c.in-Ok-Values.phase c.in-Ok-Values.count
-    (take c.in-Ok-Values.count c.wait_block_on.new.out))
-    → MayTake (with_samples s c.args.job.now) c.args.t (take c.in-Ok-Values.count c.wait_block_on.new.out)
+    (take c.in-Ok-Values.count c.deref-in-Ok-Values.result.now))
+    → MayTake (with_samples s c.args.job.now) c.args.t (take c.in-Ok-Values.count c.deref-in-Ok-Values.result.now)
     c.index_mut.result.now
 may s c next asks all =
     let job = (with_samples s c.args.job.now) in
     let old = c.args.self.now in
     let next = asks.next in
     let v = c.in-Ok-Values in
-    let got = take v.count c.wait_block_on.new.out in
+    let got = take v.count c.deref-in-Ok-Values.result.now in
     let it = read_same old.tasks.items c.args.t c.index.result.now c.index_mut.result.now
     (state_there next (λ e. (cc))) c.index.ensures (c.index_mut.ensures.value
-    ∙ ap (λ v. get_or v.items c.args.t c.index_mut.result.now) c.wait_block_on.ensures.tasks) in
+    ∙ ap (λ v. get_or v.items c.args.t c.index_mut.result.now) c.wait_block_into.ensures.tasks) in
     subst (MayTake job c.args.t got) it (may_take job old next.some.0 c.args.t c.args.k
     (get_or c.deref.result.now c.args.k 0) c.input_of-phaser.result c.block-steps.result v.phase v.count
     got c.index.result.now asks next.some.1 (all next.some.0 next.some.1)
@@ -130,24 +134,24 @@ bounds-deref-k c =
     ap length c.deref.ensures in
     omega arith
 
-pub slice_bounds-out-end : goal.slice_bounds-out-end
-slice_bounds-out-end c =
+pub wait_block_into-requires-clause-room : goal.wait_block_into-requires-clause-room
+wait_block_into-requires-clause-room c =
     let s = c.requires.next.0 in
     let next = c.requires.next.1 in
-    let job = with_samples s c.args.job.now in
     let found = state_read next (λ e. (cc)) c.index.ensures in
     let again = state_read next (λ e. (cc)) c.index-2.ensures in
-    let items = ap length c.deref_mut.ensures.value in
     let as_many = c.buffers.invariant.0 in
     let view = c.buffers.view_is in
-    sym (asks_places (record {
+    let outcomes = c.buffers.inside.outcomes.items in
+    let cut = asks_places (record {
       next = next;
       found = found;
       phaser = c.input_of-phaser.ensures.phaser;
       numbered = ap (λ ns. get_or ns c.args.k 0) c.deref.ensures;
       many = λ m at.
           c.block-steps.ensures m (at.tasks c.args.t c.index-2.result.now again).stands.begun;
-    }) c.args.buffers.now c.deref_mut.result.now c.requires.places (omega arith))
+    }) c.args.buffers.now outcomes c.requires.places (omega arith) in
+    omega (arith, length-take c.block-steps.result outcomes)
 
 pub slice_bounds-got-end : goal.slice_bounds-got-end
 slice_bounds-got-end c =
@@ -155,7 +159,7 @@ slice_bounds-got-end c =
     let next = c.requires.next.1 in
     let job = with_samples s c.args.job.now in
     let a = goal.at.slice_bounds-got-end c in
-    sym (all s a.In-Ok-Values next (long s a.After-wait_block_on next) next.some.0
+    sym (all s a.After-deref-in-Ok-Values next next.some.0
     next.some.1).many
 
 pub take-requires-clause-begun : goal.take-requires-clause-begun
@@ -164,17 +168,20 @@ take-requires-clause-begun c =
     let next = c.requires.next.1 in
     let job = with_samples s c.args.job.now in
     let a = goal.at.take-requires-clause-begun c in
-    (may s a.After-index_mut next (asks s a.After-wait_block_on next)
-    (all s a.In-Ok-Values next (long s a.After-wait_block_on next))).begun
+    (may s a.After-index_mut next (asks s a.After-wait_block_into next)
+    (all s a.After-deref-in-Ok-Values next)).begun
 
 pub take-requires-clause-block : goal.take-requires-clause-block
 take-requires-clause-block c =
     let s = c.requires.next.0 in
     let next = c.requires.next.1 in
     let job = with_samples s c.args.job.now in
-    let a = goal.at.take-requires-clause-block c in
-    (may s a.After-index_mut next (asks s a.After-wait_block_on next)
-    (all s a.In-Ok-Values next (long s a.After-wait_block_on next))).block
+    let a = goal.at.take-requires-clause-block c in (
+      (all s a.After-deref-in-Ok-Values next next.some.0
+          next.some.1).some,
+      (may s a.After-index_mut next (asks s a.After-wait_block_into next)
+          (all s a.After-deref-in-Ok-Values next)).block,
+    )
 
 pub take-requires-clause-nothing : goal.take-requires-clause-nothing
 take-requires-clause-nothing c =
@@ -182,8 +189,8 @@ take-requires-clause-nothing c =
     let next = c.requires.next.1 in
     let job = with_samples s c.args.job.now in
     let a = goal.at.take-requires-clause-nothing c in
-    (may s a.After-index_mut next (asks s a.After-wait_block_on next)
-    (all s a.In-Ok-Values next (long s a.After-wait_block_on next))).nothing
+    (may s a.After-index_mut next (asks s a.After-wait_block_into next)
+    (all s a.After-deref-in-Ok-Values next)).nothing
 
 pub take-requires-clause-room : goal.take-requires-clause-room
 take-requires-clause-room c =
@@ -191,8 +198,16 @@ take-requires-clause-room c =
     let next = c.requires.next.1 in
     let job = with_samples s c.args.job.now in
     let a = goal.at.take-requires-clause-room c in
-    (may s a.After-index_mut next (asks s a.After-wait_block_on next)
-    (all s a.In-Ok-Values next (long s a.After-wait_block_on next))).room
+    let got = all s a.After-deref-in-Ok-Values next next.some.0 next.some.1 in
+    let few = got.few in
+    let many = got.many in
+    let room = room s a.After-wait_block_into next in
+    let as_many = c.buffers.invariant.0 in
+    let most = c.buffers.invariant.1 in (
+      omega arith,
+      (may s a.After-index_mut next (asks s a.After-wait_block_into next)
+          (all s a.After-deref-in-Ok-Values next)).room,
+    )
 
 pub take-requires-clause-filter : goal.take-requires-clause-filter
 take-requires-clause-filter c =
@@ -202,21 +217,12 @@ take-requires-clause-filter c =
     let found = state_read next (λ e. (cc)) c.index.ensures in
     let it = read_same c.args.self.now.tasks.items c.args.t c.index.result.now c.index_mut.result.now
     (state_there next (λ e. (cc))) c.index.ensures (c.index_mut.ensures.value
-    ∙ ap (λ v. get_or v.items c.args.t c.index_mut.result.now) c.wait_block_on.ensures.tasks) in
+    ∙ ap (λ v. get_or v.items c.args.t c.index_mut.result.now) c.wait_block_into.ensures.tasks) in
     let m = next.some.0 in (
       m.taken c.args.t 0,
       subst (λ s. HasFilter (task_at job.graph c.args.t) s.filter (m.taken c.args.t 0)) it
           (next.some.1.tasks c.args.t c.index.result.now found).filter,
     )
-
-pub take-requires-clause-some : goal.take-requires-clause-some
-take-requires-clause-some c =
-    let s = c.requires.next.0 in
-    let next = c.requires.next.1 in
-    let job = with_samples s c.args.job.now in
-    let a = goal.at.take-requires-clause-some c in
-    (all s a.In-Ok-Values next (long s a.After-wait_block_on next) next.some.0
-    next.some.1).some
 
 pub keep-requires-clause-there : goal.keep-requires-clause-there
 keep-requires-clause-there c =
@@ -225,7 +231,7 @@ keep-requires-clause-there c =
     let job = with_samples s c.args.job.now in
     let found = state_read next (λ e. (cc)) c.index.ensures in
     subst (λ l. IfSome c.sink_of-sink.result (λ i. i < length l.items))
-    (sym c.wait_block_on.ensures.lines)
+    (sym c.wait_block_into.ensures.lines)
     (sink_there job c.args.self.now next.some.0 c.args.t c.index.result.now
     c.sink_of-sink.result next.some.1 found (c.sink_of-sink.ensures c.index.result.now found))
 
@@ -241,15 +247,15 @@ keep-requires-clause-room c =
     let p = c.input_of-phaser.result in
     let n = get_or c.deref.result.now c.args.k 0 in
     let v = c.in-Ok-Values in
-    let got = take v.count c.wait_block_on.new.out in
-    let asked = asks s a.After-wait_block_on next in
+    let got = take v.count c.deref-in-Ok-Values.result.now in
+    let asked = asks s a.After-wait_block_into next in
     subst (λ l. IfSome c.sink_of-sink.result (HasRoomIn l.items (length got)))
-    (sym c.wait_block_on.ensures.lines)
+    (sym c.wait_block_into.ensures.lines)
     (room_of job old c.args.t got c.index.result.now c.sink_of-sink.result
     (c.sink_of-sink.ensures c.index.result.now asked.found)
     (λ sink. c.requires.next.2.2 c.args.k p n got c.index.result.now (next.is m at)
     (first_answer job old m c.args.t c.args.k n p c.block-steps.result v.phase v.count got
-    c.index.result.now asked at (all s a.In-Ok-Values next (long s a.After-wait_block_on next) m at))
+    c.index.result.now asked at (all s a.After-deref-in-Ok-Values next m at))
     asked.found sink))
 
 pub told_got-requires : goal.told_got-requires
@@ -261,7 +267,7 @@ told_got-requires c =
     let m = next.some.0 in
     let at = next.some.1 in
     let p = c.input_of-phaser.result in
-    let got = all s a.In-Ok-Values next (long s a.After-wait_block_on next) m at in
+    let got = all s a.After-deref-in-Ok-Values next m at in
     let complete : c.in-Ok-Values.phase + c.in-Ok-Values.count ≤ done_of (m.history p) =
     got.complete in
     let last : done_of (m.history p) ≤ PHASES_MAX =
@@ -278,13 +284,12 @@ unreachable-requires c =
     let p = c.input_of-phaser.result in
     let n = get_or c.deref.result.now c.args.k 0 in
     first_never_ended job c.args.self.now c.args.t c.args.k n p c.block-steps.result
-    c.index.result.now (asks s a.After-wait_block_on next)
-    (λ m at. subst (λ i. wait_block_reply (limits_at job p) (m.history p) n i ≡ Ok block.Ended)
-    (long s a.After-wait_block_on next)
-    (c.in-Ok-Ended.ensures.reply m.history (bare_cores s at.cores) ∙ ap (λ g. Ok g) c.in-Ok-Ended.field-0-is))
+    c.index.result.now (asks s a.After-wait_block_into next)
+    (λ m at. c.in-Ok-Ended.ensures.reply m.history (bare_cores s at.cores)
+    ∙ ap (λ g. Ok g) c.in-Ok-Ended.field-0-is)
 
-pub returns-clause-made : goal.returns-clause-made
-returns-clause-made c = λ s next.
+pub returns-in-Ok-Values-clause-made : goal.returns-in-Ok-Values-clause-made
+returns-in-Ok-Values-clause-made c = λ s next.
     let job = with_samples s c.args.job.now in
     let old = c.args.self.now in
     let t = c.args.t in
@@ -292,49 +297,51 @@ returns-clause-made c = λ s next.
     let p = c.input_of-phaser.result in
     let n = get_or c.deref.result.now k 0 in
     let steps = c.block-steps.result in
-    let places = take steps c.deref_mut.result.now in
-    let here = (goal.at.returns-clause-made c).After-wait_block_on in
-    let asked = asks s here next in
-    elim c.match-wait_block_on.branch as (λ w. HadTurn c.args.most job old c.match-wait_block_on.self t
-    c.match-wait_block_on.result) [
-      | in-Ok-Values w ↦
-          let v = w.in-Ok-Values in
-          let got = take v.count c.wait_block_on.new.out in
-          let all : (m : Moment) → IsMachineAt job m old → GotAll job m p n steps v.phase v.count got =
-          λ m at. got_answered job m p n steps v.phase v.count v.field-0 places c.wait_block_on.new.out
-          (long s here next) v.field-0-is (v.ensures.reply m.history (bare_cores s at.cores)) (v.ensures.out m.history (bare_cores s at.cores)) in
-          let tasks = ap (λ v. v.items) c.wait_block_on.ensures.tasks in
-          let it = read_same old.tasks.items t w.index_mut.result.now c.index.result.now
-          (state_there next (λ e. (cc)))
-          (w.index_mut.ensures.value ∙ ap (λ xs. get_or xs t w.index_mut.result.now) tasks)
-          c.index.ensures in
-          had_as job old c.match-wait_block_on.self _ t c.match-wait_block_on.result _ w.self-is w.result-is
-          (first_turn job old w.keep.new.self t k n p steps v.phase v.count got c.index.result.now
-          w.take.new.self c.sink_of-sink.result w.told_got.result asked
-          (subst (λ s. StateHasTaken (task_at job.graph t) (map number got) s w.take.new.self) it w.take.ensures)
-          (c.sink_of-sink.ensures c.index.result.now asked.found) all
-          (λ m at. subst (λ cs. HasCores job (with_at p (Waited n v.count ∷ m.history p) m.history) cs.items)
-          (sym w.keep.ensures.cores)
-          (subst (λ g. HasCores job (with_at p (after_wait_block (Ok g) n (m.history p)) m.history)
-          c.wait_block_on.new.self.cores.items) v.field-0-is (full_cores s (v.ensures.cores m.history (bare_cores s at.cores)))))
-          (ap (λ v. v.items) w.keep.ensures.tasks ∙ ap (λ xs. set xs t w.take.new.self) tasks)
-          (λ given. w.keep.ensures.lines given
-          ∙ ap (λ l. with_more c.sink_of-sink.result (kept_of got)
-          (map (kept_behind given) l.items)) c.wait_block_on.ensures.lines)
-          (w.keep.ensures.starts
-          ∙ ap (λ l. map (λ line. line.start) l.items) c.wait_block_on.ensures.lines)
-          (λ room own. w.keep.ensures.own room
-          (subst (λ l. All (HasRoom room) l.items) (sym c.wait_block_on.ensures.lines) own))
-          w.told_got.ensures)
-      | in-Err w ↦
-          had_as job old c.match-wait_block_on.self _ t c.match-wait_block_on.result _ w.self-is w.result-is
-          (blocked_first job old c.wait_block_on.new.self t k n p steps c.index.result.now w.in-Err.field-0
-          asked (λ m at. subst (λ i. wait_block_reply (limits_at job p) (m.history p) n i
-          ≡ Err w.in-Err.field-0) (long s here next) (w.in-Err.ensures.reply m.history (bare_cores s at.cores))) (λ m at. full_cores s (w.in-Err.ensures.cores m.history (bare_cores s at.cores)))
-          c.wait_block_on.ensures.tasks c.wait_block_on.ensures.lines)
-    ]
+    let a = goal.at.returns-in-Ok-Values-clause-made c in
+    let asked = asks s a.After-wait_block_into next in
+    let v = c.in-Ok-Values in
+    let got = take v.count c.deref-in-Ok-Values.result.now in
+    let all = all s a.After-deref-in-Ok-Values next in
+    let tasks = ap (λ v. v.items) c.wait_block_into.ensures.tasks in
+    let it = read_same old.tasks.items t c.index_mut.result.now c.index.result.now
+    (state_there next (λ e. (cc)))
+    (c.index_mut.ensures.value ∙ ap (λ xs. get_or xs t c.index_mut.result.now) tasks)
+    c.index.ensures in
+    first_turn job old c.keep.new.self t k n p steps v.phase v.count got c.index.result.now
+    c.take.new.self c.sink_of-sink.result c.told_got.result asked
+    (subst (λ s. StateHasTaken (task_at job.graph t) (map number got) s c.take.new.self) it c.take.ensures.taken)
+    (c.sink_of-sink.ensures c.index.result.now asked.found) all
+    (λ m at. subst (λ cs. HasCores job (with_at p (Waited n v.count ∷ m.history p) m.history) cs.items)
+    (sym c.keep.ensures.cores)
+    (subst (λ g. HasCores job (with_at p (after_wait_block (Ok g) n (m.history p)) m.history)
+    c.wait_block_into.new.self.cores.items) v.field-0-is (full_cores s (v.ensures.cores m.history (bare_cores s at.cores)))))
+    (ap (λ v. v.items) c.keep.ensures.tasks ∙ ap (λ xs. set xs t c.take.new.self) tasks)
+    (λ given. c.keep.ensures.lines given
+    ∙ ap (λ l. with_more c.sink_of-sink.result (kept_of got)
+    (map (kept_behind given) l.items)) c.wait_block_into.ensures.lines)
+    (c.keep.ensures.starts
+    ∙ ap (λ l. map (λ line. line.start) l.items) c.wait_block_into.ensures.lines)
+    (λ room own. c.keep.ensures.own room
+    (subst (λ l. All (HasRoom room) l.items) (sym c.wait_block_into.ensures.lines) own))
+    c.told_got.ensures
 
-pub wait_block_on-requires-clause-cores : goal.wait_block_on-requires-clause-cores
-wait_block_on-requires-clause-cores c =
+pub returns-in-Err-clause-made : goal.returns-in-Err-clause-made
+returns-in-Err-clause-made c = λ s next.
+    let job = with_samples s c.args.job.now in
+    let old = c.args.self.now in
+    let t = c.args.t in
+    let k = c.args.k in
+    let p = c.input_of-phaser.result in
+    let n = get_or c.deref.result.now k 0 in
+    let steps = c.block-steps.result in
+    let here = (goal.at.returns-in-Err-clause-made c).After-wait_block_into in
+    let asked = asks s here next in
+    blocked_first job old c.wait_block_into.new.self t k n p steps c.index.result.now c.in-Err.field-0
+    asked (λ m at. c.in-Err.ensures.reply m.history (bare_cores s at.cores))
+    (λ m at. full_cores s (c.in-Err.ensures.cores m.history (bare_cores s at.cores)))
+    c.wait_block_into.ensures.tasks c.wait_block_into.ensures.lines
+
+pub wait_block_into-requires-clause-cores : goal.wait_block_into-requires-clause-cores
+wait_block_into-requires-clause-cores c =
     let next = c.requires.next.1 in
     (next.some.0.history, bare_cores c.requires.next.0 next.some.1.cores)

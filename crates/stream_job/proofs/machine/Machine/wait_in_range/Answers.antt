@@ -1,7 +1,8 @@
 -- A task waits as the number that stands at the registration of its input, for the steps of its next
 -- block, and takes those values that are in range.
 use Rattle.std.proofs.Common.{ℕ, ◌≡◌, ◌≢◌, ◌<◌, ◌≤◌, ◌*◌, ◌∷◌, length, get_or, map, set, take, sym, ap, subst, ◌∙◌, arith, List, ℤ}
-use Rattle.std.specs.Prelude.{Ok, Err, IfSome}
+use Rattle.std.proofs.lemmas.List.{length-take}
+use Rattle.std.specs.Prelude.{Ok, IfSome}
 use Rattle.std.specs.List.{All}
 use Rattle.phase_any.specs.phase_history.declared.event.Event.TheVariants.{Waited}
 use Rattle.phase_any.specs.phase_history.declared.got.GotBlock.TheVariants as block
@@ -28,13 +29,13 @@ use Rattle.stream_job.proofs.Rooms.{room_of}
 use Rattle.stream_job.proofs.Waits.{AsksFirst, GotAll, asks_places, first_few, first_waits_at}
 use Rattle.stream_job.proofs.FirstTurns.{MayTake, blocked_first, first_never_ended, first_turn, may_take, sink_there}
 use Rattle.stream_job.proofs.WentTurns.{had_stayed}
-use Rattle.stream_job.proofs.machine.Machine.wait_in_range.Goals.{After-wait_in_range_on, After-index_mut, In-Values}
+use Rattle.stream_job.proofs.machine.Machine.wait_in_range.Goals.{After-wait_in_range_into, After-deref-2, After-index_mut, In-Values}
 use Rattle.stream_job.proofs.machine.Machine.wait_in_range.Goals as goal
 
 -- ---- what the answers share
 
 -- what the task asks of its phaser
-asks : (s : List (List ℤ)) (c : After-wait_in_range_on)
+asks : (s : List (List ℤ)) (c : After-wait_in_range_into)
     (next : IsNextIn c.args.most (with_samples s c.args.job.now) c.args.self.now c.args.t (waits c.args.k))
     → AsksFirst c.args.most (with_samples s c.args.job.now) c.args.self.now c.args.t c.args.k
     (get_or c.deref.result.now c.args.k 0) c.input_of-phaser.result c.block-steps.result
@@ -49,16 +50,6 @@ asks s c next =
       many = λ m at.
           c.block-steps.ensures m (at.tasks c.args.t c.index-2.result.now again).stands.begun;
     }
-
--- the places that it hands over
-long : (s : List (List ℤ)) (c : After-wait_in_range_on)
-    (next : IsNextIn c.args.most (with_samples s c.args.job.now) c.args.self.now c.args.t (waits c.args.k))
-    → length (take c.block-steps.result c.deref_mut.result.now) ≡ c.block-steps.result
-long s c next =
-    let items = ap length c.deref_mut.ensures.value in
-    let as_many = c.buffers.invariant.0 in
-    let view = c.buffers.view_is in
-    asks_places (asks s c next) c.args.buffers.now c.deref_mut.result.now c.requires.places (omega arith)
 
 -- ---- the answers
 
@@ -93,40 +84,52 @@ bounds-deref-k c =
     ap length c.deref.ensures in
     omega arith
 
-pub slice_bounds-out-end : goal.slice_bounds-out-end
-slice_bounds-out-end c =
+pub wait_in_range_into-requires-clause-room : goal.wait_in_range_into-requires-clause-room
+wait_in_range_into-requires-clause-room c =
     let s = c.requires.next.0 in
     let next = c.requires.next.1.next_in in
-    let job = with_samples s c.args.job.now in
     let found = state_read next (λ e. (cc)) c.index.ensures in
     let again = state_read next (λ e. (cc)) c.index-2.ensures in
-    let items = ap length c.deref_mut.ensures.value in
     let as_many = c.buffers.invariant.0 in
     let view = c.buffers.view_is in
-    sym (asks_places (record {
+    let outcomes = c.buffers.inside.outcomes.items in
+    let cut = asks_places (record {
       next = next;
       found = found;
       phaser = c.input_of-phaser.ensures.phaser;
       numbered = ap (λ ns. get_or ns c.args.k 0) c.deref.ensures;
       many = λ m at.
           c.block-steps.ensures m (at.tasks c.args.t c.index-2.result.now again).stands.begun;
-    }) c.args.buffers.now c.deref_mut.result.now c.requires.places (omega arith))
+    }) c.args.buffers.now outcomes c.requires.places (omega arith) in
+    omega (arith, length-take c.block-steps.result outcomes)
+
+-- there is room for its block
+room : (s : List (List ℤ)) (c : After-wait_in_range_into)
+    (next : IsNextIn c.args.most (with_samples s c.args.job.now) c.args.self.now c.args.t (waits c.args.k))
+    → c.block-steps.result ≤ length c.buffers.inside.outcomes.items
+room s c next =
+    let as_many = c.buffers.invariant.0 in
+    let view = c.buffers.view_is in
+    let outcomes = c.buffers.inside.outcomes.items in
+    let cut = asks_places (asks s c next) c.args.buffers.now outcomes c.requires.places (omega arith) in
+    omega (arith, length-take c.block-steps.result outcomes)
 
 -- ---- what it got
 
 -- it got some values
-some : (c : In-Values) → 0 < c.in-Values.count → (s : List (List ℤ)) (m : Moment)
+some : (c : After-deref-2) → 0 < c.in-Values.count → (s : List (List ℤ)) (m : Moment)
     → IsMachineAt (with_samples s c.args.job.now) m c.args.self.now
     → GotAll (with_samples s c.args.job.now) m c.input_of-phaser.result
     (get_or c.deref.result.now c.args.k 0) c.in-Values.count c.in-Values.phase c.in-Values.count
-    (take c.in-Values.count c.wait_in_range_on.new.out)
+    (take c.in-Values.count c.deref-2.result.now)
 some c lt s m at =
     let is = ap (λ g. Ok g) c.in-Values.is in
     let got = c.in-Ok.ensures.got c.in-Values.phase c.in-Values.count is lt m.history
     (bare_cores s at.cores) in
     got_part (with_samples s c.args.job.now) m c.input_of-phaser.result
     (get_or c.deref.result.now c.args.k 0) c.in-Values.phase c.in-Values.count
-    (take c.in-Values.count c.wait_in_range_on.new.out) (got.0 ∙ is) got.1
+    (take c.in-Values.count c.deref-2.result.now) (got.0 ∙ is)
+    (ap (take c.in-Values.count) c.deref-2.ensures.value ∙ got.1)
 
 -- of what a wait for the whole block would get
 would : (c : In-Values) (s : List (List ℤ)) (m : Moment)
@@ -135,7 +138,7 @@ would : (c : In-Values) (s : List (List ℤ)) (m : Moment)
     (m.history c.input_of-phaser.result))
     (wait_block_reply (limits_at (with_samples s c.args.job.now) c.input_of-phaser.result)
     (m.history c.input_of-phaser.result) (get_or c.deref.result.now c.args.k 0)
-    (length (take c.block-steps.result c.deref_mut.result.now)))
+    c.block-steps.result)
     c.in-Values.phase c.in-Values.count
 would c s m at =
     would_get _ _ c.in-Values.phase c.in-Values.count
@@ -143,23 +146,22 @@ would c s m at =
 
 -- no more than it asked for
 few : (c : In-Values) → c.in-Values.count
-    ≤ length (take c.block-steps.result c.deref_mut.result.now)
+    ≤ c.block-steps.result
 few c = c.in-Ok.ensures.few c.in-Values.phase c.in-Values.count (ap (λ g. Ok g) c.in-Values.is)
 
 -- what it asks for is so many
-asks_so : (s : List (List ℤ)) (c : After-wait_in_range_on) (n : ℕ)
+asks_so : (s : List (List ℤ)) (c : After-wait_in_range_into) (n : ℕ)
     (good : IsNextGood c.args.most (with_samples s c.args.job.now) c.args.self.now c.args.t
-    (waits c.args.k)) → 1 ≤ n → n ≤ length (take c.block-steps.result c.deref_mut.result.now)
+    (waits c.args.k)) → 1 ≤ n → n ≤ c.block-steps.result
     → AsksFirst n (with_samples s c.args.job.now) c.args.self.now c.args.t c.args.k
     (get_or c.deref.result.now c.args.k 0) c.input_of-phaser.result n c.index.result.now
 asks_so s c n good some few =
-    let long = long s c good.next_in in
     asks_fewer (with_samples s c.args.job.now) c.args.self.now c.args.t c.args.k
     (get_or c.deref.result.now c.args.k 0) c.input_of-phaser.result c.block-steps.result n
-    c.index.result.now good (asks s c good.next_in) some (omega arith)
+    c.index.result.now good (asks s c good.next_in) some few
 
-pub wait_in_range_on-requires-clause-cores : goal.wait_in_range_on-requires-clause-cores
-wait_in_range_on-requires-clause-cores c =
+pub wait_in_range_into-requires-clause-cores : goal.wait_in_range_into-requires-clause-cores
+wait_in_range_into-requires-clause-cores c =
     let next = c.requires.next.1.next_in in
     (next.some.0.history, bare_cores c.requires.next.0 next.some.1.cores)
 
@@ -167,50 +169,46 @@ pub returns-in_default-clause-went : goal.returns-in_default-clause-went
 returns-in_default-clause-went c = λ s good.
     let next = good.next_in in
     let job = with_samples s c.args.job.now in
-    let here = (goal.at.returns-in_default-clause-went c).After-wait_in_range_on in
+    let here = (goal.at.returns-in_default-clause-went c).After-wait_in_range_into in
     let p = c.input_of-phaser.result in
     let n = get_or c.deref.result.now c.args.k 0 in
     let w = c.in_default in
-    had_stayed job c.args.self.now c.wait_in_range_on.new.self c.args.t p
-    (blocked_first job c.args.self.now c.wait_in_range_on.new.self c.args.t c.args.k n p
+    had_stayed job c.args.self.now c.wait_in_range_into.new.self c.args.t p
+    (blocked_first job c.args.self.now c.wait_in_range_into.new.self c.args.t c.args.k n p
     c.block-steps.result c.index.result.now w.field-0 (asks s here next)
-    (λ m at. subst (λ i. wait_block_reply (limits_at job p) (m.history p) n i ≡ Err w.field-0)
-    (long s here next)
-    (would_refuse (stream_of (value_at job p) (m.history p)) _ w.field-0
-    (w.ensures.reply m.history (bare_cores s at.cores))))
+    (λ m at. would_refuse (stream_of (value_at job p) (m.history p)) _ w.field-0
+    (w.ensures.reply m.history (bare_cores s at.cores)))
     (λ m at. full_cores s (w.ensures.cores m.history (bare_cores s at.cores)))
-    c.wait_in_range_on.ensures.others.0 c.wait_in_range_on.ensures.others.1)
+    c.wait_in_range_into.ensures.others.0 c.wait_in_range_into.ensures.others.1)
 
 pub unreachable-requires : goal.unreachable-requires
 unreachable-requires c =
     let s = c.requires.next.0 in
     let next = c.requires.next.1.next_in in
     let job = with_samples s c.args.job.now in
-    let here = (goal.at.unreachable-requires c).After-wait_in_range_on in
+    let here = (goal.at.unreachable-requires c).After-wait_in_range_into in
     let p = c.input_of-phaser.result in
     let n = get_or c.deref.result.now c.args.k 0 in
     first_never_ended job c.args.self.now c.args.t c.args.k n p c.block-steps.result
     c.index.result.now (asks s here next)
-    (λ m at. subst (λ i. wait_block_reply (limits_at job p) (m.history p) n i ≡ Ok block.Ended)
-    (long s here next)
-    (would_end (stream_of (value_at job p) (m.history p)) _
+    (λ m at. would_end (stream_of (value_at job p) (m.history p)) _
     (c.in-Ok.ensures.reply m.history (bare_cores s at.cores)
-    ∙ ap (λ g. Ok g) c.in_default-answer.is)))
+    ∙ ap (λ g. Ok g) c.in_default-answer.is))
 
 pub returns-then-count-eq0-clause-went : goal.returns-then-count-eq0-clause-went
 returns-then-count-eq0-clause-went c = λ s good.
     let next = good.next_in in
     let job = with_samples s c.args.job.now in
-    let here = (goal.at.returns-then-count-eq0-clause-went c).After-wait_in_range_on in
+    let here = (goal.at.returns-then-count-eq0-clause-went c).After-wait_in_range_into in
     let p = c.input_of-phaser.result in
     let n = get_or c.deref.result.now c.args.k 0 in
     let phase = c.in-Values.phase in
     let zero_is : c.in-Values.count ≡ 0 = c.if-count-eq0.true in
     let is = ap (λ g. Ok g) (c.in-Values.is ∙ ap (block.Values phase) zero_is) in
-    let others = c.wait_in_range_on.ensures.others in
+    let others = c.wait_in_range_into.ensures.others in
     let asked = asks s here next in
     record {
-      same = machine_same c.wait_in_range_on.new.self c.args.self.now
+      same = machine_same c.wait_in_range_into.new.self c.args.self.now
           (c.in-Ok.ensures.too_big phase is next.some.0.history (bare_cores s next.some.1.cores)).2
           others.0 others.1;
       before = λ m at.
@@ -228,7 +226,7 @@ read c s next =
     read_same c.args.self.now.tasks.items c.args.t c.index.result.now c.index_mut.result.now
     (state_there next (λ e. (cc))) c.index.ensures (c.index_mut.ensures.value
     ∙ ap (λ v. get_or v.items c.args.t c.index_mut.result.now)
-    c.wait_in_range_on.ensures.others.0)
+    c.wait_in_range_into.ensures.others.0)
 
 -- it may take it
 may : (s : List (List ℤ)) (c : After-index_mut) (here : In-Values)
@@ -239,17 +237,17 @@ may : (s : List (List ℤ)) (c : After-index_mut) (here : In-Values)
     → ((m : Moment) → IsMachineAt (with_samples s c.args.job.now) m c.args.self.now
     → GotAll (with_samples s c.args.job.now) m c.input_of-phaser.result
     (get_or c.deref.result.now c.args.k 0) c.in-Values.count c.in-Values.phase c.in-Values.count
-    (take c.in-Values.count c.wait_in_range_on.new.out))
+    (take c.in-Values.count c.deref-2.result.now))
     → MayTake (with_samples s c.args.job.now) c.args.t
-    (take c.in-Values.count c.wait_in_range_on.new.out) c.index_mut.result.now
+    (take c.in-Values.count c.deref-2.result.now) c.index_mut.result.now
 may s c here good asked all =
     let job = with_samples s c.args.job.now in
     let next = good.next_in in
-    subst (MayTake job c.args.t (take c.in-Values.count c.wait_in_range_on.new.out))
+    subst (MayTake job c.args.t (take c.in-Values.count c.deref-2.result.now))
     (read c s next)
     (may_take job c.args.self.now next.some.0 c.args.t c.args.k (get_or c.deref.result.now c.args.k 0)
     c.input_of-phaser.result c.in-Values.count c.in-Values.phase c.in-Values.count
-    (take c.in-Values.count c.wait_in_range_on.new.out) c.index.result.now asked next.some.1
+    (take c.in-Values.count c.deref-2.result.now) c.index.result.now asked next.some.1
     (all next.some.0 next.some.1) c.input_of-phaser.ensures.within)
 
 pub slice_bounds-got-end : goal.slice_bounds-got-end
@@ -258,7 +256,7 @@ slice_bounds-got-end c =
     let next = c.requires.next.1.next_in in
     let a = goal.at.slice_bounds-got-end c in
     let not : c.in-Values.count ≢ 0 = c.if-count-eq0.false in
-    sym (some a.In-Values (omega arith) s next.some.0 next.some.1).many
+    sym (some a.After-deref-2 (omega arith) s next.some.0 next.some.1).many
 
 pub take-requires-clause-begun : goal.take-requires-clause-begun
 take-requires-clause-begun c =
@@ -268,8 +266,8 @@ take-requires-clause-begun c =
     let not : c.in-Values.count ≢ 0 = c.if-count-eq0.false in
     let lt : 0 < c.in-Values.count = omega arith in
     (may s a.After-index_mut a.In-Values good
-    (asks_so s a.After-wait_in_range_on c.in-Values.count good lt (few a.In-Values))
-    (some a.In-Values lt s)).begun
+    (asks_so s a.After-wait_in_range_into c.in-Values.count good lt (few a.In-Values))
+    (some a.After-deref-2 lt s)).begun
 
 pub take-requires-clause-block : goal.take-requires-clause-block
 take-requires-clause-block c =
@@ -277,10 +275,12 @@ take-requires-clause-block c =
     let good = c.requires.next.1 in
     let a = goal.at.take-requires-clause-block c in
     let not : c.in-Values.count ≢ 0 = c.if-count-eq0.false in
-    let lt : 0 < c.in-Values.count = omega arith in
-    (may s a.After-index_mut a.In-Values good
-    (asks_so s a.After-wait_in_range_on c.in-Values.count good lt (few a.In-Values))
-    (some a.In-Values lt s)).block
+    let lt : 0 < c.in-Values.count = omega arith in (
+      (some a.After-deref-2 lt s good.next_in.some.0 good.next_in.some.1).some,
+      (may s a.After-index_mut a.In-Values good
+          (asks_so s a.After-wait_in_range_into c.in-Values.count good lt (few a.In-Values))
+          (some a.After-deref-2 lt s)).block,
+    )
 
 pub take-requires-clause-nothing : goal.take-requires-clause-nothing
 take-requires-clause-nothing c =
@@ -290,8 +290,8 @@ take-requires-clause-nothing c =
     let not : c.in-Values.count ≢ 0 = c.if-count-eq0.false in
     let lt : 0 < c.in-Values.count = omega arith in
     (may s a.After-index_mut a.In-Values good
-    (asks_so s a.After-wait_in_range_on c.in-Values.count good lt (few a.In-Values))
-    (some a.In-Values lt s)).nothing
+    (asks_so s a.After-wait_in_range_into c.in-Values.count good lt (few a.In-Values))
+    (some a.After-deref-2 lt s)).nothing
 
 pub take-requires-clause-room : goal.take-requires-clause-room
 take-requires-clause-room c =
@@ -300,9 +300,16 @@ take-requires-clause-room c =
     let a = goal.at.take-requires-clause-room c in
     let not : c.in-Values.count ≢ 0 = c.if-count-eq0.false in
     let lt : 0 < c.in-Values.count = omega arith in
-    (may s a.After-index_mut a.In-Values good
-    (asks_so s a.After-wait_in_range_on c.in-Values.count good lt (few a.In-Values))
-    (some a.In-Values lt s)).room
+    let many = (some a.After-deref-2 lt s good.next_in.some.0 good.next_in.some.1).many in
+    let least = few a.In-Values in
+    let room = room s a.After-wait_in_range_into good.next_in in
+    let as_many = c.buffers.invariant.0 in
+    let most = c.buffers.invariant.1 in (
+      omega arith,
+      (may s a.After-index_mut a.In-Values good
+          (asks_so s a.After-wait_in_range_into c.in-Values.count good lt (few a.In-Values))
+          (some a.After-deref-2 lt s)).room,
+    )
 
 pub take-requires-clause-filter : goal.take-requires-clause-filter
 take-requires-clause-filter c =
@@ -318,14 +325,6 @@ take-requires-clause-filter c =
           (next.some.1.tasks c.args.t c.index.result.now found).filter,
     )
 
-pub take-requires-clause-some : goal.take-requires-clause-some
-take-requires-clause-some c =
-    let s = c.requires.next.0 in
-    let next = c.requires.next.1.next_in in
-    let a = goal.at.take-requires-clause-some c in
-    let not : c.in-Values.count ≢ 0 = c.if-count-eq0.false in
-    (some a.In-Values (omega arith) s next.some.0 next.some.1).some
-
 pub keep-requires-clause-there : goal.keep-requires-clause-there
 keep-requires-clause-there c =
     let s = c.requires.next.0 in
@@ -333,7 +332,7 @@ keep-requires-clause-there c =
     let job = with_samples s c.args.job.now in
     let found = state_read next (λ e. (cc)) c.index.ensures in
     subst (λ l. IfSome c.sink_of-sink.result (λ i. i < length l.items))
-    (sym c.wait_in_range_on.ensures.others.1)
+    (sym c.wait_in_range_into.ensures.others.1)
     (sink_there job c.args.self.now next.some.0 c.args.t c.index.result.now
     c.sink_of-sink.result next.some.1 found (c.sink_of-sink.ensures c.index.result.now found))
 
@@ -349,19 +348,17 @@ keep-requires-clause-room c =
     let p = c.input_of-phaser.result in
     let n = get_or c.deref.result.now c.args.k 0 in
     let v = c.in-Values in
-    let got = take v.count c.wait_in_range_on.new.out in
-    let asked = asks s a.After-wait_in_range_on next in
+    let got = take v.count c.deref-2.result.now in
+    let asked = asks s a.After-wait_in_range_into next in
     let not : v.count ≢ 0 = c.if-count-eq0.false in
-    let all = some a.In-Values (omega arith) s m at in
+    let all = some a.After-deref-2 (omega arith) s m at in
     subst (λ l. IfSome c.sink_of-sink.result (HasRoomIn l.items (length got)))
-    (sym c.wait_in_range_on.ensures.others.1)
+    (sym c.wait_in_range_into.ensures.others.1)
     (room_of job old c.args.t got c.index.result.now c.sink_of-sink.result
     (c.sink_of-sink.ensures c.index.result.now asked.found)
     (λ sink. first_room job old m c.args.t c.args.k n p c.block-steps.result v.phase v.count got
     c.index.result.now asked at
-    (subst (λ i. WouldGet (stream_of (value_at job p) (m.history p))
-    (wait_block_reply (limits_at job p) (m.history p) n i) v.phase v.count)
-    (long s a.After-wait_in_range_on next) (would a.In-Values s m at)) all.many
+    (would a.In-Values s m at) all.many
     c.requires.next.2.2 sink))
 
 pub returns-clause-went : goal.returns-clause-went
@@ -375,12 +372,12 @@ returns-clause-went c = λ s good.
     let n = get_or c.deref.result.now k 0 in
     let a = goal.at.returns-clause-went c in
     let v = c.in-Values in
-    let got = take v.count c.wait_in_range_on.new.out in
+    let got = take v.count c.deref-2.result.now in
     let not : v.count ≢ 0 = c.if-count-eq0.false in
     let lt : 0 < v.count = omega arith in
-    let asked = asks_so s a.After-wait_in_range_on v.count good lt (few a.In-Values) in
-    let tasks = ap (λ v. v.items) c.wait_in_range_on.ensures.others.0 in
-    let lines = c.wait_in_range_on.ensures.others.1 in
+    let asked = asks_so s a.After-wait_in_range_into v.count good lt (few a.In-Values) in
+    let tasks = ap (λ v. v.items) c.wait_in_range_into.ensures.others.0 in
+    let lines = c.wait_in_range_into.ensures.others.1 in
     let it = read_same old.tasks.items t c.index_mut.result.now c.index.result.now
     (state_there next (λ e. (cc)))
     (c.index_mut.ensures.value ∙ ap (λ xs. get_or xs t c.index_mut.result.now) tasks)
@@ -390,14 +387,14 @@ returns-clause-went c = λ s good.
     (first_turn job old c.keep.new.self t k n p v.count v.phase v.count got c.index.result.now
     c.take.new.self c.sink_of-sink.result turned.Moved asked
     (subst (λ s. StateHasTaken (task_at job.graph t) (map number got) s c.take.new.self) it
-    c.take.ensures)
-    (c.sink_of-sink.ensures c.index.result.now asked.found) (some a.In-Values lt s)
+    c.take.ensures.taken)
+    (c.sink_of-sink.ensures c.index.result.now asked.found) (some a.After-deref-2 lt s)
     (λ m at. subst (λ cs. HasCores job (with_at p (Waited n v.count ∷ m.history p) m.history) cs.items)
     (sym c.keep.ensures.cores)
-    (subst (λ h. HasCores job (with_at p h m.history) c.wait_in_range_on.new.self.cores.items)
+    (subst (λ h. HasCores job (with_at p h m.history) c.wait_in_range_into.new.self.cores.items)
     (after_some v.phase v.count n (m.history p) lt)
     (subst (λ g. HasCores job (with_at p (after_in_range (Ok g) n (m.history p)) m.history)
-    c.wait_in_range_on.new.self.cores.items) c.in-Values.is
+    c.wait_in_range_into.new.self.cores.items) c.in-Values.is
     (full_cores s (c.in-Ok.ensures.cores m.history (bare_cores s at.cores))))))
     (ap (λ v. v.items) c.keep.ensures.tasks ∙ ap (λ xs. set xs t c.take.new.self) tasks)
     (λ given. c.keep.ensures.lines given
@@ -409,5 +406,4 @@ returns-clause-went c = λ s good.
     (moved_told p v.phase got
     (got_good (stream_of (value_at job p) (m.history p)) _ v.phase v.count got
     (would a.In-Values s m next.some.1)
-    (c.in-Ok.ensures.got v.phase v.count (ap (λ g. Ok g) c.in-Values.is) lt m.history
-    (bare_cores s next.some.1.cores)).1).none))
+    (sym (some a.After-deref-2 lt s m next.some.1).are)).none))

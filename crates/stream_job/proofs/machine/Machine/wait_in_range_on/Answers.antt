@@ -1,27 +1,45 @@
 -- The core of the phaser is set, and the others stay.
-use Rattle.std.proofs.Common.{ap, ◌∙◌, arith}
+use Rattle.std.proofs.Common.{◌≡◌, ◌≤◌, length, drop, ap, subst, ◌∙◌, arith}
+use Rattle.std.proofs.lemmas.List.{length-take-le, take-append-le}
 use Rattle.std.specs.Vec.{with_item}
-use Rattle.phase_any.specs.phase_core.Blocks.{after_in_range}
+use Rattle.phase_any.specs.phase_core.Blocks.{after_in_range, before_too_big}
+use Rattle.phase_any.specs.phase_history.Phases.{stream_of}
+use Rattle.phase_any.specs.phase_history.Replies.{wait_block_reply}
 use Rattle.graph_lang.specs.graph_base.Graphs.{phaser_at}
-use Rattle.graph_runs.specs.Moments.{limits_at}
+use Rattle.graph_runs.specs.Moments.{limits_at, value_at}
 use Rattle.stream_job.proofs.Setting.{set_core, lent_core, on_err, same_item}
 use Rattle.stream_job.proofs.machine.Machine.wait_in_range_on.Goals as goal
 
 pub returns-clause-reply : goal.returns-clause-reply
 returns-clause-reply c = λ h at.
-    c.wait_in_range.ensures.reply (phaser_at c.args.job.now.graph c.args.p).op
-    (limits_at c.args.job.now c.args.p) (h c.args.p) (lent_core c.args.job.now h c.args.self.now.cores.items c.args.p
-    c.index_mut.result.now at c.requires.phaser c.index_mut.ensures.value)
+    subst (λ n. before_too_big (stream_of (value_at c.args.job.now c.args.p) (h c.args.p))
+    (wait_block_reply (limits_at c.args.job.now c.args.p) (h c.args.p) c.args.number n)
+    ≡ c.wait_in_range.result) (length-take-le c.args.many c.args.places.now c.requires.room)
+    (c.wait_in_range.ensures.reply (phaser_at c.args.job.now.graph c.args.p).op
+    (limits_at c.args.job.now c.args.p) (h c.args.p)
+    (lent_core c.args.job.now h c.args.self.now.cores.items c.args.p
+    c.index_mut.result.now at c.requires.phaser c.index_mut.ensures.value))
+
+pub returns-clause-few : goal.returns-clause-few
+returns-clause-few c = λ phase count is.
+    subst (λ n. count ≤ n) (length-take-le c.args.many c.args.places.now c.requires.room)
+    (c.wait_in_range.ensures.few phase count is)
 
 pub returns-clause-got : goal.returns-clause-got
-returns-clause-got c = λ phase count is some h at. (
-  c.wait_in_range.ensures.block phase count is some (phaser_at c.args.job.now.graph c.args.p).op
-      (limits_at c.args.job.now c.args.p) (h c.args.p) (lent_core c.args.job.now h c.args.self.now.cores.items c.args.p
-      c.index_mut.result.now at c.requires.phaser c.index_mut.ensures.value),
-  c.wait_in_range.ensures.out phase count is (phaser_at c.args.job.now.graph c.args.p).op
-      (limits_at c.args.job.now c.args.p) (h c.args.p) (lent_core c.args.job.now h c.args.self.now.cores.items c.args.p
-      c.index_mut.result.now at c.requires.phaser c.index_mut.ensures.value),
-)
+returns-clause-got c = λ phase count is some h at.
+    let cut = length-take-le c.args.many c.args.places.now c.requires.room in
+    let long : length c.wait_in_range.new.out ≡ c.args.many = omega arith in
+    let few = c.wait_in_range.ensures.few phase count is in (
+      c.wait_in_range.ensures.block phase count is some (phaser_at c.args.job.now.graph c.args.p).op
+          (limits_at c.args.job.now c.args.p) (h c.args.p)
+          (lent_core c.args.job.now h c.args.self.now.cores.items c.args.p
+          c.index_mut.result.now at c.requires.phaser c.index_mut.ensures.value),
+      take-append-le count c.wait_in_range.new.out (drop c.args.many c.args.places.now) (omega arith)
+          ∙ c.wait_in_range.ensures.out phase count is (phaser_at c.args.job.now.graph c.args.p).op
+          (limits_at c.args.job.now c.args.p) (h c.args.p)
+          (lent_core c.args.job.now h c.args.self.now.cores.items c.args.p
+          c.index_mut.result.now at c.requires.phaser c.index_mut.ensures.value),
+    )
 
 pub returns-clause-too_big : goal.returns-clause-too_big
 returns-clause-too_big c = λ phase is h at.

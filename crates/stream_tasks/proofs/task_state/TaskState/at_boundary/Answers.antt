@@ -17,7 +17,7 @@ returns-then-is_cut g c = λ spots task.
     ap (λ u. is_cut u s.begun) (sym c.until_of.ensures) ∙ sym c.is_cut.ensures ∙ c.if-is_cut.true in
     at_end job spots s c.requires.met c.requires.owed
     (all_now job s task.whole c.requires.children)
-    (λ m at. ended_cut job m s.number (place_of_state s) task.whole.there at.part at.place
+    (λ m at. ended_cut job m s.number (place_of_state s) task.whole.there at.part (at.place c.requires.owed.2)
     (owed_none s c.requires.owed) cut) task
 
 pub put_samples-requires-clause-step : goal.put_samples-requires-clause-step
@@ -37,6 +37,21 @@ put_samples-requires-clause-step g c =
 
 pub first_wait-requires-clause-step : goal.first_wait-requires-clause-step
 first_wait-requires-clause-step g c =
+    let s = c.args.self.now in
+    let job = c.args.job.now in
+    let step : MayStep job s = record {
+      spots = c.requires.task.0;
+      task = c.requires.task.1;
+      met = c.requires.met;
+      over = c.requires.over;
+      owed = c.requires.owed;
+      uncut = ap (λ u. is_cut u s.begun) (sym c.until_of.ensures) ∙ sym c.is_cut.ensures ∙ c.if-is_cut.false;
+      children = all_now job s c.requires.task.1.whole c.requires.children;
+    } in
+    step
+
+pub take_deal-requires-clause-step : goal.take_deal-requires-clause-step
+take_deal-requires-clause-step g c =
     let s = c.args.self.now in
     let job = c.args.job.now in
     let step : MayStep job s = record {

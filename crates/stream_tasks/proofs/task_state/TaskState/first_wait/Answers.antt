@@ -65,6 +65,10 @@ returns-in_default g c = λ spots task.
       sends = λ op. refl;
       filters = λ fir. refl;
       others = c.owed_after.ensures.others;
+      few_dealt = task.whole.places.few_dealt;
+      deal = task.whole.places.deal;
+      splitters = λ split. refl;
+      dealers = task.whole.dealers;
     }) task.whole)
 
 pub returns-in-Some : goal.returns-in-Some
@@ -109,8 +113,9 @@ returns-in-Some g c = λ spots task.
       entered = false;
       outcomes = c.get_into.new.places;
       places = s.places;
+      deal = s.deal;
     })
-    on.0 on.1 (sym c.input_of-p.ensures.phaser) step c.requires.kind c.first_input_of-k.ensures.input
+    on.0 on.1 (sym c.input_of-p.ensures.phaser) step c.requires.kind c.requires.split c.first_input_of-k.ensures.input
     (omega arith) c.steps-steps.ensures.may (omega arith) (omega arith) (omega arith)
     taken.fit taken.owes taken.filter
     (λ sink. (let yes : is_sink_at job t ≡ true = rw sink refl in
@@ -124,6 +129,10 @@ returns-in-Some g c = λ spots task.
       sends = λ op. refl;
       filters = λ fir. taken.filters fir ∙ sym (task.whole.filters fir);
       others = c.owed_after.ensures.others;
+      few_dealt = task.whole.places.few_dealt;
+      deal = task.whole.places.deal;
+      splitters = λ split. absurd (c.requires.split split);
+      dealers = task.whole.dealers;
     })
     c.index_mut.ensures.value
     (subst (λ l. HoldGoesOn (MemberHasWaited l) c.index_mut.result.now c.get_into.new.hold) first

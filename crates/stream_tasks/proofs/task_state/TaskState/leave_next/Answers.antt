@@ -1,12 +1,14 @@
 -- It has ended, and its children are all there.
 use Rattle.std.proofs.Common.{◌≡◌, ◌<◌, length, sym, subst, ap, ◌∙◌, arith, get_or}
 use Rattle.std.specs.Vec.{with_item}
+use Rattle.std.specs.Prelude.{set}
+use Rattle.std.proofs.lemmas.List.{set-get_or}
 use Rattle.graph_runs.specs.graph_base.Graphs.{task_at}
 use Rattle.graph_runs.specs.graph_base.Registrations.{registrations_of, no_registration}
 use Rattle.graph_runs.specs.TaskPlaces.{registration_at}
 use Rattle.stream_tasks.specs.Tasks.{IsTask}
 use Rattle.graph_runs.specs.Nexts.{registrations_at}
-use Rattle.stream_tasks.proofs.EndingLemmas.{task_leaves}
+use Rattle.stream_tasks.proofs.EndingLemmas.{task_held, task_leaves}
 use Rattle.stream_tasks.proofs.task_state.TaskState.leave_next.Goals as goal
 
 pub returns-in-Ok : goal.returns-in-Ok
@@ -32,3 +34,14 @@ returns-in-Ok c = λ spots task.
     (subst (λ i. c.index_mut.result.now ≡ get_or s.holds.items i c.index_mut.result.now) is c.index_mut.ensures.value)
     c.in-Ok.ensures.ok c.push_reserved.ensures.items
     (let cap : c.push_reserved.new.self.cap ≡ s.lefts.cap = c.push_reserved.ensures.capacity in omega arith) task)
+
+-- it has left none
+pub returns-in-Err : goal.returns-in-Err
+returns-in-Err c = λ spots task.
+    let s = c.args.self.now in
+    let k = c.len-k.result in
+    let old = c.index_mut.result.now in
+    let same : c.leave.new.self ≡ get_or s.holds.items k old =
+    c.in-Err.ensures.err ∙ c.index_mut.ensures.value in
+    task_held c.args.job.now spots s (with_item s.holds k c.leave.new.self)
+    (ap (λ h. set s.holds.items k h) same ∙ set-get_or s.holds.items k old) task

@@ -23,7 +23,7 @@ returns-then-begun-samples g c = λ spots task.
     let past : length (samples_at job s.number) ≤ s.begun =
     subst (λ l. length l ≤ s.begun) task.whole.samples c.if-begun-samples.true in
     at_end job spots s step.met step.owed step.children
-    (λ m at. ended_no_sample job m s.number (place_of_state s) task.whole.there at.part at.place
+    (λ m at. ended_no_sample job m s.number (place_of_state s) task.whole.there at.part (at.place step.owed.2)
     (owed_none s step.owed) c.requires.kind past) task
 
 -- there are places for the next samples

@@ -32,7 +32,7 @@ returns-clause-may g c =
     let at = (step.task.stands step.met).1 in
     let until = (task_at job.graph s.number).until in
     let cut : AtMost s.begun until =
-    subst (λ n. AtMost n until) at.place.begun at.part.ran.cut in
+    subst (λ n. AtMost n until) (at.place step.owed.2).begun at.part.ran.cut in
     let allowed : c.until_allows-steps.result ≡ until_allows until s.begun c.wanted.result =
     c.until_allows-steps.ensures ∙ ap (λ u. until_allows u s.begun c.wanted.result) c.until_of.ensures in
     let left = left_some until s.begun c.wanted.result cut step.uncut c.wanted.ensures.some in

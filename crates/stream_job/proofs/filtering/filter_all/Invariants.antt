@@ -1,0 +1,20 @@
+-- What the filter has made of the outcomes before this place.
+use Rattle.std.proofs.Common.{◌≡◌, ◌≤◌, ◌+◌, ◌-◌, map, length}
+use Rattle.std.specs.Prelude.{take, vec_capacity}
+use Rattle.graph_lang.specs.graph_base.Graphs.{task_at}
+use Rattle.stream_eval.specs.stream_lists.Lists.{number}
+use Rattle.stream_job.specs.Filtering.{HasFiltered}
+use Rattle.stream_job.proofs.filtering.filter_all.Given as goal
+
+abbrev pub invariant-loop-at : goal.invariant-loop-at
+invariant-loop-at l =
+    HasFiltered (task_at l.job.graph l.t) (map number (take l.at l.outcomes)) l.fn.filter l.filter
+    l.fn.made.items l.made.items
+    × (vec_capacity l.made ≡ vec_capacity l.fn.made)
+    × (vec_capacity l.values ≡ vec_capacity l.fn.values)
+    × (length l.made.items ≡ length l.fn.made.items + l.at)
+    × (l.at ≤ length l.outcomes)
+
+-- the outcomes that are left
+abbrev pub decreases-loop-at : goal.decreases-loop-at
+decreases-loop-at l = length l.outcomes - l.at
