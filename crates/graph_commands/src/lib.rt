@@ -50,6 +50,7 @@ pub use graph_file::{GRAPH_MAX, read_graph_file};
 pub use graph_show::{graph_lang, watched_io};
 pub use job_file::read_job;
 pub use lines::{write_lines, write_values};
+pub use output_buffer::OutputBuffer;
 pub use refused::{FileRefusal, Refuses, TellingFiles};
 pub use sinks::find_sink;
 pub use sources::read_sources;

@@ -54,9 +54,7 @@ pub fn write_values<W: Write>(writer: &mut Watched<W>, values: &[i64]) -> Result
     ensures failed { OnErr result (has_failed_of writer.new ≡ true) }
     ensures same { OnOk result (has_failed_of writer.new ≡ has_failed_of writer.old) }
 {
-    let mut piece = OutputBuffer::new();
-    piece.put_values(values, writer)?;
-    piece.hand_over(writer)
+    OutputBuffer::new().write_values(writer, values)
 }
 
 /// The same, with the text made by `texts`.
@@ -140,6 +138,25 @@ impl OutputBuffer {
             self.put_value(*value, writer)?;
         }
         Ok(())
+    }
+
+    /// Writes the values of one sink as the function of that name does, by a buffer that is kept for
+    /// the values that come next. What waited in it is forgotten.
+    pub fn write_values<W: Write>(
+        &mut self,
+        writer: &mut Watched<W>,
+        values: &[i64],
+    ) -> Result<(), WriteFailed>
+        ensures ok { OnOk result (Appends (W.contents (inner_of writer.old))
+            (W.contents (inner_of writer.new)) (flat_map value_text values.now)) }
+        ensures err { OnErr result (AppendsPrefix (W.contents (inner_of writer.old))
+            (W.contents (inner_of writer.new)) (flat_map value_text values.now)) }
+        ensures failed { OnErr result (has_failed_of writer.new ≡ true) }
+        ensures same { OnOk result (has_failed_of writer.new ≡ has_failed_of writer.old) }
+    {
+        self.clear();
+        self.put_values(values, writer)?;
+        self.hand_over(writer)
     }
 
     /// Puts a sink's name, its start, the count of its values, and the values.

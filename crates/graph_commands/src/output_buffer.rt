@@ -18,7 +18,7 @@ const LINE_ROOM: usize = 22;
 /// The end of a text, of at most `CHUNK_MAX` bytes, which waits to be written. It stands on the
 /// stack.
 #[derive(Drop)]
-pub(crate) struct OutputBuffer {
+pub struct OutputBuffer {
     buf: [u8; CHUNK_MAX],
     len: usize,
 }
@@ -43,14 +43,21 @@ impl Model for OutputBuffer {
 }
 
 impl OutputBuffer {
-    /// Nothing waits.
-    pub(crate) fn new() -> OutputBuffer
+    /// One in which nothing waits.
+    pub fn new() -> OutputBuffer
         ensures { result ≡ [] }
     {
         OutputBuffer {
             buf: [0; CHUNK_MAX],
             len: 0,
         }
+    }
+
+    /// Forgets what waits.
+    pub(crate) fn clear(&mut self)
+        ensures { self.new ≡ [] }
+    {
+        self.len = 0;
     }
 
     /// Whether so many bytes more find room.

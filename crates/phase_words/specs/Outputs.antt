@@ -85,6 +85,6 @@ sink_in [] = None
 sink_in (pair ∷ pairs) = if is_output pair then Some pair.0 else sink_in pairs
 
 -- the sinks that go to other files
-abbrev pub files_in : List Pair → List Pair
-files_in [] = []
-files_in (pair ∷ pairs) = if is_output pair then files_in pairs else pair ∷ files_in pairs
+abbrev pub others_in : List Pair → List Pair
+others_in [] = []
+others_in (pair ∷ pairs) = if is_output pair then others_in pairs else pair ∷ others_in pairs

@@ -4,7 +4,7 @@ use Rattle.clap.specs.Words.{App, Kinds, Row, Text, fault_of, first_of, matches_
 use Rattle.clap.specs.Kinds.{or_else}
 use Rattle.clap.specs.declared.error.kind.ErrorKind.TheVariants.{DisplayHelp, DisplayVersion}
 use Rattle.phase_words.specs.CommandLine.{Refuse, explain_of, explain_rule, is_given}
-use Rattle.phase_words.specs.Outputs.{Pair, files_in, output_kinds, pair_as, pairs_in, sink_in, to_rule}
+use Rattle.phase_words.specs.Outputs.{Pair, others_in, output_kinds, pair_as, pairs_in, sink_in, to_rule}
 use Rattle.phase_words.specs.SinkLine.{graph_by, sink_app}
 use Rattle.watched_io.specs.declared.explain.Explain.{Explain}
 use Rattle.watched_io.specs.declared.explain.Explain.TheVariants.{No, Yes}
@@ -58,7 +58,7 @@ abbrev pub stream_with : List Row → List Pair → Stream
 stream_with rows pairs = record {
   graph = graph_by rows;
   sink = sink_in pairs;
-  files = files_in pairs;
+  files = others_in pairs;
   explain = explain_of (first_of (codes "explain") rows);
   beside = is_given (first_of (codes "beside") rows);
 }

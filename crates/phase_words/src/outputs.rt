@@ -2,7 +2,7 @@
 ghost use Rattle.std.specs.Prelude.{◌≡◌, IfOk, false, map, not, option_map};
 ghost use Rattle.std.specs.List.{list_any};
 ghost use Rattle.clap.specs.Words.{all_of, first_of, found_of, rows_of, rule_of};
-ghost use Rattle.phase_words.specs.Outputs.{clash, clashes_in, files_in, has_file, lack_file, pair_of};
+ghost use Rattle.phase_words.specs.Outputs.{clash, clashes_in, others_in, has_file, lack_file, pair_of};
 ghost use Rattle.phase_words.specs.Outputs.{pair_as, pairs_by, pairs_in, sink_in, to_rule, words_by};
 
 use crate::SinkFile;
@@ -129,7 +129,7 @@ pub(crate) fn files_of<'a>(
     pairs: &[SinkFile<'a>],
 ) -> Result<Vec<SinkFile<'a>>, AllocError>
     ensures { IfOk result (λ files.
-        map pair_as files.items ≡ files_in (map pair_as pairs.now)) }
+        map pair_as files.items ≡ others_in (map pair_as pairs.now)) }
 {
     let mut files = Vec::new(alloc);
     for pair in pairs {
