@@ -33,7 +33,7 @@
 //! back, which tells them all. Who is not answered soon takes the turn itself. No answer tells who
 //! made its events. There are 16 lanes. A registration that signals and waits gets a free one when
 //! it is made, and gives it back when it leaves; the founder gets its own when it first registers
-//! another. `Reg::ask` makes an `Asked` of a registration, for a caller who does its waiting itself.
+//! another. `Reg::ask` makes a registration an `Asked`, for a caller who waits in a way of its own.
 //!
 //! **A registration in a thread.** No closure can hold one, as it cannot be thrown away. Lend it to
 //! the thread, or lend an `Option` that the thread takes it from. Each call asks that the
