@@ -202,6 +202,7 @@ impl<R: Read + Drop> Session<R> {
         files: &mut F,
         room: &mut Room,
         k: usize,
+        explain: Explain,
     ) -> Result<(), Lack>
         requires { MayStand R.remaining (F.file files.old) self.old }
         ensures ok { OnOk result ((held : Known) (old now : ℕ → Option (List ℕ))
@@ -221,7 +222,7 @@ impl<R: Read + Drop> Session<R> {
             return Err(Lack::ReadFault);
         };
         let name = self.stream.graph().file(k);
-        let piece = match source.read(alloc, files, name, room) {
+        let piece = match source.read(alloc, files, name, explain, room) {
             Ok(piece) => piece,
             Err(lack) => return Err(lack),
         };
@@ -281,7 +282,7 @@ impl<R: Read + Drop> Session<R> {
         ensures place { HasPlace result }
     {
         self.kept_is_right();
-        let Lack::BadRecord { number } = lack else {
+        let Lack::BadRecord { number, told } = lack else {
             return unread(alloc, JobFault::ReadFault);
         };
         if k >= self.sources.len() {
@@ -293,14 +294,7 @@ impl<R: Read + Drop> Session<R> {
             return unread(alloc, JobFault::OutOfMemory);
         }
         match String::from_str(alloc, graph.name(Place::Task(task))) {
-            Ok(name) => unread(
-                alloc,
-                JobFault::BadSample {
-                    name,
-                    number,
-                    told: None,
-                },
-            ),
+            Ok(name) => unread(alloc, JobFault::BadSample { name, number, told }),
             Err(_) => unread(alloc, JobFault::OutOfMemory),
         }
     }

@@ -189,7 +189,7 @@ fn go<'a, W: Write, F: Opens>(
             Stopped::Done => return Ok(()),
             Stopped::Hungry { source } => {
                 session.close_left();
-                if let Err(lack) = session.refill(alloc, files, &mut room, source) {
+                if let Err(lack) = session.refill(alloc, files, &mut room, source, explain) {
                     return Err(session.lacking(alloc, source, lack));
                 }
             }
