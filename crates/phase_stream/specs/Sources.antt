@@ -64,7 +64,7 @@ line_feeds text = count_by (λ b. b == 10) text
 
 -- of a text that was read this is kept: from some byte on all of it, and the number of the line of
 -- that byte
-pub record StandsIn (read : List ℕ) (kept : RecordText) : Type 0 where
+pub record IsKeptOf (read : List ℕ) (kept : RecordText) : Type 0 where
   pub before : List ℕ
   pub text_is : read ≡ before ++ kept.text.items
   pub line_is : kept.line ≡ line_feeds before + 1
@@ -73,7 +73,7 @@ pub record StandsIn (read : List ℕ) (kept : RecordText) : Type 0 where
 pub record IsTextOfFile (known : Option (List ℕ)) (kept : RecordText) : Type 0 where
   pub read : List ℕ
   pub front : IsFront known read
-  pub stands : StandsIn read kept
+  pub stands : IsKeptOf read kept
 
 -- these lines tell a record of this number, of a text from some byte on: with the name of its file,
 -- the line of that byte, and what is shown of the text there
@@ -99,7 +99,7 @@ pub record IsBehind {R : Type 0} (remaining : R → Option (List ℕ)) (known : 
   pub consumed : Consumes known (remaining (inner_of file.input)) (text ++ bytes)
   pub read : HasRead text values file.reader
   pub counted : file.count ≡ length values
-  pub kept : IfSome file.text (StandsIn text)
+  pub kept : IfSome file.text (IsKeptOf text)
 
 -- of an open file these samples were read, and it may be that the record behind them is none
 pub record IsOpenFile {R : Type 0} (remaining : R → Option (List ℕ)) (known : Option (List ℕ))

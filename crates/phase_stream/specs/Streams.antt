@@ -154,10 +154,11 @@ pub record StopsKept (held : Known) (job : Job) (sink : ℕ) (old new : WriterSt
 
 -- ---- causes
 
--- the record behind the samples that came of the source of this name is none, of which this is told,
--- and without more samples no task makes an event
+-- the record behind the samples that came of the source of this name is none, of which this is
+-- told, and without more samples no task makes an event
 pub record EndsInRecord (held : Known) (job : Job) (named : List ℕ) (number : ℕ)
-    (told : Option (Vec ℕ Global)) (samples : List (List ℤ)) (ended : ℕ → Bool) (moment : Moment) : Type 0 where
+    (told : Option (Vec ℕ Global)) (samples : List (List ℤ)) (ended : ℕ → Bool) (moment : Moment)
+    : Type 0 where
   pub task : ℕ
   pub source : ℕ
   pub there : IsSourceAt job task source

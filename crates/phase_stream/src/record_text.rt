@@ -1,6 +1,6 @@
 //! The text of a file from its record at hand on, which tells a record that is no sample.
 ghost use Rattle.std.specs.Prelude.{◌≡◌, ◌++◌, [], List, ℕ, OnOk, IfOk};
-ghost use Rattle.phase_stream.specs.Sources.{StandsIn, TellsIn};
+ghost use Rattle.phase_stream.specs.Sources.{IsKeptOf, TellsIn};
 
 use graph_commands::{line_at, start_of, told_from};
 use std::alloc::{AllocError, Global};
@@ -16,7 +16,7 @@ pub struct RecordText {
 impl RecordText {
     /// That of a file of which nothing was read.
     pub fn new(alloc: Global) -> RecordText
-        ensures { StandsIn [] result }
+        ensures { IsKeptOf [] result }
     {
         RecordText {
             line: 1,
@@ -27,8 +27,8 @@ impl RecordText {
     /// Goes on by a piece in which so many records end, or else a part of them and one that is no
     /// sample. It takes memory for the piece.
     pub fn pass(&mut self, alloc: Global, piece: &[u8], records: usize) -> Result<(), AllocError>
-        ensures { OnOk result ((text : List ℕ) → StandsIn text self.old
-            → StandsIn (text ++ piece.now) self.new) }
+        ensures { OnOk result ((text : List ℕ) → IsKeptOf text self.old
+            → IsKeptOf (text ++ piece.now) self.new) }
     {
         self.text.extend_from_slice(piece)?;
         let at = self.place_behind(records);
@@ -52,7 +52,7 @@ impl RecordText {
 
     /// Tells the record at hand, of this number in the file of this name, which is no sample.
     pub fn told(&self, alloc: Global, file: &str, number: usize) -> Result<Vec<u8>, AllocError>
-        ensures { IfOk result (λ told. (text : List ℕ) → StandsIn text self.now
+        ensures { IfOk result (λ told. (text : List ℕ) → IsKeptOf text self.now
             → TellsIn text file.now number told.items) }
     {
         told_from(alloc, file, number, self.line, &self.text)

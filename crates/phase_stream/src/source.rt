@@ -2,10 +2,11 @@
 ghost use Rattle.std.specs.Prelude.{◌≡◌, ◌≤◌, ◌+◌, ◌++◌, [], take, ℕ, ℤ, List, Option, Some, OnOk, IfOk, IfErr, IfSome, length, false, true};
 ghost use Rattle.std.specs.Io.KnownBytes.{IsAtEnd, Keeps};
 ghost use Rattle.graph_commands.specs.watched_io.Watched.{inner_of};
-ghost use Rattle.phase_stream.specs.Sources.{PieceGives, GivesSource, HasBadFrom, IsBehind, IsOpenFile, IsSource, IsTextOfFile, Lacks, StandsIn, TellsOfFile};
+ghost use Rattle.phase_stream.specs.Sources.{PieceGives, GivesSource, HasBadFrom, IsBehind, IsOpenFile, IsSource, IsTextOfFile, Lacks, IsKeptOf, TellsOfFile};
 
 use crate::opens::Opens;
 use crate::record_text::RecordText;
+use graph_commands::OutputBuffer;
 use graph_commands::watched_io::{Explain, ReadFailed, Watched};
 use sample_pieces::graph_lang::text_laws;
 use sample_pieces::{Found, SampleReader, laws};
@@ -16,19 +17,21 @@ use std::io::Read;
 /// for.
 pub const PIECE: usize = 8_192;
 
-/// What a piece is read into, and its samples.
+/// What a piece is read into, and its samples; and what the text of values is collected in.
 #[derive(Drop)]
 pub struct Room {
     pub piece: [u8; PIECE],
     pub values: [i64; PIECE],
+    pub text: OutputBuffer,
 }
 
 impl Room {
-    /// One that holds zeros.
+    /// One that holds zeros and no text.
     pub fn empty() -> Room {
         Room {
             piece: [0; PIECE],
             values: [0; PIECE],
+            text: OutputBuffer::new(),
         }
     }
 }
@@ -206,8 +209,8 @@ fn text_behind(
     piece: &[u8],
     records: usize,
 ) -> Option<RecordText>
-    ensures { (read : List ℕ) → IfSome text.entry (StandsIn read)
-        → IfSome result (StandsIn (read ++ piece.now)) }
+    ensures { (read : List ℕ) → IfSome text.entry (IsKeptOf read)
+        → IfSome result (IsKeptOf (read ++ piece.now)) }
 {
     let mut text = text?;
     match text.pass(alloc, piece, records) {

@@ -16,7 +16,7 @@ use crate::sink::{Sink, Untargeted, targets};
 use crate::source::{Lack, Room};
 use crate::writers::make_files;
 use graph_commands::watched_io::{Explain, Files, IoFault, Watched};
-use graph_commands::{Failure, GRAPH_MAX, JobFault, OutputBuffer};
+use graph_commands::{Failure, GRAPH_MAX, JobFault};
 use phase_words::StreamCall;
 use sample_pieces::graph_lang::{FaultKind, GraphFault, read_graph};
 use std::alloc::Global;
@@ -175,9 +175,8 @@ fn go<'a, W: Write, F: Opens>(
     ensures same { (other : List ℕ) → F.file files.new other ≡ F.file files.old other }
 {
     let mut room = Room::empty();
-    let mut buffer = OutputBuffer::new();
     for _ in 0..u64::MAX {
-        let stop = match session.turn(&mut buffer, output, made) {
+        let stop = match session.turn(&mut room.text, output, made) {
             Ok(stop) => stop,
             Err(fault) => return Err(Failure::Io(fault)),
         };
