@@ -6,7 +6,7 @@ use Rattle.std.specs.declared.option.Option.{Option}
 use Rattle.graph_commands.specs.declared.fault.JobFault.{JobFault}
 use Rattle.graph_commands.specs.declared.fault.JobFault.TheVariants as fault
 use Rattle.graph_commands.specs.declared.graph_file.TheConstants.{GRAPH_MAX}
-use Rattle.graph_commands.specs.Records.{IsStart, line_at, shown_at}
+use Rattle.graph_commands.specs.Records.{IsStart, line_at, shown_at, shown_of}
 use Rattle.graph_show.specs.Explanations.{ExplainsFault, shown}
 use Rattle.graph_show.specs.watched_io.Files.{HasBytes}
 
@@ -61,6 +61,14 @@ pub record TellsPlace (samples file : List ℕ) (number : ℕ) (front : List ℕ
   pub more : List ℕ
   pub more_are : AreFurtherLines more
   pub is : front ≡ further_line (file ++ codes ", record " ++ decimal number ++ place) ++ more
+
+-- the record of this number and line that the text begins with: a line with its file and these, and
+-- with the front of the record, and further ones
+pub record TellsFrom (text file : List ℕ) (number line : ℕ) (front : List ℕ) : Type 0 where
+  pub more : List ℕ
+  pub more_are : AreFurtherLines more
+  pub is : front ≡ further_line (file ++ codes ", record " ++ decimal number
+      ++ (codes ", line " ++ decimal line ++ codes ": " ++ shown_of text)) ++ more
 
 -- what was told of a record, and what a sample is
 abbrev pub TellsRecord : Option (Vec ℕ Global) → List ℕ → Type 0

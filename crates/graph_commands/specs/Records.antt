@@ -26,6 +26,10 @@ line_at text at = count_by (λ b. b == 10) (take at text) + 1
 abbrev pub up_to_end : List ℕ → ℕ
 up_to_end text = unwrap_or (position_from is_end 0 text) (length text)
 
--- what is shown of the record that begins at this byte: its first 60 bytes at most
+-- what is shown of the record that a text begins with: its first 60 bytes at most
+abbrev pub shown_of : List ℕ → List ℕ
+shown_of text = take 60 (take (up_to_end text) text)
+
+-- and of the one that begins at this byte
 abbrev pub shown_at : List ℕ → ℕ → List ℕ
-shown_at text at = take 60 (take (up_to_end (drop at text)) (drop at text))
+shown_at text at = shown_of (drop at text)

@@ -5,8 +5,9 @@
 //! that is asked for; `end` answers the status of both. `read_job` gives the job of a graph's file:
 //! its graph, and the samples in the files of its sources; `read_asked` that and the sink that is
 //! asked for; `write_lines` writes what an evaluation gave each sink, `write_values` what it gave
-//! one, and `write_sinks` what was asked for; `stall_told` what a person is told of a stall. These
-//! are for another command that gives the same values.
+//! one, and `write_sinks` what was asked for; `stall_told` what a person is told of a stall, and
+//! `told_from` of a record that is no sample. These are for another command that gives the same
+//! values.
 #![tactic(auto)]
 
 mod answered;
@@ -51,6 +52,7 @@ pub use graph_show::{graph_lang, watched_io};
 pub use job_file::read_job;
 pub use lines::{write_lines, write_values};
 pub use output_buffer::OutputBuffer;
+pub use records::{line_at, start_of, told_from};
 pub use refused::{FileRefusal, Refuses, TellingFiles};
 pub use sinks::find_sink;
 pub use sources::read_sources;

@@ -1,6 +1,6 @@
 //! What is said of a record that is no sample, from the text that it stands in.
 ghost use Rattle.std.specs.Prelude.{◌≡◌, ◌<◌, ◌≤◌, ◌++◌, ℕ, length, take, codes, decimal, IfOk, IfSome, OnOk, None};
-ghost use Rattle.graph_commands.specs.Explained.{TellsPlace, TellsRecord, further_line, record_wanted};
+ghost use Rattle.graph_commands.specs.Explained.{TellsFrom, TellsPlace, TellsRecord, further_line, record_wanted};
 ghost use Rattle.graph_commands.specs.Records.{IsStart, begins_at, is_end, line_at, up_to_end};
 ghost use Rattle.std.specs.List.{position_from};
 
@@ -38,7 +38,7 @@ fn begins_at(text: &[u8], at: usize) -> bool
 
 /// Where record number `number` of a text begins, counted from 1, where no record before it has a
 /// line end within.
-fn start_of(text: &[u8], number: usize) -> Option<usize>
+pub fn start_of(text: &[u8], number: usize) -> Option<usize>
     ensures some { IfSome result (λ at. IsStart text.now number at) }
     ensures none { result ≡ None → (at : ℕ) → IsStart text.now number at → ⊥ }
 {
@@ -55,7 +55,7 @@ fn start_of(text: &[u8], number: usize) -> Option<usize>
 }
 
 /// The number of the line of a byte, counted from 1.
-fn line_at(text: &[u8], at: usize) -> usize
+pub fn line_at(text: &[u8], at: usize) -> usize
     requires { at ≤ length text.now }
     ensures { result ≡ line_at text.now at }
 {
@@ -222,6 +222,28 @@ fn line_text(alloc: Global, line: usize, shown: &[u8]) -> Result<Vec<u8>, AllocE
     Ok(text)
 }
 
+/// Tells record number `number` of a file, counted from 1, which is no sample, by the number of its
+/// line and by the file's text from there on, as far as that is known: where it stands and why it
+/// is none, as lines for a person. It takes memory for the lines.
+pub fn told_from(
+    alloc: Global,
+    file: &str,
+    number: usize,
+    line: usize,
+    text: &[u8],
+) -> Result<Vec<u8>, AllocError>
+    ensures { IfOk result (λ front. TellsFrom text.now file.now number line front.items) }
+{
+    let mut front = Vec::new(alloc);
+    let end = up_to_end(text);
+    let place = line_text(alloc, line, front_of(&text[..end]))?;
+    put_place(alloc, &mut front, file, number, &place)?;
+    let through = text.len().min(end.saturating_add(1));
+    let fault = record_fault(alloc, &text[..through], number)?;
+    put_line(alloc, &mut front, fault.as_bytes())?;
+    Ok(front)
+}
+
 /// Tells record number `number` of a file, counted from 1, which is no sample, by the file's text:
 /// where it stands and why it is none, as lines for a person. Where the text has no such record,
 /// its line is not told. It takes memory for the lines.
@@ -233,19 +255,13 @@ pub(crate) fn record_told(
 ) -> Result<Vec<u8>, AllocError>
     ensures { IfOk result (λ front. TellsPlace samples.now file.now number front.items) }
 {
-    let mut front = Vec::new(alloc);
     let Some(at) = start_of(samples, number) else {
+        let mut front = Vec::new(alloc);
         put_place(alloc, &mut front, file, number, b"")?;
         return Ok(front);
     };
-    let text = &samples[at..];
-    let end = up_to_end(text);
-    let place = line_text(alloc, line_at(samples, at), front_of(&text[..end]))?;
-    put_place(alloc, &mut front, file, number, &place)?;
-    let through = text.len().min(end.saturating_add(1));
-    let fault = record_fault(alloc, &text[..through], number)?;
-    put_line(alloc, &mut front, fault.as_bytes())?;
-    Ok(front)
+    let line = line_at(samples, at);
+    told_from(alloc, file, number, line, &samples[at..])
 }
 
 /// Puts what a sample is behind a text.

@@ -105,7 +105,7 @@ stops_alone held job goes t old new before (failure.Graph (fault.Graph found) te
 stops_alone held job goes t old new before (failure.Graph (fault.BadSample named number told) text) is same
     stop =
     stop_kept held job goes t old new before
-    (λ samples ended m. EndsInRecord held job (string_bytes named) number samples ended m) is (sym same)
+    (λ samples ended m. EndsInRecord held job (string_bytes named) number told samples ended m) is (sym same)
     stop
 stops_alone held job goes t old new before (failure.Graph fault.ReadFault text) is same stop =
     behind_alone held job goes t old new before is same stop

@@ -15,4 +15,5 @@ mod Standing
 mod Stopping
 mod Targeting
 mod Targets
+mod Telling
 mod Writing

@@ -2,6 +2,7 @@
 use Rattle.std.proofs.Common.{◌≡◌, ◌≤◌, ◌+◌, ◌++◌, ◌⊎◌, inl, inr, ℕ, ℤ, Bool, true, false, not, List, [], ◌∷◌, Option, Some, None, length, set, take, drop, refl, sym, ap, subst, ◌∙◌, arith, rules, append-nil, length-append, take-append-drop}
 use Rattle.std.proofs.KnownBytes.{Consumes-kept, Consumes-nil, Consumes-trans}
 use Rattle.std.proofs.lemmas.List.{append_assoc, length-take-le}
+use Rattle.std.specs.Prelude.{IfSome}
 use Rattle.std.specs.Io.KnownBytes.{Consumes, IsAtEnd, Keeps}
 use mathlib.Core.List.{IsPrefix}
 use Rattle.graph_commands.specs.watched_io.Files.{HasBytes}
@@ -10,7 +11,9 @@ use Rattle.sample_pieces.specs.Pieces.{HasRead, IsBadFrom, TakesPiece}
 use Rattle.sample_pieces.specs.declared.reader.SampleReader.{SampleReader}
 use Rattle.sample_pieces.specs.graph_lang.Samples.{AreRecordsOfValues, IsBadSample}
 use Rattle.stream_job.specs.phase_accum.Sends.{AreSends}
-use Rattle.phase_stream.specs.Sources.{BeginsSo, PieceGives, HasBadFrom, HasComeOf, HasFront, IsBehind, IsFront, IsOpenFile}
+use Rattle.phase_stream.specs.Sources.{BeginsSo, PieceGives, HasBadFrom, HasComeOf, HasFront, IsBehind, IsFront, IsKeptOf, IsOpenFile, IsTextOfFile, Lacks}
+use Rattle.phase_stream.specs.declared.record_text.RecordText.{RecordText}
+use Rattle.phase_stream.specs.declared.source.Lack.{Lack}
 use Rattle.phase_stream.specs.declared.source.OpenFile.{OpenFile}
 use Rattle.phase_stream.specs.declared.source.TheConstants.{PIECE}
 use Rattle.phase_stream.specs.declared.source.Piece.{Piece}
@@ -40,21 +43,31 @@ front_whole (Some xs) None text e end = absurd e
 front_whole (Some xs) (Some ys) text e end =
     sym (e ∙ (ap (λ l. text ++ l) end ∙ append-nil text))
 
+-- what is kept of a text at the front is of the file
+pub kept_of_file : (known : Option (List ℕ)) (text : List ℕ) (kept : Option RecordText)
+    → IsFront known text → IfSome kept (IsKeptOf text) → IfSome kept (IsTextOfFile known)
+kept_of_file known text None front is = tt
+kept_of_file known text (Some kept) front is =
+    record { read = text; front = front; stands = is }
+
 -- ---- a file that was opened
 
 pub opened_file : {R : Type 0} (remaining : R → Option (List ℕ)) (known : Option (List ℕ))
     (file : OpenFile R) → Keeps known (remaining (inner_of file.input)) → HasRead [] [] file.reader
-    → file.is_bad ≡ false → file.count ≡ 0 → IsOpenFile remaining known [] file
-opened_file remaining known file keeps read good none = record {
+    → file.is_bad ≡ false → file.count ≡ 0 → IfSome file.text (IsKeptOf [])
+    → IsOpenFile remaining known [] file
+opened_file remaining known file keeps read good none kept = record {
   come = nothing_came known;
   good = λ e. record {
     text = [];
     consumed = Consumes-kept known known (remaining (inner_of file.input)) [] (Consumes-nil known) keeps;
     read = read;
     counted = none;
+    kept = kept;
   };
   bad = λ e. absurd (cc (e, good));
   counted = none;
+  kept = kept_of_file known [] file.text (known, Consumes-nil known) kept;
 }
 
 -- bytes that were read of it are still to be looked at
@@ -62,8 +75,9 @@ pub read_on : {R : Type 0} (remaining : R → Option (List ℕ)) (known : Option
     (values : List ℤ) (old new : OpenFile R) (bytes : List ℕ)
     → IsBehind remaining known values [] old
     → Consumes (remaining (inner_of old.input)) (remaining (inner_of new.input)) bytes
-    → new.reader ≡ old.reader → new.count ≡ old.count → IsBehind remaining known values bytes new
-read_on remaining known values old new bytes is more reader count = record {
+    → new.reader ≡ old.reader → new.count ≡ old.count → new.text ≡ old.text
+    → IsBehind remaining known values bytes new
+read_on remaining known values old new bytes is more reader count kept = record {
   text = is.text;
   consumed = subst (λ t. Consumes known (remaining (inner_of new.input)) t)
       (ap (λ t. t ++ bytes) (append-nil is.text))
@@ -71,6 +85,7 @@ read_on remaining known values old new bytes is more reader count = record {
       (is.text ++ []) bytes is.consumed more);
   read = subst (HasRead is.text values) (sym reader) is.read;
   counted = count ∙ is.counted;
+  kept = subst (λ k. IfSome k (IsKeptOf is.text)) (sym kept) is.kept;
 }
 
 -- ---- samples of a piece
@@ -124,9 +139,10 @@ pub piece_got : {R : Type 0} (remaining : R → Option (List ℕ)) (known : Opti
     → (new.is_bad ≡ false → looked ≡ length bytes)
     → piece.is_last ≡ false → piece.count ≤ length room → piece.count ≤ PIECE
     → new.input ≡ old.input → new.count ≡ old.count + piece.count
+    → IfSome new.text (IsKeptOf (is.text ++ bytes))
     → PieceGives remaining known values room piece new
 piece_got remaining known values room bytes old new piece looked law apart is takes all more few
-    small input count =
+    small input count kept =
     let text = is.text ++ take looked bytes in
     let parts : is.text ++ bytes ≡ text ++ drop looked bytes =
     sym (append_assoc is.text (take looked bytes) (drop looked bytes)
@@ -155,13 +171,22 @@ piece_got remaining known values room bytes old new piece looked law apart is ta
               (ap (λ n. text ++ drop n bytes) (all good) ∙ ap (λ l. text ++ l) (none_left bytes)) consumed;
           read = subst (λ b. TakesPiece b text read new.reader) good takes;
           counted = counted;
+          kept = subst (λ t. IfSome new.text (IsKeptOf t))
+              (sym (ap (λ n. is.text ++ take n bytes) (all good)
+              ∙ ap (λ l. is.text ++ l) (all_taken bytes))) kept;
         };
         bad = λ bad. bad_behind known text (length read + 1) front
             (subst (λ b. TakesPiece b text read new.reader) bad takes).1;
         counted = counted;
+        kept = kept_of_file known (is.text ++ bytes) new.text
+            (remaining (inner_of old.input), is.consumed) kept;
       };
     }
   where
+    all_taken : (xs : List ℕ) → take (length xs) xs ≡ xs
+    all_taken [] = refl
+    all_taken (x ∷ xs) = ap (λ l. x ∷ l) (all_taken xs)
+
     none_left : (xs : List ℕ) → drop (length xs) xs ≡ []
     none_left [] = refl
     none_left (x ∷ xs) = none_left xs
@@ -218,6 +243,20 @@ last_bad remaining known values file is bad = record {
   front = less_front known (remaining (inner_of file.input)) is.text [] is.consumed;
   bad = subst (λ n. IsBadSample is.text (n + 1)) (sym is.counted) bad;
 }
+
+-- and it is told
+pub lacks_bad : {R : Type 0} (remaining : R → Option (List ℕ)) (known : Option (List ℕ))
+    (name : List ℕ) (values : List ℤ) (file : OpenFile R) (lack : Lack)
+    → (is : IsBehind remaining known values [] file)
+    → IsBadSample is.text (length values + 1)
+    → (HasBadFrom known (file.count + 1) → IfSome file.text (IsTextOfFile known)
+    → Lacks known name file.count lack)
+    → Lacks known name (length values) lack
+lacks_bad remaining known name values file lack is bad lacks =
+    subst (λ n. Lacks known name n lack) is.counted
+    (lacks (last_bad remaining known values file is bad)
+    (kept_of_file known is.text file.text
+    (less_front known (remaining (inner_of file.input)) is.text [] is.consumed) is.kept))
 
 -- a value that was put in the first place
 pub first_set : (room : List ℤ) (v : ℤ) → 1 ≤ length room → take 1 (set room 0 v) ≡ v ∷ []

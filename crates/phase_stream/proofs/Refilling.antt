@@ -85,7 +85,7 @@ fed_short {R} remaining held old now before after k took one other room piece st
       written = subst (λ ts. AreWritten ts st.given old now) (sym task) st.written;
       there = λ source got. here source (set_get before.sources.items k k one source
           (ap (λ l. slice_get l k) (sym items) ∙ got));
-      still = λ number is. absurd (cc);
+      still = λ number told is. absurd (cc);
       lacks = tt;
     }
   where
@@ -234,8 +234,8 @@ pub lacks_so : {R : Type 0} (remaining : R → Option (List ℕ)) (held : Known)
     → slice_get before.sources.items k ≡ Some other
     → one.task ≡ other.task → after.sources.items ≡ set before.sources.items k one
     → after.stream ≡ before.stream → after.targets.items ≡ before.targets.items
-    → Lacks (held (file_at before.stream.job.graph k)) (length (get_or stopped.stands.samples k []))
-    why
+    → Lacks (held (file_at before.stream.job.graph k)) (file_at before.stream.job.graph k)
+    (length (get_or stopped.stands.samples k [])) why
     → StandsLacking held old now after k why
 lacks_so {R} remaining held old now before after k one other why hungry stopped there task items stream sink
     lacks =
@@ -248,11 +248,11 @@ lacks_so {R} remaining held old now before after k one other why hungry stopped 
       written = subst (λ ts. AreWritten ts st.given old now) (sym sink) st.written;
       there = λ source got. here source (set_get before.sources.items k k one source
           (ap (λ l. slice_get l k) (sym items) ∙ got));
-      still = λ number is.
+      still = λ number told is.
           subst (λ (w : StreamState). KeptStill w after.targets.items st.samples st.moment st.given)
           (sym stream) (subst (λ ts. KeptStill before.stream ts st.samples st.moment st.given)
           (sym sink) (record { whole = stopped.whole; rest = stopped.stopped_is }));
-      lacks = subst (λ (w : StreamState). Lacks (held (file_at w.job.graph k))
+      lacks = subst (λ (w : StreamState). Lacks (held (file_at w.job.graph k)) (file_at w.job.graph k)
           (length (get_or st.samples k [])) why) (sym stream) lacks;
     }
   where
@@ -281,13 +281,20 @@ gives_as remaining here there values room piece other one same got is =
     subst (λ known. GivesSource remaining known values room piece one) same
     (got values (subst (λ known. IsSource remaining known values other) (sym same) is))
 
+-- and its name
+pub named_as : (name : List ℕ) (graph other : Graph) (k : ℕ) → name ≡ file_at graph k → graph ≡ other
+    → name ≡ file_at other k
+named_as name graph other k named same = named ∙ ap (λ g. file_at g k) same
+
 pub lacks_as : {R : Type 0} (remaining : R → Option (List ℕ)) (here there : Option (List ℕ))
-    (values : List ℤ) (other : Source R) (why : Lack) → here ≡ there
-    → ((values : List ℤ) → IsSource remaining here values other → Lacks here (length values) why)
-    → IsSource remaining there values other → Lacks there (length values) why
-lacks_as remaining here there values other why same lacks is =
-    subst (λ known. Lacks known (length values) why) same
-    (lacks values (subst (λ known. IsSource remaining known values other) (sym same) is))
+    (name file : List ℕ) (values : List ℤ) (other : Source R) (why : Lack) → here ≡ there
+    → name ≡ file
+    → ((values : List ℤ) → IsSource remaining here values other → Lacks here name (length values) why)
+    → IsSource remaining there values other → Lacks there file (length values) why
+lacks_as remaining here there name file values other why same named lacks is =
+    subst (λ f. Lacks there f (length values) why) named
+    (subst (λ known. Lacks known name (length values) why) same
+    (lacks values (subst (λ known. IsSource remaining known values other) (sym same) is)))
 
 pub fed_of : {R : Type 0} (remaining : R → Option (List ℕ)) (held : Known)
     (old now : ℕ → Option (List ℕ)) (before : Session R) (mid : StreamState) (k took : ℕ)
@@ -325,7 +332,7 @@ lacks_none remaining held old now session k st = record {
   reaches = st.reaches;
   written = st.written;
   there = λ source got. (st.sources k source got).0;
-  still = λ number is. absurd (cc);
+  still = λ number told is. absurd (cc);
   lacks = tt;
 }
 

@@ -312,7 +312,7 @@ pub bad_stops : {R : Type 0} (held : Known) (old : ℕ → Option (List ℕ)) (n
     (session : Session R) (k number task : ℕ) (name : String Global)
     (told : Option (Vec ℕ Global)) (found : Failure)
     → AreKeptRight session.stream session.targets.items
-    → (st : StandsLacking held old (λ k. (new k).written) session k (lack.BadRecord number))
+    → (st : StandsLacking held old (λ k. (new k).written) session k (lack.BadRecord number told))
     → IsFaultWithoutText (faults.BadSample name number told) found
     → IsSourceAt session.stream.job task k
     → string_bytes name ≡ name_at session.stream.job.graph (place.Task task)
@@ -324,7 +324,7 @@ bad_stops held old new session k number task name told found right st is there n
     (length session.targets.items) old new) is
     (λ text. record {
       kept = kept_of held session.stream session.targets.items old (λ k. (new k).written) st.samples
-          st.moment st.given st.reaches (st.still number refl).whole right st.written;
+          st.moment st.given st.reaches (st.still number told refl).whole right st.written;
       cause = record {
         task = task;
         source = k;
@@ -332,6 +332,7 @@ bad_stops held old new session k number task name told found right st is there n
         named_is = named;
         number_is = st.lacks.0;
         bad = st.lacks.1;
-        rest = (st.still number refl).rest;
+        tells = st.lacks.2;
+        rest = (st.still number told refl).rest;
       };
     })

@@ -238,7 +238,7 @@ abbrev pub StopOf : Known → Job → (ℕ → Option ℕ) → ℕ → (ℕ → 
 StopOf held job goes many old new (failure.Graph (fault.Graph found) text) = ⊥
 StopOf held job goes many old new (failure.Graph (fault.BadSample named number told) text) =
     StopKept held job goes old (λ k. (new k).written)
-    (λ samples ended m. EndsInRecord held job (string_bytes named) number samples ended m)
+    (λ samples ended m. EndsInRecord held job (string_bytes named) number told samples ended m)
 StopOf held job goes many old new (failure.Graph fault.ReadFault text) =
     StopBehind held job goes old (λ k. (new k).written) (λ samples ended starts. ⊤)
 StopOf held job goes many old new (failure.Graph fault.OutOfMemory text) =

@@ -1,5 +1,7 @@
 -- A run of a graph over the files of its sources, and what of its sinks was written.
-use Rattle.std.specs.Prelude.{◌≡◌, ◌<◌, ◌≤◌, ◌++◌, ◌||◌, Bool, ℕ, ℤ, List, [], Option, Some, None, Ok, length, get_or, map, slice_get, false, true}
+use Rattle.std.specs.Prelude.{◌≡◌, ◌<◌, ◌≤◌, ◌++◌, ◌||◌, Bool, ℕ, ℤ, List, Vec, [], Some, None, Ok, length, get_or, map, slice_get, false, true}
+use Rattle.std.specs.Global.{Global}
+use Rattle.std.specs.declared.option.Option.{Option}
 use Rattle.std.specs.List.{flat_map, list_all}
 use Rattle.std.specs.Io.KnownBytes.{Appends}
 use mathlib.Core.List.{IsPrefix}
@@ -228,9 +230,10 @@ pub record StandsLacking {R : Type 0} (held : Known) (old now : ℕ → Option (
   pub written : AreWritten session.targets.items given old now
   pub there : (source : Source R) → slice_get session.sources.items k ≡ Some source
       → IsSourceAt session.stream.job source.task k
-  pub still : (number : ℕ) → lack ≡ lacks.BadRecord number
+  pub still : (number : ℕ) (told : Option (Vec ℕ Global)) → lack ≡ lacks.BadRecord number told
       → KeptStill session.stream session.targets.items samples moment given
-  pub lacks : Lacks (held (file_at session.stream.job.graph k)) (length (get_or samples k [])) lack
+  pub lacks : Lacks (held (file_at session.stream.job.graph k)) (file_at session.stream.job.graph k)
+      (length (get_or samples k [])) lack
 
 -- the files hold what is known of them
 abbrev pub IsKnownAs : Known → Known → Type 0

@@ -1,9 +1,11 @@
 -- What came of the samples of a source, by what was read of its file.
-use Rattle.std.specs.Prelude.{◌≡◌, ◌≤◌, ◌+◌, ◌++◌, ℕ, ℤ, Bool, true, false, List, [], Option, Some, IfSome, length, slice_get, take, ⊤}
+use Rattle.std.specs.Prelude.{◌≡◌, ◌≤◌, ◌+◌, ◌++◌, ◌==◌, ℕ, ℤ, Bool, true, false, List, [], Option, Some, IfSome, length, slice_get, take, ⊤}
+use Rattle.std.specs.List.{count_by}
 use Rattle.std.specs.Io.KnownBytes.{Consumes}
 use mathlib.Core.List.{IsPrefix}
 use Rattle.graph_commands.specs.watched_io.Files.{HasBytes}
 use Rattle.graph_commands.specs.watched_io.Watched.{inner_of}
+use Rattle.graph_commands.specs.Explained.{TellsFrom}
 use Rattle.graph_commands.specs.FileJobs.{Known}
 use Rattle.stream_job.specs.graph_base.Graphs.{file_at}
 use Rattle.stream_job.specs.stream_lists.Jobs.{Job}
@@ -11,6 +13,7 @@ use Rattle.stream_job.specs.Streams.{IsSourceAt}
 use Rattle.sample_pieces.specs.graph_lang.Samples.{AreRecordsOfValues, IsBadSample}
 use Rattle.sample_pieces.specs.Pieces.{HasRead}
 use Rattle.stream_job.specs.phase_accum.Sends.{AreSends}
+use Rattle.phase_stream.specs.declared.record_text.RecordText.{RecordText}
 use Rattle.phase_stream.specs.declared.source.Lack.{Lack}
 use Rattle.phase_stream.specs.declared.source.Lack.TheVariants as lack
 use Rattle.phase_stream.specs.declared.source.Piece.{Piece}
@@ -53,6 +56,40 @@ abbrev pub HasComeOf : Bool → Option (List ℕ) → List ℤ → Type 0
 HasComeOf true known values = HasAllSamples known values
 HasComeOf false known values = HasFront known values
 
+-- ---- what a bad record is told by
+
+-- how many line feeds a text has
+abbrev pub line_feeds : List ℕ → ℕ
+line_feeds text = count_by (λ b. b == 10) text
+
+-- of a text that was read this is kept: from some byte on all of it, and the number of the line of
+-- that byte
+pub record IsKeptOf (read : List ℕ) (kept : RecordText) : Type 0 where
+  pub before : List ℕ
+  pub text_is : read ≡ before ++ kept.text.items
+  pub line_is : kept.line ≡ line_feeds before + 1
+
+-- that of a text at the front of what the file holds
+pub record IsTextOfFile (known : Option (List ℕ)) (kept : RecordText) : Type 0 where
+  pub read : List ℕ
+  pub front : IsFront known read
+  pub stands : IsKeptOf read kept
+
+-- these lines tell a record of this number, of a text from some byte on: with the name of its file,
+-- the line of that byte, and what is shown of the text there
+pub record TellsIn (read file : List ℕ) (number : ℕ) (told : List ℕ) : Type 0 where
+  pub before : List ℕ
+  pub text : List ℕ
+  pub is : read ≡ before ++ text
+  pub tells : TellsFrom text file number (line_feeds before + 1) told
+
+-- of a text at the front of what the file holds
+pub record TellsOfFile (known : Option (List ℕ)) (file : List ℕ) (number : ℕ) (told : List ℕ)
+    : Type 0 where
+  pub read : List ℕ
+  pub front : IsFront known read
+  pub tells : TellsIn read file number told
+
 -- ---- an open file
 
 -- of an open file, in which these bytes are still to be looked at, these samples were read
@@ -62,6 +99,7 @@ pub record IsBehind {R : Type 0} (remaining : R → Option (List ℕ)) (known : 
   pub consumed : Consumes known (remaining (inner_of file.input)) (text ++ bytes)
   pub read : HasRead text values file.reader
   pub counted : file.count ≡ length values
+  pub kept : IfSome file.text (IsKeptOf text)
 
 -- of an open file these samples were read, and it may be that the record behind them is none
 pub record IsOpenFile {R : Type 0} (remaining : R → Option (List ℕ)) (known : Option (List ℕ))
@@ -70,11 +108,15 @@ pub record IsOpenFile {R : Type 0} (remaining : R → Option (List ℕ)) (known 
   pub good : file.is_bad ≡ false → IsBehind remaining known values [] file
   pub bad : file.is_bad ≡ true → HasBadFrom known (length values + 1)
   pub counted : file.count ≡ length values
+  pub kept : IfSome file.text (IsTextOfFile known)
 
--- why no more samples come behind so many
-abbrev pub Lacks : Option (List ℕ) → ℕ → Lack → Type 0
-Lacks known count lack.ReadFault = ⊤
-Lacks known count (lack.BadRecord number) = (number ≡ count + 1) × HasBadFrom known number
+-- why no more samples come of a file behind so many: a read failed, or a record is none, of which
+-- this is told
+abbrev pub Lacks : Option (List ℕ) → List ℕ → ℕ → Lack → Type 0
+Lacks known file count lack.ReadFault = ⊤
+Lacks known file count (lack.BadRecord number told) =
+    (number ≡ count + 1) × HasBadFrom known number
+    × IfSome told (λ lines. TellsOfFile known file number lines.items)
 
 -- a read gave these samples behind others, and where it was not the last, more may come
 pub record PieceGives {R : Type 0} (remaining : R → Option (List ℕ)) (known : Option (List ℕ))

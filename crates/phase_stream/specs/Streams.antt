@@ -1,5 +1,7 @@
 -- What `phase stream` writes, and why it stops.
-use Rattle.std.specs.Prelude.{◌≡◌, ◌≢◌, ◌⊎◌, ◌<◌, ◌+◌, ℕ, ℤ, Bool, true, List, [], ◌∷◌, Option, Some, None, length, get_or, ⊤, string_bytes}
+use Rattle.std.specs.Prelude.{◌≡◌, ◌≢◌, ◌⊎◌, ◌<◌, ◌+◌, ℕ, ℤ, Bool, true, List, [], ◌∷◌, Some, None, IfSome, Vec, length, get_or, ⊤, string_bytes}
+use Rattle.std.specs.Global.{Global}
+use Rattle.std.specs.declared.option.Option.{Option}
 use Rattle.std.specs.List.{flat_map, list_all}
 use Rattle.std.specs.Io.KnownBytes.{Appends}
 use mathlib.Core.List.{IsPrefix}
@@ -43,7 +45,7 @@ use Rattle.stream_job.specs.stream_lists.Lists.{sinks_of}
 use Rattle.stream_job.specs.stream_lists.Meetings.{meeting_line}
 use Rattle.stream_job.specs.stream_lists.Ranges.{Fits, Where}
 use Rattle.phase_stream.specs.Sessions.{AllWait, StandsBefore, sink_list}
-use Rattle.phase_stream.specs.Sources.{HasBadFrom, HasComeOf}
+use Rattle.phase_stream.specs.Sources.{HasBadFrom, HasComeOf, TellsOfFile}
 
 -- ---- what came
 
@@ -152,16 +154,19 @@ pub record StopsKept (held : Known) (job : Job) (sink : ℕ) (old new : WriterSt
 
 -- ---- causes
 
--- the record behind the samples that came of the source of this name is none, and without more
--- samples no task makes an event
+-- the record behind the samples that came of the source of this name is none, of which this is
+-- told, and without more samples no task makes an event
 pub record EndsInRecord (held : Known) (job : Job) (named : List ℕ) (number : ℕ)
-    (samples : List (List ℤ)) (ended : ℕ → Bool) (moment : Moment) : Type 0 where
+    (told : Option (Vec ℕ Global)) (samples : List (List ℤ)) (ended : ℕ → Bool) (moment : Moment)
+    : Type 0 where
   pub task : ℕ
   pub source : ℕ
   pub there : IsSourceAt job task source
   pub named_is : named ≡ name_at job.graph (place.Task task)
   pub number_is : number ≡ length (get_or samples source []) + 1
   pub bad : HasBadFrom (held (file_at job.graph source)) number
+  pub tells : IfSome told (λ lines.
+      TellsOfFile (held (file_at job.graph source)) (file_at job.graph source) number lines.items)
   pub rest : AllWait job ended samples moment
 
 -- some task is live, and no task can move, with whatever samples go on behind those that came
@@ -187,7 +192,7 @@ abbrev pub StopsOf : Known → Job → ℕ → WriterState → WriterState → F
 StopsOf held job sink old new (failure.Graph (fault.Graph found) text) = ⊥
 StopsOf held job sink old new (failure.Graph (fault.BadSample named number told) text) =
     StopsKept held job sink old new
-    (λ samples ended m. EndsInRecord held job (string_bytes named) number samples ended m)
+    (λ samples ended m. EndsInRecord held job (string_bytes named) number told samples ended m)
 StopsOf held job sink old new (failure.Graph fault.ReadFault text) =
     StopsBehind held job sink old new (λ samples ended starts. ⊤)
 StopsOf held job sink old new (failure.Graph fault.OutOfMemory text) =
@@ -252,7 +257,6 @@ explained (failure.Graph (fault.Graph found) text) explain = of found.kind
     of : FaultKind → Explain
     of AnyMeets = No
     of kind = explain
-explained (failure.Graph (fault.BadSample named number told) text) explain = No
 explained found explain = explain
 
 -- it failed of a cause, which was told

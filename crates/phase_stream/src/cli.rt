@@ -136,10 +136,6 @@ fn explained(failure: &Failure<'_>, explain: Explain) -> Explain
 {
     match failure {
         Failure::Graph {
-            fault: JobFault::BadSample { .. },
-            ..
-        } => Explain::No,
-        Failure::Graph {
             fault: JobFault::Graph(found),
             ..
         } if found.kind == FaultKind::AnyMeets => Explain::No,

@@ -13,6 +13,7 @@
 
 mod cli;
 mod opens;
+mod record_text;
 mod session;
 mod sink;
 mod source;

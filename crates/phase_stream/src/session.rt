@@ -24,7 +24,7 @@ use crate::sink::Sink;
 use crate::source::{Lack, Room, Source};
 use crate::writers::write_to;
 use graph_commands::watched_io::{Explain, IoFault, Watched, WriteFailed};
-use graph_commands::{Failure, JobFault, stall_told};
+use graph_commands::{Failure, JobFault, OutputBuffer, stall_told};
 use std::alloc::{AllocError, Global};
 use std::io::{Read, Write};
 use stream_job::graph_base::Place;
@@ -78,6 +78,7 @@ impl<R: Read + Drop> Session<R> {
     fn write_left<W: Write, V: Write>(
         &self,
         number: usize,
+        buffer: &mut OutputBuffer,
         output: &mut Watched<W>,
         made: &mut Vec<Watched<V>>,
     ) -> Result<(), WriteFailed>
@@ -93,7 +94,13 @@ impl<R: Read + Drop> Session<R> {
             number).failed ≡ true) }
     {
         match self.targets[number] {
-            Some(sink) => write_to(output, made, number, self.stream.values(sink.number)),
+            Some(sink) => write_to(
+                buffer,
+                output,
+                made,
+                number,
+                self.stream.values(sink.number),
+            ),
             None => Ok(()),
         }
     }
@@ -101,6 +108,7 @@ impl<R: Read + Drop> Session<R> {
     /// Writes the values of each sink that were not handed over.
     fn write_all<W: Write, V: Write>(
         &self,
+        buffer: &mut OutputBuffer,
         output: &mut Watched<W>,
         made: &mut Vec<Watched<V>>,
     ) -> Result<(), WriteFailed>
@@ -116,7 +124,7 @@ impl<R: Read + Drop> Session<R> {
             (writers_at W.contents V.contents output.new made.new.items)) }
     {
         for number in 0..self.targets.len() {
-            self.write_left(number, output, made)?;
+            self.write_left(number, buffer, output, made)?;
         }
         Ok(())
     }
@@ -124,6 +132,7 @@ impl<R: Read + Drop> Session<R> {
     /// Writes the values of the sinks that were not handed over, and forgets those of all sinks.
     fn hand_over<W: Write, V: Write>(
         &mut self,
+        buffer: &mut OutputBuffer,
         output: &mut Watched<W>,
         made: &mut Vec<Watched<V>>,
     ) -> Result<(), WriteFailed>
@@ -138,7 +147,7 @@ impl<R: Read + Drop> Session<R> {
             (writers_at W.contents V.contents output.new made.new.items)) }
         ensures same { IsSameSession self.old self.new }
     {
-        self.write_all(output, made)?;
+        self.write_all(buffer, output, made)?;
         forget_all(&mut self.stream);
         Ok(())
     }
@@ -146,6 +155,7 @@ impl<R: Read + Drop> Session<R> {
     /// Goes on until no task can move, and writes what the sinks have then.
     pub fn turn<W: Write, V: Write>(
         &mut self,
+        buffer: &mut OutputBuffer,
         output: &mut Watched<W>,
         made: &mut Vec<Watched<V>>,
     ) -> Result<Stopped, IoFault>
@@ -176,7 +186,7 @@ impl<R: Read + Drop> Session<R> {
                 return Err(IoFault::OutOfMemory);
             }
         };
-        match self.hand_over(output, made) {
+        match self.hand_over(buffer, output, made) {
             Ok(()) => Ok(stop),
             Err(_) => {
                 self.kept_is_right();
@@ -192,6 +202,7 @@ impl<R: Read + Drop> Session<R> {
         files: &mut F,
         room: &mut Room,
         k: usize,
+        explain: Explain,
     ) -> Result<(), Lack>
         requires { MayStand R.remaining (F.file files.old) self.old }
         ensures ok { OnOk result ((held : Known) (old now : ℕ → Option (List ℕ))
@@ -211,7 +222,7 @@ impl<R: Read + Drop> Session<R> {
             return Err(Lack::ReadFault);
         };
         let name = self.stream.graph().file(k);
-        let piece = match source.read(alloc, files, name, room) {
+        let piece = match source.read(alloc, files, name, explain, room) {
             Ok(piece) => piece,
             Err(lack) => return Err(lack),
         };
@@ -271,7 +282,7 @@ impl<R: Read + Drop> Session<R> {
         ensures place { HasPlace result }
     {
         self.kept_is_right();
-        let Lack::BadRecord { number } = lack else {
+        let Lack::BadRecord { number, told } = lack else {
             return unread(alloc, JobFault::ReadFault);
         };
         if k >= self.sources.len() {
@@ -283,14 +294,7 @@ impl<R: Read + Drop> Session<R> {
             return unread(alloc, JobFault::OutOfMemory);
         }
         match String::from_str(alloc, graph.name(Place::Task(task))) {
-            Ok(name) => unread(
-                alloc,
-                JobFault::BadSample {
-                    name,
-                    number,
-                    told: None,
-                },
-            ),
+            Ok(name) => unread(alloc, JobFault::BadSample { name, number, told }),
             Err(_) => unread(alloc, JobFault::OutOfMemory),
         }
     }

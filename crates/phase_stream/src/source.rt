@@ -1,11 +1,13 @@
 //! The file of a source, read piece by piece.
-ghost use Rattle.std.specs.Prelude.{◌≡◌, ◌≤◌, ◌+◌, [], take, ℕ, ℤ, List, Option, Some, OnOk, IfOk, IfErr, length, false, true};
+ghost use Rattle.std.specs.Prelude.{◌≡◌, ◌≤◌, ◌+◌, ◌++◌, [], take, ℕ, ℤ, List, Option, Some, OnOk, IfOk, IfErr, IfSome, length, false, true};
 ghost use Rattle.std.specs.Io.KnownBytes.{IsAtEnd, Keeps};
 ghost use Rattle.graph_commands.specs.watched_io.Watched.{inner_of};
-ghost use Rattle.phase_stream.specs.Sources.{PieceGives, GivesSource, HasBadFrom, IsBehind, IsOpenFile, IsSource, Lacks};
+ghost use Rattle.phase_stream.specs.Sources.{PieceGives, GivesSource, HasBadFrom, IsBehind, IsOpenFile, IsSource, IsTextOfFile, Lacks, IsKeptOf, TellsOfFile};
 
 use crate::opens::Opens;
-use graph_commands::watched_io::{ReadFailed, Watched};
+use crate::record_text::RecordText;
+use graph_commands::OutputBuffer;
+use graph_commands::watched_io::{Explain, ReadFailed, Watched};
 use sample_pieces::graph_lang::text_laws;
 use sample_pieces::{Found, SampleReader, laws};
 use std::alloc::Global;
@@ -15,19 +17,21 @@ use std::io::Read;
 /// for.
 pub const PIECE: usize = 8_192;
 
-/// What a piece is read into, and its samples.
+/// What a piece is read into, and its samples; and what the text of values is collected in.
 #[derive(Drop)]
 pub struct Room {
     pub piece: [u8; PIECE],
     pub values: [i64; PIECE],
+    pub text: OutputBuffer,
 }
 
 impl Room {
-    /// One that holds zeros.
+    /// One that holds zeros and no text.
     pub fn empty() -> Room {
         Room {
             piece: [0; PIECE],
             values: [0; PIECE],
+            text: OutputBuffer::new(),
         }
     }
 }
@@ -42,13 +46,19 @@ pub struct Piece {
 }
 
 /// Why a source got no more samples.
-#[derive(Clone, Copy, Debug, PartialEq, Eq)]
+#[derive(Debug, Drop)]
 pub enum Lack {
     /// Its file could not be opened, or a read failed, or there are more samples than a stream may
     /// have.
     ReadFault,
-    /// The record of this number, counted from 1, is no sample.
-    BadRecord { number: usize },
+    /// A record is no sample.
+    BadRecord {
+        /// Its number, counted from 1.
+        number: usize,
+        /// Where it stands and why it is none, as lines for a person; nothing where that is not
+        /// asked for, or memory ran out over them.
+        told: Option<Vec<u8>>,
+    },
 }
 
 impl From<ReadFailed> for Lack {
@@ -68,11 +78,14 @@ pub struct OpenFile<R> {
     reader: SampleReader,
     is_bad: bool,
     count: usize,
+    /// What a record that is no sample is told by, where that is asked for and memory did not run
+    /// out over it.
+    text: Option<RecordText>,
 }
 
 impl<R: Read + Drop> OpenFile<R> {
     /// Makes it of a file that was just opened.
-    pub fn new(reader: R) -> OpenFile<R>
+    pub fn new(alloc: Global, reader: R, explain: Explain) -> OpenFile<R>
         ensures { (known : Option (List ℕ)) → Keeps known (R.remaining reader)
             → IsOpenFile R.remaining known [] result }
     {
@@ -81,29 +94,34 @@ impl<R: Read + Drop> OpenFile<R> {
             reader: SampleReader::new(),
             is_bad: false,
             count: 0,
+            text: match explain {
+                Explain::No => None,
+                Explain::Yes => Some(RecordText::new(alloc)),
+            },
         }
     }
 
-    /// Reads on, once, or answers that no more samples can come.
-    pub fn read(&mut self, room: &mut Room) -> Result<Piece, Lack>
+    /// Reads on, once, or answers that no more samples can come of the file, which has this name.
+    pub fn read(&mut self, alloc: Global, name: &str, room: &mut Room) -> Result<Piece, Lack>
         ensures got { IfOk result (λ piece. (known : Option (List ℕ)) (values : List ℤ)
             → IsOpenFile R.remaining known values self.old
             → PieceGives R.remaining known values room.new.values piece self.new) }
         ensures lacks { IfErr result (λ lack. (known : Option (List ℕ)) (values : List ℤ)
-            → IsOpenFile R.remaining known values self.old → Lacks known (length values) lack) }
+            → IsOpenFile R.remaining known values self.old
+            → Lacks known name.now (length values) lack) }
     {
         if self.is_bad {
-            return Err(bad_record(self.count));
+            return Err(self.bad_record(alloc, name));
         }
         let bytes = self.input.read(room.piece.as_mut_slice())?;
         if bytes == 0 {
-            return self.end(room);
+            return self.end(alloc, name, room);
         }
-        self.pass(bytes, room)
+        self.pass(alloc, bytes, room)
     }
 
     /// Reads the samples of a piece of so many bytes.
-    fn pass(&mut self, bytes: usize, room: &mut Room) -> Result<Piece, Lack>
+    fn pass(&mut self, alloc: Global, bytes: usize, room: &mut Room) -> Result<Piece, Lack>
         requires { bytes ≤ length room.old.piece }
         ensures got { IfOk result (λ piece. (known : Option (List ℕ)) (values : List ℤ)
             → IsBehind R.remaining known values (take bytes room.old.piece) self.old
@@ -123,21 +141,22 @@ impl<R: Read + Drop> OpenFile<R> {
         };
         self.is_bad = taken.is_bad;
         self.count = count;
+        self.text = text_behind(alloc, self.text.take(), &room.piece[..bytes], taken.values);
         Ok(Piece {
             count: taken.values,
             is_last: false,
         })
     }
 
-    /// Reads the last sample, where the file has ended.
-    fn end(&self, room: &mut Room) -> Result<Piece, Lack>
+    /// Reads the last sample, where the file, which has this name, has ended.
+    fn end(&self, alloc: Global, name: &str, room: &mut Room) -> Result<Piece, Lack>
         ensures got { IfOk result (λ piece. (known : Option (List ℕ)) (values : List ℤ)
             → IsBehind R.remaining known values [] self.now
             → IsAtEnd (R.remaining (inner_of self.now.input))
             → PieceGives R.remaining known values room.new.values piece self.now) }
         ensures lacks { IfErr result (λ lack. (known : Option (List ℕ)) (values : List ℤ)
             → IsBehind R.remaining known values [] self.now
-            → Lacks known (length values) lack) }
+            → Lacks known name.now (length values) lack) }
     {
         match self.reader.end() {
             Found::Nothing => Ok(Piece {
@@ -151,19 +170,52 @@ impl<R: Read + Drop> OpenFile<R> {
                     is_last: true,
                 })
             }
-            Found::Bad => Err(bad_record(self.count)),
+            Found::Bad => Err(self.bad_record(alloc, name)),
+        }
+    }
+
+    /// The record behind the samples that came of the file, which has this name, is none.
+    fn bad_record(&self, alloc: Global, name: &str) -> Lack
+        ensures { (known : Option (List ℕ)) → HasBadFrom known (self.now.count + 1)
+            → IfSome self.now.text (IsTextOfFile known)
+            → Lacks known name.now self.now.count result }
+    {
+        match self.count.checked_add(1) {
+            Some(number) => Lack::BadRecord {
+                number,
+                told: self.told(alloc, name, number),
+            },
+            None => Lack::ReadFault,
+        }
+    }
+
+    /// Tells the record at hand, of this number in the file of this name, where that is asked for
+    /// and memory does not run out.
+    fn told(&self, alloc: Global, name: &str, number: usize) -> Option<Vec<u8>>
+        ensures { (known : Option (List ℕ)) → IfSome self.now.text (IsTextOfFile known)
+            → IfSome result (λ told. TellsOfFile known name.now number told.items) }
+    {
+        match &self.text {
+            Some(text) => text.told(alloc, name, number).ok(),
+            None => None,
         }
     }
 }
 
-/// The record behind so many samples is none.
-fn bad_record(count: usize) -> Lack
-    ensures { (known : Option (List ℕ)) → HasBadFrom known (count + 1)
-        → Lacks known count result }
+/// What a record is told by, behind a piece in which so many records end, where it was kept.
+fn text_behind(
+    alloc: Global,
+    text: Option<RecordText>,
+    piece: &[u8],
+    records: usize,
+) -> Option<RecordText>
+    ensures { (read : List ℕ) → IfSome text.entry (IsKeptOf read)
+        → IfSome result (IsKeptOf (read ++ piece.now)) }
 {
-    match count.checked_add(1) {
-        Some(number) => Lack::BadRecord { number },
-        None => Lack::ReadFault,
+    let mut text = text?;
+    match text.pass(alloc, piece, records) {
+        Ok(()) => Some(text),
+        Err(_) => None,
     }
 }
 
@@ -195,6 +247,7 @@ impl<R: Read + Drop> Source<R> {
         alloc: Global,
         files: &mut F,
         name: &str,
+        explain: Explain,
     ) -> Result<(), ReadFailed>
         ensures ok { OnOk result ((values : List ℤ)
             → IsSource R.remaining (F.file files.old name.now) values self.old
@@ -208,17 +261,18 @@ impl<R: Read + Drop> Source<R> {
         }
         self.was_opened = true;
         let reader = files.open(alloc, name)?;
-        self.file = Some(OpenFile::new(reader));
+        self.file = Some(OpenFile::new(alloc, reader, explain));
         Ok(())
     }
 
     /// Reads on of the file of this name, once, which is opened before where it was not; and closes
-    /// it where it has ended.
+    /// it where it has ended. Where a record is explained, it is told with the lack.
     pub fn read<F: Opens<Reader = R>>(
         &mut self,
         alloc: Global,
         files: &mut F,
         name: &str,
+        explain: Explain,
         room: &mut Room,
     ) -> Result<Piece, Lack>
         ensures got { IfOk result (λ piece. (values : List ℤ)
@@ -227,15 +281,15 @@ impl<R: Read + Drop> Source<R> {
             self.new) }
         ensures lacks { IfErr result (λ lack. (values : List ℤ)
             → IsSource R.remaining (F.file files.old name.now) values self.old
-            → Lacks (F.file files.old name.now) (length values) lack) }
+            → Lacks (F.file files.old name.now) name.now (length values) lack) }
         ensures task { self.new.task ≡ self.old.task }
         ensures same { (other : List ℕ) → F.file files.new other ≡ F.file files.old other }
     {
-        self.open(alloc, files, name)?;
+        self.open(alloc, files, name, explain)?;
         let Some(file) = &mut self.file else {
             return Err(Lack::ReadFault);
         };
-        let piece = file.read(room)?;
+        let piece = file.read(alloc, name, room)?;
         if piece.is_last {
             self.file = None;
         }

@@ -176,7 +176,7 @@ fn go<'a, W: Write, F: Opens>(
 {
     let mut room = Room::empty();
     for _ in 0..u64::MAX {
-        let stop = match session.turn(output, made) {
+        let stop = match session.turn(&mut room.text, output, made) {
             Ok(stop) => stop,
             Err(fault) => return Err(Failure::Io(fault)),
         };
@@ -188,7 +188,7 @@ fn go<'a, W: Write, F: Opens>(
             Stopped::Done => return Ok(()),
             Stopped::Hungry { source } => {
                 session.close_left();
-                if let Err(lack) = session.refill(alloc, files, &mut room, source) {
+                if let Err(lack) = session.refill(alloc, files, &mut room, source, explain) {
                     return Err(session.lacking(alloc, source, lack));
                 }
             }

@@ -10,15 +10,17 @@ ghost use Rattle.phase_stream.specs.Sessions.{WritesPrefixTo, WritesTo};
 
 use crate::opens::Opens;
 use graph_commands::watched_io::{IoFault, Watched, WriteFailed};
-use graph_commands::{path_beside, write_values};
+use graph_commands::{OutputBuffer, path_beside};
 use phase_words::StreamCall;
 use std::alloc::{AllocError, Global};
 use std::io::Write;
 use stream_job::graph_base::Graph;
 
 /// Writes values to a writer by its number: the output is number 0, and the files that were made
-/// stand behind it. Where there is no such writer they are thrown away.
+/// stand behind it. Where there is no such writer they are thrown away. Their text is collected in
+/// the buffer, of which what waited in it is forgotten.
 pub fn write_to<W: Write, V: Write>(
+    buffer: &mut OutputBuffer,
     output: &mut Watched<W>,
     made: &mut Vec<Watched<V>>,
     number: usize,
@@ -35,10 +37,10 @@ pub fn write_to<W: Write, V: Write>(
         ((writers_at W.contents V.contents output.new made.new.items number).failed ≡ true) }
 {
     if number == 0 {
-        return write_values(output, values);
+        return buffer.write_values(output, values);
     }
     match made.get_mut(number - 1) {
-        Some(writer) => write_values(writer, values),
+        Some(writer) => buffer.write_values(writer, values),
         None => Ok(()),
     }
 }

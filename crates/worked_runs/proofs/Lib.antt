@@ -5,6 +5,7 @@ pub mod NextTests
 pub mod OpeningTests
 pub mod PeerAlone
 pub mod RunTests
+pub mod Stopped
 pub mod Tests
 pub mod WorkedBlocks
 pub mod WorkedRun

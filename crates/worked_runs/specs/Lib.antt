@@ -5,4 +5,5 @@ pub mod WorkedFaults
 pub mod WorkedFeeds
 pub mod WorkedParts
 pub mod WorkedPlaces
+pub mod WorkedStops
 pub mod WorkedTurns

@@ -8,4 +8,5 @@ mod worked_faults;
 mod worked_feeds;
 mod worked_parts;
 mod worked_run;
+mod worked_stops;
 mod worked_turns;

@@ -1,5 +1,5 @@
 -- By the cause.
-use Rattle.std.proofs.Common.{◌≡◌, inl, inr, Some, None, slice_get, length, arith, refl, subst, rules}
+use Rattle.std.proofs.Common.{◌≡◌, inl, inr, Some, slice_get, length, arith, refl, subst, rules}
 use Rattle.std.proofs.lemmas.Option.{slice_get_read}
 use Rattle.phase_stream.specs.Sessions.{StandsLacking}
 use Rattle.phase_stream.proofs.Writing.{bad_stops, lacking_stops}
@@ -40,5 +40,5 @@ returns-in-Ok-clause-stops g c = λ held old new st.
     slice_get_read c.args.self.now.sources.items (length c.args.self.now.sources.items) c.args.k
     c.index.result.now refl (omega (arith, lt, many, long)) c.index.ensures in
     bad_stops held old new c.args.self.now c.args.k c.in-BadRecord.number c.index.result.now.task
-    c.in-Ok.name None c.unread-in-Ok.result c.kept_is_right.ensures.right
+    c.in-Ok.name c.in-BadRecord.told c.unread-in-Ok.result c.kept_is_right.ensures.right
     bad c.unread-in-Ok.ensures (bad.there c.index.result.now there) (search rules)

@@ -2,7 +2,7 @@
 use Rattle.std.proofs.Common.{◌≡◌, [], Some, length, get_or, slice_get, refl, arith}
 use Rattle.std.specs.Vec.{with_item}
 use Rattle.std.proofs.lemmas.Option.{slice_get_read}
-use Rattle.phase_stream.proofs.Refilling.{fed_last, fed_more, fed_of, fed_short, gives_as, known_as, within_so, lacks_as, lacks_none, lacks_so, not_less}
+use Rattle.phase_stream.proofs.Refilling.{fed_last, fed_more, fed_of, fed_short, gives_as, known_as, within_so, lacks_as, lacks_none, lacks_so, named_as, not_less}
 use Rattle.phase_stream.proofs.session.Session.refill.Goals as goal
 
 pub shared_ref_as_front-feed : goal.shared_ref_as_front-feed
@@ -154,7 +154,9 @@ returns-in-Err-clause-err g c = λ held old now hungry is stopped.
       sources = with_item c.args.self.now.sources c.args.k c.read.new.self;
     })
     c.args.k c.read.new.self other c.in-Err.lack hungry stopped there c.read.ensures.task refl refl refl
-    (lacks_as g.R.Read.remaining _ _ (get_or st.samples c.args.k []) other c.in-Err.lack known
+    (lacks_as g.R.Read.remaining _ _ _ _ (get_or st.samples c.args.k []) other c.in-Err.lack known
+    (named_as c.file-name.result.now c.graph-2.result.now c.args.self.now.stream.job.graph c.args.k
+    c.file-name.ensures.file c.graph-2.ensures)
     c.in-Err.ensures.lacks (st.sources c.args.k other there).1))
 
 pub returns-in_default-clause-err : goal.returns-in_default-clause-err

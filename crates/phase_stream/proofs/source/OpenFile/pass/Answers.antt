@@ -21,9 +21,11 @@ returns-clause-got g c = λ known values is.
       reader = c.read-taken.new.self;
       is_bad = taken.is_bad;
       count = c.in-Some.count;
+      text = c.text_behind.result;
     })
     (record { count = taken.values; is_last = false }) taken.bytes
     c.what_was_read_begins.ensures c.one_reading.ensures.apart is
     (c.read-taken.ensures.takes is.text values is.read) all refl
     (omega (arith, c.read-taken.ensures.values, c.read-taken.auto.out))
     (omega (arith, c.read-taken.ensures.values, long, size)) refl c.in-Some.ensures.1
+    (c.text_behind.ensures is.text is.kept)

@@ -19,7 +19,7 @@ returns-then-bytes-eq0-clause-got g c =
     IfOk-weaker c.end.result _ _
     (λ piece gives known values is. gives known values
     (read_on g.R.Read.remaining known values old (record old { input = c.read.new.self }) []
-    (is.good c.if-self.false) consumed refl refl)
+    (is.good c.if-self.false) consumed refl refl refl)
     (read.1 c.if-bytes-eq0.true some)) c.end.ensures.got
 
 pub returns-clause-got : goal.returns-clause-got
@@ -29,4 +29,4 @@ returns-clause-got g c =
     (λ piece gives known values is. gives known values
     (read_on g.R.Read.remaining known values old (record old { input = c.read.new.self })
     (take c.in_ok-bytes.bytes c.read.new.piece) (is.good c.if-self.false)
-    c.in_ok-bytes.ensures.bytes.0 refl refl)) c.pass.ensures.got
+    c.in_ok-bytes.ensures.bytes.0 refl refl refl)) c.pass.ensures.got
