@@ -3,7 +3,7 @@ ghost use Rattle.std.specs.Prelude.{◌≡◌, ◌<◌, ◌++◌, length, map, t
 ghost use Rattle.std.specs.List.{All, flat_map};
 ghost use Rattle.std.specs.Io.KnownBytes.{Appends};
 ghost use Rattle.stream_eval.specs.Results.{sink_output};
-ghost use Rattle.graph_commands.specs.OutputTexts.{heading_text, sink_text, start_text, text_of, value_text};
+ghost use Rattle.graph_commands.specs.OutputTexts.{heading_text, sink_text, text_of, value_text};
 ghost use Rattle.graph_commands.specs.Puts.{PutsBytes};
 ghost use Rattle.graph_show.specs.watched_io.Prefix.{AppendsPrefix};
 ghost use Rattle.graph_show.specs.watched_io.Watched.{has_failed_of, inner_of};
@@ -77,26 +77,6 @@ pub(crate) fn write_values_by<W: Write, T: ValueTexts>(
 }
 
 impl OutputBuffer {
-    /// Puts where a sink begins, of one that has a start.
-    fn put_start<W: Write>(
-        &mut self,
-        start: Option<u64>,
-        writer: &mut Watched<W>,
-    ) -> Result<(), WriteFailed>
-        ensures ok { OnOk result (PutsBytes (W.contents (inner_of writer.old))
-            (W.contents (inner_of writer.new)) self.old self.new (start_text start)) }
-        ensures err { OnErr result (AppendsPrefix (W.contents (inner_of writer.old))
-            (W.contents (inner_of writer.new)) (self.old ++ start_text start)) }
-        ensures failed { OnErr result (has_failed_of writer.new ≡ true) }
-        ensures same { OnOk result (has_failed_of writer.new ≡ has_failed_of writer.old) }
-    {
-        let Some(start) = start else {
-            return Ok(());
-        };
-        self.put(b" from ", writer)?;
-        self.put(Buffer::new().format(start).as_bytes(), writer)
-    }
-
     /// Puts the line of a sink's name, its start and its count.
     fn put_heading<W: Write>(
         &mut self,
@@ -113,11 +93,19 @@ impl OutputBuffer {
         ensures failed { OnErr result (has_failed_of writer.new ≡ true) }
         ensures same { OnOk result (has_failed_of writer.new ≡ has_failed_of writer.old) }
     {
-        self.put(name.as_bytes(), writer)?;
-        self.put_start(start, writer)?;
-        self.put(b" ", writer)?;
-        self.put(Buffer::new().format(count).as_bytes(), writer)?;
-        self.put(b"\n", writer)
+        let mut numbers = (Buffer::new(), Buffer::new());
+        let count = numbers.0.format(count);
+        match start {
+            Some(start) => {
+                let start = numbers.1.format(start);
+                let texts = [name, " from ", start, " ", count, "\n"];
+                self.put_texts(texts.as_slice(), writer)
+            }
+            None => {
+                let texts = [name, " ", count, "\n"];
+                self.put_texts(texts.as_slice(), writer)
+            }
+        }
     }
 
     /// Puts values, each on a line of its own.

@@ -1,6 +1,7 @@
 //! Text that is collected, so that a writer is called once for many lines.
 ghost use Rattle.std.specs.Prelude.{◌≡◌, ◌≤◌, ◌++◌, ◌+◌, ◌∷◌, List, ℕ, [], length, take, true, decimal, OnOk, OnErr};
 ghost use Rattle.std.specs.Io.KnownBytes.{Appends};
+ghost use Rattle.std.specs.List.{flat_map};
 ghost use Rattle.graph_commands.specs.Puts.{PutsBytes};
 ghost use Rattle.graph_commands.specs.OutputTexts.{value_text};
 ghost use Rattle.graph_show.specs.watched_io.declared.text.TheConstants.{CHUNK_MAX};
@@ -180,5 +181,26 @@ impl OutputBuffer {
             return Ok(());
         }
         writer.send(bytes)
+    }
+
+    /// Puts texts, one behind the other.
+    pub(crate) fn put_texts<W: Write>(
+        &mut self,
+        texts: &[&str],
+        writer: &mut Watched<W>,
+    ) -> Result<(), WriteFailed>
+        ensures ok { OnOk result (PutsBytes (W.contents (inner_of writer.old))
+            (W.contents (inner_of writer.new)) self.old self.new
+            (flat_map (λ text. text.now) texts.now)) }
+        ensures err { OnErr result (AppendsPrefix (W.contents (inner_of writer.old))
+            (W.contents (inner_of writer.new))
+            (self.old ++ flat_map (λ text. text.now) texts.now)) }
+        ensures failed { OnErr result (has_failed_of writer.new ≡ true) }
+        ensures same { OnOk result (has_failed_of writer.new ≡ has_failed_of writer.old) }
+    {
+        for text in texts {
+            self.put(text.as_bytes(), writer)?;
+        }
+        Ok(())
     }
 }
