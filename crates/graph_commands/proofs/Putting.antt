@@ -82,3 +82,11 @@ take_on n k xs =
     let whole : take n (take (n + k) xs) ++ drop n (take (n + k) xs) ≡ take (n + k) xs =
     take-append-drop n (take (n + k) xs) in
     sym (rw (take-take n (n + k) xs (omega arith), drop-take n k xs) at whole)
+
+-- six texts, one behind the other
+pub six_texts : (a b c d e f : List ℕ)
+    → a ++ (b ++ (c ++ (d ++ (e ++ f)))) ≡ (((a ++ (b ++ c)) ++ d) ++ e) ++ f
+six_texts a b c d e f =
+    sym (append_assoc ((a ++ (b ++ c)) ++ d) e f ∙ (append_assoc (a ++ (b ++ c)) d (e ++ f)
+    ∙ (append_assoc a (b ++ c) (d ++ (e ++ f))
+    ∙ ap (λ l. a ++ l) (append_assoc b c (d ++ (e ++ f))))))
