@@ -55,8 +55,7 @@ impl Did {
     }
 }
 
-/// A gate that counts what each task of a job does, by a clock; or that counts nothing, where that
-/// is not asked for.
+/// A gate that counts what each task of a job does, by a clock, where that is asked for.
 #[derive(Drop)]
 pub(crate) struct Counts<'a, C> {
     clock: &'a C,
@@ -97,6 +96,15 @@ impl<'a, C: Clock> Counts<'a, C> {
         })
     }
 
+    /// Returns this, where counts are asked for.
+    pub fn asked(&self) -> Option<&Counts<'a, C>> {
+        if self.tasks.is_empty() {
+            None
+        } else {
+            Some(self)
+        }
+    }
+
     /// Returns a line for each task of a run that has ended, by so many workers; nothing where they
     /// were not counted, or memory runs out.
     pub fn lines(&self, alloc: Global, job: &Job, workers: usize) -> Vec<u8>
@@ -128,9 +136,6 @@ impl<'a, C: Clock> Gate for Counts<'a, C> {
 
 impl<'a, C: Clock> Watch for Counts<'a, C> {
     fn begins(&self) -> Option<Instant> {
-        if self.tasks.is_empty() {
-            return None;
-        }
         Instant::now(self.clock).ok()
     }
 

@@ -82,7 +82,7 @@ fn run_asked<'a, H: Threads + Wait + Clock + Sync, W: Write>(
     let Ok(counts) = Counts::new(rt, alloc, &job, call.counts) else {
         return Err(Failure::Io(IoFault::OutOfMemory));
     };
-    match run_watched(rt, alloc, &job, call.workers, &counts) {
+    match run_watched(rt, alloc, &job, call.workers, counts.asked()) {
         Ok(lines) => match write_sinks(output, &texts, &job, &lines, sink) {
             Ok(()) => Ok(counts.lines(alloc, &job, call.workers)),
             Err(_) => Err(Failure::Io(IoFault::WriteFault)),

@@ -18,7 +18,7 @@ use stream_tasks::graph_base::Place;
 use stream_tasks::stream_eval::{EvalFault, Lines, eval};
 use stream_tasks::stream_lists::{Job, Stand};
 use stream_tasks::stream_members::{AnyPhaser, AnyReg};
-use stream_tasks::{Gate, Run, open_phasers};
+use stream_tasks::{Gate, Open, Run, open_phasers};
 use thiserror::Error;
 use worker_pool::Fault;
 
@@ -127,12 +127,30 @@ pub fn run<R: Threads + Wait + Sync, G: Gate + Sync>(
     ensures too_big { (place : PlaceValue) (n : ℕ) → result ≡ Err (RunFault.TooBig place n)
         → first_too_big job.now ≡ Some (place, n) }
 {
-    run_watched(rt, alloc, job, workers, &Unwatched { gate })
+    run_by(rt, alloc, job, workers, &Unwatched { gate })
 }
 
-/// Runs a job as `run` does, and calls the gate around each turn of a task, too. It takes memory as
-/// that does, and waits.
+/// Runs a job as `run` does, and calls the gate, where there is one, around each turn of a task,
+/// too. It takes memory as that does, and waits.
 pub fn run_watched<R: Threads + Wait + Sync, G: Watch + Sync>(
+    rt: &R,
+    alloc: Global,
+    job: &Job,
+    workers: usize,
+    gate: Option<&G>,
+) -> Result<Vec<Lines>, RunFault>
+    ensures done { IfOk result (λ lines. AreLinesOf job.now lines.items) }
+    ensures too_big { (place : PlaceValue) (n : ℕ) → result ≡ Err (RunFault.TooBig place n)
+        → first_too_big job.now ≡ Some (place, n) }
+{
+    match gate {
+        Some(gate) => run_by(rt, alloc, job, workers, gate),
+        None => run(rt, alloc, job, workers, &Open),
+    }
+}
+
+/// Runs a job by so many worker threads, which call the gate.
+fn run_by<R: Threads + Wait + Sync, G: Watch + Sync>(
     rt: &R,
     alloc: Global,
     job: &Job,
