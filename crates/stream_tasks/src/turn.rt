@@ -45,7 +45,7 @@ impl<'a> TaskState<'a> {
             return self.leave_next(job);
         }
         if !self.made.is_empty() {
-            return self.put_made(job);
+            return self.go_on_made(job, gate);
         }
         if !self.deal.values.is_empty() {
             return self.put_share(job);
@@ -93,7 +93,7 @@ impl<'a> TaskState<'a> {
     }
 
     /// Puts all that its filter has made.
-    fn put_made(&mut self, job: &Job) -> Went
+    pub fn put_made(&mut self, job: &Job) -> Went
         requires task { (spots : ℕ → Spot) × IsTask job.now spots self.old }
         requires met { self.old.met ≡ false }
         requires over { self.old.over ≡ false }
@@ -170,6 +170,7 @@ impl<'a> TaskState<'a> {
         match kind_of(job, self.number) {
             Kind::Source => self.put_samples(job, gate),
             Kind::Split => self.take_deal(job, gate),
+            Kind::Join => self.begin_join(job, gate),
             _ => self.first_wait(job, gate),
         }
     }
@@ -274,7 +275,7 @@ pub fn all_fit(outcomes: &[Outcome]) -> bool
 }
 
 /// Whether an outcome is out of range.
-fn is_too_big(outcome: Outcome) -> bool
+pub fn is_too_big(outcome: Outcome) -> bool
     ensures { result ≡ is_too_big outcome }
 {
     matches!(outcome, Outcome::TooBig)
