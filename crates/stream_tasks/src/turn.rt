@@ -92,7 +92,7 @@ impl<'a> TaskState<'a> {
         }
     }
 
-    /// Puts all that its filter has made.
+    /// Puts all that it has made.
     pub fn put_made(&mut self, job: &Job) -> Went
         requires task { (spots : ℕ → Spot) × IsTask job.now spots self.old }
         requires met { self.old.met ≡ false }
@@ -202,11 +202,12 @@ impl<'a> TaskState<'a> {
         }
     }
 
-    /// Begins steps of a task that is neither a source nor a splitter, by their first wait.
+    /// Begins steps of a filter, a peer or a sink, by their first wait.
     fn first_wait<G: Gate>(&mut self, job: &Job, gate: &G) -> Went
         requires step { MayStep job.now self.old }
         requires kind { (task_at job.now.graph self.old.number).kind ≢ kind.Source }
         requires split { (task_at job.now.graph self.old.number).kind ≢ kind.Split }
+        requires join { (task_at job.now.graph self.old.number).kind ≢ kind.Join }
         ensures { KeepsTask job.now self.old self.new }
     {
         let steps = self.steps(job, gate) as usize;
