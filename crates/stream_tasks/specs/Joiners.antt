@@ -10,7 +10,7 @@ use Rattle.stream_tasks.specs.declared.task_state.TaskState.{TaskState}
 
 -- a joiner that may take the value of its next step, whatever it has taken and not put: `until`
 -- allows the step, and there is room for the value
-pub record MayTake (job : Job) (s : TaskState) : Type 0 where
+pub record MayTakeNext (job : Job) (s : TaskState) : Type 0 where
   pub spots : ℕ → Spot
   pub task : IsTask job spots s
   pub met : s.met ≡ false

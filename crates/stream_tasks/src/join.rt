@@ -5,7 +5,7 @@ ghost use Rattle.graph_runs.specs.graph_base.Graphs.{task_at};
 ghost use Rattle.graph_runs.specs.graph_base.declared.line.Kind.TheVariants as kind;
 ghost use Rattle.stream_members.specs.Members.{Spot};
 ghost use Rattle.stream_tasks.specs.Children.{MayStep};
-ghost use Rattle.stream_tasks.specs.Joiners.{MayTake};
+ghost use Rattle.stream_tasks.specs.Joiners.{MayTakeNext};
 ghost use Rattle.stream_tasks.specs.Tasks.{IsTask, IsWhole, KeepsTask};
 
 use crate::gate::Gate;
@@ -64,7 +64,7 @@ impl<'a> TaskState<'a> {
     /// Takes the value of the next step of a joiner. Where none is there, and it has taken others,
     /// it puts these.
     fn take_next(&mut self, job: &Job) -> Went
-        requires { MayTake job.now self.old }
+        requires { MayTakeNext job.now self.old }
         ensures { KeepsTask job.now self.old self.new }
     {
         let Some(begun) = self.begun.checked_add(1) else {
