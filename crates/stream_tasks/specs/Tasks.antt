@@ -92,8 +92,8 @@ HasGivenNumbers job m children = (i : ℕ) (child : Child) → slice_get childre
 
 -- ---- what is owed
 
--- the kinds whose steps may owe several values on their output: what a filter makes of a block, and
--- what a joiner has taken
+-- the kinds whose steps may owe several values on their one output: what a filter makes of a block,
+-- and what a joiner has taken value by value
 abbrev pub MakesMany : Kind → Type 0
 MakesMany Fir = Unit {0}
 MakesMany Join = Unit {0}
@@ -160,7 +160,8 @@ abbrev pub sends_room : Job → ℕ → Places → ℕ
 sends_room job t places = room_for (phaser_at job.graph (output_at job t 0)).op places
 
 -- the places of a task for the steps of one event: for so many of its own accord, and for a block
--- of its line. Each step finds a place for the outcome of a wait, and for the send of a signal
+-- of its line, or, of a joiner, for so many that it puts by one. Each step finds a place for the
+-- outcome of a wait, and for the send of a signal
 pub record HasStepPlaces (job : Job) (s : TaskState) : Type 0 where
   pub most : (task_at job.graph s.number).kind ≢ Split
       → (task_at job.graph s.number).kind ≢ Join → IsMost job s.number s.most

@@ -24,7 +24,8 @@ pub struct TaskState<'a> {
     pub samples: &'a [i64],
     /// How many steps it makes in one event at most: a block of its line, or as many as follow.
     pub most: usize,
-    /// How many steps it makes in one event of its own accord, at most.
+    /// How many steps it makes in one event of its own accord, at most; of a joiner, how many it
+    /// puts by one.
     pub own: u64,
     /// How many steps it has begun.
     pub begun: u64,
