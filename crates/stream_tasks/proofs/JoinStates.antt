@@ -35,6 +35,7 @@ use Rattle.stream_tasks.specs.declared.hold.Hold.TheVariants.{On, Gone}
 use Rattle.stream_tasks.specs.declared.task_state.TaskState.{TaskState}
 use Rattle.stream_tasks.proofs.EndingLemmas.{came}
 use Rattle.stream_tasks.proofs.Holding.{on_after, sees_own}
+use Rattle.stream_tasks.proofs.Keeping.{places_stay}
 use Rattle.stream_tasks.proofs.JoinSteps.{join_begins, join_has_none, join_takes}
 use Rattle.stream_tasks.proofs.Turning.{FitPlaces, as_it_is, goes, held, state_moves, task_sees, whole_moves}
 use Rattle.stream_tasks.proofs.Waiting.{answered_on, input_on}
@@ -205,3 +206,48 @@ pub ended_sees : (old new : Hold) → HoldGoesOn HasRunOut old new → HoldGoesO
 ended_sees (On old) (On new) g = g.seen
 ended_sees (On old) Gone g = absurd g
 ended_sees Gone new g = g
+
+-- a task whose step a worker has entered
+pub task_enters : (job : Job) (spots : ℕ → Spot) (s : TaskState) (entered : Bool)
+    → IsTask job spots s → IsTask job spots (record s { entered = entered })
+task_enters job spots s entered task = record {
+  whole = record {
+    graph = task.whole.graph;
+    there = task.whole.there;
+    samples = task.whole.samples;
+    numbers = task.whole.numbers;
+    holds = task.whole.holds;
+    children = task.whole.children;
+    staying = task.whole.staying;
+    room = task.whole.room;
+    places = places_stay job s (record s { entered = entered }) refl refl refl refl refl refl refl
+        task.whole.places;
+    makers = task.whole.makers;
+    others = task.whole.others;
+    splitters = task.whole.splitters;
+    dealers = task.whole.dealers;
+  };
+  stands = λ met.
+      let m = (task.stands met).0 in
+      let at = (task.stands met).1 in (
+        m,
+        record {
+          part = at.part;
+          own = at.own;
+          knows = at.knows;
+          place = at.place;
+          deals = at.deals;
+          start = at.start;
+          holds = at.holds;
+          filter = at.filter;
+          lines = at.lines;
+          given = at.given;
+          at_end = λ over. let end = at.at_end over in record {
+            ended = end.ended;
+            nothing_owed = end.nothing_owed;
+            nothing_dealt = end.nothing_dealt;
+            children = end.children;
+          };
+        },
+      );
+}
