@@ -131,7 +131,7 @@ deal_fits job s begun entered outcomes places deal whole split many sends few ro
   few_made = whole.places.few_made;
   outcomes = many;
   sends = sends;
-  filters = λ fir. refl;
+  makers = λ many. refl;
   others = whole.others;
   few_dealt = few;
   deal = λ is. room;
@@ -203,7 +203,7 @@ owes_by_deal : (job : Job) (s : TaskState) → IsWhole job s
     → owed_by s.owed s.made.items ≡ turns.nothing
 owes_by_deal job s whole split =
     ap (λ o. owed_by o s.made.items) (whole.splitters split)
-    ∙ ap (λ l. owed_by Nothing l) (whole.others (λ fir. (let no = sym split ∙ fir in cc)))
+    ∙ ap (λ l. owed_by Nothing l) (whole.others (λ many. rw split at many))
 
 module _ (job : Job) (spots : ℕ → Spot) (m : Moment) (s : TaskState) (k p : ℕ)
     (old new : AnyMember) (places : Places) (deal : Deal) (whole : IsWhole job s)
@@ -379,7 +379,7 @@ task_gathers job spots s deal values turn room task = record {
       deal = λ split. room;
       served = whole.places.served;
     };
-    filters = whole.filters;
+    makers = whole.makers;
     others = whole.others;
     splitters = whole.splitters;
     dealers = λ apart. values ∙ whole.dealers apart;

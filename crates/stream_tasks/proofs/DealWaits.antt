@@ -46,7 +46,7 @@ pub record SplitWaits (job : Job) (before after : Moment) (t p n : ℕ) (outcome
   pub may : MayBeginTo job before t (before.begun t + length outcomes)
 
 -- what was made before begins what is made after
-made_more : (job : Job) (before after : Moment) (t j : ℕ) (put : List ℤ)
+pub made_more : (job : Job) (before after : Moment) (t j : ℕ) (put : List ℤ)
     → IsTaskLine job.graph t (task_at job.graph t) → TaskRan job before t
     → j < length (signalled_by (task_at job.graph t)) → before.begun t ≤ after.begun t
     → ((k : ℕ) → k < length (task_at job.graph t).inputs

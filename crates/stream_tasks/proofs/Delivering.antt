@@ -37,7 +37,7 @@ goes_on job spots i seed old new child task has = subst (IsTask job spots) (sym 
     room = whole.room;
     places = places_stay job old (record old { child_holds = seed.holds }) refl refl refl
         refl refl refl refl whole.places;
-    filters = whole.filters;
+    makers = whole.makers;
     others = whole.others;
     splitters = whole.splitters;
     dealers = whole.dealers;
@@ -144,7 +144,7 @@ module _ (job : Job) (spots : ℕ → Spot) (i : ℕ) (seed old new child : Task
     staying = λ over. ap length ready.seed.lefts;
     room = let wide = ready.room.lefts in let few = registered.few in omega arith;
     places = places_stay job seed made refl refl refl refl refl refl refl ready.seed.places;
-    filters = λ filter. ready.seed.owed;
+    makers = λ many. ready.seed.owed;
     others = λ other. ready.seed.made;
     splitters = λ split. ready.seed.owed;
     dealers = λ other. ready.seed.dealt;

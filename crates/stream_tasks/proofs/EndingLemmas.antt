@@ -74,7 +74,7 @@ both_right true b e = e
 both_right false b e = absurd (let no : false ≡ true = e in cc)
 
 -- a child that comes now has its parent in its line, at this step
-came : (t steps : ℕ) (parent : Option Parent) → comes_by t steps parent ≡ true
+pub came : (t steps : ℕ) (parent : Option Parent) → comes_by t steps parent ≡ true
     → (u : Parent) × (parent ≡ Some u) × (u.task ≡ t) × (u.at ≡ steps)
 came t steps None e = absurd (let no : false ≡ true = e in cc)
 came t steps (Some u) e = (u, refl, eqb-true u.task t (both_left (u.task == t) (u.at == steps) e), eqb-true u.at steps (both_right (u.task == t) (u.at == steps) e))
@@ -112,7 +112,7 @@ over_whole job s whole = record {
   room = whole.room;
   places = places_stay job s (record s { over = true }) refl refl refl refl refl refl refl
       whole.places;
-  filters = whole.filters;
+  makers = whole.makers;
   others = whole.others;
   splitters = whole.splitters;
   dealers = whole.dealers;
@@ -218,7 +218,7 @@ runs_out job spots s k p old new lines entered outcomes met going owes never fir
               holds = with_item s.holds k new;
             })
             refl refl refl refl refl refl many whole.places;
-        filters = whole.filters;
+        makers = whole.makers;
         others = whole.others;
         splitters = whole.splitters;
         dealers = whole.dealers;
@@ -353,7 +353,7 @@ task_leaves job spots s p old new left lefts met over few here looked g more roo
         places = places_stay job s
             (record s { holds = with_item s.holds (length s.lefts.items) new; lefts = lefts })
             refl refl refl refl refl refl refl whole.places;
-        filters = whole.filters;
+        makers = whole.makers;
         others = whole.others;
         splitters = whole.splitters;
         dealers = whole.dealers;
@@ -442,7 +442,7 @@ task_held job spots s holds same task = record {
       room = whole.room;
       places = places_stay job s (record s { holds = holds }) refl refl refl refl refl refl refl
           whole.places;
-      filters = whole.filters;
+      makers = whole.makers;
       others = whole.others;
       splitters = whole.splitters;
       dealers = whole.dealers;
@@ -491,7 +491,7 @@ task_lines job spots s lines same task = record {
       room = whole.room;
       places = places_stay job s (record s { lines = lines }) refl refl refl refl refl refl refl
           whole.places;
-      filters = whole.filters;
+      makers = whole.makers;
       others = whole.others;
       splitters = whole.splitters;
       dealers = whole.dealers;

@@ -3,10 +3,12 @@ mod Taking
 mod Keeping
 mod Shares
 mod DealWaits
+mod JoinSteps
 mod Dealing
 mod Turning
 mod Waiting
 mod DealStates
+mod JoinStates
 mod EndingLemmas
 mod Gone
 mod ChildHolds

@@ -342,7 +342,7 @@ whole_keeps job s i k new kids child_holds before kid whole found is_kids task a
   places = places_stay job s
       (record s { holds = with_item s.holds k new; children = kids; child_holds = child_holds })
       refl refl refl refl refl refl refl whole.places;
-  filters = whole.filters;
+  makers = whole.makers;
   others = whole.others;
   splitters = whole.splitters;
   dealers = whole.dealers;

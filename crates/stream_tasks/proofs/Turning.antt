@@ -28,24 +28,25 @@ use Rattle.graph_runs.proofs.PartsLemmas.{with_history, seen, puts_values}
 use Rattle.graph_runs.specs.TaskEnds.{HasOwnCalls}
 use Rattle.graph_runs.proofs.CallsFollow.{calls_seen, calls_put}
 use Rattle.graph_runs.proofs.KnownOthers.{known_moved}
-use Rattle.graph_runs.proofs.FollowsPlace.{seen_follows, put_follows}
+use Rattle.graph_runs.proofs.FollowsPlace.{seen_follows}
 use Rattle.graph_runs.proofs.Signalling.{owed}
 use Rattle.graph_runs.proofs.Standing.{of_output}
 use Rattle.graph_runs.specs.graph_base.Registrations.{signalled_by}
-use Rattle.graph_runs.proofs.TellsNext.{next_values_are, owes_as}
+use Rattle.graph_runs.proofs.TellsNext.{owes_as}
 use Rattle.graph_runs.specs.Turned.{after_signals}
 use Rattle.graph_runs.specs.Steps.{HasFilter}
 use Rattle.graph_runs.specs.declared.owed.Owed.{Owed}
 use Rattle.graph_runs.specs.declared.owed.Owed.TheVariants.{Value, Nothing}
 use Rattle.stream_tasks.specs.Holds.{HoldGoesOn, HasSeenOthers, HasSendPlaces, MemberHasSignalled, signal_event}
 use Rattle.stream_tasks.specs.Deals.{HasDealRoom}
-use Rattle.stream_tasks.specs.Tasks.{DealsAt, IsOn, IsHeldOn, HasGivenNumbers, HasStepPlaces, IsOwnTaskAt, IsWhole, IsTask, SignalsBlocks, owed_by, place_of_state, sends_room}
+use Rattle.stream_tasks.specs.Tasks.{DealsAt, IsOn, IsHeldOn, HasGivenNumbers, HasStepPlaces, IsOwnTaskAt, IsWhole, IsTask, MakesMany, SignalsBlocks, owed_by, place_of_state, sends_room}
 use Rattle.stream_tasks.specs.declared.child.Child.{Child}
 use Rattle.stream_tasks.specs.declared.deal.Deal.{Deal}
 use Rattle.stream_tasks.specs.declared.hold.Hold.{Hold}
 use Rattle.stream_tasks.specs.declared.hold.Hold.TheVariants.{On, Gone}
 use Rattle.stream_tasks.specs.declared.task_state.TaskState.{TaskState}
 use Rattle.stream_tasks.proofs.Dealing.{deal_stays}
+use Rattle.stream_tasks.proofs.JoinSteps.{values_follow, values_next}
 use Rattle.stream_tasks.proofs.Holding.{sees_others, sees_own, on_after, holds_move}
 
 -- ---- what changes
@@ -95,15 +96,15 @@ as_it_is s = record {
 abbrev pub StayPlaces : Places → Places → Type 0
 StayPlaces old new = (op : Op) → room_for op new ≡ room_for op old
 
--- the places stay as many, a filter owes what it has made, and other tasks make nothing; the same
--- of a splitter and what it deals
+-- the places stay as many, a filter and a joiner owe what they have made, and other tasks make
+-- nothing; the same of a splitter and what it deals
 pub record FitPlaces (job : Job) (s : TaskState) (x : Changes) : Type 0 where
   pub made : x.made.cap ≡ s.made.cap
   pub few_made : length x.made.items ≤ s.most
   pub outcomes : length x.outcomes.items ≡ length s.outcomes.items
   pub sends : StayPlaces s.places x.places
-  pub filters : (task_at job.graph s.number).kind ≡ Fir → x.owed ≡ s.owed
-  pub others : (task_at job.graph s.number).kind ≢ Fir → x.made.items ≡ []
+  pub makers : MakesMany (task_at job.graph s.number).kind → x.owed ≡ s.owed
+  pub others : (MakesMany (task_at job.graph s.number).kind → ⊥) → x.made.items ≡ []
   pub few_dealt : length x.deal.values.items ≤ s.most
   pub deal : (task_at job.graph s.number).kind ≡ Split → HasDealRoom s.most x.deal
   pub splitters : (task_at job.graph s.number).kind ≡ Split → x.owed ≡ s.owed
@@ -217,8 +218,17 @@ owes_values job s owed whole owes some split =
     let none : owed_by s.owed s.made.items ≡ turns.nothing =
     ap (λ o. owed_by o s.made.items) (whole.splitters split)
     ∙ ap (owed_by Nothing)
-    (whole.others (λ fir. (let no : Split ≡ Fir = sym split ∙ fir in cc))) in
+    (whole.others (λ many. rw split at many)) in
     some (sym owes ∙ none)
+
+-- a task that owes something and has made nothing is no joiner
+pub no_joiner : (job : Job) (s : TaskState) (owed : turns.Owed) → IsWhole job s
+    → s.made.items ≡ [] → owed_by s.owed s.made.items ≡ owed → (owed ≡ turns.nothing → ⊥)
+    → (task_at job.graph s.number).kind ≢ Join
+no_joiner job s owed whole none owes some join =
+    let nothing_owed : owed_by s.owed s.made.items ≡ turns.nothing =
+    ap (λ o. owed_by o s.made.items) (whole.makers (rw join tt)) ∙ ap (owed_by Nothing) none in
+    some (sym owes ∙ nothing_owed)
 
 -- it has put the values that it owed on output j, phaser p
 pub state_puts : (job : Job) (spots : ℕ → Spot) (m : Moment) (s : TaskState) (j k p : ℕ)
@@ -245,7 +255,7 @@ state_puts job spots m s j k p vs old new owed made places whole few here out go
     let stands = at.place undealt in
     let able = whole.places.most apart in
     let next = subst (λ q. AreNextValues job m t j q vs) out
-    (next_values_are job m t j s.most vs (place_of_state s) whole.graph whole.there at.part able stands left owes) in
+    (values_next job m t j s.most vs (place_of_state s) whole.graph whole.there at.part able stands left owes) in
     let sees = sees_own job spots m t p (signal_event vs (phaser_at job.graph p).single) old new before on is_made.1 in
     let put : HasPut job m after t j p vs (m.begun t) now =
     puts_values job m t p n before whole.graph whole.there at.part j vs sees next in (
@@ -256,7 +266,7 @@ state_puts job spots m s j k p vs old new owed made places whole few here out go
           (calls_put job m after t p whole.graph whole.there j n (m.begun t) vs before sees put at.own)
           (λ none. subst (λ o. StandsUpTo s.most job after t (record { numbers = s.numbers.items; left = length s.lefts.items; begun = s.begun; owed = o }))
           (sym then)
-          (put_follows job m after t j p s.most vs (place_of_state s) now whole.graph whole.there at.part able stands left owes put))
+          (values_follow job m after t j p s.most vs (place_of_state s) now whole.graph whole.there at.part able stands left owes put))
           (λ some. absurd (some undealt))
           (on_after job spots m after t p now old new on is_made.1.same put.moved is_made.1.seen)
           (subst (λ taken. HasFilter (task_at job.graph t) s.filter taken) (sym (put.taken 0)) at.filter)
@@ -294,7 +304,7 @@ whole_moves job s k new x fit whole = record {
         subst (λ n. s.most ≤ n) (sym (fit.sends (phaser_at job.graph (output_at job s.number j)).op))
         (whole.places.served split several j lt);
   };
-  filters = λ fir. fit.filters fir ∙ whole.filters fir;
+  makers = λ many. fit.makers many ∙ whole.makers many;
   others = fit.others;
   splitters = λ split. fit.splitters split ∙ whole.splitters split;
   dealers = fit.dealers;
@@ -312,7 +322,7 @@ fits job s lines entered outcomes places many sends whole = record {
   few_made = whole.places.few_made;
   outcomes = many;
   sends = sends;
-  filters = λ fir. refl;
+  makers = λ many. refl;
   others = whole.others;
   few_dealt = whole.places.few_dealt;
   deal = whole.places.deal;
@@ -444,7 +454,7 @@ pub owes_value : (s : TaskState) (j : ℕ) (v : ℤ) → s.owed ≡ Value j (Ok 
 owes_value s j v owes none =
     ap (λ o. owed_by o s.made.items) owes ∙ ap (λ l. owed_by (Value j (Ok v)) l) none
 
--- it is no filter, so what it owes next fits
+-- it is neither a filter nor a joiner, so what it owes next fits
 pub value_fits : (job : Job) (s : TaskState) (j : ℕ) (v : ℤ) (owed : Owed) → IsWhole job s
     → s.owed ≡ Value j (Ok v) → FitPlaces job s (record (as_it_is s) { owed = owed })
 value_fits job s j v owed whole owes = record {
@@ -452,7 +462,8 @@ value_fits job s j v owed whole owes = record {
   few_made = whole.places.few_made;
   outcomes = refl;
   sends = λ op. refl;
-  filters = λ fir. absurd (let no : Nothing ≡ Value j (Ok v) = sym (whole.filters fir) ∙ owes in cc);
+  makers = λ many.
+      absurd (let no : Nothing ≡ Value j (Ok v) = sym (whole.makers many) ∙ owes in cc);
   others = whole.others;
   few_dealt = whole.places.few_dealt;
   deal = whole.places.deal;
@@ -461,7 +472,7 @@ value_fits job s j v owed whole owes = record {
   dealers = whole.dealers;
 }
 
--- a filter that has made these values owes them
+-- who has made these values owes them
 pub owes_made : (s : TaskState) → s.made.items ≢ []
     → owed_by s.owed s.made.items ≡ turns.values 0 (map (λ x. Ok x) s.made.items)
 owes_made s some = by s.made.items some
@@ -470,33 +481,47 @@ owes_made s some = by s.made.items some
     by [] none = absurd (none refl)
     by (v ∷ vs) more = refl
 
--- who has made something is a filter
-pub is_filter : (job : Job) (s : TaskState) → IsWhole job s → s.made.items ≢ []
-    → (task_at job.graph s.number).kind ≡ Fir
-is_filter job s whole some = by (task_at job.graph s.number).kind refl
+-- who has made something is a filter or a joiner
+pub makes_many : (job : Job) (s : TaskState) → IsWhole job s → s.made.items ≢ []
+    → MakesMany (task_at job.graph s.number).kind
+makes_many job s whole some = by (task_at job.graph s.number).kind refl
   where
     by : (k : Kind) → (task_at job.graph s.number).kind ≡ k
-        → (task_at job.graph s.number).kind ≡ Fir
-    by Fir e = e
-    by Source e = absurd (some (whole.others (λ fir. (let no : Source ≡ Fir = sym e ∙ fir in cc))))
-    by Split e = absurd (some (whole.others (λ fir. (let no : Split ≡ Fir = sym e ∙ fir in cc))))
-    by Join e = absurd (some (whole.others (λ fir. (let no : Join ≡ Fir = sym e ∙ fir in cc))))
-    by Peer e = absurd (some (whole.others (λ fir. (let no : Peer ≡ Fir = sym e ∙ fir in cc))))
-    by Sink e = absurd (some (whole.others (λ fir. (let no : Sink ≡ Fir = sym e ∙ fir in cc))))
+        → MakesMany (task_at job.graph s.number).kind
+    by Fir e = rw e tt
+    by Join e = rw e tt
+    by Source e = absurd (some (whole.others (λ many. rw e at many)))
+    by Split e = absurd (some (whole.others (λ many. rw e at many)))
+    by Peer e = absurd (some (whole.others (λ many. rw e at many)))
+    by Sink e = absurd (some (whole.others (λ many. rw e at many)))
+
+-- who makes many values and is no joiner is a filter
+pub filter_of : (kind : Kind) → MakesMany kind → kind ≢ Join → kind ≡ Fir
+filter_of Fir many apart = refl
+filter_of Join many apart = absurd (apart refl)
+filter_of Source many apart = absurd many
+filter_of Split many apart = absurd many
+filter_of Peer many apart = absurd many
+filter_of Sink many apart = absurd many
 
 -- once it has put them it owes nothing
 pub put_all_owes : (job : Job) (s : TaskState) (made : Vec ℤ Global) → IsWhole job s
     → s.made.items ≢ [] → made.items ≡ []
     → owed_by s.owed made.items ≡ owed_after_signal (task_at job.graph s.number) 0 s.made.items
 put_all_owes job s made whole some none =
-    let fir = is_filter job s whole some in
-    let after : owed_after_signal (task_at job.graph s.number) 0 s.made.items ≡ turns.nothing =
-    of_filter (task_at job.graph s.number) s.made.items fir in
-    ap (λ l. owed_by s.owed l) none ∙ ap (λ o. owed_by o []) (whole.filters fir) ∙ sym after
+    let many = makes_many job s whole some in
+    let task = task_at job.graph s.number in
+    ap (λ l. owed_by s.owed l) none ∙ ap (λ o. owed_by o []) (whole.makers many)
+    ∙ sym (after task s.made.items task.kind refl many)
   where
-    of_filter : (task : Task) (vs : List ℤ) → task.kind ≡ Fir
+    after : (task : Task) (vs : List ℤ) (kind : Kind) → task.kind ≡ kind → MakesMany kind
         → owed_after_signal task 0 vs ≡ turns.nothing
-    of_filter task vs e = rw e refl
+    after task vs Fir e many = rw e refl
+    after task vs Join e many = rw e refl
+    after task vs Source e many = absurd many
+    after task vs Split e many = absurd many
+    after task vs Peer e many = absurd many
+    after task vs Sink e many = absurd many
 
 pub made_fits : (job : Job) (s : TaskState) (made : Vec ℤ Global) (places : Places) → IsWhole job s
     → made.items ≡ [] → made.cap ≡ s.made.cap → StayPlaces s.places places
@@ -506,7 +531,7 @@ made_fits job s made places whole none room sends = record {
   few_made = subst (λ l. length l ≤ s.most) (sym none) (omega arith);
   outcomes = refl;
   sends = sends;
-  filters = λ fir. refl;
+  makers = λ many. refl;
   others = λ no. none;
   few_dealt = whole.places.few_dealt;
   deal = whole.places.deal;

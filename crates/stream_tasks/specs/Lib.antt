@@ -6,6 +6,7 @@ pub mod Gatherings
 pub mod Holds
 pub mod Children
 pub mod Deals
+pub mod Joiners
 pub mod Joinings
 pub mod Openings
 pub mod Registering

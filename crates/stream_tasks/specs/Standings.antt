@@ -38,8 +38,8 @@ owed_end job t steps (owed.Value output value) = end.Output output
 owed_end job t steps (owed.Exchange x) = end.Input 1
 owed_end job t steps owed.Nothing = first_end job t steps
 
--- the same, where what its filter has made comes first, on its first output, or what it deals, on
--- that output
+-- the same, where what it has made comes first, on its first output, or what it deals, on that
+-- output
 abbrev pub made_end : List ℤ → End → End
 made_end [] owed = owed
 made_end (v ∷ vs) owed = end.Output 0

@@ -2,7 +2,8 @@
 -- just the history that it has seen.
 use Rattle.std.specs.Prelude.{◌≡◌, ◌≢◌, ◌⊎◌, ℕ, ◌<◌, ◌≤◌, ℤ, List, [], ◌∷◌, length, map, get_or, slice_get, Some, Ok, true, false}
 use Rattle.graph_runs.specs.graph_base.declared.line.Parent.{Parent}
-use Rattle.graph_runs.specs.graph_base.declared.line.Kind.TheVariants.{Fir, Sink, Source, Split}
+use Rattle.graph_runs.specs.graph_base.declared.line.Kind.{Kind}
+use Rattle.graph_runs.specs.graph_base.declared.line.Kind.TheVariants.{Fir, Join, Sink, Source, Split}
 use Rattle.graph_runs.specs.graph_base.Graphs.{task_at, phaser_at}
 use Rattle.graph_runs.specs.graph_base.TaskLines.{IsGraph}
 use Rattle.stream_eval.specs.stream_lists.Jobs.{Job, samples_at}
@@ -91,7 +92,14 @@ HasGivenNumbers job m children = (i : ℕ) (child : Child) → slice_get childre
 
 -- ---- what is owed
 
--- what is owed of the steps of a task: what its filter has made, or else this
+-- the kinds whose steps may owe several values on their one output: what a filter makes of a block,
+-- and what a joiner has taken value by value
+abbrev pub MakesMany : Kind → Type 0
+MakesMany Fir = Unit {0}
+MakesMany Join = Unit {0}
+MakesMany kind = ⊥
+
+-- what is owed of the steps of a task: what such a one has made, or else this
 abbrev pub owed_by : Owed → List ℤ → turns.Owed
 owed_by owed [] = owed_of owed
 owed_by owed (v ∷ vs) = turns.values 0 (map (λ x. Ok x) (v ∷ vs))
@@ -145,16 +153,18 @@ pub record IsOwnTaskAt (job : Job) (spots : ℕ → Spot) (m : Moment) (s : Task
 -- whether task t signals blocks of phases
 abbrev pub SignalsBlocks : Job → ℕ → Type 0
 SignalsBlocks job t =
-    ((task_at job.graph t).kind ≡ Source) ⊎ ((task_at job.graph t).kind ≡ Fir)
+    ((task_at job.graph t).kind ≡ Source) ⊎ MakesMany (task_at job.graph t).kind
 
 -- for how many sends these places are, on the phaser of the output of task t
 abbrev pub sends_room : Job → ℕ → Places → ℕ
 sends_room job t places = room_for (phaser_at job.graph (output_at job t 0)).op places
 
 -- the places of a task for the steps of one event: for so many of its own accord, and for a block
--- of its line. Each step finds a place for the outcome of a wait, and for the send of a signal
+-- of its line, or, of a joiner, for so many that it puts by one. Each step finds a place for the
+-- outcome of a wait, and for the send of a signal
 pub record HasStepPlaces (job : Job) (s : TaskState) : Type 0 where
-  pub most : (task_at job.graph s.number).kind ≢ Split → IsMost job s.number s.most
+  pub most : (task_at job.graph s.number).kind ≢ Split
+      → (task_at job.graph s.number).kind ≢ Join → IsMost job s.number s.most
   pub own : 1 ≤ s.own
   pub own_few : s.own ≤ s.most
   pub block : (task_at job.graph s.number).block ≤ s.most
@@ -180,9 +190,9 @@ pub record IsWhole (job : Job) (s : TaskState) : Type 0 where
   -- what it has seen of each phaser finds room
   pub room : length (registrations_at job s.number) ≤ s.lefts.cap
   pub places : HasStepPlaces job s
-  -- a filter owes what it has made, and other tasks make nothing
-  pub filters : (task_at job.graph s.number).kind ≡ Fir → s.owed ≡ Nothing
-  pub others : (task_at job.graph s.number).kind ≢ Fir → s.made.items ≡ []
+  -- a filter and a joiner owe what they have made, and other tasks make nothing
+  pub makers : MakesMany (task_at job.graph s.number).kind → s.owed ≡ Nothing
+  pub others : (MakesMany (task_at job.graph s.number).kind → ⊥) → s.made.items ≡ []
   -- a splitter owes what it deals, and other tasks deal nothing
   pub splitters : (task_at job.graph s.number).kind ≡ Split → s.owed ≡ Nothing
   pub dealers : (task_at job.graph s.number).kind ≢ Split → DealsNothing s

@@ -27,19 +27,23 @@ const OWN_STEPS: u64 = 1024;
 /// as many, so that the task at the other end of the phaser has the other half meanwhile.
 const SMALL_BOUND: u64 = 64;
 
-/// How many steps task number `task` makes in one event of its own accord, at most: one, or more
-/// where its kind has blocks, and no more than the bound of each of its phasers.
+/// How many steps task number `task` makes in one event of its own accord, at most, or puts by one
+/// where it is a joiner: one, or more where its kind has blocks, and no more than the bound of each
+/// of its phasers.
 pub fn own_steps(job: &Job, task: usize) -> u64
     requires task { task < length job.now.graph.tasks }
     ensures some { 1 ≤ result }
-    ensures most { (task_at job.now.graph task).kind ≢ kind.Split → IsMost job.now task result }
+    ensures most { (task_at job.now.graph task).kind ≢ kind.Split
+        → (task_at job.now.graph task).kind ≢ kind.Join → IsMost job.now task result }
     ensures one_op { (task_at job.now.graph task).kind ≡ kind.Split → 2 ≤ result
         → HasOneOp job.now task }
 {
     match kind_of(job, task) {
-        Kind::Source | Kind::Fir | Kind::Sink => steps_within(least_bound(job, task)),
+        Kind::Source | Kind::Fir | Kind::Join | Kind::Sink => {
+            steps_within(least_bound(job, task))
+        }
         Kind::Split => split_steps(job, task),
-        Kind::Join | Kind::Peer => 1,
+        Kind::Peer => 1,
     }
 }
 
@@ -129,11 +133,11 @@ pub fn places_for(alloc: Global, job: &Job, task: usize, most: usize) -> Result<
 {
     let _lines = job.graph().tasks();
     match kind_of(job, task) {
-        Kind::Source | Kind::Fir | Kind::Split => {
+        Kind::Source | Kind::Fir | Kind::Split | Kind::Join => {
             let (_, phaser) = output_of(job, task, 0);
             Places::new(alloc, job.graph().phaser(phaser).op, most)
         }
-        Kind::Join | Kind::Peer | Kind::Sink => Places::new(alloc, Op::Sum, 0),
+        Kind::Peer | Kind::Sink => Places::new(alloc, Op::Sum, 0),
     }
 }
 

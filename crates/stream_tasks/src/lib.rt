@@ -37,6 +37,7 @@ mod ending;
 mod gate;
 mod held;
 mod hold;
+mod join;
 mod opening;
 mod run;
 mod seed;

@@ -24,15 +24,16 @@ pub struct TaskState<'a> {
     pub samples: &'a [i64],
     /// How many steps it makes in one event at most: a block of its line, or as many as follow.
     pub most: usize,
-    /// How many steps it makes in one event of its own accord, at most.
+    /// How many steps it makes in one event of its own accord, at most; of a joiner, how many it
+    /// puts by one.
     pub own: u64,
     /// How many steps it has begun.
     pub begun: u64,
     /// The phase at which it began, of a sink that joined now.
     pub start: u64,
-    /// What these steps owe next, of a task that is neither a filter nor a splitter.
+    /// What these steps owe next, of a source, a peer and a sink.
     pub owed: Owed,
-    /// What these steps owe, of a filter.
+    /// What these steps owe, of a filter, or of a joiner: what it has taken.
     pub made: Vec<i64>,
     /// What these steps owe, of a splitter, on all its outputs.
     pub deal: Deal,

@@ -45,7 +45,7 @@ impl<'a> TaskState<'a> {
             return self.leave_next(job);
         }
         if !self.made.is_empty() {
-            return self.put_made(job);
+            return self.go_on_made(job, gate);
         }
         if !self.deal.values.is_empty() {
             return self.put_share(job);
@@ -92,8 +92,8 @@ impl<'a> TaskState<'a> {
         }
     }
 
-    /// Puts all that its filter has made.
-    fn put_made(&mut self, job: &Job) -> Went
+    /// Puts all that it has made.
+    pub fn put_made(&mut self, job: &Job) -> Went
         requires task { (spots : ℕ → Spot) × IsTask job.now spots self.old }
         requires met { self.old.met ≡ false }
         requires over { self.old.over ≡ false }
@@ -170,6 +170,7 @@ impl<'a> TaskState<'a> {
         match kind_of(job, self.number) {
             Kind::Source => self.put_samples(job, gate),
             Kind::Split => self.take_deal(job, gate),
+            Kind::Join => self.begin_join(job, gate),
             _ => self.first_wait(job, gate),
         }
     }
@@ -201,11 +202,12 @@ impl<'a> TaskState<'a> {
         }
     }
 
-    /// Begins steps of a task that is neither a source nor a splitter, by their first wait.
+    /// Begins steps of a filter, a peer or a sink, by their first wait.
     fn first_wait<G: Gate>(&mut self, job: &Job, gate: &G) -> Went
         requires step { MayStep job.now self.old }
         requires kind { (task_at job.now.graph self.old.number).kind ≢ kind.Source }
         requires split { (task_at job.now.graph self.old.number).kind ≢ kind.Split }
+        requires join { (task_at job.now.graph self.old.number).kind ≢ kind.Join }
         ensures { KeepsTask job.now self.old self.new }
     {
         let steps = self.steps(job, gate) as usize;
@@ -274,7 +276,7 @@ pub fn all_fit(outcomes: &[Outcome]) -> bool
 }
 
 /// Whether an outcome is out of range.
-fn is_too_big(outcome: Outcome) -> bool
+pub fn is_too_big(outcome: Outcome) -> bool
     ensures { result ≡ is_too_big outcome }
 {
     matches!(outcome, Outcome::TooBig)

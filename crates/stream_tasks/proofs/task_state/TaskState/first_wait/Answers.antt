@@ -7,7 +7,7 @@ use Rattle.graph_runs.specs.graph_base.Graphs.{is_sink, task_at}
 use Rattle.stream_eval.specs.stream_lists.Lists.{is_sink_at, number}
 use Rattle.graph_runs.specs.Nexts.{registrations_at}
 use Rattle.stream_tasks.specs.Holds.{HoldGoesOn, WaitGave, MemberHasWaited, IsAtMost}
-use Rattle.stream_tasks.proofs.Turning.{task_sees, whole_moves, as_it_is, fits}
+use Rattle.stream_tasks.proofs.Turning.{filter_of, task_sees, whole_moves, as_it_is, fits}
 use Rattle.stream_tasks.proofs.Waiting.{task_takes, input_on}
 use Rattle.stream_tasks.proofs.EndingLemmas.{runs_out}
 use Rattle.stream_tasks.proofs.task_state.TaskState.first_wait.Goals as goal
@@ -63,8 +63,8 @@ returns-in_default g c = λ spots task.
       few_made = few_made;
       outcomes = c.get_into.ensures.places;
       sends = λ op. refl;
-      filters = λ fir. refl;
-      others = c.owed_after.ensures.others;
+      makers = λ many. refl;
+      others = λ no. c.owed_after.ensures.others (λ fir. no (rw fir tt));
       few_dealt = task.whole.places.few_dealt;
       deal = task.whole.places.deal;
       splitters = λ split. refl;
@@ -115,7 +115,7 @@ returns-in-Some g c = λ spots task.
       places = s.places;
       deal = s.deal;
     })
-    on.0 on.1 (sym c.input_of-p.ensures.phaser) step c.requires.kind c.requires.split c.first_input_of-k.ensures.input
+    on.0 on.1 (sym c.input_of-p.ensures.phaser) step c.requires.kind c.requires.split c.requires.join c.first_input_of-k.ensures.input
     (omega arith) c.steps-steps.ensures.may (omega arith) (omega arith) (omega arith)
     taken.fit taken.owes taken.filter
     (λ sink. (let yes : is_sink_at job t ≡ true = rw sink refl in
@@ -127,8 +127,9 @@ returns-in-Some g c = λ spots task.
       few_made = few_made;
       outcomes = many;
       sends = λ op. refl;
-      filters = λ fir. taken.filters fir ∙ sym (task.whole.filters fir);
-      others = c.owed_after.ensures.others;
+      makers = λ many. taken.filters (filter_of (task_at job.graph t).kind many c.requires.join)
+          ∙ sym (task.whole.makers many);
+      others = λ no. c.owed_after.ensures.others (λ fir. no (rw fir tt));
       few_dealt = task.whole.places.few_dealt;
       deal = task.whole.places.deal;
       splitters = λ split. absurd (c.requires.split split);

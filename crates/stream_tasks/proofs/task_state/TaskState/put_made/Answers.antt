@@ -1,9 +1,9 @@
--- The values are those that its filter has made.
+-- The values are those that it has made.
 use Rattle.std.proofs.Common.{◌≡◌, ◌<◌, inr, [], length, sym, refl, subst, ap, ◌∙◌, arith}
 use Rattle.graph_runs.specs.Nexts.{registrations_at}
 use Rattle.graph_runs.specs.graph_base.Graphs.{phaser_at}
 use Rattle.stream_tasks.specs.Holds.{HoldGoesOn, MemberHasSignalled}
-use Rattle.stream_tasks.proofs.Turning.{task_sees, task_puts, has_send_places, held, is_filter, owed_output, output_on, owes_made, put_all_owes, made_fits}
+use Rattle.stream_tasks.proofs.Turning.{task_sees, task_puts, has_send_places, held, makes_many, owed_output, output_on, owes_made, put_all_owes, made_fits}
 use Rattle.stream_tasks.proofs.task_state.TaskState.put_made.Goals as goal
 
 pub output_of-k-requires-clause-output : goal.output_of-k-requires-clause-output
@@ -21,7 +21,7 @@ index_mut-requires c =
     c.output_of-k.ensures.registration c.output_of-k.ensures.phaser in
     omega (arith, task.1.whole.holds, s.holds.ok.0, on.0)
 
--- there are places for what the filter has made
+-- there are places for what was made
 pub put_all-requires : goal.put_all-requires
 put_all-requires c =
     let spots = c.requires.task.0 in
@@ -41,7 +41,7 @@ put_all-requires c =
     let few = task.whole.places.few_made in
     has_send_places job spots m s p (length made) hold
     (held job spots m s k p hold task.whole at on.0 on.1 (omega arith) c.index_mut.ensures.value)
-    c.output_of-k.ensures.phaser (inr (is_filter job s task.whole c.requires.made)) task.whole.places
+    c.output_of-k.ensures.phaser (inr (makes_many job s task.whole c.requires.made)) task.whole.places
     (omega arith)
 
 pub returns-in-Ok : goal.returns-in-Ok
