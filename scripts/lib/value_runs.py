@@ -1,0 +1,171 @@
+"""Graphs on many samples, and what comes of them."""
+# The greatest value.
+MOST = 9223372036854775807
+
+
+def numbers(count, first=0):
+    """So many numbers from the first, a line each."""
+    return "".join(f"{n}\n" for n in range(first, first + count))
+
+
+def ways_of_values(bound):
+    """Graphs whose phasers of this bound keep numbers alone while one task signals, and go on by
+    slots and back: each with a name, its samples, the values of `out`, and a fault or None, behind
+    which a stream has written those values."""
+    first = f"phaser X sum {bound}\nsource A a.csv -> X"
+    a, b = list(range(1, 201)), list(range(1000, 1120))
+    files = {"a.csv": numbers(200, 1), "b.csv": numbers(120, 1000)}
+    late = "\nsource B b.csv -> X by A at 150\nsink out X\n"
+    both = [x + (b[k - 150] if k >= 150 else 0) for k, x in enumerate(a)]
+    yield "one source alone", first + "\nsink out X\n", files, a, None
+    yield "another source joins, and the first leaves", first + late, files, both + b[50:], None
+    yield (
+        "a source leaves where another comes", first + " until 150" + late, files, a[:150] + b, None,
+    )
+    # Of each x a peer makes 2 * x less what the single makes of it.
+    for single, of in ("neg", lambda x: -x), ("abs", abs), ("halve", lambda x: x // 2):
+        graph = (
+            f"phaser X sum {bound}\nphaser E sum {bound} single {single}\nphaser Y sum {bound}\n"
+            "source A a.csv -> X\npeer p X <-> E -> Y mul 2\nsink out Y\n"
+        )
+        yield f"a single, {single}", graph, files, [2 * x - of(x) for x in a], None
+    for operation in "product", "least", "greatest", "any":
+        yield operation, first.replace("sum", operation) + "\nsink out X\n", files, a, None
+    yield (
+        "a sink joins", first + "\nsink out X\nsink late X by out at 70\n", files, a, None,
+    )
+    yield (
+        "a sink joins now", f"graph 2\n{first}\nsink out X\nsink late X by out at 70 now\n",
+        files, a, None,
+    )
+    yield (
+        "a sink leaves before the other", first + "\nsink gone X until 90\nsink out X\n", files, a,
+        None,
+    )
+    yield "the sink leaves first", first + "\nsink out X until 70\n", files, a[:70], None
+    filters = f"{first}\nphaser Y sum {bound}\nfir f X -> Y shift 0 taps 2 1"
+    pairs = [2 * x + y for x, y in zip(a, [0] + a)]
+    yield "a filter", filters + "\nsink out Y\n", files, pairs, None
+    yield (
+        "a filter of the same samples joins",
+        filters + "\nfir g X -> Y shift 0 taps 1 by f at 100\nsink out Y\n", files,
+        pairs[:100] + [z + x for z, x in zip(pairs[100:], a[100:])], None,
+    )
+    yield (
+        "a filter leaves", filters + " until 130\nsink out Y\n", files, pairs[:130], None,
+    )
+    # The sum of this one, twice, and the one before it is past the greatest value.
+    for step in 0, 1, 15, 16, 63, 64, 100:
+        big = {"a.csv": numbers(step, 1) + f"{2 ** 62}\n" + numbers(40, 1)}
+        yield (
+            f"an answer out of range at step {step}", filters + "\nsink out Y\n", big, pairs[:step],
+            (3, f"phase: too big at f {step}\n"),
+        )
+        # Two sums in one phase.
+        yield (
+            f"a phase out of range at {step}", first + "\nsource B b.csv -> X\nsink out X\n",
+            {"a.csv": numbers(step, 1) + f"{MOST}\n" + numbers(40, 1), "b.csv": numbers(200, 1)},
+            [2 * x for x in a[:step]], (3, f"phase: too big at X {step}\n"),
+        )
+
+
+def banks():
+    """Banks of three branches, of which each deals what its first filter makes, joins a share with
+    zeros and filters that again, and whose answers are added up: with bounds of which some allow no
+    block, and with joiners that end by `until`, or since the zeros do."""
+    taps = [[1, 2], [3, -1], [-2, 5, 1]]
+    values = [n * 7919 % 2003 - 1001 for n in range(210)]
+    for bounds, zeros, most in (
+        [(64, 64, 64), 105, None], [(1, 1, 1), 105, None], [(64, 1, 64), 105, None],
+        [(64, 64, 1), 105, None], [(3, 200, 5), 105, None], [(64, 64, 64), 40, None],
+        [(64, 64, 64), 105, 75],
+    ):
+        before, joined, behind = bounds
+        graph = f"phaser X sum {before}\nphaser Z sum {joined}\n"
+        for name, bound in ("A", before), ("B", joined), ("C", joined), ("D", behind):
+            graph += "".join(f"phaser {name}{k} sum {bound}\n" for k in range(3))
+        graph += f"phaser Y sum {behind}\nsource s s.csv -> X\nsource z z.csv -> Z\n"
+        until = "" if most is None else f" until {most}"
+        for k, those in enumerate(taps):
+            numbers_of = " ".join(map(str, those))
+            graph += (
+                f"fir f{k} X -> A{k} shift 1 taps {numbers_of}\nsplit d{k} A{k} -> B{k} C{k}\n"
+                f"join j{k} B{k} Z -> D{k}{until}\nfir g{k} D{k} -> Y shift 0 taps {numbers_of}\n"
+            )
+        outs = [filtered(those, 1, values)[::2] for those in taps]
+        # With so few zeros a joiner ends behind the value that it takes next.
+        length = min(2 * len(outs[0]), 2 * zeros + 1, most or 2 * len(outs[0]))
+        joins = [[0 if n % 2 else out[n // 2] for n in range(length)] for out in outs]
+        sums = [sum(those) for those in zip(*(filtered(t, 0, j) for t, j in zip(taps, joins)))]
+        whole = f"out {length}\n" + "".join(f"{value}\n" for value in sums)
+        files = {**files_of(graph + "sink out Y\n", values), "z.csv": "0\n" * zeros}
+        yield f"a bank with bounds {bounds}, {zeros} zeros{until}", files, 0, whole, ""
+
+
+def filtered(taps, shift, values):
+    """What a filter makes of a list."""
+    return [
+        sum(tap * values[n - j] for j, tap in enumerate(taps) if j <= n) >> shift
+        for n in range(len(values))
+    ]
+
+
+def long_texts():
+    """Texts of so many samples that threads read parts of them, and write parts of what comes of
+    them: with lines of each kind, and with a record in each quarter that is no sample."""
+    count = 160_000
+    values = [n * 7919 % 20_000_003 - 10_000_001 for n in range(count)]
+    lines = [str(value) for value in values]
+    good = 0, f"o {count}\n" + "".join(f"{value}\n" for value in values), ""
+    yield "a long text", "".join(f"{line}\n" for line in lines), *good
+    yield "a long text with no line end", "\n".join(lines), *good
+    yield "a long text of other line ends", "".join(f"{line}\r\n" for line in lines), *good
+    for at in 0, count // 3, count - 1:
+        quoted = [f'"{line}"' if n == at else line for n, line in enumerate(lines)]
+        yield f"a long text whose record {at + 1} is quoted", "\n".join(quoted), *good
+        empty = lines[:at] + ["", ""] + lines[at:]
+        yield f"a long text with empty lines before record {at + 1}", "\n".join(empty), *good
+    for quarter in range(4):
+        at = quarter * count // 4 + count // 8
+        bad = lines[:at] + ["1x"] + lines[at + 1 :]
+        told = f"phase: samples of s: record {at + 1}\n"
+        yield f"a long text with a bad record in quarter {quarter + 1}", "\n".join(bad), 1, "", told
+    yield "a long text of one line", 1_500_000 * "1", 1, "", "phase: samples of s: record 1\n"
+    yield "a long text of empty lines", 1_500_000 * "\n", 0, "o 0\n", ""
+
+
+def long_filters():
+    """Filters of so many samples that threads make parts of their lists, and filters of which an
+    output is out of range, in each quarter, or in two of them."""
+    count = 160_000
+    values = [n * 7919 % 2003 - 1001 for n in range(count)]
+    for taps in [1], [3, -1], [n * 37 % 101 - 50 for n in range(64)]:
+        outputs = filtered(taps, 2, values)
+        graph = (
+            "phaser X sum 1024\nphaser Y sum 1024\nsource s s.csv -> X\n"
+            f"fir f X -> Y shift 2 taps {' '.join(map(str, taps))}\nsink o Y\n"
+        )
+        whole = f"o {count}\n" + "".join(f"{value}\n" for value in outputs)
+        yield f"a long filter of {len(taps)} taps", files_of(graph, values), 0, whole, ""
+    graph = "phaser X sum 1024\nphaser Y sum 1024\nsource s s.csv -> X\nfir f X -> Y shift 0 taps 2\nsink o Y\n"
+    for places in [[0], [70_000], [90_000, 70_000], [150_000], [count - 1, 40_000]]:
+        large = [2**62 if n in places else value for n, value in enumerate(values)]
+        told = f"phase: too big at f {min(places)}\n"
+        yield f"a long filter out of range at {places}", files_of(graph, large), 3, "", told
+
+
+def files_of(graph, values):
+    """The graph, and the samples of its source, a line each."""
+    return {"g": graph, "s.csv": "".join(f"{value}\n" for value in values)}
+
+
+def long_lists(count):
+    """A graph on so many samples, with a joiner of them and of what a filter makes, and the last ten
+    values."""
+    graph = (
+        "phaser X sum 1\nphaser Y sum 1\nphaser Z sum 1\nsource s s.csv -> X\nfir f X -> Y shift 0 taps 1 1\n"
+        f"join j X Y -> Z\nsink all Z\nsink last Z by all at {2 * count - 10}\n"
+    )
+    text = "".join(f"{n % 7}\n" for n in range(count))
+    last = [value for n in range(count - 5, count) for value in (n % 7, n % 7 + (n - 1) % 7)]
+    return {"g": graph, "s.csv": text}, None, 0, "".join(f"{value}\n" for value in last), ""
