@@ -17,6 +17,7 @@ mod signalling_plain;
 mod slot_core;
 mod slots;
 mod standing;
+pub mod standing_laws;
 mod waiting;
 
 pub use late_tasks::LateTasks;
