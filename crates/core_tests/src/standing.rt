@@ -196,6 +196,18 @@ fn are_named(mut tasks: LateTasks<'_>, numbers: &[u64]) -> bool {
     tasks.next().is_none()
 }
 
+/// What stands in a place that nobody wrote.
+const UNWRITTEN: u64 = 77;
+
+/// Whether the first of these tasks stand in the places, and in no other.
+fn are_written(places: [u64; 2], numbers: &[u64]) -> bool {
+    match numbers {
+        [] => places == [UNWRITTEN, UNWRITTEN],
+        [first] => places == [*first, UNWRITTEN],
+        [first, second, ..] => places == [*first, *second],
+    }
+}
+
 #[test]
 fn who_is_missing_is_named(rt: HostRuntime) -> Result<(), Fail> {
     for row in &ROWS {
@@ -213,6 +225,9 @@ fn who_is_missing_is_named(rt: HostRuntime) -> Result<(), Fail> {
             "{}: slowest",
             row.name
         );
+        let mut places = [UNWRITTEN; 2];
+        core.missing().write_to(&mut places);
+        assert!(rt; are_written(places, row.missing), "{}: written", row.name);
         let many = row.missing.len() as u64;
         assert_eq!(rt; core.standing().missing(), many, "{}: how many", row.name);
     }

@@ -1,9 +1,11 @@
 -- Those that have signalled a phase, and those that have not.
-use Rattle.std.proofs.Common.{◌≡◌, ℕ, suc, ◌+◌, ◌≤◌, ◌⊎◌, true, false, cond, eqb, [], ◌∷◌, Some, length, map, refl, ⊎_elim, arith}
+use Rattle.std.proofs.Common.{◌≡◌, ℕ, suc, ◌+◌, ◌<◌, ◌≤◌, ◌⊎◌, true, false, cond, eqb, List, [], ◌∷◌, ◌++◌, Some, length, map, take, drop, get_or, set, refl, sym, ap, ◌∙◌, ⊎_elim, arith}
 use Rattle.std.specs.Prelude.{◌&&◌, nat_le, nat_lt, count_by}
 use Rattle.std.specs.List.{filter}
 use Rattle.std.proofs.lemmas.Option.{same_Some}
 use Rattle.std.proofs.lemmas.Bool.Decides.{leb_tells}
+use Rattle.std.proofs.lemmas.List.{append_assoc, drop_more, length-drop, length-take, take_more}
+use Rattle.std.proofs.Math.Seq.{set-append_seam}
 use Rattle.std.proofs.lemmas.List.Sums.{length-filter}
 use Rattle.phase_registry.specs.phase_base.Lists.{is_in}
 use Rattle.phase_registry.specs.phase_base.Modes.{mode_signals}
@@ -66,3 +68,41 @@ is_in-who_have_to role p (m ∷ ms) task e found takes low =
           ]
     ]
     refl found
+
+-- ---- numbers over places
+
+-- so many of them are written, and these are left
+pub record HasPut (numbers rest old places : List ℕ) (n : ℕ) : Type 0 where
+  pub low : n ≤ length numbers
+  pub rest_is : drop n numbers ≡ rest
+  pub put : places ≡ take n numbers ++ drop n old
+
+abbrev head_of : List ℕ → ℕ
+head_of [] = 0
+head_of (x ∷ xs) = x
+
+abbrev tail_of : List ℕ → List ℕ
+tail_of [] = []
+tail_of (x ∷ xs) = xs
+
+-- one more
+pub put_more : (numbers rest more old places : List ℕ) (n x : ℕ) → HasPut numbers rest old places n
+    → rest ≡ x ∷ more → n < length old → HasPut numbers more old (set places n x) (n + 1)
+put_more numbers rest more old places n x h is within =
+    let left : drop n numbers ≡ x ∷ more = h.rest_is ∙ is in
+    let long : length (drop n numbers) ≡ length (x ∷ more) = ap length left in
+    let below : n < length numbers = omega (arith, length-drop n numbers, long) in
+    let split : get_or numbers n x ∷ drop (n + 1) numbers ≡ x ∷ more = sym (drop_more numbers n x below) ∙ left in
+    let front = take n numbers in
+    let behind = drop (n + 1) old in
+    let old_one = get_or old n x in
+    let size : length front ≡ n = omega (arith, length-take n numbers) in
+    record {
+      low = omega arith;
+      rest_is = ap tail_of split;
+      put = ap (λ xs. set xs n x) (h.put ∙ ap (λ ys. front ++ ys) (drop_more old n x within))
+          ∙ ap (λ k. set (front ++ old_one ∷ behind) k x) (sym size)
+          ∙ set-append_seam front old_one behind x
+          ∙ sym (append_assoc front (x ∷ []) behind)
+          ∙ ap (λ xs. xs ++ behind) (ap (λ z. front ++ z ∷ []) (sym (ap head_of split)) ∙ sym (take_more numbers n x below));
+    }

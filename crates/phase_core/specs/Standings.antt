@@ -1,5 +1,5 @@
 -- How many tasks are registered, and for which of them a phaser waits.
-use Rattle.std.specs.Prelude.{ℕ, List, length, map, unwrap_or, Bool, ◌&&◌, nat_le, nat_lt, count_by}
+use Rattle.std.specs.Prelude.{ℕ, List, length, map, unwrap_or, Bool, ◌&&◌, ◌++◌, nat_le, nat_lt, count_by, take, drop}
 use Rattle.std.specs.List.{filter}
 use Rattle.phase_registry.specs.phase_base.Modes.{mode_signals}
 use Rattle.phase_registry.specs.phase_base.Members.{Members, least, signal_phases, wait_phases}
@@ -44,3 +44,7 @@ standing_at p members = record {
 -- how many are registered, and how far the first phase that is not complete has come
 abbrev pub standing_of : History → Standing
 standing_of h = standing_at (done_of h) (members_of h)
+
+-- numbers written over places, as many as there are of both: the places behind them stay
+abbrev pub put_over : List ℕ → List ℕ → List ℕ
+put_over numbers places = take (length places) numbers ++ drop (length numbers) places

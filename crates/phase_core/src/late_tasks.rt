@@ -1,7 +1,7 @@
 //! The tasks for which a phaser waits.
 ghost use Rattle.std.specs.Prelude.{◌≡◌};
 ghost use Rattle.std.specs.Iterator.{YieldsFirst, item_count};
-ghost use Rattle.phase_core.specs.Standings.{has_still_to, who_have_to};
+ghost use Rattle.phase_core.specs.Standings.{has_still_to, put_over};
 
 use phase_registry::phase_base::Member;
 use phase_ring::Role;
@@ -52,3 +52,17 @@ impl<'a> Iterator for LateTasks<'a> {
 }
 
 impl<'a> FusedIterator for LateTasks<'a> {}
+
+impl<'a> LateTasks<'a> {
+    /// Writes the numbers into the first places, as many as there are of both. The places behind
+    /// them stay. It takes no memory.
+    pub fn write_to(self, places: &mut [u64])
+        ensures { places.new ≡ put_over self.entry places.old }
+    {
+        let mut rest = self;
+        for k in 0..places.len() {
+            let Some(number) = rest.next() else { return };
+            places[k] = number;
+        }
+    }
+}
