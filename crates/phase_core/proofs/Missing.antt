@@ -36,9 +36,9 @@ split p (m ∷ ms) =
     + length (map (λ (x : Member). x.task) (cond (b && nat_le s p) (m ∷ late) late))
     ≡ length (map (λ (x : Member). x.entry.signal_phase) (cond b (m ∷ all) all))) [
       | true ↦ ⊎_elim
-        (λ (h : (nat_le s p ≡ true) × (nat_lt p s ≡ false)). rw (h.0, h.1) (omega (arith, rest)))
-        (λ (h : (nat_le s p ≡ false) × (nat_lt p s ≡ true)). rw (h.0, h.1) (omega (arith, rest)))
-        (either_way p s)
+          (λ (h : (nat_le s p ≡ true) × (nat_lt p s ≡ false)). rw (h.0, h.1) (omega (arith, rest)))
+          (λ (h : (nat_le s p ≡ false) × (nat_lt p s ≡ true)). rw (h.0, h.1) (omega (arith, rest)))
+          (either_way p s)
       | false ↦ rest
     ]
 
