@@ -18,6 +18,7 @@ pub mod Puts
 pub mod Regs
 pub mod Rule
 pub mod Servings
+pub mod Standings
 pub mod Steps
 pub mod Tells
 pub mod Views

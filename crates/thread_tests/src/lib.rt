@@ -34,6 +34,8 @@ mod receiver_next;
 #[cfg(test)]
 mod receiver_tries;
 #[cfg(test)]
+mod standing;
+#[cfg(test)]
 mod threads;
 #[cfg(test)]
 mod told;
