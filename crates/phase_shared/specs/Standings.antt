@@ -1,5 +1,5 @@
 -- What a registration is told of how its phaser stands.
-use Rattle.std.specs.Prelude.{◌≡◌, ℕ, List, [], ◌∷◌, Result, Ok, Err}
+use Rattle.std.specs.Prelude.{◌≡◌, ℕ, [], ◌∷◌, Result, Ok, Err}
 use Rattle.phase_core.specs.Standings.{standing_of}
 use Rattle.phase_core.specs.declared.standing.Standing.{Standing}
 use Rattle.phase_core.specs.phase_history.declared.refusal.NoTask.{NoTask}

@@ -1,12 +1,9 @@
 -- The core stood for what the take learned, and it does still: no event came.
-use Rattle.std.proofs.Common.{◌≡◌, [], ◌∷◌, Ok, true, false, refl, sym, ap, subst, ◌∙◌}
-use Rattle.std.specs.Prelude.{Result, Some}
+use Rattle.std.proofs.Common.{◌≡◌, [], ◌∷◌, Ok, refl, sym, ap, subst, ◌∙◌}
+use Rattle.std.specs.Prelude.{Some}
 use Rattle.turn_lock.specs.Seats.{IsSameSeat, seat_view, turn_number, turn_told, turn_value, turn_view}
 use Rattle.phase_core.specs.Standings.{standing_of}
-use Rattle.phase_core.specs.declared.standing.Standing.{Standing}
-use Rattle.phase_core.specs.phase_history.declared.refusal.NoTask.{NoTask}
 use Rattle.phase_shared.specs.Phasers.{History, OthersCame, entry_of}
-use Rattle.phase_shared.specs.Calls.{Tries}
 use Rattle.phase_shared.specs.Entries.{entry_stays}
 use Rattle.phase_shared.specs.LockedPhasers.{locked_terms}
 use Rattle.phase_shared.specs.Rule.{StandsWithin}
@@ -14,7 +11,7 @@ use Rattle.phase_shared.specs.Standings.{AnswersStanding, no_task}
 use Rattle.phase_shared.specs.Views.{Unknown, known_of, resting, speaks_of, turning}
 use Rattle.phase_shared.specs.declared.seats.view.View.{View}
 use Rattle.phase_shared.proofs.Giving.{gives_same, lent, own_none}
-use Rattle.phase_shared.proofs.Stepping.{Called, kept_out, stepped, told_at}
+use Rattle.phase_shared.proofs.Stepping.{stepped, told_at}
 use Rattle.phase_shared.proofs.seats.looks.look_round.Given.{Over}
 use Rattle.phase_shared.proofs.seats.looks.look_round.Goals.{After-value_in-core}
 use Rattle.phase_shared.proofs.seats.looks.look_round.Goals as goal
