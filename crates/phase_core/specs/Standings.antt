@@ -42,8 +42,8 @@ standing_at p members = record {
 }
 
 -- how many are registered, and how far the first phase that is not complete has come
-abbrev pub standing_of : History → Standing
-standing_of h = standing_at (done_of h) (members_of h)
+abbrev pub standing_after : History → Standing
+standing_after h = standing_at (done_of h) (members_of h)
 
 -- numbers written over places, as many as there are of both: the places behind them stay
 abbrev pub put_over : List ℕ → List ℕ → List ℕ

@@ -2,7 +2,7 @@
 ghost use Rattle.std.specs.Prelude.{◌≡◌, ◌-◌};
 ghost use Rattle.phase_history.specs.Histories.{History};
 ghost use Rattle.phase_core.specs.Cores.{StandsFor};
-ghost use Rattle.phase_core.specs.Standings.{missing_of, slowest_of, standing_of};
+ghost use Rattle.phase_core.specs.Standings.{missing_of, slowest_of, standing_after};
 
 use crate::late_tasks::LateTasks;
 use crate::phaser_core::PhaserCore;
@@ -49,7 +49,7 @@ impl<A: Accumulate> PhaserCore<A> {
     /// Returns how many tasks are registered, and how many of the signallers have signalled the
     /// first phase that is not complete. It looks at each task, and takes no memory.
     pub fn standing(&self) -> Standing
-        ensures { (h : History) → StandsFor A.operation self.now h → result ≡ standing_of h }
+        ensures { (h : History) → StandsFor A.operation self.now h → result ≡ standing_after h }
     {
         let registry = self.registry();
         let phase = self.done();

@@ -4,12 +4,12 @@ ghost use Rattle.phase_registry.specs.phase_base.Lists.{is_in};
 ghost use Rattle.phase_registry.specs.phase_base.Members.{least, wait_phases};
 ghost use Rattle.phase_registry.specs.phase_base.declared.entry.Entry.{Entry};
 ghost use Rattle.phase_history.specs.Histories.{History, members_of, done_of, IsSignaller, IsWaiter};
-ghost use Rattle.phase_core.specs.Standings.{missing_of, slowest_of, standing_of};
+ghost use Rattle.phase_core.specs.Standings.{missing_of, slowest_of, standing_after};
 
 /// Each signaller has signalled the first phase that is not complete, or is missing, and not both.
 pub fn adds_up()
     ensures { (h : History)
-        → (standing_of h).signalled + length (missing_of h) ≡ (standing_of h).signallers }
+        → (standing_after h).signalled + length (missing_of h) ≡ (standing_after h).signallers }
 {}
 
 /// Each signaller that stands at the first phase that is not complete is named, and so is each

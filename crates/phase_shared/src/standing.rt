@@ -4,7 +4,7 @@ ghost use Rattle.phase_core.specs.Standings.{missing_of, put_over};
 ghost use Rattle.phase_shared.specs.Regs.{phaser_lock, phaser_terms};
 ghost use Rattle.phase_shared.specs.Calls.{IsCall, IsTry, Tries};
 ghost use Rattle.phase_shared.specs.Entries.{entry_stays};
-ghost use Rattle.phase_shared.specs.Standings.{AnswersStanding, TellsStanding, no_task};
+ghost use Rattle.phase_shared.specs.Standings.{AnswersStanding, TellsStanding, unregistered};
 
 use crate::patience::Patience;
 use crate::phaser::Phaser;
@@ -24,7 +24,7 @@ impl<A: Accumulate, K: SignalRule> Reg<A, K> {
         requires at { self.old.at ≡ phaser_lock phaser.now }
 
         ensures call { let old = self.old in
-            IsTry K.allows (phaser_terms phaser.now) no_task entry_stays
+            IsTry K.allows (phaser_terms phaser.now) unregistered entry_stays
             (Tries (self.new ≡ old) (AnswersStanding old.number old.seen self.new.seen) result)
             old self.new result }
         ensures held { self.new.held ≡ self.old.held }
@@ -43,7 +43,7 @@ impl<A: Accumulate, K: SignalRule> Reg<A, K> {
         requires at { self.old.at ≡ phaser_lock phaser.now }
 
         ensures call { let old = self.old in
-            IsTry K.allows (phaser_terms phaser.now) no_task entry_stays
+            IsTry K.allows (phaser_terms phaser.now) unregistered entry_stays
             (Tries (self.new ≡ old) (AnswersStanding old.number old.seen self.new.seen) result)
             old self.new result }
         ensures held { self.new.held ≡ self.old.held }
@@ -67,7 +67,7 @@ impl<A: Accumulate, K: SignalRule> Reg<A, K> {
         requires at { self.old.at ≡ phaser_lock phaser.now }
 
         ensures call { let old = self.old in
-            IsCall K.allows (phaser_terms phaser.now) no_task entry_stays
+            IsCall K.allows (phaser_terms phaser.now) unregistered entry_stays
             (TellsStanding old.number old.seen self.new.seen result) old self.new (Ok result) }
         ensures held { self.new.held ≡ self.old.held }
     {
@@ -84,7 +84,7 @@ impl<A: Accumulate, K: SignalRule> Reg<A, K> {
         requires at { self.old.at ≡ phaser_lock phaser.now }
 
         ensures call { let old = self.old in
-            IsCall K.allows (phaser_terms phaser.now) no_task entry_stays
+            IsCall K.allows (phaser_terms phaser.now) unregistered entry_stays
             (TellsStanding old.number old.seen self.new.seen result) old self.new (Ok result) }
         ensures held { self.new.held ≡ self.old.held }
         ensures places { places.new ≡ put_over (missing_of self.new.seen) places.old }

@@ -6,7 +6,7 @@ ghost use Rattle.phase_shared.specs.Views.{known_of};
 ghost use Rattle.phase_shared.specs.Steps.{IsStep, IsSeatOn};
 ghost use Rattle.phase_shared.specs.Calls.{Tries};
 ghost use Rattle.phase_shared.specs.Entries.{entry_stays};
-ghost use Rattle.phase_shared.specs.Standings.{AnswersStanding, no_task};
+ghost use Rattle.phase_shared.specs.Standings.{AnswersStanding, unregistered};
 
 use crate::rule::SignalRule;
 use crate::seats::locked::LockedPhaser;
@@ -27,7 +27,7 @@ pub fn look_round<A: Accumulate, K: SignalRule>(
     places: &mut [u64],
 ) -> (PhaserSeat<A, K>, Result<Standing, Tried<NoTask>>)
     requires { IsSeatOn K.allows phaser.now me entry seat }
-    ensures step { IsStep K.allows phaser.now me no_task entry_stays
+    ensures step { IsStep K.allows phaser.now me unregistered entry_stays
         (Tries (IsSameSeat seat result.0) (AnswersStanding me
         (known_of (seat_view seat)).seen (known_of (seat_view result.0)).seen) result.1)
         entry entry seat result.0 result.1 }

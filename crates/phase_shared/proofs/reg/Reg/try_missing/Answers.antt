@@ -1,6 +1,6 @@
 use Rattle.std.proofs.Common.{refl}
 use Rattle.phase_shared.specs.Entries.{entry_stays}
-use Rattle.phase_shared.specs.Standings.{AnswersStanding, no_task}
+use Rattle.phase_shared.specs.Standings.{AnswersStanding, unregistered}
 use Rattle.phase_shared.proofs.Opening.{opened, closed, is_try_as, same_reg}
 use Rattle.turn_lock.specs.Seats.{IsSameSeat}
 use Rattle.std.specs.Prelude.{◌≡◌, Some}
@@ -21,7 +21,7 @@ returns-clause-call g c =
     let i = c.self.inside in
     let allows = g.K.SignalRule.allows in
     let phaser = c.args.phaser.now.locked in
-    is_try_as allows phaser i.number no_task entry_stays (IsSameSeat c.taken-seat.result c.look_round-seat.result.0)
+    is_try_as allows phaser i.number unregistered entry_stays (IsSameSeat c.taken-seat.result c.look_round-seat.result.0)
     (λ r. reg_state (Some c.look_round-seat.result.0) i.number i.entry i.pending ≡ r)
     (λ old new answer. AnswersStanding old.number old.seen new answer)
     i.entry i.entry i.pending i.pending c.taken-seat.result c.look_round-seat.result.0 c.args.self.now c.look_round-seat.result.1

@@ -2,12 +2,12 @@
 use Rattle.std.proofs.Common.{◌≡◌, [], ◌∷◌, Ok, refl, sym, ap, subst, ◌∙◌}
 use Rattle.std.specs.Prelude.{Some}
 use Rattle.turn_lock.specs.Seats.{IsSameSeat, seat_view, turn_number, turn_told, turn_value, turn_view}
-use Rattle.phase_core.specs.Standings.{standing_of}
+use Rattle.phase_core.specs.Standings.{standing_after}
 use Rattle.phase_shared.specs.Phasers.{History, OthersCame, entry_of}
 use Rattle.phase_shared.specs.Entries.{entry_stays}
 use Rattle.phase_shared.specs.LockedPhasers.{locked_terms}
 use Rattle.phase_shared.specs.Rule.{StandsWithin}
-use Rattle.phase_shared.specs.Standings.{AnswersStanding, no_task}
+use Rattle.phase_shared.specs.Standings.{AnswersStanding, unregistered}
 use Rattle.phase_shared.specs.Views.{Unknown, known_of, resting, speaks_of, turning}
 use Rattle.phase_shared.specs.declared.seats.view.View.{View}
 use Rattle.phase_shared.proofs.Giving.{gives_same, lent, own_none}
@@ -43,12 +43,12 @@ returns-clause-step g c =
     c.give_same.ensures.knows e.is in
     let seen : (known_of (seat_view seat)).seen ≡ e.now = ap (λ (v : View). (known_of v).seen) rests in
     let here : entry_of core.members me ≡ Some c.args.entry = ap (λ ms. entry_of ms me) before.stands.members_are ∙ e.member in
-    stepped op g.K.SignalRule.allows c.args.phaser.now me no_task entry_stays (IsSameSeat c.args.seat seat)
+    stepped op g.K.SignalRule.allows c.args.phaser.now me unregistered entry_stays (IsSameSeat c.args.seat seat)
     (AnswersStanding me old (known_of (seat_view seat)).seen) c.args.entry c.args.entry c.args.seat seat e.now e.now core (entry_of core.members me)
     (Ok c.standing-standing.result) (Ok c.standing-standing.result) refl
     (record { own = own_none me e.now; good = e.good; stands = before; member = e.member }) c.give_same.ensures.here rests refl here
     (record {
       others = subst (λ (h : History). OthersCame (me ∷ []) old h) (sym seen) e.others;
-      standing_is = c.standing-standing.ensures e.now before.stands ∙ ap standing_of (sym seen);
+      standing_is = c.standing-standing.ensures e.now before.stands ∙ ap standing_after (sym seen);
     })
     (λ none. cc)
