@@ -3,6 +3,7 @@ pub mod Asks
 pub mod BlockParts
 pub mod Blocks
 pub mod Calls
+pub mod Closings
 pub mod Desks
 pub mod Entries
 pub mod Goods

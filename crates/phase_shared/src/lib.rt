@@ -128,6 +128,7 @@
 
 mod asked;
 mod blocks;
+mod closing;
 mod held;
 mod lane_words;
 pub mod laws;
@@ -143,6 +144,7 @@ mod reg;
 mod rule;
 mod seats;
 mod standing;
+mod stopped;
 mod tried;
 mod trying;
 mod waiting;
@@ -158,5 +160,6 @@ pub use phaser::Phaser;
 pub use refusal::SendRefusal;
 pub use reg::Reg;
 pub use rule::{NoRule, SignalRule, Terms, Unwoken};
+pub use stopped::Stopped;
 pub use tried::Tried;
 pub use turn_lock;
