@@ -14,6 +14,8 @@ mod blocks;
 mod calls;
 #[cfg(test)]
 mod churn;
+#[cfg(test)]
+mod closing;
 pub mod counting;
 #[cfg(test)]
 mod head;
