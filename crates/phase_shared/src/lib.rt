@@ -129,6 +129,7 @@
 mod asked;
 mod blocks;
 mod closing;
+mod closing_next;
 mod held;
 mod lane_words;
 pub mod laws;
