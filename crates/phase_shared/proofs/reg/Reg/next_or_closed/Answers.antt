@@ -1,4 +1,4 @@
-use Rattle.std.proofs.Common.{◌≡◌, ℕ, Ok, Some, true, false, refl, sym, subst, ap, ◌∙◌}
+use Rattle.std.proofs.Common.{◌≡◌, ℕ, Ok, true, false, refl, sym, subst, ap, ◌∙◌}
 use Rattle.phase_shared.specs.Phasers.{Entry, mode_signals, mode_waits}
 use Rattle.phase_shared.specs.Regs.{phaser_limits}
 use Rattle.phase_shared.specs.Calls.{Signals}
