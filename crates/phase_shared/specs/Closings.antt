@@ -35,7 +35,8 @@ pub record GoesNextOrStops {A K : Type 0} (op : Operation A) (limits : Limits)
   pub signals : MadeWhere (mode_signals old.entry.mode)
       (λ phase. Signals op limits old.number old.held single old.seen middle (Ok phase))
       (middle ≡ old.seen) next.signalled
-  pub waits : WaitsOrStops (mode_waits old.entry.mode) op.value limits old.number middle new next.got
+  pub waits : WaitsOrStops (mode_waits old.entry.mode) op.value limits old.number middle new
+      next.got
   -- a task that does not signal names no single
   pub named : mode_signals old.entry.mode ≡ false → single ≡ None
 

@@ -33,9 +33,9 @@ impl<A: Accumulate, K: SignalRule> Phaser<A, K> {
 }
 
 impl<A: Accumulate, K: SignalRule> Reg<A, K> {
-    /// Signals as `signal` does, but waits no longer than until the phaser is closed: then it is
-    /// answered `Closed` where it is ahead, signals nothing, and the sends stay held. It takes no
-    /// memory.
+    /// Signals as `signal` does. It waits as `signal` does, but no longer than until the phaser is
+    /// closed, and takes no memory. Where it is ahead then, it is answered `Closed`, signals
+    /// nothing, and the sends stay held.
     pub fn signal_or_closed<W: Wait>(
         &mut self,
         rt: &W,
@@ -72,8 +72,9 @@ impl<A: Accumulate, K: SignalRule> Reg<A, K> {
         unreachable!()
     }
 
-    /// Waits as `wait` does, but no longer than until the phaser is closed: then it gets its phase
-    /// where that is complete, and is answered `Closed` where it is not. It takes no memory.
+    /// Waits for its phase as `wait` does. It waits as `wait` does, but no longer than until the
+    /// phaser is closed, and takes no memory. Then it gets its phase where that is complete, and is
+    /// answered `Closed` where it is not.
     pub fn wait_or_closed<W: Wait>(
         &mut self,
         rt: &W,
@@ -108,9 +109,9 @@ impl<A: Accumulate, K: SignalRule> Reg<A, K> {
         unreachable!()
     }
 
-    /// Waits for a block as `wait_block` does, but no longer than until the phaser is closed: then
-    /// it gets the phases that are complete, and is answered `Closed` where its own is not. It takes
-    /// no memory.
+    /// Waits for a block as `wait_block` does. It waits as `wait_block` does, but no longer than
+    /// until the phaser is closed, and takes no memory. Then it gets the phases that are complete,
+    /// and is answered `Closed` where its own is not.
     pub fn wait_block_or_closed<W: Wait>(
         &mut self,
         rt: &W,

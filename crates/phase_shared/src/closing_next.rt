@@ -17,10 +17,10 @@ use phase_core::{Got, SignalRefusal};
 use std::sync::Wait;
 
 impl<A: Accumulate, K: SignalRule> Reg<A, K> {
-    /// Signals and then waits as `next` does, by a turn for each, but no longer than until the
-    /// phaser is closed. Where its signal is ahead then, it is answered `Closed`, and signalled
-    /// nothing; where its phase is not complete then, it signalled and got nothing. It takes no
-    /// memory.
+    /// Signals and then waits, by a turn for each, where `next` does. It waits as `next` does, but
+    /// no longer than until the phaser is closed, and takes no memory. Where its signal is ahead
+    /// then, it is answered `Closed`, and signalled nothing; where its phase is not complete then,
+    /// it signalled and got nothing.
     pub fn next_or_closed<W: Wait>(
         &mut self,
         rt: &W,

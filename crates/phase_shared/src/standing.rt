@@ -17,9 +17,8 @@ use phase_core::{NoTask, Standing};
 use std::sync::Wait;
 
 impl<A: Accumulate, K: SignalRule> Reg<A, K> {
-    /// Answers how many are registered, and how many of the signallers have signalled the first
-    /// phase that is not complete. It is never refused, makes no event,
-    /// and takes no memory.
+    /// Tells how many are registered, and how many of the signallers have signalled the first phase
+    /// that is not complete. It is never refused, makes no event, and takes no memory.
     pub fn try_standing(&mut self, phaser: &Phaser<A, K>) -> Result<Standing, Tried<NoTask>>
         requires at { self.old.at ≡ phaser_lock phaser.now }
 
@@ -32,9 +31,10 @@ impl<A: Accumulate, K: SignalRule> Reg<A, K> {
         self.try_missing(phaser, &mut [])
     }
 
-    /// Answers as `try_standing` does, and writes the numbers of those that are missing into the
-    /// first places, as many as there are of both: these are the signallers that have not signalled
-    /// the first phase that is not complete. `Standing::missing` says how many there are.
+    /// Tells what `try_standing` does, and writes the numbers of those that are missing into the
+    /// first places, as many as there are of both: of the signallers that have not signalled the
+    /// first phase that is not complete. `Standing::missing` says how many they are. It is never
+    /// refused, makes no event, and takes no memory.
     pub fn try_missing(
         &mut self,
         phaser: &Phaser<A, K>,
@@ -62,7 +62,8 @@ impl<A: Accumulate, K: SignalRule> Reg<A, K> {
         answer
     }
 
-    /// Answers as `try_standing` does. It waits for its turn, and takes no memory.
+    /// Tells how many are registered, and how many of the signallers have signalled the first phase
+    /// that is not complete. It makes no event. It waits for its turn, and takes no memory.
     pub fn standing<W: Wait>(&mut self, rt: &W, phaser: &Phaser<A, K>) -> Standing
         requires at { self.old.at ≡ phaser_lock phaser.now }
 
@@ -74,7 +75,10 @@ impl<A: Accumulate, K: SignalRule> Reg<A, K> {
         self.missing(rt, phaser, &mut [])
     }
 
-    /// Answers as `try_missing` does. It waits for its turn, and takes no memory.
+    /// Tells what `standing` does, and writes the numbers of those that are missing into the first
+    /// places, as many as there are of both: of the signallers that have not signalled the first
+    /// phase that is not complete. `Standing::missing` says how many they are. It makes no event. It
+    /// waits for its turn, and takes no memory.
     pub fn missing<W: Wait>(
         &mut self,
         rt: &W,

@@ -30,7 +30,7 @@ pub(crate) fn ends_signal(
 {
     match refusal::of_signal(tried) {
         Some(refusal) => Some(Stopped::Refused(refusal)),
-        None if is_closed && tried != Tried::Busy => Some(Stopped::Closed),
+        None if is_closed && tried == Tried::Refused(SignalRefusal::Ahead) => Some(Stopped::Closed),
         None => None,
     }
 }
@@ -45,7 +45,7 @@ pub(crate) fn ends_wait(tried: Tried<WaitRefusal>, is_closed: bool) -> Option<St
 {
     match refusal::of_wait(tried) {
         Some(refusal) => Some(Stopped::Refused(refusal)),
-        None if is_closed && tried != Tried::Busy => Some(Stopped::Closed),
+        None if is_closed && tried == Tried::Refused(WaitRefusal::NotYet) => Some(Stopped::Closed),
         None => None,
     }
 }
