@@ -6,7 +6,7 @@ use crate::calls::{SumPhaser, SumReg, left, made_with_child, registered, signall
 use phase_received::phase_accum::Outcome;
 use phase_received::phase_base::Mode;
 use phase_received::phase_core::{Got, SignalRefusal, WaitRefusal};
-use phase_received::phase_shared::Stopped;
+use phase_received::phase_shared::{Next, Stopped};
 use std::sync::Wait;
 use std::test::Fail;
 use std::thread::{Threads, join_mut};
@@ -87,6 +87,56 @@ fn a_signal_that_is_ahead_is_told_of_the_close(rt: HostRuntime) -> Result<(), Fa
     assert_eq!(rt; held, 1);
     assert_eq!(rt; too_early, Err(Stopped::Refused(WaitRefusal::SignalFirst)));
     assert_eq!(rt; no_waiter, Err(Stopped::Refused(WaitRefusal::NoWait)));
+    Ok(())
+}
+
+// Goes on to its next phase, but waits no longer than until the phaser is closed.
+fn goes_on_or_stops<R: Wait>(
+    rt: &R,
+    phaser: &SumPhaser,
+    reg: &mut SumReg,
+) -> Result<Next, Stopped<SignalRefusal>>
+    requires { reg.old.at ≡ phaser_lock phaser.now }
+    ensures { reg.new.at ≡ reg.old.at }
+{
+    reg.next_or_closed(rt, phaser, None)
+}
+
+// The child signals phase 0 and gets nothing, as the founder has not signalled it. Once it has, both
+// get it, and their next phase is as before. A second signal before the wait is refused.
+#[test]
+fn a_phase_that_was_open_at_the_close_is_got_later(rt: HostRuntime) -> Result<(), Fail> {
+    let made = made_with_child(&rt, rt.alloc(), 2, Mode::SigWait);
+    let Some((phaser, mut founder, mut child)) = made else {
+        panic!(rt; "there is memory")
+    };
+    phaser.close();
+    let is_held = child.send(4).is_ok();
+    let alone = goes_on_or_stops(&rt, &phaser, &mut child);
+    let twice = goes_on_or_stops(&rt, &phaser, &mut child);
+    let both = goes_on_or_stops(&rt, &phaser, &mut founder);
+    let late = waited_or_closed(&rt, &phaser, &mut child);
+    let next = goes_on_or_stops(&rt, &phaser, &mut child);
+    left(&rt, &phaser, child);
+    left(&rt, &phaser, founder);
+    let outcome = Outcome::Value(4);
+    let got = Got::Value { phase: 0, outcome };
+    let signalled_alone = |phase| Next {
+        signalled: Some(phase),
+        got: None,
+    };
+    assert!(rt; is_held);
+    assert_eq!(rt; alone, Ok(signalled_alone(0)));
+    assert_eq!(rt; twice, Err(Stopped::Refused(SignalRefusal::SignalTwice)));
+    assert_eq!(rt;
+        both,
+        Ok(Next {
+            signalled: Some(0),
+            got: Some(got),
+        })
+    );
+    assert_eq!(rt; late, Ok(got));
+    assert_eq!(rt; next, Ok(signalled_alone(1)));
     Ok(())
 }
 
