@@ -138,6 +138,7 @@
 mod asked;
 mod blocks;
 mod closing;
+mod closing_blocks;
 mod closing_next;
 mod held;
 mod lane_words;

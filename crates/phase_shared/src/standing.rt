@@ -77,8 +77,8 @@ impl<A: Accumulate, K: SignalRule> Reg<A, K> {
 
     /// Tells what `standing` does, and writes the numbers of those that are missing into the first
     /// places, as many as there are of both: of the signallers that have not signalled the first
-    /// phase that is not complete. `Standing::missing` says how many they are. It makes no event. It
-    /// waits for its turn, and takes no memory.
+    /// phase that is not complete. `Standing::missing` says how many they are. It makes no event.
+    /// It waits for its turn, and takes no memory.
     pub fn missing<W: Wait>(
         &mut self,
         rt: &W,
