@@ -3,7 +3,7 @@ ghost use Rattle.std.specs.Prelude.{◌≡◌, None, IfSome};
 ghost use Rattle.phase_received.specs.phase_shared.Regs.{phaser_lock};
 
 use crate::calls::{SumPhaser, SumReg, left, made_with_child, registered, signalled, waited};
-use phase_received::phase_accum::Outcome;
+use phase_received::phase_accum::{Outcome, Pending, Sum};
 use phase_received::phase_base::Mode;
 use phase_received::phase_core::{Got, SignalRefusal, WaitRefusal};
 use phase_received::phase_shared::{Next, Stopped};
@@ -90,6 +90,39 @@ fn a_signal_that_is_ahead_is_told_of_the_close(rt: HostRuntime) -> Result<(), Fa
     Ok(())
 }
 
+// Signals a phase for each of these lists, but waits no longer than until the phaser is closed.
+fn lists_signalled_or_closed<R: Wait>(
+    rt: &R,
+    phaser: &SumPhaser,
+    reg: &mut SumReg,
+    lists: &[Pending<Sum>],
+) -> Result<u64, Stopped<SignalRefusal>>
+    requires at { reg.old.at ≡ phaser_lock phaser.now }
+    requires none_held { reg.old.held.count ≡ 0 }
+    ensures at { reg.new.at ≡ reg.old.at }
+    ensures held { reg.new.held ≡ reg.old.held }
+{
+    reg.signal_lists_or_closed(rt, phaser, lists, None)
+}
+
+// At bound 2 a block of two phases has room once, and then none until the founder has got one.
+#[test]
+fn a_block_that_is_ahead_is_told_of_the_close(rt: HostRuntime) -> Result<(), Fail> {
+    let made = made_with_child(&rt, rt.alloc(), 2, Mode::Sig);
+    let Some((phaser, founder, mut sender)) = made else {
+        panic!(rt; "there is memory")
+    };
+    phaser.close();
+    let lists = [Pending::new(), Pending::new()];
+    let first = lists_signalled_or_closed(&rt, &phaser, &mut sender, &lists);
+    let second = lists_signalled_or_closed(&rt, &phaser, &mut sender, &lists);
+    left(&rt, &phaser, sender);
+    left(&rt, &phaser, founder);
+    assert_eq!(rt; first, Ok(0));
+    assert_eq!(rt; second, Err(Stopped::Closed));
+    Ok(())
+}
+
 // Goes on to its next phase, but waits no longer than until the phaser is closed.
 fn goes_on_or_stops<R: Wait>(
     rt: &R,
@@ -102,8 +135,8 @@ fn goes_on_or_stops<R: Wait>(
     reg.next_or_closed(rt, phaser, None)
 }
 
-// The child signals phase 0 and gets nothing, as the founder has not signalled it. Once it has, both
-// get it, and their next phase is as before. A second signal before the wait is refused.
+// The child signals phase 0 and gets nothing, as the founder has not signalled it. Once it has,
+// both get it, and the next phase is as before. A second signal before the wait is refused.
 #[test]
 fn a_phase_that_was_open_at_the_close_is_got_later(rt: HostRuntime) -> Result<(), Fail> {
     let made = made_with_child(&rt, rt.alloc(), 2, Mode::SigWait);
