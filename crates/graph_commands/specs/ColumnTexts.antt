@@ -53,6 +53,13 @@ cell_at job sinks step k =
 abbrev pub cells_text : Job → List SinkValues → Option ℕ → List ℕ
 cells_text job sinks step = flat_map (cell_at job sinks step) (range_with_len 0 (length sinks))
 
+-- a line of these cells
+abbrev pub line_of_cells : List (Option ℤ) → List ℕ
+line_of_cells cells =
+    flat_map (λ k. comma_before k ++ value_cell (length cells == 1) (get_or cells k None))
+    (range_with_len 0 (length cells))
+    ++ codes "\n"
+
 -- the line of a step, or that of the names
 abbrev pub row_text : Job → List SinkValues → Option ℕ → List ℕ
 row_text job sinks step = cells_text job sinks step ++ codes "\n"

@@ -4,7 +4,9 @@ ghost use Rattle.std.specs.List.{All};
 ghost use Rattle.std.specs.Io.KnownBytes.{Appends};
 ghost use Rattle.stream_eval.specs.Results.{sink_values};
 ghost use Rattle.graph_commands.specs.ColumnTexts.{cell, cell_at, cells_text, columns_text, comma_before};
-ghost use Rattle.graph_commands.specs.ColumnTexts.{end_at, row_text, rows_of, value_at, value_cell};
+ghost use Rattle.graph_commands.specs.ColumnTexts.{end_at, line_of_cells, row_text, rows_of, value_at, value_cell};
+ghost use Rattle.graph_show.specs.graph_base.Graphs.{name_at};
+ghost use Rattle.graph_show.specs.graph_base.declared.place.Place.TheVariants as place;
 ghost use Rattle.graph_commands.specs.Puts.{PutsBytes};
 ghost use Rattle.graph_show.specs.watched_io.Prefix.{AppendsPrefix};
 ghost use Rattle.graph_show.specs.watched_io.Watched.{has_failed_of, inner_of};
@@ -198,6 +200,46 @@ impl OutputBuffer {
         ensures failed { OnErr result (has_failed_of writer.new ≡ true) }
     {
         self.put_cells(job, sinks, step, writer)?;
+        self.put(b"\n", writer)
+    }
+
+    /// Puts the name of task `t`, a sink, as cell number `k` of the line of the names.
+    pub fn put_name_at<W: Write>(
+        &mut self,
+        job: &Job,
+        t: usize,
+        k: usize,
+        writer: &mut Watched<W>,
+    ) -> Result<(), WriteFailed>
+        requires { t < length job.now.graph.tasks }
+        ensures ok { OnOk result (PutsBytes (W.contents (inner_of writer.old))
+            (W.contents (inner_of writer.new)) self.old self.new
+            (comma_before k ++ name_at job.now.graph (place.Task t))) }
+        ensures err { OnErr result (AppendsPrefix (W.contents (inner_of writer.old))
+            (W.contents (inner_of writer.new))
+            (self.old ++ comma_before k ++ name_at job.now.graph (place.Task t))) }
+        ensures failed { OnErr result (has_failed_of writer.new ≡ true) }
+    {
+        self.put(comma_before(k), writer)?;
+        self.put(job.graph().name(Place::Task(t)).as_bytes(), writer)
+    }
+
+    /// Puts a line of these cells.
+    pub fn put_line_of<W: Write>(
+        &mut self,
+        cells: &[Option<i64>],
+        writer: &mut Watched<W>,
+    ) -> Result<(), WriteFailed>
+        ensures ok { OnOk result (PutsBytes (W.contents (inner_of writer.old))
+            (W.contents (inner_of writer.new)) self.old self.new (line_of_cells cells.now)) }
+        ensures err { OnErr result (AppendsPrefix (W.contents (inner_of writer.old))
+            (W.contents (inner_of writer.new)) (self.old ++ line_of_cells cells.now)) }
+        ensures failed { OnErr result (has_failed_of writer.new ≡ true) }
+    {
+        for k in 0..cells.len() {
+            self.put(comma_before(k), writer)?;
+            self.put_value_cell(cells[k], cells.len() == 1, writer)?;
+        }
         self.put(b"\n", writer)
     }
 }

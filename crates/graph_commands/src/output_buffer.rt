@@ -54,10 +54,17 @@ impl OutputBuffer {
     }
 
     /// Forgets what waits.
-    pub(crate) fn clear(&mut self)
+    pub fn clear(&mut self)
         ensures { self.new ≡ [] }
     {
         self.len = 0;
+    }
+
+    /// Whether nothing waits.
+    pub fn is_empty(&self) -> bool
+        ensures { result ≡ true → self.now ≡ [] }
+    {
+        self.len == 0
     }
 
     /// Whether so many bytes more find room.
@@ -109,7 +116,7 @@ impl OutputBuffer {
     }
 
     /// Writes what waits.
-    pub(crate) fn hand_over<W: Write>(&mut self, writer: &mut Watched<W>) -> Result<(), WriteFailed>
+    pub fn hand_over<W: Write>(&mut self, writer: &mut Watched<W>) -> Result<(), WriteFailed>
         ensures ok { OnOk result (Appends (W.contents (inner_of writer.old))
             (W.contents (inner_of writer.new)) self.old) }
         ensures empty { OnOk result (self.new ≡ []) }
@@ -158,7 +165,7 @@ impl OutputBuffer {
     }
 
     /// Puts the bytes behind those that wait, and writes what finds no room.
-    pub(crate) fn put<W: Write>(
+    pub fn put<W: Write>(
         &mut self,
         bytes: &[u8],
         writer: &mut Watched<W>,

@@ -3,3 +3,4 @@ pub mod Outputs
 pub mod Sources
 pub mod Sessions
 pub mod Streams
+pub mod Tables

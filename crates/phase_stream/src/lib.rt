@@ -18,6 +18,7 @@ mod session;
 mod sink;
 mod source;
 mod streamed;
+mod table;
 mod writers;
 
 pub use cli::run_cli;

@@ -22,6 +22,7 @@ ghost use Rattle.graph_commands.specs.watched_io.States.{WriterState};
 use crate::opens::Opens;
 use crate::sink::Sink;
 use crate::source::{Lack, Room, Source};
+use crate::table::Table;
 use crate::writers::write_to;
 use graph_commands::watched_io::{Explain, IoFault, Watched, WriteFailed};
 use graph_commands::{Failure, JobFault, OutputBuffer, stall_told};
@@ -37,6 +38,8 @@ pub struct Session<R> {
     pub sources: Vec<Source<R>>,
     /// The sink whose values go to each writer, by the writer's number, or none.
     pub targets: Vec<Option<Sink>>,
+    /// The table that all sinks go to, in place of the writers, where that is asked for.
+    pub table: Option<Table>,
 }
 
 impl<R: Read + Drop> Session<R> {
@@ -45,6 +48,7 @@ impl<R: Read + Drop> Session<R> {
         alloc: Global,
         stream: Stream,
         targets: Vec<Option<Sink>>,
+        table: Option<Table>,
     ) -> Result<Session<R>, AllocError>
         requires { IsStreamAtOpening stream }
         ensures stands { IfOk result (λ session. (held : Known) (old now : ℕ → Option (List ℕ))
@@ -57,6 +61,7 @@ impl<R: Read + Drop> Session<R> {
             stream,
             sources,
             targets,
+            table,
         })
     }
 
@@ -152,6 +157,23 @@ impl<R: Read + Drop> Session<R> {
         Ok(())
     }
 
+    /// Writes what the sinks have, to the table where there is one.
+    fn write<W: Write, V: Write>(
+        &mut self,
+        is_over: bool,
+        buffer: &mut OutputBuffer,
+        output: &mut Watched<W>,
+        made: &mut Vec<Watched<V>>,
+    ) -> Result<(), IoFault> {
+        if let Some(table) = &mut self.table {
+            return table.hand_over(&mut self.stream, is_over, buffer, output);
+        }
+        match self.hand_over(buffer, output, made) {
+            Ok(()) => Ok(()),
+            Err(_) => Err(IoFault::WriteFault),
+        }
+    }
+
     /// Goes on until no task can move, and writes what the sinks have then.
     pub fn turn<W: Write, V: Write>(
         &mut self,
@@ -186,11 +208,11 @@ impl<R: Read + Drop> Session<R> {
                 return Err(IoFault::OutOfMemory);
             }
         };
-        match self.hand_over(buffer, output, made) {
+        match self.write(stop == Stopped::Done, buffer, output, made) {
             Ok(()) => Ok(stop),
-            Err(_) => {
+            Err(fault) => {
                 self.kept_is_right();
-                Err(IoFault::WriteFault)
+                Err(fault)
             }
         }
     }

@@ -8,7 +8,7 @@ ghost use Rattle.phase_stream.specs.Streams.{AsksNone, AsksOne};
 
 use graph_commands::find_sink;
 use phase_words::StreamCall;
-use std::alloc::Global;
+use std::alloc::{AllocError, Global};
 use stream_job::Job;
 
 /// A sink: its task, and its number among the sinks.
@@ -40,6 +40,12 @@ pub fn targets<'a>(
         AreTargetsOf job.now (stream_asked call.now) targets.items) }
     ensures none { IfErr result (λ none. IsUntargeted job.now (stream_asked call.now) none) }
 {
+    if call.columns {
+        return match all_sinks(alloc, job) {
+            Ok(targets) => Ok(targets),
+            Err(_) => Err(Untargeted::OutOfMemory),
+        };
+    }
     let Some(output) = output_target(job, call) else {
         return Err(Untargeted::NoSink(call.sink.unwrap_or(UNNAMED)));
     };
@@ -56,6 +62,18 @@ pub fn targets<'a>(
         };
     }
     Ok(targets)
+}
+
+/// All sinks of a job.
+fn all_sinks(alloc: Global, job: &Job) -> Result<Vec<Option<Sink>>, AllocError> {
+    let mut sinks = Vec::new(alloc);
+    for task in 0..job.graph().tasks() {
+        if job.graph().is_sink(task) {
+            let number = sinks.len();
+            sinks.push(Some(Sink { task, number }))?;
+        }
+    }
+    Ok(sinks)
 }
 
 /// What goes to the output: a sink, or none where others alone are named; nothing where the sink is

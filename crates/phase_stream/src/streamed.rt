@@ -14,12 +14,13 @@ use crate::opens::Opens;
 use crate::session::Session;
 use crate::sink::{Sink, Untargeted, targets};
 use crate::source::{Lack, Room};
+use crate::table::Table;
 use crate::writers::make_files;
 use graph_commands::watched_io::{Explain, Files, IoFault, Watched};
 use graph_commands::{Failure, GRAPH_MAX, JobFault};
 use phase_words::StreamCall;
 use sample_pieces::graph_lang::{FaultKind, GraphFault, read_graph};
-use std::alloc::Global;
+use std::alloc::{AllocError, Global};
 use std::io::Write;
 use stream_job::graph_base::Place;
 use stream_job::graph_runs::outcomes;
@@ -89,13 +90,25 @@ fn begin<'a, W: Write, F: Opens>(
     ensures place { IfErr result HasPlace }
     ensures same { (other : List ℕ) → F.file files.new other ≡ F.file files.old other }
 {
-    let Ok(session) = Session::new(alloc, stream, targets) else {
+    let table = match table_of(alloc, stream.job(), call.columns) {
+        Ok(table) => table,
+        Err(_) => return Err(Failure::Io(IoFault::OutOfMemory)),
+    };
+    let Ok(session) = Session::new(alloc, stream, targets, table) else {
         return Err(Failure::Io(IoFault::OutOfMemory));
     };
     match make_files(alloc, session.stream.graph(), call, made, files) {
         Ok(()) => go(alloc, session, call.explain, output, made, files),
         Err(fault) => Err(Failure::Io(fault)),
     }
+}
+
+/// The table of all sinks of a job, where that is asked for.
+fn table_of(alloc: Global, job: &Job, columns: bool) -> Result<Option<Table>, AllocError> {
+    if !columns {
+        return Ok(None);
+    }
+    Ok(Some(Table::new(alloc, job)?))
 }
 
 /// Makes the run of the graph in a file, to which no samples came.

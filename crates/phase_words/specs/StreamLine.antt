@@ -1,10 +1,10 @@
 -- What the words behind `phase stream` ask for, by what clap makes of them.
-use Rattle.std.specs.Prelude.{◌≡◌, Bool, false, List, [], ◌∷◌, Option, codes, map, option_map}
+use Rattle.std.specs.Prelude.{◌≡◌, ◌&&◌, ◌||◌, Bool, false, List, [], ◌∷◌, Option, codes, is_some, length, map, nat_lt, option_map, if◌then◌else◌}
 use Rattle.clap.specs.Words.{App, Kinds, Row, Text, fault_of, first_of, matches_of, with_rule}
 use Rattle.clap.specs.Kinds.{or_else}
-use Rattle.clap.specs.declared.error.kind.ErrorKind.TheVariants.{DisplayHelp, DisplayVersion}
-use Rattle.phase_words.specs.CommandLine.{Refuse, explain_of, explain_rule, is_given}
-use Rattle.phase_words.specs.Outputs.{Pair, others_in, output_kinds, pair_as, pairs_in, sink_in, to_rule}
+use Rattle.clap.specs.declared.error.kind.ErrorKind.TheVariants.{ArgumentConflict, DisplayHelp, DisplayVersion}
+use Rattle.phase_words.specs.CommandLine.{Refuse, columns_rule, explain_of, explain_rule, is_given}
+use Rattle.phase_words.specs.Outputs.{Pair, others_in, output_kinds, pair_as, pairs_in, sink_in, to_rule, words_by}
 use Rattle.phase_words.specs.SinkLine.{graph_by, sink_app}
 use Rattle.watched_io.specs.declared.explain.Explain.{Explain}
 use Rattle.watched_io.specs.declared.explain.Explain.TheVariants.{No, Yes}
@@ -12,19 +12,32 @@ use Rattle.phase_words.specs.declared.call.StreamCall.{StreamCall}
 
 -- ---- the command line
 
--- the words behind `phase stream`: a graph's file, a sink, `--beside`, sinks with their files and
--- `--explain`
+-- the words behind `phase stream`: a graph's file, a sink, `--beside`, sinks with their files,
+-- `--columns` and `--explain`
 unfoldable pub stream_app : App
-stream_app = with_rule (with_rule sink_app to_rule) explain_rule
+stream_app = with_rule (with_rule (with_rule sink_app to_rule) columns_rule) explain_rule
 
 -- ---- what the words ask for
 
+-- why `--columns` is refused, where it is: a sink is named, too
+abbrev pub columns_kinds_by : Bool → Option Text → List Text → Kinds
+columns_kinds_by columns sink words =
+    if columns && (is_some sink || nat_lt 0 (length words)) then ArgumentConflict ∷ [] else []
+
+-- by what clap finds
+abbrev pub columns_kinds : List Row → Kinds
+columns_kinds rows =
+    columns_kinds_by (is_given (first_of (codes "columns") rows)) (first_of (codes "sink") rows)
+    (words_by rows)
+
 -- the kinds of answer that may be given in place of taking the words: those of clap, and where it
--- has none, those of words of which one behind `--to` names no file, or that name a sink or a file
--- twice
+-- has none, those of words with `--columns` that name a sink, and of words of which one behind
+-- `--to` names no file, or that name a sink or a file twice
 unfoldable pub stream_kinds_of : List Text → Kinds
 stream_kinds_of words =
-    or_else (fault_of stream_app words) (output_kinds (matches_of stream_app words))
+    or_else (fault_of stream_app words)
+    (or_else (columns_kinds (matches_of stream_app words))
+    (output_kinds (matches_of stream_app words)))
 
 -- clap takes the words: they ask for no help and no version, and nothing is refused
 abbrev pub AreStreamTaken : List Text → Type 0
@@ -45,11 +58,12 @@ AreStreamRefused words = Refuse (stream_kinds_of words)
 -- the values of a sink, of the name or of the only one, of the graph in the file of a name, as they
 -- come, and those of other sinks to files, with an explanation of a fault or without, and with the
 -- files of its sources opened beside it or not. Where other sinks are named, none goes to the
--- output but that of the name
+-- output but that of the name. Or all its sinks go there as the columns of a table
 pub record Stream : Type 0 where
   pub graph : Text
   pub sink : Option Text
   pub files : List Pair
+  pub columns : Bool
   pub explain : Explain
   pub beside : Bool
 
@@ -59,6 +73,7 @@ stream_with rows pairs = record {
   graph = graph_by rows;
   sink = sink_in pairs;
   files = others_in pairs;
+  columns = is_given (first_of (codes "columns") rows);
   explain = explain_of (first_of (codes "explain") rows);
   beside = is_given (first_of (codes "beside") rows);
 }
@@ -84,6 +99,7 @@ AskStream words name sink =
       graph = name;
       sink = sink;
       files = [];
+      columns = false;
       explain = No;
       beside = false;
     })
@@ -95,6 +111,7 @@ AskStreamExplained words name sink =
       graph = name;
       sink = sink;
       files = [];
+      columns = false;
       explain = Yes;
       beside = false;
     })
@@ -105,6 +122,7 @@ stream_asked call = record {
   graph = call.graph.now;
   sink = option_map (λ s. s.now) call.sink;
   files = map pair_as call.files.items;
+  columns = call.columns;
   explain = call.explain;
   beside = call.beside;
 }

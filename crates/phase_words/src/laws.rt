@@ -49,7 +49,6 @@ pub fn words_for_columns()
         (codes "eval" ∷ codes "--sink=out" ∷ codes "--columns" ∷ codes "g" ∷ []) }
     ensures check { AreRefused (codes "check" ∷ codes "g" ∷ codes "--columns" ∷ []) }
     ensures run { AreRunRefused (codes "g" ∷ codes "--columns" ∷ []) }
-    ensures stream { AreStreamRefused (codes "g" ∷ codes "--columns" ∷ []) }
 {}
 
 /// `phase draw g` asks for a drawing of the graph in the file g. No file, two, and a sink are
@@ -102,6 +101,7 @@ pub fn words_for_files_beside()
       graph = codes "d/g";
       sink = None;
       files = [];
+      columns = false;
       explain = Explain.No;
       beside = true;
     }) }
@@ -227,6 +227,7 @@ pub fn words_for_files_of_sinks()
       graph = codes "g";
       sink = None;
       files = (codes "out", codes "f") ∷ [];
+      columns = false;
       explain = Explain.No;
       beside = false;
     }) }
@@ -236,6 +237,7 @@ pub fn words_for_files_of_sinks()
           graph = codes "g";
           sink = Some (codes "c");
           files = (codes "a", codes "f") ∷ (codes "b", codes "x=y") ∷ [];
+          columns = false;
           explain = Explain.No;
           beside = false;
         }) }

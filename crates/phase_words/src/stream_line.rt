@@ -1,14 +1,14 @@
 //! The words behind `phase stream`, as clap reads them.
-ghost use Rattle.std.specs.Prelude.{◌≡◌, ◌∷◌, [], IfOk, IfErr, map};
+ghost use Rattle.std.specs.Prelude.{◌≡◌, ◌∷◌, [], IfOk, IfErr, map, option_map};
 ghost use Rattle.std.specs.Option.{option_map_or};
 ghost use Rattle.clap.specs.Words.{FailsBy, HasKind, app_of, found_of, kind_of, rows_of};
 ghost use Rattle.phase_words.specs.CommandLine.{ExplainsNone, texts};
 ghost use Rattle.phase_words.specs.Outputs.{output_kinds, output_kinds_by, pair_as, pairs_in, words_by};
-ghost use Rattle.phase_words.specs.StreamLine.{AsksStream, stream_app, stream_by, stream_in};
+ghost use Rattle.phase_words.specs.StreamLine.{AsksStream, columns_kinds_by, stream_app, stream_by, stream_in};
 ghost use Rattle.phase_words.specs.StreamLine.{stream_kinds_of, stream_asked, stream_with};
 
-use crate::command_line::{explain_of, explain_word, found_by, is_given, no_call};
-use crate::help::{STREAM, STREAM_END, TO_LACKS, TO_TWICE};
+use crate::command_line::{columns_word, explain_of, explain_word, found_by, is_given, no_call};
+use crate::help::{BOTH, COLUMNS_TO, STREAM, STREAM_END, TO_LACKS, TO_TWICE};
 use crate::outputs::{files_of, has_clash, lack_file, output_sink, pairs, to_word, to_words};
 use crate::sink_line::{graph_of, sink_command};
 use crate::{NoCall, SinkFile, StreamCall};
@@ -22,6 +22,7 @@ fn stream_command<'a>(alloc: Global) -> Result<Command<'a>, AllocError>
 {
     sink_command(alloc, "phase stream", STREAM, STREAM_END)?
         .arg(to_word(alloc))?
+        .arg(columns_word(alloc))?
         .arg(explain_word(alloc))
 }
 
@@ -38,9 +39,31 @@ fn call_of<'a>(
         graph: graph_of(matches),
         sink: output_sink(pairs),
         files: files_of(alloc, pairs)?,
+        columns: is_given(matches.get_str("columns")),
         explain: explain_of(matches.get_str("explain")),
         beside: is_given(matches.get_str("beside")),
     })
+}
+
+/// What is said of `--columns` beside words that name a sink, where it stands there.
+fn columns_conflict(
+    columns: bool,
+    sink: Option<&str>,
+    named: &[&str],
+) -> Option<(ErrorKind, &'static str)>
+    ensures { columns_kinds_by columns (option_map (λ s. s.now) sink.entry)
+        (map (λ s. s.now) named.now) ≡ option_map_or (λ r. r.0 ∷ []) result [] }
+{
+    if !columns {
+        return None;
+    }
+    if sink.is_some() {
+        return Some((ErrorKind::ArgumentConflict, BOTH));
+    }
+    if !named.is_empty() {
+        return Some((ErrorKind::ArgumentConflict, COLUMNS_TO));
+    }
+    None
 }
 
 /// Why words are refused by which sinks go where: one behind `--to` names no file, or a sink or a
@@ -82,6 +105,10 @@ fn parse<'a>(alloc: Global, words: &'a [String]) -> Result<StreamCall<'a>, Error
 {
     let matches = found_by(stream_command(alloc), words)?;
     let named = to_words(alloc, &matches)?;
+    let columns = is_given(matches.get_str("columns"));
+    if let Some((kind, text)) = columns_conflict(columns, matches.get_str("sink"), &named) {
+        return Err(refused(alloc, kind, text));
+    }
     let pairs = pairs(alloc, matches.get_str("sink"), &named)?;
     if let Some((kind, text)) = refusal(lack_file(&named), has_clash(&pairs)) {
         return Err(refused(alloc, kind, text));
