@@ -1,5 +1,6 @@
 -- What a record is told by, from piece to piece.
-use Rattle.std.proofs.Common.{◌≡◌, ◌+◌, ◌-◌, ◌++◌, ℕ, Bool, true, false, eqb, List, [], ◌∷◌, drop, take, refl, sym, ap, subst, ◌∙◌, arith, take-append-drop}
+use Rattle.std.proofs.Common.{◌≡◌, ◌+◌, ◌-◌, ◌++◌, ◌==◌, ℕ, cond, List, drop, take, sym, ap, ◌∙◌, arith, take-append-drop}
+use Rattle.std.proofs.lemmas.List.Sums.{sum_by-append}
 use Rattle.std.proofs.lemmas.List.{append_assoc}
 use Rattle.graph_commands.specs.Records.{line_at}
 use Rattle.phase_stream.specs.Sources.{IsKeptOf, line_feeds}
@@ -7,13 +8,7 @@ use Rattle.phase_stream.specs.declared.record_text.RecordText.{RecordText}
 
 -- the line feeds of two texts
 feeds_append : (xs ys : List ℕ) → line_feeds (xs ++ ys) ≡ line_feeds xs + line_feeds ys
-feeds_append [] ys = refl
-feeds_append (x ∷ xs) ys = by (eqb x 10) refl
-  where
-    by : (b : Bool) → eqb x 10 ≡ b
-        → line_feeds (x ∷ xs ++ ys) ≡ line_feeds (x ∷ xs) + line_feeds ys
-    by true e = let more = feeds_append xs ys in rw e (omega (arith, more))
-    by false e = rw e (feeds_append xs ys)
+feeds_append xs ys = sum_by-append (λ x. cond (x == 10) 1 0) xs ys
 
 -- all is kept from a later byte on
 pub passed : (text piece all : List ℕ) (at : ℕ) (old new : RecordText)

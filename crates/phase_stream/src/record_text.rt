@@ -1,5 +1,5 @@
 //! The text of a file from its record at hand on, which tells a record that is no sample.
-ghost use Rattle.std.specs.Prelude.{◌≡◌, ◌++◌, [], List, ℕ, OnOk, IfOk};
+ghost use Rattle.std.specs.Prelude.{◌≡◌, ◌≤◌, ◌++◌, [], List, ℕ, OnOk, IfSome, length};
 ghost use Rattle.phase_stream.specs.Sources.{IsKeptOf, TellsIn};
 
 use graph_commands::{line_at, start_of, told_from};
@@ -50,11 +50,15 @@ impl RecordText {
         }
     }
 
-    /// Tells the record at hand, of this number in the file of this name, which is no sample.
-    pub fn told(&self, alloc: Global, file: &str, number: usize) -> Result<Vec<u8>, AllocError>
-        ensures { IfOk result (λ told. (text : List ℕ) → IsKeptOf text self.now
-            → TellsIn text file.now number told.items) }
+    /// Tells the record at hand, of this number in the file of this name, which is no sample, where
+    /// memory does not run out.
+    pub fn told(&self, alloc: Global, file: &str, number: usize) -> Option<Vec<u8>>
+        ensures { (text : List ℕ) → IsKeptOf text self.now
+            → IfSome result (λ told. TellsIn text file.now number told.items) }
     {
-        told_from(alloc, file, number, self.line, &self.text)
+        match told_from(alloc, file, number, self.line, &self.text) {
+            Ok(told) => Some(told),
+            Err(_) => None,
+        }
     }
 }

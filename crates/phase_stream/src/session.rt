@@ -253,6 +253,7 @@ impl<R: Read + Drop> Session<R> {
         }
         if piece.is_last {
             self.stream.finish(k);
+            return Ok(());
         }
         Ok(())
     }

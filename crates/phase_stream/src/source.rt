@@ -94,10 +94,7 @@ impl<R: Read + Drop> OpenFile<R> {
             reader: SampleReader::new(),
             is_bad: false,
             count: 0,
-            text: match explain {
-                Explain::No => None,
-                Explain::Yes => Some(RecordText::new(alloc)),
-            },
+            text: first_text(alloc, explain),
         }
     }
 
@@ -196,9 +193,19 @@ impl<R: Read + Drop> OpenFile<R> {
             → IfSome result (λ told. TellsOfFile known name.now number told.items) }
     {
         match &self.text {
-            Some(text) => text.told(alloc, name, number).ok(),
+            Some(text) => text.told(alloc, name, number),
             None => None,
         }
+    }
+}
+
+/// What a record is told by of a file of which nothing was read, where that is asked for.
+fn first_text(alloc: Global, explain: Explain) -> Option<RecordText>
+    ensures { IfSome result (IsKeptOf []) }
+{
+    match explain {
+        Explain::No => None,
+        Explain::Yes => Some(RecordText::new(alloc)),
     }
 }
 
@@ -209,7 +216,7 @@ fn text_behind(
     piece: &[u8],
     records: usize,
 ) -> Option<RecordText>
-    ensures { (read : List ℕ) → IfSome text.entry (IsKeptOf read)
+    ensures { (read : List ℕ) → IfSome text (IsKeptOf read)
         → IfSome result (IsKeptOf (read ++ piece.now)) }
 {
     let mut text = text?;
@@ -292,6 +299,7 @@ impl<R: Read + Drop> Source<R> {
         let piece = file.read(alloc, name, room)?;
         if piece.is_last {
             self.file = None;
+            return Ok(piece);
         }
         Ok(piece)
     }

@@ -105,8 +105,8 @@ returns-then-piece-clause-ok g c = λ held old now is st.
     c.in-Ok.piece st fed (not_less c.feed.result c.in-Ok.piece.count c.if-feed-piece.false)
     c.if-piece.true c.finish.ensures.stands c.finish.ensures.others c.finish.ensures.ended refl refl)
 
-pub returns-else-piece-clause-ok : goal.returns-else-piece-clause-ok
-returns-else-piece-clause-ok g c = λ held old now is st.
+pub returns-clause-ok : goal.returns-clause-ok
+returns-clause-ok g c = λ held old now is st.
     (let other = c.in-Some.source.now in
     let items = c.args.self.now.sources.items in
     let lt = c.in-Some.ensures.variant.0 refl in

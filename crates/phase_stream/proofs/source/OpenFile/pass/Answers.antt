@@ -1,6 +1,8 @@
 -- What was looked at of the piece, and the samples in it.
 use Rattle.std.proofs.Common.{◌≡◌, ◌≤◌, ◌⊎◌, false, true, length, not, ap, ℤ, List, rules, refl, sym, subst, take, arith}
 use Rattle.std.proofs.lemmas.List.{length-take-le}
+use Rattle.std.specs.Prelude.{IfSome}
+use Rattle.phase_stream.specs.Sources.{IsKeptOf}
 use Rattle.phase_stream.proofs.Reading.{looked_all, piece_got}
 use Rattle.phase_stream.proofs.source.OpenFile.pass.Goals as goal
 
@@ -28,4 +30,5 @@ returns-clause-got g c = λ known values is.
     (c.read-taken.ensures.takes is.text values is.read) all refl
     (omega (arith, c.read-taken.ensures.values, c.read-taken.auto.out))
     (omega (arith, c.read-taken.ensures.values, long, size)) refl c.in-Some.ensures.1
-    (c.text_behind.ensures is.text is.kept)
+    (c.text_behind.ensures is.text
+    (subst (λ o. IfSome o (IsKeptOf is.text)) (sym c.take.ensures.value) is.kept))

@@ -23,8 +23,8 @@ returns-then-piece-clause-got g c = λ values is.
       };
     }
 
-pub returns-else-piece-clause-got : goal.returns-else-piece-clause-got
-returns-else-piece-clause-got g c = λ values is.
+pub returns-clause-got : goal.returns-clause-got
+returns-clause-got g c = λ values is.
     let known = g.F.Files.file c.args.files.now c.args.name.now in
     let source = c.in_ok-open.ensures.ok values is in
     let open_file = subst (λ file. IfSome file (IsOpenFile g.R.Read.remaining known values)) c.in-Some.is
