@@ -39,5 +39,6 @@ EndsAsAsked what known knows of_output of_file status old new made before after 
 abbrev pub EndsAsTable : Stream → Known → Status → WriterState → WriterState → Type 0
 EndsAsTable what known status old new =
     (job : Job) → IsGraphOf (known_by what.beside what.graph known) what.graph job.graph
-    → (status ≡ Done → WritesTable (known_by what.beside what.graph known) job old.written new.written)
+    → (status ≡ Done
+    → WritesTable (known_by what.beside what.graph known) job old.written new.written)
     × WritesTablePart (known_by what.beside what.graph known) job old.written new.written
