@@ -21,8 +21,8 @@ class Live:
     def __init__(self, room, words="stream g", **streams):
         [command] = room.commands(words)
         room.runs += 1
-        streams = {"stdin": subprocess.PIPE, "stdout": subprocess.PIPE, "stderr": subprocess.PIPE, **streams}
-        self.process = subprocess.Popen(command, cwd=room.folder, **streams)
+        all_piped = dict.fromkeys(("stdin", "stdout", "stderr"), subprocess.PIPE)
+        self.process = subprocess.Popen(command, cwd=room.folder, **{**all_piped, **streams})
         self.room, self.output, self.pipes = room, b"", {}
         if self.process.stdout:
             os.set_blocking(self.process.stdout.fileno(), False)
