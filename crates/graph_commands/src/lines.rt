@@ -140,8 +140,8 @@ impl OutputBuffer {
         Ok(())
     }
 
-    /// Writes the values of one sink as the function of that name does, by a buffer that is kept
-    /// for the values that come next. What waited in it is forgotten.
+    /// Writes the values of one sink, each on a line of its own. What waited here is forgotten, and
+    /// the buffer can be kept for the values that come next.
     pub fn write_values<W: Write>(
         &mut self,
         writer: &mut Watched<W>,
