@@ -244,7 +244,9 @@ enum {
     /* Of the phase_member calls alone: the registration asks for nothing. */
     PHASE_E_NOT_ASKED = -45,
     /* Of the phase_member calls alone: the registration cannot ask. */
-    PHASE_E_CANNOT_ASK = -46
+    PHASE_E_CANNOT_ASK = -46,
+    /* Of phase_shared.h alone: the phaser is closed, and the call would have to wait. */
+    PHASE_E_CLOSED = -47
 };
 
 /* The operations: what the sends of a phase come to. */
@@ -515,6 +517,7 @@ static inline const char *phase_status_text(int32_t status)
     case PHASE_E_BUSY: return "another call on the phaser is in the middle";
     case PHASE_E_NOT_ASKED: return "the registration asks for nothing";
     case PHASE_E_CANNOT_ASK: return "the registration cannot ask";
+    case PHASE_E_CLOSED: return "the phaser is closed";
     default: return "no status";
     }
 }

@@ -8,7 +8,9 @@
 #define PHASE_HPP
 #include "phase_shared.h"
 #include <chrono>
+#include <exception>
 #include <utility>
+#include <vector>
 
 namespace phase {
 
@@ -171,6 +173,60 @@ public:
         return waits_block(phase_shared_wait_block_for, values, places, number(time));
     }
 
+    /* The same calls for some time, or as long as it takes, where none waits once the phaser is
+     * closed: what would have to wait then is PHASE_E_CLOSED, or a next PHASE_SIGNALLED. */
+    answer signal_or_closed(sends lent = {}, single one = {}, std::chrono::nanoseconds time = ever)
+    {
+        return signals(phase_shared_signal_or_closed, lent, one, number(time));
+    }
+
+    answer next_or_closed(sends lent = {}, single one = {}, std::chrono::nanoseconds time = ever)
+    {
+        return goes(phase_shared_next_or_closed, lent, one, number(time));
+    }
+
+    answer wait_or_closed(std::chrono::nanoseconds time = ever)
+    {
+        return waits(phase_shared_wait_or_closed, number(time));
+    }
+
+    block signal_block_or_closed(const int64_t *values, size_t count, single one = {},
+                                 std::chrono::nanoseconds time = ever)
+    {
+        return signals_block(phase_shared_signal_block_or_closed, {values, count}, one,
+                             number(time));
+    }
+
+    block wait_block_or_closed(int64_t *values, size_t places,
+                               std::chrono::nanoseconds time = ever)
+    {
+        return waits_block(phase_shared_wait_block_or_closed, values, places, number(time));
+    }
+
+    /* Closes the phaser, for ever, and whether it was closed. Any thread may call these, as long as
+     * the registration does not leave meanwhile. */
+    void close() { phase_shared_close(&it_); }
+    bool is_closed() const { return phase_shared_closed(&it_) == PHASE_E_CLOSED; }
+
+    /* How the phaser stands: all zero where there is none. */
+    phase_member_counts standing()
+    {
+        phase_member_counts counts = {0, 0, 0, 0, 0};
+        phase_shared_missing(&it_, &counts, nullptr, 0);
+        return counts;
+    }
+
+    /* Who is missing: the numbers of the registrations that signal and have not signalled the first
+     * phase that is not complete. It takes memory. */
+    std::vector<uint64_t> missing()
+    {
+        phase_member_counts counts = {0, 0, 0, 0, 0};
+        std::vector<uint64_t> numbers(PHASE_MEMBERS_MAX);
+        phase_shared_missing(&it_, &counts, numbers.data(), numbers.size());
+        numbers.resize(counts.signallers - counts.signalled);
+        return numbers;
+    }
+
     /* What it stands at: all zero where there is none. */
     phase_member_standing view()
     {
@@ -243,13 +299,36 @@ private:
         return is;
     }
 
+    /* A time that is none. */
+    static constexpr std::chrono::nanoseconds ever = std::chrono::nanoseconds::max();
+
     static uint64_t number(std::chrono::nanoseconds time)
     {
+        if (time == ever)
+            return PHASE_FOR_EVER;
         return time.count() < 0 ? 0 : static_cast<uint64_t>(time.count());
     }
 
     phase_registration it_ = PHASE_REGISTRATION_INIT;
     int32_t status_ = PHASE_E_NO_PHASER;
+};
+
+/* Closes the phaser of a registration where an exception ends the scope that this is in. It stands
+ * behind the registration, which leaves after it. */
+class closing {
+public:
+    explicit closing(registration &lent) : lent_(lent) {}
+    closing(const closing &) = delete;
+    closing &operator=(const closing &) = delete;
+    ~closing()
+    {
+        if (std::uncaught_exceptions() > before_)
+            lent_.close();
+    }
+
+private:
+    registration &lent_;
+    const int before_ = std::uncaught_exceptions();
 };
 
 /* A phaser for one thread at a time, as phase.h has it, or none. It is freed when it ends, and

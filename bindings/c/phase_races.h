@@ -69,6 +69,18 @@ PHASE_SEES(phase_shared_try_wait_block, (PHASE_PLACES),
            (registration, values, values_len, phase, count))
 PHASE_SEES(phase_shared_wait_block_for, (PHASE_PLACES, uint64_t nanoseconds),
            (registration, values, values_len, phase, count, nanoseconds))
+PHASE_MEETS(phase_shared_signal_or_closed, (PHASE_SENT, uint64_t nanoseconds),
+            (registration, values, values_len, single, low, high, phase, nanoseconds))
+PHASE_MEETS(phase_shared_signal_block_or_closed, (PHASE_SENT, uint64_t nanoseconds),
+            (registration, values, values_len, single, low, high, phase, nanoseconds))
+PHASE_MEETS(phase_shared_next_or_closed, (PHASE_SENT, int64_t *value, uint64_t nanoseconds),
+            (registration, values, values_len, single, low, high, phase, value, nanoseconds))
+PHASE_SEES(phase_shared_wait_or_closed, (PHASE_GOT, uint64_t nanoseconds),
+           (registration, phase, value, nanoseconds))
+PHASE_SEES(phase_shared_wait_block_or_closed, (PHASE_PLACES, uint64_t nanoseconds),
+           (registration, values, values_len, phase, count, nanoseconds))
+PHASE_SEES(phase_shared_closed, (const phase_registration *registration), (registration))
+PHASE_HANDS_ON(phase_shared_close, (const phase_registration *registration), (registration))
 PHASE_HANDS_ON(phase_shared_leave, (phase_registration *registration), (registration))
 PHASE_HANDS_ON(phase_shared_try_leave, (phase_registration *registration), (registration))
 
@@ -88,6 +100,13 @@ PHASE_HANDS_ON(phase_shared_try_leave, (phase_registration *registration), (regi
 #define phase_shared_wait_block phase_shared_wait_block_seen
 #define phase_shared_try_wait_block phase_shared_try_wait_block_seen
 #define phase_shared_wait_block_for phase_shared_wait_block_for_seen
+#define phase_shared_signal_or_closed phase_shared_signal_or_closed_seen
+#define phase_shared_signal_block_or_closed phase_shared_signal_block_or_closed_seen
+#define phase_shared_next_or_closed phase_shared_next_or_closed_seen
+#define phase_shared_wait_or_closed phase_shared_wait_or_closed_seen
+#define phase_shared_wait_block_or_closed phase_shared_wait_block_or_closed_seen
+#define phase_shared_closed phase_shared_closed_seen
+#define phase_shared_close phase_shared_close_seen
 #define phase_shared_leave phase_shared_leave_seen
 #define phase_shared_try_leave phase_shared_try_leave_seen
 

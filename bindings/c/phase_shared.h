@@ -24,6 +24,10 @@
  * sleeps. Behind `Refused as` stand all negative statuses of the three forms, in the order in which
  * they are looked for; where a call was tried too early or was busy, it is looked at anew.
  *
+ * A program in which one thread may fail, and leave the others to wait for ever, takes the calls
+ * with _or_closed: they wait no longer once a thread has called phase_shared_close. Who is missing
+ * where nothing goes on tells phase_shared_missing.
+ *
  * What a thread did before its signal is seen by every thread that got the phase: each call is a
  * sequentially consistent exchange on one word of the phaser.
  *
@@ -31,11 +35,12 @@
  * the registration and what the call writes are as they were.
  *
  * A caller owes, beside what phase.h says:
- * - One thread at a time uses a registration. Who hands it to another orders that by a lock, the
- *   start or end of a thread, or a sequentially consistent atomic.
+ * - One thread at a time uses a registration, but for phase_shared_close and phase_shared_closed.
+ *   Who hands it to another orders that by a lock, the start or end of a thread, or a sequentially
+ *   consistent atomic.
  * - Nobody reads or writes its fields, but for the zeros at first, and it is not copied. It may be
  *   moved, if the struct where it was is made zero.
- * - It may give NULL for a number that a call of phase_shared writes.
+ * - It may give NULL for a number, or counts, that a call of phase_shared writes.
  * - Parent and child are two structs.
  * - No thread is cancelled, or leaves by longjmp, in the middle of a call.
  * - Each registration is left. As long as it is not, others may wait for it, and memory is kept.
@@ -65,6 +70,16 @@ typedef struct phase_member_standing {
     uint32_t mode;
     uint32_t operation;
 } phase_member_standing;
+
+/* How many registrations a phaser has, how many of them signal and how many wait, the first phase
+ * that is not complete, counted from 0, and how many of those that signal have signalled it. */
+typedef struct phase_member_counts {
+    uint64_t tasks;
+    uint64_t signallers;
+    uint64_t waiters;
+    uint64_t phase;
+    uint64_t signalled;
+} phase_member_counts;
 
 /* The place of a registration. */
 typedef struct phase_registration {
@@ -203,6 +218,61 @@ int32_t phase_shared_wait_block_for(phase_registration *registration, int64_t *v
                                     size_t values_len, uint64_t *phase, size_t *count,
                                     uint64_t nanoseconds);
 
+/* ---- Who is missing, and an end for all. */
+
+/* Writes how the phaser stands, and the numbers of those that are missing: of the registrations
+ * that signal and have not signalled the first phase that is not complete. They are as many as
+ * counts->signallers - counts->signalled, and stand in the first places, in the order in which they
+ * joined, as many as there are places for; NULL and 0 are none. phase_shared_view has the number of
+ * a registration. It waits for its turn alone.
+ *
+ * Refused as PHASE_E_NO_PHASER, PHASE_E_BUSY. */
+int32_t phase_shared_missing(phase_registration *registration, phase_member_counts *counts,
+                             uint64_t *places, size_t places_len);
+int32_t phase_shared_try_missing(phase_registration *registration, phase_member_counts *counts,
+                                 uint64_t *places, size_t places_len);
+
+/* Closes the phaser, for ever: who waits by a call with _or_closed comes back, and no such call
+ * waits from then on. Every other call goes on as before, and nothing is lost that was sent or is
+ * complete. It is for a thread that fails. Any thread may call it, also while another is in the
+ * middle of a call on the registration, as long as nobody leaves by it meanwhile.
+ *
+ * Refused as PHASE_E_NO_PHASER. */
+int32_t phase_shared_close(const phase_registration *registration);
+
+/* Answers PHASE_E_CLOSED where the phaser was closed, and else PHASE_OK. Any thread may call it, as
+ * it may phase_shared_close. Refused as PHASE_E_NO_PHASER. */
+int32_t phase_shared_closed(const phase_registration *registration);
+
+/* As many nanoseconds as it takes. */
+#define PHASE_FOR_EVER UINT64_MAX
+
+/* The calls above with _for, where none waits once the phaser is closed. What is complete then, or
+ * has room, is still got or signalled; what would have to wait is answered PHASE_E_CLOSED, whatever
+ * time is left, and all is as it was. phase_shared_next_or_closed is answered so where its signal
+ * would have to wait; where its phase is signalled and not complete it is PHASE_SIGNALLED, and
+ * phase_shared_closed tells whether that is since time was over. A thread that should end also
+ * where it need not wait, as the last one that is left, asks phase_shared_closed itself. */
+int32_t phase_shared_signal_or_closed(phase_registration *registration,
+                                      const int64_t *values, size_t values_len,
+                                      uint32_t single, int64_t low, int64_t high,
+                                      uint64_t *phase, uint64_t nanoseconds);
+int32_t phase_shared_next_or_closed(phase_registration *registration,
+                                    const int64_t *values, size_t values_len,
+                                    uint32_t single, int64_t low, int64_t high,
+                                    uint64_t *phase, int64_t *value, uint64_t nanoseconds);
+int32_t phase_shared_wait_or_closed(phase_registration *registration, uint64_t *phase,
+                                    int64_t *value, uint64_t nanoseconds);
+int32_t phase_shared_signal_block_or_closed(phase_registration *registration,
+                                            const int64_t *values, size_t values_len,
+                                            uint32_t single, int64_t low, int64_t high,
+                                            uint64_t *phase, uint64_t nanoseconds);
+int32_t phase_shared_wait_block_or_closed(phase_registration *registration, int64_t *values,
+                                          size_t values_len, uint64_t *phase, size_t *count,
+                                          uint64_t nanoseconds);
+
+/* ---- Ends. */
+
 /* Ends the registration; there is none then. From then on no phase waits for it, and phases that
  * the others have signalled are complete. It waits for its turn alone. With the last registration
  * the phaser ends, and its memory is given back.
@@ -245,7 +315,8 @@ int32_t phase_member_leave(phase_member *member);
 /* Asks others for the next phase, with one value at most and no single, where it can: the mode
  * signals and waits, others are registered, and one of 16 lanes is its own. It answers PHASE_ASKED,
  * or PHASE_E_CANNOT_ASK. Until the ask has ended every other call on the registration is
- * PHASE_E_BUSY, but for those below, phase_member_view and phase_member_told.
+ * PHASE_E_BUSY, but for those below, phase_member_close, phase_member_closed, phase_member_view
+ * and phase_member_told.
  *
  * phase_member_look ends the ask where another's turn has made it: PHASE_OK with the phase and its
  * value, or else PHASE_ASKED. phase_member_serve takes the turn, where that is free, signals for
@@ -260,6 +331,13 @@ int32_t phase_member_look(phase_member *member, uint64_t *phase, int64_t *value)
 int32_t phase_member_serve(phase_member *member, uint32_t looks, uint64_t *phase, int64_t *value);
 int32_t phase_member_take_back(phase_member *member, uint64_t *phase, int64_t *value);
 
+/* Closes the phaser for phase_member_closed of each of its registrations, which answers
+ * PHASE_E_CLOSED then, and else PHASE_OK. The calls of phase_shared do not heed it. */
+int32_t phase_member_close(phase_member *member);
+int32_t phase_member_closed(phase_member *member);
+
+int32_t phase_member_missing(phase_member *member, phase_member_counts *counts, uint64_t *places,
+                             size_t places_len);
 int32_t phase_member_view(phase_member *member, phase_member_standing *standing);
 int32_t phase_member_told(phase_member *member, uint64_t *done, uint64_t *base);
 

@@ -67,7 +67,7 @@ enum { SPINS = 6, SNOOZE = 50000 };
 static const uint64_t SECOND = 1000000000;
 
 /* The nanoseconds of a call that tries until it is done. */
-static const uint64_t FOR_EVER = UINT64_MAX;
+static const uint64_t FOR_EVER = PHASE_FOR_EVER;
 
 /* Where threads sleep until a number of the phaser is higher. */
 struct bell {
@@ -80,11 +80,13 @@ struct bell {
 #endif
 };
 
-/* What the registrations of a phaser share: how many they are, and the bells of its two numbers.
- * The bells, at which every call looks, stand apart from what is often written. */
+/* What the registrations of a phaser share: how many they are, whether one of them closed it, and
+ * the bells of its two numbers. The bells, at which every call looks, stand apart from what is
+ * often written. */
 struct phase_gate {
     _Atomic uint64_t owners;
-    char apart[120];
+    _Atomic uint64_t closed; /* whether the phaser was closed */
+    char apart[112];
     struct bell done;
     struct bell base;
     char behind[128];
@@ -232,7 +234,9 @@ struct patience {
     uint64_t nanoseconds;
     uint64_t deadline; /* on the clock, once it was read */
     bool is_timed;     /* whether it was */
+    bool is_last;      /* whether it tries a last time, since the phaser is closed */
     uint32_t turns;    /* how often the turn was another's */
+    const struct phase_gate *heeds; /* that of a phaser at whose close the time is over, or none */
 };
 
 static uint64_t now(void)
@@ -242,9 +246,17 @@ static uint64_t now(void)
     return (uint64_t)time.tv_sec * SECOND + (uint64_t)time.tv_nsec;
 }
 
-/* How many nanoseconds are left. */
+/* Whether the time is over since the phaser is closed. */
+static bool is_closed(const struct patience *patience)
+{
+    return patience->heeds != NULL && atomic_load(&patience->heeds->closed) != 0;
+}
+
+/* How many nanoseconds are left. A last try has the time to get its turn. */
 static uint64_t left(struct patience *patience)
 {
+    if (is_closed(patience))
+        return patience->is_last ? FOR_EVER : 0;
     if (patience->nanoseconds == FOR_EVER || patience->nanoseconds == 0)
         return patience->nanoseconds;
     uint64_t time = now();
@@ -333,10 +345,10 @@ static bool is_over_soon(const struct aim *aim, struct patience *patience)
 /* Sleeps until the number is reached, or no time is left, or for some time. */
 static void sleep_for(const struct aim *aim, struct patience *patience)
 {
-    uint64_t most = left(patience);
     atomic_fetch_add(&aim->bell->sleepers, 1);
     uint32_t rings = atomic_load(&aim->bell->rings);
-    if (!is_reached(aim))
+    uint64_t most = left(patience);
+    if (most > 0 && !is_reached(aim))
         sleep_at(aim->bell, rings, most < PHASE_SLEEP ? most : PHASE_SLEEP);
     atomic_fetch_sub(&aim->bell->sleepers, 1);
 }
@@ -348,51 +360,83 @@ static void pause_for(const struct aim *aim, struct patience *patience)
         sleep_for(aim, patience);
 }
 
-/* Whether a signal of so many phases that was answered so is tried again; it pauses first. Where
- * the turn was another's until no time was left, the answer is that it is ahead. */
-static bool signals_again(phase_registration *registration, uint64_t count, int32_t *status,
-                          struct patience *patience)
+/* Whether a call that came too early, and has no time left, is tried a last time, which is so where
+ * the phaser is closed: it gets what was there before. The answer of that try is that the phaser is
+ * closed. */
+static bool tries_last(int32_t *status, struct patience *patience)
+{
+    if (!is_closed(patience))
+        return false;
+    if (patience->is_last) {
+        *status = PHASE_E_CLOSED;
+        return false;
+    }
+    patience->is_last = true;
+    return true;
+}
+
+/* Whether a signal of so many phases that came too early is tried again; it pauses first. Where the
+ * turn was another's until no time was left, the answer is that it is ahead. */
+static bool pauses_for_room(phase_registration *registration, uint64_t count, int32_t *status,
+                            struct patience *patience)
 {
     if (*status == PHASE_E_BUSY) {
         if (snooze(registration, patience))
             return true;
         *status = PHASE_E_AHEAD;
-        return false;
+        return tries_last(status, patience);
     }
-    if (*status != PHASE_E_AHEAD || left(patience) == 0)
-        return false;
+    if (patience->is_last || left(patience) == 0)
+        return tries_last(status, patience);
     uint64_t next = registration->signal_phase + count, bound = registration->bound;
     struct aim room = {registration, &registration->gate->base, next > bound ? next - bound : 0};
     pause_for(&room, patience);
     return true;
 }
 
+/* Whether a signal that was answered so is tried again. */
+static inline bool signals_again(phase_registration *registration, uint64_t count,
+                                 int32_t *status, struct patience *patience)
+{
+    return (*status == PHASE_E_BUSY || *status == PHASE_E_AHEAD)
+           && pauses_for_room(registration, count, status, patience);
+}
+
 /* Pauses before a wait for so many phases that would be too early. One that would be refused for
- * another reason does not pause. */
+ * another reason does not pause, nor does a last try. */
 static void pause_for_phase(phase_registration *registration, uint64_t count,
                             struct patience *patience)
 {
     bool waits = registration->mode == PHASE_WAIT
                  || (registration->mode != PHASE_SIG
                      && registration->signal_phase > registration->wait_phase);
-    if (registration->gate == NULL || !waits || count == 0 || count > registration->bound)
+    if (registration->gate == NULL || !waits || count == 0 || count > registration->bound
+        || patience->is_last)
         return;
     struct aim phase = {registration, &registration->gate->done, registration->wait_phase + 1};
     pause_for(&phase, patience);
 }
 
-/* Whether a wait that was answered so is tried again. Where the turn was another's until no time
- * was left, the answer is that the phase is not complete yet. */
-static bool waits_again(phase_registration *registration, int32_t *status,
-                        struct patience *patience)
+/* Whether a wait that came too early is tried again. Where the turn was another's until no time was
+ * left, the answer is that the phase is not complete yet. */
+static bool has_time_to_wait(phase_registration *registration, int32_t *status,
+                             struct patience *patience)
 {
     if (*status == PHASE_E_BUSY) {
         if (snooze(registration, patience))
             return true;
         *status = PHASE_E_NOT_YET;
-        return false;
+        return tries_last(status, patience);
     }
-    return *status == PHASE_E_NOT_YET && left(patience) != 0;
+    return (!patience->is_last && left(patience) != 0) || tries_last(status, patience);
+}
+
+/* Whether a wait that was answered so is tried again. */
+static inline bool waits_again(phase_registration *registration, int32_t *status,
+                               struct patience *patience)
+{
+    return (*status == PHASE_E_BUSY || *status == PHASE_E_NOT_YET)
+           && has_time_to_wait(registration, status, patience);
 }
 
 /* ---- Registering and leaving. */
@@ -792,15 +836,20 @@ static uint64_t processors(void)
     return (uint64_t)many;
 }
 
-/* Goes to the next phase by an ask, where the registration can ask, and no more are there than can
- * run at once: else the tries are quicker. Where no time is left, it asks no more, and rests. */
+/* Whether to ask: where others are there, and no more than can run at once. Else the tries are
+ * quicker. */
+static inline bool has_whom_to_ask(const phase_registration *registration)
+{
+    uint64_t owners = registration->gate == NULL ? 1 : atomic_load(&registration->gate->owners);
+    return owners != 1 && owners <= processors();
+}
+
+/* Goes to the next phase by an ask, where the registration can ask. Where no time is left, it asks
+ * no more, and rests. */
 static int32_t next_by_ask(phase_registration *registration, const int64_t *values,
                            size_t values_len, uint64_t *phase, int64_t *value,
                            struct patience *patience)
 {
-    uint64_t owners = registration->gate == NULL ? 1 : atomic_load(&registration->gate->owners);
-    if (owners == 1 || owners > processors())
-        return PHASE_E_CANNOT_ASK;
     int32_t status = phase_member_ask(&registration->member, values, values_len);
     if (status != PHASE_ASKED)
         return status;
@@ -846,7 +895,7 @@ int32_t phase_shared_next_for(phase_registration *registration,
     int32_t status;
     do {
         status = PHASE_E_CANNOT_ASK;
-        if (single == PHASE_NO_SINGLE && values_len <= 1)
+        if (single == PHASE_NO_SINGLE && values_len <= 1 && has_whom_to_ask(registration))
             status = next_by_ask(registration, values, values_len, phase, value, &patience);
         if (status == PHASE_E_CANNOT_ASK)
             status = phase_shared_try_next(registration, values, values_len, single, low, high,
@@ -870,6 +919,131 @@ int32_t phase_shared_next(phase_registration *registration,
 int32_t phase_shared_meet(phase_registration *registration, int64_t value, int64_t *result)
 {
     return phase_shared_next(registration, &value, 1, PHASE_NO_SINGLE, 0, 0, NULL, result);
+}
+
+/* ---- An end for all. */
+
+int32_t phase_shared_close(const phase_registration *registration)
+{
+    struct phase_gate *gate = registration->gate;
+    if (gate == NULL)
+        return PHASE_E_NO_PHASER;
+    atomic_store(&gate->closed, 1);
+    ring(&gate->done);
+    ring(&gate->base);
+    return PHASE_OK;
+}
+
+int32_t phase_shared_closed(const phase_registration *registration)
+{
+    if (registration->gate == NULL)
+        return PHASE_E_NO_PHASER;
+    return atomic_load(&registration->gate->closed) != 0 ? PHASE_E_CLOSED : PHASE_OK;
+}
+
+/* The time of a call that ends where the phaser is closed. */
+static struct patience heeding(const phase_registration *registration, uint64_t nanoseconds)
+{
+    return (struct patience){.nanoseconds = nanoseconds, .heeds = registration->gate};
+}
+
+int32_t phase_shared_signal_or_closed(phase_registration *registration,
+                                      const int64_t *values, size_t values_len,
+                                      uint32_t single, int64_t low, int64_t high,
+                                      uint64_t *phase, uint64_t nanoseconds)
+{
+    struct patience patience = heeding(registration, nanoseconds);
+    int32_t status;
+    do
+        status = phase_shared_try_signal(registration, values, values_len, single, low, high,
+                                         phase);
+    while (signals_again(registration, 1, &status, &patience));
+    return status;
+}
+
+int32_t phase_shared_signal_block_or_closed(phase_registration *registration,
+                                            const int64_t *values, size_t values_len,
+                                            uint32_t single, int64_t low, int64_t high,
+                                            uint64_t *phase, uint64_t nanoseconds)
+{
+    struct patience patience = heeding(registration, nanoseconds);
+    int32_t status;
+    do
+        status = phase_shared_try_signal_block(registration, values, values_len, single, low,
+                                               high, phase);
+    while (signals_again(registration, values_len, &status, &patience));
+    return status;
+}
+
+int32_t phase_shared_next_or_closed(phase_registration *registration,
+                                    const int64_t *values, size_t values_len,
+                                    uint32_t single, int64_t low, int64_t high,
+                                    uint64_t *phase, int64_t *value, uint64_t nanoseconds)
+{
+    struct patience patience = heeding(registration, nanoseconds);
+    uint64_t unread;
+    int64_t unused;
+    if (phase == NULL)
+        phase = &unread;
+    if (value == NULL)
+        value = &unused;
+    int32_t status;
+    do {
+        status = PHASE_E_CANNOT_ASK;
+        /* A last try asks nobody, since that would wait. */
+        if (single == PHASE_NO_SINGLE && values_len <= 1 && !patience.is_last
+            && has_whom_to_ask(registration))
+            status = next_by_ask(registration, values, values_len, phase, value, &patience);
+        if (status == PHASE_E_CANNOT_ASK)
+            status = phase_shared_try_next(registration, values, values_len, single, low, high,
+                                           phase, value);
+    } while (signals_again(registration, 1, &status, &patience));
+    if (status != PHASE_SIGNALLED || registration->mode == PHASE_SIG)
+        return status;
+    int32_t waited = wait_with(registration, phase, value, &patience);
+    return waited == PHASE_OK ? PHASE_OK : PHASE_SIGNALLED;
+}
+
+int32_t phase_shared_wait_or_closed(phase_registration *registration, uint64_t *phase,
+                                    int64_t *value, uint64_t nanoseconds)
+{
+    struct patience patience = heeding(registration, nanoseconds);
+    return wait_with(registration, phase, value, &patience);
+}
+
+int32_t phase_shared_wait_block_or_closed(phase_registration *registration, int64_t *values,
+                                          size_t values_len, uint64_t *phase, size_t *count,
+                                          uint64_t nanoseconds)
+{
+    struct patience patience = heeding(registration, nanoseconds);
+    int32_t status;
+    do {
+        pause_for_phase(registration, values_len, &patience);
+        status = phase_shared_try_wait_block(registration, values, values_len, phase, count);
+    } while (waits_again(registration, &status, &patience));
+    return status;
+}
+
+/* ---- Who is missing. */
+
+int32_t phase_shared_try_missing(phase_registration *registration, phase_member_counts *counts,
+                                 uint64_t *places, size_t places_len)
+{
+    phase_member_counts unread;
+    if (counts == NULL)
+        counts = &unread;
+    return phase_member_missing(&registration->member, counts, places, places_len);
+}
+
+int32_t phase_shared_missing(phase_registration *registration, phase_member_counts *counts,
+                             uint64_t *places, size_t places_len)
+{
+    struct patience patience = {.nanoseconds = FOR_EVER};
+    int32_t status;
+    while ((status = phase_shared_try_missing(registration, counts, places, places_len))
+           == PHASE_E_BUSY)
+        snooze(registration, &patience);
+    return status;
 }
 
 /* ---- What a registration stands at. */

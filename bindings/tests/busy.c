@@ -114,6 +114,14 @@ int32_t phase_member_wait_block(phase_member *member, int64_t *values, size_t va
     return phase_member_wait(member, phase, values);
 }
 
+int32_t phase_member_missing(phase_member *member, phase_member_counts *counts, uint64_t *places,
+                             size_t places_len)
+{
+    (void)member, (void)places, (void)places_len;
+    *counts = (phase_member_counts){1, 1, 1, 7, 0};
+    return answered(&waits_busy, PHASE_OK);
+}
+
 int32_t phase_member_leave(phase_member *member)
 {
     member->live = false;
@@ -170,6 +178,10 @@ int main(void)
     ENDS(phase_shared_next_for(&it, &value, 1, none, 0, 0, &phase, &got, limit), PHASE_E_AHEAD);
     signals = 3;
     ENDS(phase_shared_next_for(&it, &value, 1, none, 0, 0, &phase, &got, limit), PHASE_SIGNALLED);
+    /* So are those that heed a close, as long as there is none. */
+    signals = for_ever;
+    ENDS(phase_shared_signal_or_closed(&it, &value, 1, none, 0, 0, &phase, limit), PHASE_E_AHEAD);
+    ENDS(phase_shared_wait_or_closed(&it, &phase, &got, limit), PHASE_E_NOT_YET);
     /* No time at all is a few tries. */
     signals_busy = waits_busy = for_ever;
     IS(phase_shared_wait_for(&it, &phase, &got, 0), PHASE_E_NOT_YET);
@@ -179,6 +191,20 @@ int main(void)
     IS(phase_shared_next(&it, &value, 1, none, 0, 0, &phase, &got), PHASE_OK);
     IS(got, 9);
     IS(signals_busy + waits_busy, 0);
+    /* Where the phaser is closed a call goes on until it has had its turn. */
+    IS(phase_shared_close(&it), PHASE_OK);
+    signals_busy = waits_busy = 300;
+    got = 0;
+    IS(phase_shared_next_or_closed(&it, &value, 1, none, 0, 0, &phase, &got, limit), PHASE_OK);
+    IS(got, 9);
+    IS(signals_busy + waits_busy, 0);
+    /* Who asks how the phaser stands, too. */
+    phase_member_counts counts;
+    waits_busy = 300;
+    IS(phase_shared_try_missing(&it, &counts, NULL, 0), PHASE_E_BUSY);
+    IS(phase_shared_missing(&it, &counts, NULL, 0), PHASE_OK);
+    IS(counts.phase, 7);
+    IS(waits_busy, 0);
     IS(phase_shared_leave(&it), PHASE_OK);
     printf("busy: %d passed, %d failed\n", passed, failed);
     return failed != 0;

@@ -1,7 +1,10 @@
-/* What the values of phase.hpp own: a registration is left where its value ends, and is one value's
- * after a move; threads get what they sent. */
+/* What the values of phase.hpp own: a registration is left where its value ends, and is one
+ * value's after a move; threads get what they sent, are told who is missing, and end with one
+ * that fails. */
 #include "phase.hpp"
 #include <cstdio>
+#include <functional>
+#include <stdexcept>
 #include <thread>
 #include <type_traits>
 #include <vector>
@@ -118,6 +121,90 @@ static void by_blocks()
     has(phase::registration().view().signal_phase == 0, "a view of none");
 }
 
+static void who_is_missing()
+{
+    auto founder = phase::registration::founder(PHASE_SUM, 2, 100);
+    auto first = founder.add(PHASE_SIG_WAIT), second = founder.add(PHASE_SIG_WAIT);
+    auto waiter = founder.add(PHASE_WAIT);
+    founder.leave();
+    has(second.signal(5).phase == 0, "a signal");
+    auto counts = waiter.standing();
+    has(counts.tasks == 3 && counts.signallers == 2 && counts.waiters == 3, "who is registered");
+    has(counts.phase == 0 && counts.signalled == 1, "who has signalled");
+    has(waiter.missing() == std::vector<uint64_t>{1}, "who is missing");
+    has(first.signal(4).phase == 0 && waiter.wait_or_closed().value == 9, "and then nobody is");
+    has(waiter.missing() == std::vector<uint64_t>({1, 2}), "but for the next phase");
+    has(founder.standing().tasks == 0 && founder.missing().empty(), "of none");
+}
+
+/* A thread that throws in step 3, and three that end with it. */
+static void works(phase::registration own, bool throws, int32_t &status)
+{
+    try {
+        phase::closing guard(own);
+        for (int step = 0; step < 1000; step++) {
+            if (throws && step == 3)
+                throw std::runtime_error("it fails");
+            status = own.next_or_closed(1).status;
+            if (status != PHASE_OK || own.is_closed())
+                return;
+        }
+    } catch (const std::runtime_error &) {
+        status = PHASE_E_CLOSED;
+    }
+}
+
+static void all_end()
+{
+    auto founder = phase::registration::founder(PHASE_SUM, 2, 1000);
+    std::vector<std::thread> threads;
+    std::vector<int32_t> statuses(4);
+    std::vector<phase::registration> owned;
+    for (int number = 0; number < 4; number++)
+        owned.push_back(founder.add(PHASE_SIG_WAIT));
+    auto waiter = founder.add(PHASE_WAIT);
+    founder.leave();
+    for (size_t number = 0; number < 4; number++)
+        threads.emplace_back(works, std::move(owned[number]), number == 2,
+                             std::ref(statuses[number]));
+    uint64_t phases = 0;
+    while (waiter.wait())
+        phases++;
+    for (auto &it : threads)
+        it.join();
+    has(statuses[2] == PHASE_E_CLOSED && waiter.is_closed(), "one that throws closes");
+    has(phases >= 3 && phases <= 5, "and the others make no more than the next phase");
+    for (auto status : statuses)
+        has(status == PHASE_OK || status == PHASE_SIGNALLED || status == PHASE_E_CLOSED,
+            "they end");
+}
+
+static void or_closed()
+{
+    auto founder = phase::registration::founder(PHASE_SUM, 2, 100);
+    auto signaller = founder.add(PHASE_SIG), waiter = founder.add(PHASE_WAIT);
+    founder.leave();
+    const std::chrono::milliseconds soon(1);
+    int64_t values[2] = {5, 6};
+    has(waiter.wait_or_closed(soon).status == PHASE_E_NOT_YET, "a time limit");
+    has(waiter.wait_block_or_closed(values, 2, soon).status == PHASE_E_NOT_YET, "of a block");
+    has(signaller.signal_block_or_closed(values, 2).count == 2, "a block of signals");
+    has(signaller.signal_or_closed(7, {}, soon).status == PHASE_E_AHEAD, "a limit of a signal");
+    {
+        phase::closing guard(waiter);
+    }
+    has(!waiter.is_closed(), "a scope that ends well closes nothing");
+    signaller.close();
+    has(waiter.is_closed(), "a close");
+    has(signaller.signal_or_closed(7).status == PHASE_E_CLOSED, "a signal then");
+    has(signaller.signal_block_or_closed(values, 2).status == PHASE_E_CLOSED, "a block then");
+    has(waiter.wait_block_or_closed(values, 2).count == 2 && values[1] == 6, "what is complete");
+    has(waiter.wait_or_closed().status == PHASE_E_CLOSED, "and no more");
+    has(waiter.wait_block_or_closed(values, 2).status == PHASE_E_CLOSED, "by blocks");
+    has(signaller.next_or_closed(7).status == PHASE_SIGNALLED, "there is room again");
+    has(!phase::registration().is_closed(), "none is not closed");
+}
+
 static void one_thread()
 {
     phase::phaser phaser(PHASE_SUM, 2, 100), other;
@@ -136,6 +223,9 @@ int main()
     sends_one();
     is_replaced();
     by_blocks();
+    who_is_missing();
+    all_end();
+    or_closed();
     one_thread();
     std::printf("shared.cpp: %d failed\n", failed);
     return failed != 0;

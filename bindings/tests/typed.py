@@ -11,6 +11,11 @@ phaser.register(0, phase.SIG)
 phaser.signal(0, 5, phase.HALVE)
 try:
     meets(phase.SharedPhaser(phase.GREATEST, bound=2, phases=3))
+    with phase.SharedPhaser(phase.SUM, bound=2, phases=3).closing() as own:
+        print(own.standing().signalled, sum(own.missing()), own.closed)
+        own.close()
+except phase.BrokenPhaserError as broken:
+    print(broken.phase)
 except (phase.Ahead, phase.NotYet) as why:
     print(why.status)
 except phase.Stalled as why:

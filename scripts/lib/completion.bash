@@ -22,7 +22,7 @@ _phase() {
         *,check,-*) words='--beside --explain --help' ;;
         *,draw,-*) words='--explain --help' ;;
         *,eval,-*) words='--beside --columns --explain --help --sink --workers' ;;
-        *,stream,-*) words='--beside --explain --help --sink --to' ;;
+        *,stream,-*) words='--beside --columns --explain --help --sink --to' ;;
         *,run,-*) words='--beside --counts --explain --help --sink --workers' ;;
         *) return ;;
     esac

@@ -16,7 +16,7 @@ complete -c phase -l help
 complete -c phase -n "__fish_seen_subcommand_from replay" -l strict
 complete -c phase -n "__fish_seen_subcommand_from check eval run stream" -l beside
 complete -c phase -n "__fish_seen_subcommand_from check draw eval run stream" -l explain
-complete -c phase -n "__fish_seen_subcommand_from eval" -l columns
+complete -c phase -n "__fish_seen_subcommand_from eval stream" -l columns
 complete -c phase -n "__fish_seen_subcommand_from run" -l counts
 complete -c phase -n "__fish_seen_subcommand_from eval run stream" -l sink -x -a "(__phase_sinks)"
 complete -c phase -n "__fish_seen_subcommand_from stream" -l to -x -a "(__phase_sinks)="

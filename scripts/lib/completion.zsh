@@ -45,7 +45,7 @@ _phase() {
                 '--workers:number:(1 2 4 8 16)' '*:graph:_files'
             ;;
         stream)
-            _arguments '--help' '--beside' '--explain' '--sink:sink:_phase_sinks' \
+            _arguments '--help' '--beside' '--columns' '--explain' '--sink:sink:_phase_sinks' \
                 '*--to:sink and file:_phase_sinks_to' '*:graph:_files'
             ;;
     esac

@@ -37,14 +37,16 @@ import numpy
 from numpy.typing import ArrayLike, NDArray
 
 if TYPE_CHECKING:
-    from .shared import Registration, SharedPhaser, Signalled
+    from .shared import (
+        BrokenPhaserError, PhaserCounts, Registration, SharedPhaser, Signalled,
+    )
     from .stream import NoStream, Stalled, Stream
 
 # Not `eval`, which is Python's own where all names are imported.
 __all__ = [
     "check", "names", "Counts", "Names", "Values", "Fir", "Stream", "Stalled", "NoStream",
     "Phaser", "Operation", "Mode", "Single", "Clamp", "Got", "GotBlock", "Standing",
-    "SharedPhaser", "Registration", "Signalled",
+    "SharedPhaser", "Registration", "PhaserCounts", "Signalled", "BrokenPhaserError",
     "SUM", "PRODUCT", "LEAST", "GREATEST", "ANY",
     "SIG", "WAIT", "SIG_WAIT", "SINGLE", "NO_SINGLE", "NEG", "ABS", "HALVE",
     "PHASERS_MAX", "TASKS_MAX", "TAPS_MAX", "SAMPLES_MAX",
@@ -114,6 +116,7 @@ E_NOT_YET = -43
 E_BUSY = -44
 E_NOT_ASKED = -45
 E_CANNOT_ASK = -46
+E_CLOSED = -47
 
 PHASERS_MAX = 64
 TASKS_MAX = 64
@@ -181,7 +184,10 @@ HALVE, CLAMP = Single.HALVE, Single.CLAMP
 def __getattr__(name: str) -> Any:
     """What the files have that stand on this one."""
     for file, names in (
-        ("shared", ("SharedPhaser", "Registration", "Signalled")),
+        (
+            "shared",
+            ("SharedPhaser", "Registration", "PhaserCounts", "Signalled", "BrokenPhaserError"),
+        ),
         ("stream", ("Stream", "Stalled", "NoStream")),
     ):
         if name in names:

@@ -12,30 +12,35 @@
 ...     [founder.next(0).value for step in range(3)]
 [0, 6, 12]
 
+Where one thread may fail, and leave the others to wait for ever, each works in a `with
+own.closing():`, so that all end.
+
 A registration is used by one thread at a time: a second one that calls it meanwhile gets a
-RuntimeError. A call that has to wait lets the interpreter's lock go, so that other threads run; a
-build without such a lock needs nothing else, and was not tried. A wait ends by a KeyboardInterrupt
-within some 10 milliseconds. What a thread did before its signal is seen by every thread that got
-the phase. A process that was forked makes no call on its parent's registrations.
+RuntimeError, but for `close` and `closed`. A call that has to wait lets the interpreter's lock go,
+so that other threads run; a build without such a lock needs nothing else, and was not tried. A wait
+ends by a KeyboardInterrupt within some 10 milliseconds. What a thread did before its signal is seen
+by every thread that got the phase. A process that was forked makes no call on its parent's
+registrations.
 """
 from __future__ import annotations
 
+import contextlib
 import ctypes
 import os
 import threading
 import time
 import weakref
 from collections.abc import Iterator
-from typing import Any, Optional, Union
+from typing import Any, NamedTuple, Optional, Union
 
 import numpy
 from numpy.typing import ArrayLike, NDArray
 
 import phase
-from phase import ENDED, OK, SIG, SIGNALLED
-from phase import BadMode, Clamp, Got, GotBlock, Mode, NoWait, Standing
+from phase import E_CLOSED, ENDED, MEMBERS_MAX, OK, SIG, SIGNALLED
+from phase import BadMode, Clamp, Got, GotBlock, Mode, NoPhaser, NoWait, PhaserError, Standing
 
-__all__ = ["SharedPhaser", "Registration", "Signalled"]
+__all__ = ["SharedPhaser", "Registration", "PhaserCounts", "Signalled", "BrokenPhaserError"]
 
 # How long a call of C goes on before the interpreter looks at signals, in nanoseconds.
 _SLICE = 10_000_000
@@ -52,13 +57,46 @@ _NO_SINGLE = (int(phase.NO_SINGLE), 0, 0)
 
 _NO_VALUE = phase._NO_VALUE
 
+# How many of those that are missing a text names.
+_NAMED = 16
+
 
 class Signalled(TimeoutError):
-    """The time of a `next` ran out behind its signal: `wait` gets the phase, which is `phase`."""
+    """The time of a `next` ran out behind its signal: `wait` gets the phase, which is `phase`. The
+    text names who is missing."""
 
-    def __init__(self, phase: int):
-        super().__init__(f"phase {phase} is signalled, and was not complete in time")
+    def __init__(self, phase: int, missing: str = ""):
+        super().__init__(phase, missing)
         self.phase = phase
+
+    def __str__(self) -> str:
+        return _and(f"phase {self.phase} is signalled, and was not complete in time", self.args[1])
+
+
+class BrokenPhaserError(PhaserError, RuntimeError):
+    """The phaser is closed. It comes to the calls of a registration in its `with own.closing():`
+    alone. `phase` is the phase that a `next` has signalled by then, or None. The text names who
+    was missing."""
+
+    status = E_CLOSED
+
+    def __init__(self, phase: Optional[int] = None, missing: str = ""):
+        super().__init__(phase, missing)
+        self.phase = phase
+
+    def __str__(self) -> str:
+        return _and("the phaser is closed", self.args[1])
+
+
+class PhaserCounts(NamedTuple):
+    """How many registrations a phaser has, how many of them signal and how many wait, the first
+    phase that is not complete, and how many of those that signal have signalled it."""
+
+    tasks: int
+    signallers: int
+    waiters: int
+    phase: int
+    signalled: int
 
 
 class _Place(ctypes.Structure):
@@ -84,6 +122,10 @@ class _Standing(ctypes.Structure):
         ("mode", ctypes.c_uint32),
         ("operation", ctypes.c_uint32),
     ]
+
+
+class _Counts(ctypes.Structure):
+    _fields_ = [(name, ctypes.c_uint64) for name in PhaserCounts._fields]
 
 
 def _load(lib, calls):
@@ -114,19 +156,34 @@ def _load_all():
         "leave": place,
         "view": place + [ctypes.POINTER(_Standing)],
         "told": place + number + number,
+        "missing": place + [ctypes.POINTER(_Counts)] + row,
     }
-    timed = {f"{name}_for": arguments + [whole] for name, arguments in waiting.items()}
+    quick = {
+        "close": place,
+        "closed": place,
+        "try_missing": others["missing"],
+    }
+    timed = {
+        f"{name}_{form}": arguments + [whole]
+        for name, arguments in waiting.items()
+        for form in ("for", "or_closed")
+    }
     tried = {f"try_{name}": arguments for name, arguments in waiting.items()}
-    return _load(phase._lib, timed | others), _load(ctypes.PyDLL(phase._lib._name), tried)
+    return _load(phase._lib, timed | others), _load(ctypes.PyDLL(phase._lib._name), tried | quick)
 
 
 _lib, _quick = _load_all()
-# Each call as it is tried once, and as it goes on for some time.
-_SIGNAL = _quick.phase_shared_try_signal, _lib.phase_shared_signal_for
-_SIGNAL_BLOCK = _quick.phase_shared_try_signal_block, _lib.phase_shared_signal_block_for
-_NEXT = _quick.phase_shared_try_next, _lib.phase_shared_next_for
-_WAIT = _quick.phase_shared_try_wait, _lib.phase_shared_wait_for
-_WAIT_BLOCK = _quick.phase_shared_try_wait_block, _lib.phase_shared_wait_block_for
+
+
+def _forms(name):
+    """A call as it is tried once, as it goes on for some time, and as it does so until the phaser
+    is closed."""
+    once = getattr(_quick, f"phase_shared_try_{name}")
+    return once, *(getattr(_lib, f"phase_shared_{name}_{form}") for form in ("for", "or_closed"))
+
+
+_SIGNAL, _SIGNAL_BLOCK, _NEXT = _forms("signal"), _forms("signal_block"), _forms("next")
+_WAIT, _WAIT_BLOCK = _forms("wait"), _forms("wait_block")
 
 
 class _Turn:
@@ -155,8 +212,10 @@ class Registration:
     lives as long as any of its registrations.
 
     A call waits as long as it takes; or, with a `timeout` in seconds, raises a TimeoutError when
-    that is over, and 0 tries once. What is refused raises the PhaserError of its reason; want of
-    memory is a MemoryError. A refusal, and a TimeoutError but for Signalled, leaves all as it was.
+    that is over, whose text names who is missing, and 0 tries once. What is refused raises the
+    PhaserError of its reason; want of memory is a MemoryError. A refusal, and a TimeoutError but
+    for Signalled, leaves all as it was, and so does a BrokenPhaserError but where its `phase` was
+    signalled.
     """
 
     def __init__(self) -> None:
@@ -165,6 +224,8 @@ class Registration:
     def _take(self, place: _Place) -> None:
         """Has a place whose registration was made."""
         self._place, self._turn, self.mode = place, _Turn(), Mode(place.mode)
+        # Whether its calls heed a close, and what keeps it from leaving in the middle of one.
+        self._heeds, self._gate = False, threading.Lock()
         # Where C reads one send, and writes a phase and a value.
         self._one, self._phase, self._value = ctypes.c_int64(), ctypes.c_uint64(), ctypes.c_int64()
         self._at, self._one_at = ctypes.byref(place), ctypes.addressof(self._one)
@@ -239,14 +300,17 @@ class Registration:
             raise NoWait
         until = _until(timeout)
         with self._turn:
+            self._ends()
             lent, row = self._sends(values)
             got = self._phase_at, self._value_at
             status = self._tries(_NEXT, (*row, *_single(single), *got), until)
+            signalled = None
             if status == SIGNALLED:
-                status = self._goes_on(_WAIT[1], got, until)
+                signalled = self._phase.value
+                status = self._goes_on(_WAIT, got, until)
                 if status in _EARLY:
-                    raise Signalled(self._phase.value)
-            _done(status)
+                    raise Signalled(signalled, self._lacks())
+            self._done(status, signalled)
             return self._got()
 
     def wait(self, timeout: Optional[float] = None) -> Optional[Got]:
@@ -269,7 +333,7 @@ class Registration:
             status = self._tries(_WAIT, words, until)
             if status == ENDED:
                 return None
-            _done(status)
+            self._done(status)
             return self._got()
 
     def wait_block(
@@ -295,7 +359,7 @@ class Registration:
             status = self._tries(_WAIT_BLOCK, words, until)
             if status == ENDED:
                 return None
-            _done(status)
+            self._done(status)
             return GotBlock(self._phase.value, values[: count.value])
 
     def view(self) -> Standing:
@@ -317,10 +381,77 @@ class Registration:
             phase._done(_lib.phase_shared_told(self._at, done, base))
         return done.value, base.value
 
+    def standing(self) -> PhaserCounts:
+        """How many registrations there are, and how far the first phase that is not complete has
+        come. It waits for its turn alone. It raises NoPhaser.
+
+        >>> import phase
+        >>> with phase.SharedPhaser(phase.SUM, bound=2, phases=100) as founder:
+        ...     first, second = founder.register(phase.SIG_WAIT), founder.register(phase.SIG_WAIT)
+        ...     second.signal(5), founder.standing(), founder.missing()
+        (0, PhaserCounts(tasks=3, signallers=3, waiters=3, phase=0, signalled=1), [0, 1])
+        """
+        counts = _Counts()
+        with self._turn:
+            phase._done(_lib.phase_shared_missing(self._at, counts, None, 0))
+        return PhaserCounts(*(getattr(counts, name) for name in PhaserCounts._fields))
+
+    def missing(self) -> list[int]:
+        """Who is missing: the numbers of the registrations that signal and have not signalled the
+        first phase that is not complete, in the order in which they joined. It waits for its turn
+        alone. It raises NoPhaser."""
+        counts, places = _Counts(), (ctypes.c_uint64 * MEMBERS_MAX)()
+        with self._turn:
+            phase._done(_lib.phase_shared_missing(self._at, counts, places, MEMBERS_MAX))
+        return places[: counts.signallers - counts.signalled]
+
+    def close(self) -> None:
+        """Closes the phaser, for ever: registrations in a `closing` no longer wait, and signal no
+        more. Every other one goes on as before, and nothing is lost that was sent or is complete.
+        It is for a thread that fails; any thread may call it, also in the middle of another's call.
+        It raises NoPhaser."""
+        with self._gate:
+            status = _quick.phase_shared_close(self._at)
+        phase._done(status)
+
+    @property
+    def closed(self) -> bool:
+        """Whether the phaser was closed, by any of its registrations. It raises NoPhaser."""
+        with self._gate:
+            status = _quick.phase_shared_closed(self._at)
+        if status != E_CLOSED:
+            phase._done(status)
+        return status == E_CLOSED
+
+    @contextlib.contextmanager
+    def closing(self) -> Iterator[Registration]:
+        """A `with` in which it ends with the others: where the body raises, the phaser is closed;
+        and where the phaser is closed, by whichever registration, `signal`, `signal_block` and
+        `next` raise a BrokenPhaserError, and so do `wait` and `wait_block` once they have got what
+        is complete, also in the middle. The registration leaves at the end.
+
+        >>> import phase
+        >>> founder = phase.SharedPhaser(phase.SUM, bound=2, phases=100)
+        >>> other = founder.register(phase.SIG_WAIT)
+        >>> with founder.closing():
+        ...     other.close()
+        ...     founder.next(1)
+        Traceback (most recent call last):
+        phase.shared.BrokenPhaserError: the phaser is closed: phase 0 lacks the signal of 0, 1
+        """
+        self._heeds = True
+        with self:
+            try:
+                yield self
+            except BaseException:
+                with contextlib.suppress(NoPhaser):
+                    self.close()
+                raise
+
     def leave(self) -> None:
         """Ends the registration: from then on no phase waits for it. Later calls raise NoPhaser; to
         leave again does nothing."""
-        with self._turn:
+        with self._turn, self._gate:
             _lib.phase_shared_leave(self._at)
 
     def __iter__(self) -> Iterator[Got]:
@@ -343,19 +474,20 @@ class Registration:
     def _signals(self, calls, values, single, timeout):
         until = _until(timeout)
         with self._turn:
+            self._ends()
             lent, row = self._sends(values)
             words = *row, *_single(single), self._phase_at
-            _done(self._tries(calls, words, until))
+            self._done(self._tries(calls, words, until))
             return self._phase.value
 
     def _tries(self, calls, words, until):
         """What a call is answered in the end: once, and then slice by slice, so that the signals of
         the system are seen between."""
-        once, for_some_time = calls
-        status = once(self._at, *words)
-        return self._goes_on(for_some_time, words, until) if status in _AGAIN else status
+        status = calls[0](self._at, *words)
+        return self._goes_on(calls, words, until) if status in _AGAIN else status
 
-    def _goes_on(self, call, words, until):
+    def _goes_on(self, calls, words, until):
+        call = calls[2 if self._heeds else 1]
         while True:
             left = _SLICE if until is None else min(_SLICE, max(0, until - time.monotonic_ns()))
             status = call(self._at, *words, left)
@@ -369,6 +501,31 @@ class Registration:
             return self._one, (self._one_at, 1)
         sends = phase._whole(values)
         return sends, (sends.ctypes.data, len(sends))
+
+    def _ends(self):
+        """Refuses a signal of one that ends with the others, where the phaser is closed."""
+        if self._heeds and _quick.phase_shared_closed(self._at) == E_CLOSED:
+            raise BrokenPhaserError(None, self._lacks())
+
+    def _done(self, status, signalled=None):
+        if status == OK:
+            return
+        if status in _EARLY:
+            raise TimeoutError(_and(str(phase._REFUSALS[status]()).rstrip("."), self._lacks()))
+        if status == E_CLOSED:
+            raise BrokenPhaserError(signalled, self._lacks())
+        phase._done(status)
+
+    def _lacks(self):
+        """Who is missing, for a text: nothing where another call is in the middle."""
+        counts, places = _Counts(), (ctypes.c_uint64 * _NAMED)()
+        status = _quick.phase_shared_try_missing(self._at, counts, places, _NAMED)
+        missing = counts.signallers - counts.signalled
+        if status != OK or missing == 0:
+            return ""
+        names = ", ".join(str(number) for number in places[:missing])
+        more = f" and {missing - _NAMED} more" if missing > _NAMED else ""
+        return f"phase {counts.phase} lacks the signal of {names}{more}"
 
     def _got(self):
         value = self._value.value
@@ -413,6 +570,11 @@ def _of(place):
     return child
 
 
+def _and(told, lacks):
+    """What is told, with who is missing."""
+    return f"{told}: {lacks}" if lacks else told
+
+
 def _single(single):
     return _NO_SINGLE if single is None else phase._single(single)
 
@@ -424,11 +586,3 @@ def _until(timeout):
     if not timeout >= 0:
         raise ValueError("a timeout is not negative")
     return time.monotonic_ns() + int(min(timeout * 1e9, _LONGEST))
-
-
-def _done(status):
-    if status == OK:
-        return
-    if status in _EARLY:
-        raise TimeoutError(str(phase._REFUSALS[status]()))
-    phase._done(status)

@@ -22,6 +22,8 @@ mod sizes;
 #[cfg(test)]
 mod slots;
 #[cfg(test)]
+mod standing;
+#[cfg(test)]
 mod values;
 #[cfg(test)]
 mod worked_laws;

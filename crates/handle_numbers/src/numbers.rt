@@ -98,6 +98,9 @@ pub const NOT_ASKED: i32 = -45;
 /// The registration cannot ask, and nothing changed: the same call is made by `next`.
 pub const CANNOT_ASK: i32 = -46;
 
+/// The phaser is closed.
+pub const CLOSED: i32 = -47;
+
 /// The sends of a phase are added up.
 pub const SUM: u32 = 1;
 

@@ -13,7 +13,7 @@ use Rattle.phase_commands.specs.phase_words.RunLine.{AsksRun, AsksWorkers, Run, 
 use Rattle.phase_commands.specs.phase_words.StreamLine.{AsksStream, Stream, stream_kinds_of}
 use Rattle.phase_run.specs.phase_eval.Ends.{EndsAsEval, MayEndAsEval}
 use Rattle.phase_run.specs.Ends.{AskNoCounts, EndsAsRun, MayEndAsRun}
-use Rattle.phase_stream.specs.Ends.{EndsAsAsked, EndsAsStream, MayEndAsStream}
+use Rattle.phase_stream.specs.Ends.{EndsAsAsked, EndsAsStream, EndsAsTable, MayEndAsStream}
 use Rattle.phase.specs.Ways.{run, way_of}
 
 -- ---- any command
@@ -68,6 +68,14 @@ SinksAnswer words known knows of_output of_file status closed files old new made
     Answers (stream_kinds_of words) MayEndAsStream (AsksStream words)
     (λ (what : Stream). EndsAsAsked what known knows of_output of_file status old new made
     before after)
+    status closed files old new before after
+
+-- and so it does the table of all sinks
+abbrev pub TableAnswers : {F W : Type 0} → List Text → Known → (W → Option (List ℕ)) → Status
+    → F → F → Watched W → Watched W → WriterState → WriterState → Type 0
+TableAnswers words known contents status closed files old new before after =
+    Answers (stream_kinds_of words) MayEndAsStream (AsksStream words)
+    (λ (what : Stream). EndsAsTable what known contents status old new before after)
     status closed files old new before after
 
 -- the others answer all the words: a replay of the input ends as one also where memory ran out, a

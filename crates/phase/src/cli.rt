@@ -2,7 +2,7 @@
 ghost use Rattle.std.specs.Prelude.{◌≡◌, ◌≢◌, List};
 ghost use Rattle.clap.specs.Words.{Text};
 ghost use Rattle.phase.specs.Answers.{AsksNoCounts, EvalAnswers, OthersAnswer, RunAnswers};
-ghost use Rattle.phase.specs.Answers.{SinksAnswer, StreamAnswers};
+ghost use Rattle.phase.specs.Answers.{SinksAnswer, StreamAnswers, TableAnswers};
 ghost use Rattle.phase.specs.Standing.{own_texts};
 ghost use Rattle.phase.specs.Ways.{by_workers, others, run, stream, way_of};
 ghost use Rattle.phase_commands.specs.graph_commands.watched_io.States.{writer_state};
@@ -58,6 +58,11 @@ pub fn run_cli<
     ensures sinks { (own : List Text) → way_of (texts words.now) ≡ stream own
         → SinksAnswer own (F.file streams.old.files) F.knows W.contents F.Writer.contents result
         streams.old.files streams.new.files streams.old.output streams.new.output made.new.items
+        (writer_state E.contents streams.old.faults)
+        (writer_state E.contents streams.new.faults) }
+    ensures table { (own : List Text) → way_of (texts words.now) ≡ stream own
+        → TableAnswers own (F.file streams.old.files) W.contents result
+        streams.old.files streams.new.files streams.old.output streams.new.output
         (writer_state E.contents streams.old.faults)
         (writer_state E.contents streams.new.faults) }
     ensures eval { (own : List Text) → way_of (texts words.now) ≡ by_workers own
@@ -138,6 +143,10 @@ fn stream_own<W: Write, E: Write, F: Opens + Refuses + LooksBeside>(
     ensures sinks { SinksAnswer (own_texts own.entry) (F.file streams.old.files) F.knows
         W.contents F.Writer.contents result streams.old.files streams.new.files
         streams.old.output streams.new.output made.new.items
+        (writer_state E.contents streams.old.faults)
+        (writer_state E.contents streams.new.faults) }
+    ensures table { TableAnswers (own_texts own.entry) (F.file streams.old.files) W.contents
+        result streams.old.files streams.new.files streams.old.output streams.new.output
         (writer_state E.contents streams.old.faults)
         (writer_state E.contents streams.new.faults) }
     ensures quiet { result ≡ Status.Done → streams.new.faults ≡ streams.old.faults }

@@ -9,6 +9,7 @@ pub mod LeastCounts
 pub mod Leaving
 pub mod MemberCounts
 pub mod MemberSteps
+pub mod Missing
 pub mod NewCore
 pub mod OneSends
 pub mod OnlyMember

@@ -3,6 +3,7 @@
 //! The first calls are `PhaserCore::new`, `PhaserCore::signal` and `PhaserCore::wait`.
 #![tactic(auto)]
 
+mod late_tasks;
 mod lent_slots;
 mod list_refusals;
 mod members;
@@ -15,8 +16,11 @@ mod signalling;
 mod signalling_plain;
 mod slot_core;
 mod slots;
+mod standing;
+pub mod standing_laws;
 mod waiting;
 
+pub use late_tasks::LateTasks;
 pub use one_sends::{are_sends, hold_each, one_send};
 pub use phase_history;
 pub use phase_history::{
@@ -27,3 +31,4 @@ pub use phase_registry;
 pub use phase_registry::phase_base;
 pub use phase_ring;
 pub use phaser_core::PhaserCore;
+pub use standing::Standing;

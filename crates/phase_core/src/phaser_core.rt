@@ -32,6 +32,10 @@ use std::marker::Model;
 /// **Ending.** Where no signaller is registered, a task that has got every phase is answered
 /// `Ended`.
 ///
+/// **Who is missing.** `standing` counts who is registered and who has signalled the first phase
+/// that is not complete, `missing` names those that have not, and `slowest` those for whom the
+/// signallers wait.
+///
 /// **Limits.** While a waiter is registered, the signallers may be as many phases ahead of the
 /// slowest one as the bound says, and a phase has at most `SENDS_MAX` sends. A phaser has at most
 /// as many phases as it was made for, and `MEMBERS_MAX` members at once. A refused call changes

@@ -1,12 +1,18 @@
 -- What a registration has received, where its number stayed.
-use Rattle.std.proofs.Common.{◌≡◌, List, ap, ◌∙◌}
+use Rattle.std.proofs.Common.{◌≡◌, ℕ, ℤ, List, [], ◌∷◌, true, ap, ◌∙◌}
 use Rattle.std.specs.Prelude.{Result, Ok, Err}
 use Rattle.phase_shared.specs.phase_base.declared.mode.Mode.{Mode}
 use Rattle.phase_shared.specs.phase_base.declared.mode.Mode.TheVariants.{Wait}
 use Rattle.phase_shared.specs.phase_accum.Operations.{Operation}
 use Rattle.phase_shared.specs.phase_accum.declared.outcome.Outcome.{Outcome}
 use Rattle.phase_shared.specs.phase_history.Phases.{received_by}
+use Rattle.phase_shared.specs.phase_base.Lists.{is_in}
+use Rattle.phase_shared.specs.phase_core.declared.standing.Standing.{Standing}
+use Rattle.phase_shared.specs.phase_history.Histories.{History}
+use Rattle.phase_shared.specs.phase_history.Others.{OthersCame}
+use Rattle.phase_shared.specs.phase_history.declared.refusal.NoTask.{NoTask}
 use Rattle.phase_shared.specs.phase_history.declared.refusal.RegisterRefusal.{RegisterRefusal}
+use Rattle.phase_shared.specs.Standings.{AnswersStanding}
 use Rattle.phase_shared.specs.Regs.{RegState}
 use Rattle.phase_shared.specs.declared.tried.Tried.{Tried}
 use Rattle.phase_shared.specs.declared.tried.Tried.TheVariants.{Busy, Refused}
@@ -14,6 +20,7 @@ use Rattle.phase_shared.specs.Calls.{Registers, Tries}
 use Rattle.phase_shared.specs.Joins.{RegistersNow}
 use Rattle.phase_shared.proofs.PartSteps.{parent_stays, refused_register}
 use Rattle.phase_shared.proofs.BlockPartSteps.{parent_stays_now}
+use Rattle.phase_shared.proofs.Small.{is_in_self}
 use Rattle.phase_received.specs.Received.{received_of}
 
 pub received_now : {A K : Type 0} (op : Operation A) (old new : RegState A K) (list : List Outcome) → new.number ≡ old.number
@@ -53,3 +60,17 @@ received_by_try op old new call (Ok x) t none number =
 received_by_try op old new call (Err Busy) t none number = ap (received_of op) t
 received_by_try op old new call (Err (Refused refusal)) t none number =
     received_now op old new (received_of op old) number (none (Err refusal) t)
+
+-- while others' events come, what a task has received stays
+abbrev pub OwnStays : Type 0
+OwnStays =
+    (value : List ℤ → Outcome) (tasks : List ℕ) (old new : History) (task : ℕ)
+    → OthersCame tasks old new → is_in task tasks ≡ true
+    → received_by value new task ≡ received_by value old task
+
+-- who is told how a phaser stands receives nothing
+pub told_received : {A K : Type 0} (op : Operation A) (old new : RegState A K) (answer : Result Standing NoTask) → OwnStays
+    → AnswersStanding old.number old.seen new.seen answer → received_by op.value new.seen old.number ≡ received_of op old
+told_received op old new (Ok standing) stays told =
+    stays op.value (old.number ∷ []) old.seen new.seen old.number told.others (is_in_self old.number [])
+told_received op old new (Err refusal) stays told = absurd told

@@ -17,6 +17,7 @@ ghost use Rattle.phase_received.specs.Whole.{HasSeenEnd, HasWhole};
 
 mod blocks;
 mod joining;
+mod standing;
 mod trying;
 
 use crate::fault::ReceiveFault;

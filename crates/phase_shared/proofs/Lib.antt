@@ -11,6 +11,7 @@ pub mod BlockPartSteps
 pub mod Small
 pub mod Stages
 pub mod Steadies
+pub mod StopSteps
 pub mod Places
 pub mod Growing
 pub mod Taking

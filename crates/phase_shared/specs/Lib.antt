@@ -3,6 +3,7 @@ pub mod Asks
 pub mod BlockParts
 pub mod Blocks
 pub mod Calls
+pub mod Closings
 pub mod Desks
 pub mod Entries
 pub mod Goods
@@ -18,6 +19,7 @@ pub mod Puts
 pub mod Regs
 pub mod Rule
 pub mod Servings
+pub mod Standings
 pub mod Steps
 pub mod Tells
 pub mod Views

@@ -26,6 +26,15 @@
 //! complete or there is room for theirs. A signal that is ahead spins and yields for room for half
 //! the bound, and sleeps for its own.
 //!
+//! **Who is missing.** `Reg::standing` counts who is registered and who has signalled the first
+//! phase that is not complete, and `Reg::missing` also names those that have not. They make no
+//! event.
+//!
+//! **When a task fails** the others would wait for it for ever, so it closes the phaser
+//! (`Phaser::close`). The calls whose name ends in `_or_closed` wait as those without do, but no
+//! longer than until then: each gets what is complete, and is answered `Closed` in place of
+//! waiting. Such an answer makes no event, and every other call goes on as before.
+//!
 //! **Asking.** A registration that has a lane, whose `next` names no single, and that holds one
 //! send or none, may ask others to do both: it writes what it sends in its **lane**, two words
 //! beside the lock. Who has the turn makes the signals that others ask for; and where that
@@ -128,6 +137,9 @@
 
 mod asked;
 mod blocks;
+mod closing;
+mod closing_blocks;
+mod closing_next;
 mod held;
 mod lane_words;
 pub mod laws;
@@ -142,6 +154,8 @@ mod refusal;
 mod reg;
 mod rule;
 mod seats;
+mod standing;
+mod stopped;
 mod tried;
 mod trying;
 mod waiting;
@@ -152,10 +166,11 @@ pub use loose::{Loose, LooseAsked};
 pub use next::Next;
 pub use past::Past;
 pub use phase_core;
-pub use phase_core::{phase_accum, phase_base};
+pub use phase_core::{Standing, phase_accum, phase_base};
 pub use phaser::Phaser;
 pub use refusal::SendRefusal;
 pub use reg::Reg;
 pub use rule::{NoRule, SignalRule, Terms, Unwoken};
+pub use stopped::Stopped;
 pub use tried::Tried;
 pub use turn_lock;

@@ -9,6 +9,7 @@ pub mod hints;
 pub mod join_steps;
 pub mod lanes;
 pub mod locked;
+pub mod looks;
 pub mod nexts;
 pub mod pauses;
 pub mod places;

@@ -9,7 +9,7 @@ use Rattle.stream_job.specs.Streams.{IsSourceAt, none_came}
 use Rattle.stream_job.specs.graph_base.Graphs.{file_at, sources_of}
 use Rattle.stream_job.specs.graph_runs.Beginnings.{opening}
 use Rattle.stream_job.specs.stream_lists.Jobs.{Job}
-use Rattle.phase_stream.specs.Sessions.{IsStreamAtOpening, StandsBy, task_for}
+use Rattle.phase_stream.specs.Sessions.{IsStreamAtOpening, StandsFresh, task_for}
 use Rattle.phase_stream.specs.Sources.{AreUnopened, HasComeOf, IsSource}
 use Rattle.phase_stream.specs.declared.session.Session.{Session}
 use Rattle.phase_stream.proofs.Reading.{nothing_came}
@@ -25,27 +25,30 @@ pub stands_first : {R : Type 0} (remaining : R → Option (List ℕ)) (held : Kn
     (old now : ℕ → Option (List ℕ)) (session : Session R) (job : Job)
     → IsStreamAtOpening session.stream
     → job ≡ session.stream.job → AreUnopened remaining held job session.sources.items
-    → ((k : ℕ) → Appends (old k) (now k) []) → StandsBy remaining held old now session
-stands_first {R} remaining held old now session job opened same sources bare = record {
-  samples = none_came session.stream.job;
-  moment = opening session.stream.job;
-  given = none_given;
-  reaches = record {
-    at = opened.opening_is;
-    came = λ k lt.
-        subst (λ b. HasComeOf b (held (file_at session.stream.job.graph k))
-        (get_or (none_came session.stream.job) k [])) (sym (opened.open_is k lt))
-        (subst (λ values. HasComeOf false (held (file_at session.stream.job.graph k)) values)
-        (sym (none_of (range_with_len 0 (sources_of session.stream.job.graph)) k))
-        (nothing_came (held (file_at session.stream.job.graph k))));
-  };
-  sources = λ k source there.
-      let it = sources k source there in (
-        subst (λ j. IsSourceAt j source.task k) same it.0,
-        subst (λ values. IsSource remaining (held (file_at session.stream.job.graph k)) values source)
-            (sym (none_of (range_with_len 0 (sources_of session.stream.job.graph)) k))
-            (subst (λ (j : Job). IsSource remaining (held (file_at j.graph k)) [] source) same it.1),
-      );
-  written = λ k. subst (λ l. Appends (old k) (now k) (flat_map value_text l))
-      (sym (none_values (task_for session.targets.items k))) (bare k);
-}
+    → ((k : ℕ) → Appends (old k) (now k) []) → StandsFresh remaining held old now session
+stands_first {R} remaining held old now session job opened same sources bare = (
+  record {
+    samples = none_came session.stream.job;
+    moment = opening session.stream.job;
+    given = none_given;
+    reaches = record {
+      at = opened.opening_is;
+      came = λ k lt.
+          subst (λ b. HasComeOf b (held (file_at session.stream.job.graph k))
+          (get_or (none_came session.stream.job) k [])) (sym (opened.open_is k lt))
+          (subst (λ values. HasComeOf false (held (file_at session.stream.job.graph k)) values)
+          (sym (none_of (range_with_len 0 (sources_of session.stream.job.graph)) k))
+          (nothing_came (held (file_at session.stream.job.graph k))));
+    };
+    sources = λ k source there.
+        let it = sources k source there in (
+          subst (λ j. IsSourceAt j source.task k) same it.0,
+          subst (λ values. IsSource remaining (held (file_at session.stream.job.graph k)) values source)
+              (sym (none_of (range_with_len 0 (sources_of session.stream.job.graph)) k))
+              (subst (λ (j : Job). IsSource remaining (held (file_at j.graph k)) [] source) same it.1),
+        );
+    written = λ k. subst (λ l. Appends (old k) (now k) (flat_map value_text l))
+        (sym (none_values (task_for session.targets.items k))) (bare k);
+  },
+  refl,
+)

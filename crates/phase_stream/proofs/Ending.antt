@@ -15,6 +15,7 @@ use Rattle.graph_commands.specs.declared.fault.JobFault.TheVariants as fault
 use Rattle.graph_commands.specs.declared.graph_file.TheConstants.{GRAPH_MAX}
 use Rattle.graph_commands.specs.watched_io.Files.{HasBytes, MayNeedMemory}
 use Rattle.graph_commands.specs.watched_io.States.{WriterState}
+use Rattle.graph_commands.specs.watched_io.declared.explain.Explain.{Explain}
 use Rattle.graph_commands.specs.watched_io.declared.fault.IoFault.{IoFault}
 use Rattle.graph_commands.specs.watched_io.declared.fault.IoFault.TheVariants as io_fault
 use Rattle.graph_commands.specs.watched_io.declared.status.Status.{Status}
@@ -27,6 +28,7 @@ use Rattle.stream_job.specs.stream_lists.Jobs.{Job}
 use Rattle.phase_stream.specs.Ends.{MayEndAsStream}
 use Rattle.phase_stream.specs.Outputs.{AreNoSources, AreBare, HasSinks, IsAsAsked, IsUnbegunStream, IsUnmadeFile, IsUnreadGraph, StopOf, StreamDoes, StreamEndsBy, StreamFailsBy, WriteWhole, bare_at, bare_file, task_to, writers_at}
 use Rattle.phase_stream.specs.Streams.{explained}
+use Rattle.phase_stream.specs.Tables.{TableDoes, TableEnds, TableFails}
 
 -- ---- statuses
 
@@ -74,6 +76,25 @@ stream_ends Quiet known what knows of_output of_file old new made (Ok unit) stat
     record { done = λ e. does; stops = λ other. absurd (other quiet.0) }
 stream_ends Quiet known what knows of_output of_file old new made (Err found) status before after does
     fails quiet is told =
+    record {
+      done = λ e. absurd (failure_not_done found (sym is ∙ e));
+      stops = λ other. record { found = found; fails = fails; status_is = is; told = told };
+    }
+
+-- the same where all sinks are the columns of a table
+pub table_ends : {A W : Type 0} (Quiet : Type 0) (explain : Explain) (known : Known) (name : List ℕ)
+    (contents : W → Option (List ℕ)) (old new : Watched W) (done : Result A Failure)
+    (status : Status) (before after : WriterState)
+    → OnOk done (TableDoes known name (contents old.inner) (contents new.inner))
+    → IfErr done (TableFails known name contents old new) → OnOk done ((status ≡ Done) × Quiet)
+    → IfErr done (λ found. status ≡ failure_status found)
+    → IfErr done (λ found. IsTold (explained found explain) found before after)
+    → TableEnds explain known name status contents old new before after
+table_ends Quiet explain known name contents old new (Ok unit) status before after does fails quiet is
+    told =
+    record { done = λ e. does; stops = λ other. absurd (other quiet.0) }
+table_ends Quiet explain known name contents old new (Err found) status before after does fails quiet
+    is told =
     record {
       done = λ e. absurd (failure_not_done found (sym is ∙ e));
       stops = λ other. record { found = found; fails = fails; status_is = is; told = told };

@@ -1,15 +1,17 @@
 -- More of a source that waited for samples.
-use Rattle.std.proofs.Common.{◌≡◌, ◌≢◌, ◌⊎◌, inl, inr, ◌<◌, ◌≤◌, ◌++◌, ℕ, ℤ, Bool, true, false, eqb, List, [], ◌∷◌, Option, Some, length, get_or, set, slice_get, take, zero, suc, refl, sym, ap, subst, ◌∙◌, arith, rules}
+use Rattle.std.proofs.Common.{◌≡◌, ◌≢◌, ◌⊎◌, inl, inr, ◌<◌, ◌≤◌, ◌++◌, ℕ, ℤ, Bool, true, false, eqb, List, [], ◌∷◌, Option, Some, length, get_or, set, slice_get, take, zero, suc, refl, sym, ap, subst, ◌∙◌, append-nil, arith, rules}
+use mathlib.Core.List.{IsPrefix}
 use Rattle.std.specs.Prelude.{◌||◌, is_some, nat_lt}
-use Rattle.stream_job.specs.stream_lists.Jobs.{Job}
+use Rattle.stream_job.specs.stream_lists.Jobs.{Job, with_samples}
 use Rattle.std.proofs.lemmas.Bool.{eq-eqb, eqb-true, ltb-false, ltb-true}
 use Rattle.std.proofs.lemmas.List.{length-take-le}
 use Rattle.graph_commands.specs.FileJobs.{Known}
-use Rattle.stream_job.specs.Streams.{FeedTakes, IsSameBut, IsSourceAt, IsStreamAt, StreamState, ended_with, fed, has_ended}
+use Rattle.stream_job.specs.Streams.{FeedTakes, IsSameBut, IsSourceAt, IsStreamAt, StreamState, ended_at, ended_with, fed, has_ended}
 use Rattle.stream_job.specs.declared.stopped.Stopped.TheVariants.{Hungry}
-use Rattle.stream_job.specs.graph_base.Graphs.{Graph, file_at, sources_of}
+use Rattle.stream_job.specs.graph_base.Graphs.{Graph, file_at, source_number, sources_of}
+use Rattle.stream_job.specs.graph_runs.Feeds.{IsFed}
 use Rattle.stream_job.specs.graph_runs.Moments.{Moment}
-use Rattle.phase_stream.specs.Sessions.{AreCome, AreSources, AreWritten, IsKnownAs, KeptStill, Reaches, StandsBy, StandsLacking, StandsStopped}
+use Rattle.phase_stream.specs.Sessions.{AreCome, AreSources, AreWritten, IsKnownAs, KeptStill, Reaches, StandsBy, StandsFurther, StandsLacking, StandsStopped}
 use Rattle.phase_stream.specs.Sources.{GivesSource, HasComeOf, IsSource, Lacks}
 use Rattle.phase_stream.specs.declared.source.Lack.{Lack}
 use Rattle.phase_stream.specs.declared.session.Session.{Session}
@@ -139,26 +141,78 @@ sources_now remaining held old now before after mid k took one other room piece 
     (sym (fed_here st.samples k (take took xs) (omega (arith, each, within))
     ∙ ap (λ l. get_or st.samples k [] ++ l) whole)) it.gives.source_is)
 
+-- they go on behind those that came
+fed_goes : {R : Type 0} (remaining : R → Option (List ℕ)) (held : Known)
+    (old now : ℕ → Option (List ℕ)) (before : Session R) (mid : StreamState) (k took : ℕ)
+    (one other : Source R) (room : List ℤ) (piece : Piece) (st : StandsBy remaining held old now before)
+    → Fed remaining held old now before mid k took one other room piece st
+    → IsFed (with_samples st.samples before.stream.job) (ended_at before.stream)
+    (fed st.samples k (take took (take piece.count room)))
+fed_goes remaining held old now before mid k took one other room piece st it = record {
+  begins = λ t there kind.
+      (let j = source_number before.stream.job.graph.tasks t in begins j (eqb j k) refl);
+  stays = λ t there kind over.
+      (let j = source_number before.stream.job.graph.tasks t in stays j (eqb j k) refl over);
+}
+  where
+    within : k < length st.samples
+    within = let each = st.reaches.at.each in let inside = it.within in omega (arith, each, inside)
+
+    begins : (j : ℕ) (b : Bool) → eqb j k ≡ b → IsPrefix (get_or st.samples j [])
+        (get_or (fed st.samples k (take took (take piece.count room))) j [])
+    begins j true e =
+        let xs = take took (take piece.count room) in (
+          xs,
+          subst (λ i. get_or st.samples i [] ++ xs ≡ get_or (fed st.samples k xs) i [])
+              (sym (eqb-true j k e)) (sym (fed_here st.samples k xs within)),
+        )
+    begins j false e =
+        let xs = take took (take piece.count room) in
+        let apart : j ≢ k = λ is. (let yes : true ≡ false = sym (eq-eqb j k is) ∙ e in search rules) in
+        ([], append-nil (get_or st.samples j []) ∙ sym (fed_there st.samples k j xs apart))
+
+    stays : (j : ℕ) (b : Bool) → eqb j k ≡ b → has_ended before.stream.inputs j ≡ true
+        → get_or (fed st.samples k (take took (take piece.count room))) j [] ≡ get_or st.samples j []
+    stays j true e over =
+        let xs = take piece.count room in
+        let is = eqb-true j k e in
+        let none = took_none remaining held old now before mid k took one other room piece st it
+        (subst (λ i. has_ended before.stream.inputs i ≡ true) is over) in
+        subst (λ i. get_or (fed st.samples k (take took xs)) i [] ≡ get_or st.samples i []) (sym is)
+        (fed_here st.samples k (take took xs) within
+        ∙ ap (λ n. get_or st.samples k [] ++ take n xs) none ∙ append-nil (get_or st.samples k []))
+    stays j false e over =
+        let apart : j ≢ k = λ is. (let yes : true ≡ false = sym (eq-eqb j k is) ∙ e in search rules) in
+        fed_there st.samples k j (take took (take piece.count room)) apart
+
 pub fed_more : {R : Type 0} (remaining : R → Option (List ℕ)) (held : Known)
     (old now : ℕ → Option (List ℕ)) (before after : Session R) (k took : ℕ)
     (one other : Source R) (room : List ℤ) (piece : Piece) (st : StandsBy remaining held old now before)
     → Fed remaining held old now before after.stream k took one other room piece st
     → (took < piece.count → ⊥) → piece.is_last ≡ false
     → after.sources.items ≡ set before.sources.items k one → after.targets.items ≡ before.targets.items
-    → StandsBy remaining held old now after
+    → StandsFurther remaining held old now before after st
 fed_more remaining held old now before after k took one other room piece st it all more items task =
     record {
-      samples = fed st.samples k (take took (take piece.count room));
-      moment = st.moment;
-      given = st.given;
-      reaches = record {
-        at = it.fed_is;
-        came = came_now remaining held old now before after.stream k took one other room piece st it
-            (λ some. more);
+      later = record {
+        samples = fed st.samples k (take took (take piece.count room));
+        moment = st.moment;
+        given = st.given;
+        reaches = record {
+          at = it.fed_is;
+          came = came_now remaining held old now before after.stream k took one other room piece st
+              it (λ some. more);
+        };
+        sources = sources_now remaining held old now before after after.stream k took one other room
+            piece st it all items it.same.job;
+        written = subst (λ ts. AreWritten ts st.given old now) (sym task) st.written;
       };
-      sources = sources_now remaining held old now before after after.stream k took one other room
-          piece st it all items it.same.job;
-      written = subst (λ ts. AreWritten ts st.given old now) (sym task) st.written;
+      moment = refl;
+      given = refl;
+      fed = fed_goes remaining held old now before after.stream k took one other room piece st it;
+      ended = λ t over.
+          ap (λ (j : Job). has_ended after.stream.inputs (source_number j.graph.tasks t)) it.same.job
+          ∙ it.ended (source_number before.stream.job.graph.tasks t) ∙ over;
     }
 
 -- where the file has ended, all came
@@ -209,22 +263,32 @@ pub fed_last : {R : Type 0} (remaining : R → Option (List ℕ)) (held : Known)
     → IsSameBut mid after.stream
     → ((j : ℕ) → has_ended after.stream.inputs j ≡ ended_with mid.inputs k j)
     → after.sources.items ≡ set before.sources.items k one → after.targets.items ≡ before.targets.items
-    → StandsBy remaining held old now after
+    → StandsFurther remaining held old now before after st
 fed_last remaining held old now before after mid k took one other room piece st it all last stands
     same over items task =
     let xs = take piece.count room in
     record {
-      samples = fed st.samples k (take took xs);
-      moment = st.moment;
-      given = st.given;
-      reaches = record {
-        at = stands (fed st.samples k (take took xs)) st.moment st.given it.fed_is;
-        came = λ j within. came_last remaining held old now before after mid k took one other room
-            piece st it all last over (same.job ∙ it.same.job) j (eqb j k) refl within;
+      later = record {
+        samples = fed st.samples k (take took xs);
+        moment = st.moment;
+        given = st.given;
+        reaches = record {
+          at = stands (fed st.samples k (take took xs)) st.moment st.given it.fed_is;
+          came = λ j within. came_last remaining held old now before after mid k took one other room
+              piece st it all last over (same.job ∙ it.same.job) j (eqb j k) refl within;
+        };
+        sources = sources_now remaining held old now before after mid k took one other room piece st
+            it all items (same.job ∙ it.same.job);
+        written = subst (λ ts. AreWritten ts st.given old now) (sym task) st.written;
       };
-      sources = sources_now remaining held old now before after mid k took one other room piece st
-          it all items (same.job ∙ it.same.job);
-      written = subst (λ ts. AreWritten ts st.given old now) (sym task) st.written;
+      moment = refl;
+      given = refl;
+      fed = fed_goes remaining held old now before mid k took one other room piece st it;
+      ended = λ t ends.
+          (let j = source_number before.stream.job.graph.tasks t in
+          ap (λ (jb : Job). has_ended after.stream.inputs (source_number jb.graph.tasks t))
+          (same.job ∙ it.same.job) ∙ over j
+          ∙ or_true (eqb j k) (has_ended mid.inputs j) (it.ended j ∙ ends));
     }
 
 -- no more came

@@ -114,7 +114,7 @@ answer_fits job lines is = by (first_too_big job) refl
         search rules
 
 -- and it is the lines of its sinks
-answer_lines : (job : Job) (lines : List (ℕ × List ℤ)) → answer_of job ≡ Ok lines
+pub answer_lines : (job : Job) (lines : List (ℕ × List ℤ)) → answer_of job ≡ Ok lines
     → lines_of job ≡ lines
 answer_lines job lines is =
     let fits = answer_fits job lines is in

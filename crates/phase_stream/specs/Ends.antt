@@ -1,5 +1,5 @@
 -- How a run of the program may end, by what its words ask for.
-use Rattle.std.specs.Prelude.{◌≡◌, ◌⊎◌, ℕ, Bool, List, [], Option}
+use Rattle.std.specs.Prelude.{◌≡◌, ◌⊎◌, ℕ, Bool, false, true, List, [], Option}
 use Rattle.graph_commands.specs.FileJobs.{Known}
 use Rattle.graph_commands.specs.Folders.{known_by}
 use Rattle.graph_commands.specs.watched_io.States.{WriterState}
@@ -8,6 +8,7 @@ use Rattle.graph_commands.specs.watched_io.declared.status.Status.TheVariants.{D
 use Rattle.graph_commands.specs.watched_io.declared.watched.Watched.{Watched}
 use Rattle.phase_stream.specs.Outputs.{StreamEndsBy}
 use Rattle.phase_stream.specs.Streams.{StreamEnds}
+use Rattle.phase_stream.specs.Tables.{TableEnds}
 use Rattle.phase_words.specs.StreamLine.{Stream}
 
 -- the statuses of a stream
@@ -16,10 +17,11 @@ MayEndAsStream status =
     (status ≡ Done) ⊎ ((status ≡ GraphRefused) ⊎ ((status ≡ TooBig) ⊎ ((status ≡ Stalled)
     ⊎ (status ≡ Failed))))
 
--- how the stream that words ask for ends, where its values go to the output alone
+-- how the stream that words ask for ends, where the values of one sink go to the output alone
 abbrev pub EndsAsStream : {W : Type 0} → Stream → Known → (W → Option (List ℕ)) → Status
     → Watched W → Watched W → WriterState → WriterState → Type 0
 EndsAsStream what known contents status old new before after = what.files ≡ []
+    → what.columns ≡ false
     → StreamEnds what.explain (known_by what.beside what.graph known) what.graph what.sink status
     contents old new before after
 
@@ -28,5 +30,13 @@ abbrev pub EndsAsAsked : {W V : Type 0} → Stream → Known → Bool → (W →
     → (V → Option (List ℕ)) → Status → Watched W → Watched W → List (Watched V) → WriterState
     → WriterState → Type 0
 EndsAsAsked what known knows of_output of_file status old new made before after =
-    StreamEndsBy (known_by what.beside what.graph known) what knows of_output of_file status
+    what.columns ≡ false
+    → StreamEndsBy (known_by what.beside what.graph known) what knows of_output of_file status
     old new made before after
+
+-- and how it ends where all sinks go to the output as the columns of a table
+abbrev pub EndsAsTable : {W : Type 0} → Stream → Known → (W → Option (List ℕ)) → Status
+    → Watched W → Watched W → WriterState → WriterState → Type 0
+EndsAsTable what known contents status old new before after = what.columns ≡ true
+    → TableEnds what.explain (known_by what.beside what.graph known) what.graph status contents
+    old new before after

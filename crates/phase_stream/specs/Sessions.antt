@@ -146,6 +146,23 @@ pub record StandsBy {R : Type 0} (remaining : R → Option (List ℕ)) (held : K
   pub sources : AreSources remaining held session samples
   pub written : AreWritten session.targets.items given old now
 
+-- it stands so, and nothing was handed over
+abbrev pub StandsFresh : {R : Type 0} → (R → Option (List ℕ)) → Known → (ℕ → Option (List ℕ))
+    → (ℕ → Option (List ℕ)) → Session R → Type 0
+StandsFresh remaining held old now session =
+    (stands : StandsBy remaining held old now session) × (stands.given ≡ none_given)
+
+-- it stands so later, at the same moment, with more samples of the sources that had not ended
+pub record StandsFurther {R : Type 0} (remaining : R → Option (List ℕ)) (held : Known)
+    (old now : ℕ → Option (List ℕ)) (before after : Session R)
+    (stands : StandsBy remaining held old now before) : Type 0 where
+  pub later : StandsBy remaining held old now after
+  pub moment : later.moment ≡ stands.moment
+  pub given : later.given ≡ stands.given
+  pub fed : IsFed (with_samples stands.samples before.stream.job) (ended_at before.stream)
+      later.samples
+  pub ended : (t : ℕ) → ended_at before.stream t ≡ true → ended_at after.stream t ≡ true
+
 -- ---- a stop
 
 -- whether task t makes no event now: it is not live, its turn would be blocked, also by what it

@@ -2,15 +2,19 @@
 ghost use Rattle.std.specs.Prelude.{◌≡◌, ◌≢◌, ◌⊎◌, [], OnOk, IfErr};
 ghost use Rattle.graph_commands.specs.Ends.{IsTold};
 ghost use Rattle.graph_commands.specs.Failures.{HasPlace, failure_status};
+ghost use Rattle.graph_commands.specs.Folders.{known_by};
 ghost use Rattle.graph_commands.specs.watched_io.States.{writer_state};
-ghost use Rattle.phase_stream.specs.Ends.{EndsAsAsked, EndsAsStream, MayEndAsStream};
+ghost use Rattle.phase_stream.specs.Ends.{EndsAsAsked, EndsAsStream, EndsAsTable, MayEndAsStream};
+ghost use Rattle.phase_stream.specs.Outputs.{StreamEndsBy};
 ghost use Rattle.phase_stream.specs.Streams.{explained};
+ghost use Rattle.phase_stream.specs.Tables.{TableEnds};
 ghost use Rattle.phase_words.specs.Answers.{AnswerEnds, IsUnbegun, MayEnd};
 ghost use Rattle.phase_words.specs.CommandLine.{texts};
 ghost use Rattle.phase_words.specs.StreamLine.{AreStreamTaken, AsksStream, Stream as AskedStream, stream_asked, stream_kinds_of};
 
 use crate::opens::Opens;
 use crate::streamed::stream;
+use crate::streamed_table::stream_table;
 use graph_commands::watched_io::{Explain, Files, Status, Streams, Watched};
 use graph_commands::{Failure, JobFault, LooksBeside, Refuses, look_by, report};
 use phase_words::{StreamCall, answer, read_stream_words};
@@ -59,6 +63,16 @@ pub fn run_cli<W: Write, E: Write, F: Opens + Refuses + LooksBeside>(
         (writer_state E.contents streams.old.faults)
         (writer_state E.contents streams.new.faults) }
 
+    // What it wrote of the table of all sinks, where that is asked for.
+    ensures table { (what : AskedStream) → AsksStream (texts words.now) what
+        → IsUnbegun result streams.old.files streams.new.files
+        streams.old.output streams.new.output
+        (writer_state E.contents streams.old.faults) (writer_state E.contents streams.new.faults)
+        ⊎ EndsAsTable what (F.file streams.old.files) W.contents result
+        streams.old.output streams.new.output
+        (writer_state E.contents streams.old.faults)
+        (writer_state E.contents streams.new.faults) }
+
     // How other words are answered, and that they open no file and make none.
     ensures answered { (AreStreamTaken (texts words.now) → ⊥)
         → AnswerEnds (stream_kinds_of (texts words.now)) result
@@ -90,10 +104,63 @@ fn run_call<W: Write, E: Write, F: Opens + Refuses + LooksBeside>(
         W.contents F.Writer.contents result streams.old.output streams.new.output made.new.items
         (writer_state E.contents streams.old.faults)
         (writer_state E.contents streams.new.faults) }
+    ensures table { EndsAsTable (stream_asked call.now) (F.file streams.old.files) W.contents
+        result streams.old.output streams.new.output
+        (writer_state E.contents streams.old.faults)
+        (writer_state E.contents streams.new.faults) }
+    ensures quiet { result ≡ Status.Done → streams.new.faults ≡ streams.old.faults }
+{
+    if call.columns {
+        return run_table(alloc, call, streams);
+    }
+    run_sinks(alloc, call, streams, made)
+}
+
+/// Streams the sinks of a graph that a call names.
+fn run_sinks<W: Write, E: Write, F: Opens + Refuses + LooksBeside>(
+    alloc: Global,
+    call: &StreamCall<'_>,
+    streams: &mut Streams<W, E, F>,
+    made: &mut Vec<Watched<F::Writer>>,
+) -> Status
+    requires { made.old.items ≡ [] }
+    ensures status { MayEndAsStream result }
+    ensures ends { StreamEndsBy
+        (known_by call.now.beside call.now.graph.now (F.file streams.old.files))
+        (stream_asked call.now) F.knows W.contents F.Writer.contents result
+        streams.old.output streams.new.output made.new.items
+        (writer_state E.contents streams.old.faults)
+        (writer_state E.contents streams.new.faults) }
     ensures quiet { result ≡ Status.Done → streams.new.faults ≡ streams.old.faults }
 {
     look_by(alloc, &mut streams.files, call.beside, call.graph);
     let done = stream(alloc, call, &mut streams.output, made, &mut streams.files);
+    end(
+        alloc,
+        done,
+        call.graph,
+        call.explain,
+        &mut streams.faults,
+        &mut streams.files,
+    )
+}
+
+/// Streams all sinks of a graph as the columns of a table.
+fn run_table<W: Write, E: Write, F: Opens + Refuses + LooksBeside>(
+    alloc: Global,
+    call: &StreamCall<'_>,
+    streams: &mut Streams<W, E, F>,
+) -> Status
+    ensures status { MayEndAsStream result }
+    ensures ends { TableEnds call.now.explain
+        (known_by call.now.beside call.now.graph.now (F.file streams.old.files))
+        call.now.graph.now result W.contents streams.old.output streams.new.output
+        (writer_state E.contents streams.old.faults)
+        (writer_state E.contents streams.new.faults) }
+    ensures quiet { result ≡ Status.Done → streams.new.faults ≡ streams.old.faults }
+{
+    look_by(alloc, &mut streams.files, call.beside, call.graph);
+    let done = stream_table(alloc, call, &mut streams.output, &mut streams.files);
     end(
         alloc,
         done,

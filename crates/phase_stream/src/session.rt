@@ -8,12 +8,12 @@ ghost use Rattle.stream_job.specs.graph_runs.Moments.{Moment};
 ghost use mathlib.Core.List.{IsPrefix};
 ghost use Rattle.stream_job.specs.Gone.{has_gone};
 ghost use Rattle.stream_job.specs.SinkLines.{kept_by};
-ghost use Rattle.stream_job.specs.Streams.{IsStreamAt};
+ghost use Rattle.stream_job.specs.Streams.{IsStreamAt, StreamGoesOn};
 ghost use Rattle.stream_job.specs.declared.stopped.Stopped.{Stopped as StoppedValue};
 ghost use Rattle.stream_job.specs.declared.stopped.Stopped.TheVariants.{Hungry};
 ghost use Rattle.stream_job.specs.stream_lists.Lists.{sinks_of};
 ghost use Rattle.phase_stream.specs.Outputs.{StopOf, writers_at};
-ghost use Rattle.phase_stream.specs.Sessions.{AreKeptRight, AreTargets, Forgets, HandsOverAll, HandsPart, HasFailed, IsKeptRight, IsKeptWhole, IsStreamAtOpening, IsFaultWithoutText, MayStand, HasStopped, IsKnownAs, IsSameSession, StandsBy, StandsLacking, StandsPart, StandsStopped, WritesFirst, WritesLeft, WritesLeftPart, WritesSome, task_for};
+ghost use Rattle.phase_stream.specs.Sessions.{AreKeptRight, AreSources, AreTargets, Forgets, HandsOverAll, HandsPart, HasFailed, IsKeptRight, IsKeptWhole, IsStreamAtOpening, IsFaultWithoutText, MayStand, HasStopped, IsKnownAs, IsSameSession, StandsBy, StandsFresh, StandsFurther, StandsLacking, StandsPart, StandsStopped, WritesFirst, WritesLeft, WritesLeftPart, WritesSome, task_for};
 ghost use Rattle.phase_stream.specs.Sources.{AreUnopened};
 ghost use Rattle.graph_commands.specs.Explained.{AreFurtherLines};
 ghost use Rattle.graph_commands.specs.Failures.{HasPlace};
@@ -48,7 +48,8 @@ impl<R: Read + Drop> Session<R> {
     ) -> Result<Session<R>, AllocError>
         requires { IsStreamAtOpening stream }
         ensures stands { IfOk result (λ session. (held : Known) (old now : ℕ → Option (List ℕ))
-            → ((k : ℕ) → Appends (old k) (now k) []) → StandsBy R.remaining held old now session) }
+            → ((k : ℕ) → Appends (old k) (now k) [])
+            → StandsFresh R.remaining held old now session) }
         ensures job { IfOk result (λ session. session.stream.job ≡ stream.job) }
         ensures targets { IfOk result (λ session. session.targets.items ≡ targets.items) }
     {
@@ -61,13 +62,16 @@ impl<R: Read + Drop> Session<R> {
     }
 
     /// Gives turns to the tasks until none can move, and returns why.
-    fn run(&mut self) -> Result<Stopped, AllocError>
+    pub fn run(&mut self) -> Result<Stopped, AllocError>
         ensures stands { (held : Known) (old now : ℕ → Option (List ℕ))
             → StandsBy R.remaining held old now self.old
             → StandsBy R.remaining held old now self.new }
         ensures stops { IfOk result (λ stop. (s : List (List ℤ)) (m : Moment)
             (given : ℕ → List ℤ) → IsStreamAt self.new.stream s m given
             → HasStopped self.new.stream s m stop) }
+        ensures goes_on { StreamGoesOn self.old.stream self.new.stream }
+        ensures others { (self.new.sources ≡ self.old.sources)
+            × (self.new.targets ≡ self.old.targets) }
         ensures same { IsSameSession self.old self.new }
     {
         starts_are_in_time();
@@ -206,8 +210,9 @@ impl<R: Read + Drop> Session<R> {
     ) -> Result<(), Lack>
         requires { MayStand R.remaining (F.file files.old) self.old }
         ensures ok { OnOk result ((held : Known) (old now : ℕ → Option (List ℕ))
-            → IsKnownAs held (F.file files.old) → StandsBy R.remaining held old now self.old
-            → StandsBy R.remaining held old now self.new) }
+            → IsKnownAs held (F.file files.old)
+            → (stands : StandsBy R.remaining held old now self.old)
+            → StandsFurther R.remaining held old now self.old self.new stands) }
         ensures err { IfErr result (λ lack. (held : Known) (old now : ℕ → Option (List ℕ))
             (hungry : ℕ) → IsKnownAs held (F.file files.old)
             → StandsStopped R.remaining held old now self.old (Hungry hungry)
@@ -357,6 +362,9 @@ impl<R: Read + Drop> Session<R> {
         ensures stands { (held : Known) (old now : ℕ → Option (List ℕ)) (stop : StoppedValue)
             → StandsStopped R.remaining held old now self.old stop
             → StandsStopped R.remaining held old now self.new stop }
+        ensures sources { (held : Known) (s : List (List ℤ))
+            → AreSources R.remaining held self.old s → AreSources R.remaining held self.new s }
+        ensures stream { self.new.stream ≡ self.old.stream }
         ensures same { IsSameSession self.old self.new }
     {
         for k in 0..self.sources.len() {
@@ -371,6 +379,9 @@ impl<R: Read + Drop> Session<R> {
         ensures stands { (held : Known) (old now : ℕ → Option (List ℕ)) (stop : StoppedValue)
             → StandsStopped R.remaining held old now self.old stop
             → StandsStopped R.remaining held old now self.new stop }
+        ensures sources { (held : Known) (s : List (List ℤ))
+            → AreSources R.remaining held self.old s → AreSources R.remaining held self.new s }
+        ensures stream { self.new.stream ≡ self.old.stream }
         ensures same { IsSameSession self.old self.new }
     {
         if let Some(source) = self.sources.get_mut(k) {
@@ -380,7 +391,7 @@ impl<R: Read + Drop> Session<R> {
 }
 
 /// Forgets the values of all sinks.
-fn forget_all(stream: &mut Stream)
+pub fn forget_all(stream: &mut Stream)
     ensures { Forgets (length (sinks_of stream.old.job)) stream.old stream.new }
 {
     for sink in 0..stream.sinks() {

@@ -99,7 +99,7 @@ fn begin<'a, W: Write, F: Opens>(
 }
 
 /// Makes the run of the graph in a file, to which no samples came.
-fn read_stream<'a, F: Files>(
+pub fn read_stream<'a, F: Files>(
     alloc: Global,
     files: &mut F,
     name: &str,
@@ -207,7 +207,7 @@ fn go<'a, W: Write, F: Opens>(
 }
 
 /// A value of a job that is out of range.
-fn too_big<'a>(job: Job, place: Place, phase: u64) -> Failure<'a>
+pub fn too_big<'a>(job: Job, place: Place, phase: u64) -> Failure<'a>
     ensures { result ≡ failure.TooBig job place phase }
 {
     Failure::TooBig {

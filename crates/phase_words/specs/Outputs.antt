@@ -5,6 +5,7 @@ use Rattle.std.specs.Str.{bytes_eq}
 use Rattle.clap.specs.Words.{Kinds, Row, Rule, Text, all_of, first_of, new_rule}
 use Rattle.clap.specs.declared.builder.action.ArgAction.TheVariants.{Append}
 use Rattle.clap.specs.declared.error.kind.ErrorKind.TheVariants.{ArgumentConflict, ValueValidation}
+use Rattle.phase_words.specs.CommandLine.{is_given}
 use Rattle.phase_words.specs.declared.call.SinkFile.{SinkFile}
 
 -- a sink and the file that its values go to, each by its name
@@ -66,14 +67,25 @@ abbrev pub clashes_in : List Pair → Bool
 clashes_in [] = false
 clashes_in (pair ∷ pairs) = list_any (clash pair) pairs || clashes_in pairs
 
--- why the words are refused, where they are: one names no file, or a sink or a file stands twice
-abbrev pub output_kinds_by : Bool → Bool → Kinds
-output_kinds_by lacks clashes =
-    if lacks then ValueValidation ∷ [] else if clashes then ArgumentConflict ∷ [] else []
+-- all sinks are asked for as the columns of a table, and beside that a sink is named
+abbrev pub is_beside_columns : Bool → List Pair → Bool
+is_beside_columns columns pairs = columns && nat_lt 0 (length pairs)
+
+-- why the words are refused, where they are: sinks are named beside `--columns`, one names no file,
+-- or a sink or a file stands twice
+abbrev pub output_kinds_by : Bool → Bool → Bool → Kinds
+output_kinds_by beside lacks clashes =
+    if beside then ArgumentConflict ∷ []
+    else if lacks then ValueValidation ∷ []
+    else if clashes then ArgumentConflict ∷ []
+    else []
 
 -- by what clap finds
 abbrev pub output_kinds : List Row → Kinds
-output_kinds rows = output_kinds_by (lack_file (words_by rows)) (clashes_in (pairs_in rows))
+output_kinds rows =
+    output_kinds_by
+    (is_beside_columns (is_given (first_of (codes "columns") rows)) (pairs_in rows))
+    (lack_file (words_by rows)) (clashes_in (pairs_in rows))
 
 -- the output is the file of the name `-`
 abbrev pub is_output : Pair → Bool

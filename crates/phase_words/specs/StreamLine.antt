@@ -3,7 +3,7 @@ use Rattle.std.specs.Prelude.{◌≡◌, Bool, false, List, [], ◌∷◌, Optio
 use Rattle.clap.specs.Words.{App, Kinds, Row, Text, fault_of, first_of, matches_of, with_rule}
 use Rattle.clap.specs.Kinds.{or_else}
 use Rattle.clap.specs.declared.error.kind.ErrorKind.TheVariants.{DisplayHelp, DisplayVersion}
-use Rattle.phase_words.specs.CommandLine.{Refuse, explain_of, explain_rule, is_given}
+use Rattle.phase_words.specs.CommandLine.{Refuse, columns_rule, explain_of, explain_rule, is_given}
 use Rattle.phase_words.specs.Outputs.{Pair, others_in, output_kinds, pair_as, pairs_in, sink_in, to_rule}
 use Rattle.phase_words.specs.SinkLine.{graph_by, sink_app}
 use Rattle.watched_io.specs.declared.explain.Explain.{Explain}
@@ -12,16 +12,16 @@ use Rattle.phase_words.specs.declared.call.StreamCall.{StreamCall}
 
 -- ---- the command line
 
--- the words behind `phase stream`: a graph's file, a sink, `--beside`, sinks with their files and
--- `--explain`
+-- the words behind `phase stream`: a graph's file, a sink, `--beside`, sinks with their files,
+-- `--columns` and `--explain`
 unfoldable pub stream_app : App
-stream_app = with_rule (with_rule sink_app to_rule) explain_rule
+stream_app = with_rule (with_rule (with_rule sink_app to_rule) columns_rule) explain_rule
 
 -- ---- what the words ask for
 
 -- the kinds of answer that may be given in place of taking the words: those of clap, and where it
--- has none, those of words of which one behind `--to` names no file, or that name a sink or a file
--- twice
+-- has none, those of words with `--columns` that name a sink, of which one behind `--to` names no
+-- file, or that name a sink or a file twice
 unfoldable pub stream_kinds_of : List Text → Kinds
 stream_kinds_of words =
     or_else (fault_of stream_app words) (output_kinds (matches_of stream_app words))
@@ -45,11 +45,12 @@ AreStreamRefused words = Refuse (stream_kinds_of words)
 -- the values of a sink, of the name or of the only one, of the graph in the file of a name, as they
 -- come, and those of other sinks to files, with an explanation of a fault or without, and with the
 -- files of its sources opened beside it or not. Where other sinks are named, none goes to the
--- output but that of the name
+-- output but that of the name. Or all its sinks go there as the columns of a table
 pub record Stream : Type 0 where
   pub graph : Text
   pub sink : Option Text
   pub files : List Pair
+  pub columns : Bool
   pub explain : Explain
   pub beside : Bool
 
@@ -59,6 +60,7 @@ stream_with rows pairs = record {
   graph = graph_by rows;
   sink = sink_in pairs;
   files = others_in pairs;
+  columns = is_given (first_of (codes "columns") rows);
   explain = explain_of (first_of (codes "explain") rows);
   beside = is_given (first_of (codes "beside") rows);
 }
@@ -84,6 +86,7 @@ AskStream words name sink =
       graph = name;
       sink = sink;
       files = [];
+      columns = false;
       explain = No;
       beside = false;
     })
@@ -95,6 +98,7 @@ AskStreamExplained words name sink =
       graph = name;
       sink = sink;
       files = [];
+      columns = false;
       explain = Yes;
       beside = false;
     })
@@ -105,6 +109,7 @@ stream_asked call = record {
   graph = call.graph.now;
   sink = option_map (λ s. s.now) call.sink;
   files = map pair_as call.files.items;
+  columns = call.columns;
   explain = call.explain;
   beside = call.beside;
 }

@@ -85,6 +85,8 @@ pub struct StreamCall<'a> {
     pub sink: Option<&'a str>,
     /// The sinks whose values go to files.
     pub files: Vec<SinkFile<'a>>,
+    /// Whether all sinks go to the output as the columns of a table. Then none is named.
+    pub columns: bool,
     pub explain: Explain,
     pub beside: bool,
 }

@@ -47,7 +47,7 @@ pub(crate) fn sink_word<'a>(alloc: Global) -> Arg<'a>
 }
 
 /// The word `--columns`, which may be given.
-fn columns_word<'a>(alloc: Global) -> Arg<'a>
+pub(crate) fn columns_word<'a>(alloc: Global) -> Arg<'a>
     ensures rule { rule_of result ≡ columns_rule }
     ensures local { result.global ≡ false }
 {

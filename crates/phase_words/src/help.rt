@@ -55,6 +55,10 @@ pub(crate) const COLUMNS: &str =
 /// What is said of `--columns` and `--sink` together.
 pub(crate) const BOTH: &str = "the argument '--columns' cannot be used with '--sink <NAME>'";
 
+/// What is said of `--columns` beside sinks that a stream names.
+pub(crate) const COLUMNS_BESIDE: &str =
+    "the argument '--columns' cannot be used with '--sink <NAME>' or '--to <SINK=FILE>'";
+
 /// What the word `--beside` is.
 pub(crate) const BESIDE: &str = "Open the files of the graph's sources in the graph's folder";
 
@@ -209,7 +213,10 @@ may stand there more than once, are a sink and the file that its values go to:
 with `--to x=log --to y=-` those of `x` go to the file `log`, and those of `y`
 to standard output, as with --sink y. The files are made anew before the first
 sample is read, and a pipe of the name waits for its reader. A sink that is
-named nowhere is read and thrown away. The file of a source may be a pipe, and -
+named nowhere is read and thrown away. With --columns all sinks go to standard
+output as a table, a line as soon as each of them has its value or has ended,
+as `phase eval --columns` writes them; then memory holds the values that wait
+for those of slower sinks. The file of a source may be a pipe, and -
 is standard input, for one source. It is opened when the graph waits for its
 first sample. There is no limit on how many samples come, and memory does not
 grow with them.

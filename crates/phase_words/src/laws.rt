@@ -49,7 +49,32 @@ pub fn words_for_columns()
         (codes "eval" ∷ codes "--sink=out" ∷ codes "--columns" ∷ codes "g" ∷ []) }
     ensures check { AreRefused (codes "check" ∷ codes "g" ∷ codes "--columns" ∷ []) }
     ensures run { AreRunRefused (codes "g" ∷ codes "--columns" ∷ []) }
-    ensures stream { AreStreamRefused (codes "g" ∷ codes "--columns" ∷ []) }
+{}
+
+/// `phase stream g --columns` asks for all sinks as the columns of a table, in any order of the
+/// words. Beside a sink that is named it is refused.
+pub fn words_for_columns_of_streams()
+    ensures columns { AsksStream (codes "g" ∷ codes "--columns" ∷ []) (record {
+      graph = codes "g";
+      sink = None;
+      files = [];
+      columns = true;
+      explain = Explain.No;
+      beside = false;
+    }) }
+    ensures explain { AsksStream
+        (codes "--columns" ∷ codes "--explain" ∷ codes "--beside" ∷ codes "g" ∷ []) (record {
+          graph = codes "g";
+          sink = None;
+          files = [];
+          columns = true;
+          explain = Explain.Yes;
+          beside = true;
+        }) }
+    ensures sink { AreStreamRefused
+        (codes "g" ∷ codes "--columns" ∷ codes "--sink" ∷ codes "out" ∷ []) }
+    ensures file { AreStreamRefused (codes "--to=out=f" ∷ codes "g" ∷ codes "--columns" ∷ []) }
+    ensures twice { AreStreamRefused (codes "g" ∷ codes "--columns" ∷ codes "--columns" ∷ []) }
 {}
 
 /// `phase draw g` asks for a drawing of the graph in the file g. No file, two, and a sink are
@@ -102,6 +127,7 @@ pub fn words_for_files_beside()
       graph = codes "d/g";
       sink = None;
       files = [];
+      columns = false;
       explain = Explain.No;
       beside = true;
     }) }
@@ -227,6 +253,7 @@ pub fn words_for_files_of_sinks()
       graph = codes "g";
       sink = None;
       files = (codes "out", codes "f") ∷ [];
+      columns = false;
       explain = Explain.No;
       beside = false;
     }) }
@@ -236,6 +263,7 @@ pub fn words_for_files_of_sinks()
           graph = codes "g";
           sink = Some (codes "c");
           files = (codes "a", codes "f") ∷ (codes "b", codes "x=y") ∷ [];
+          columns = false;
           explain = Explain.No;
           beside = false;
         }) }

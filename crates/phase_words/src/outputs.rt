@@ -2,7 +2,8 @@
 ghost use Rattle.std.specs.Prelude.{◌≡◌, IfOk, false, map, not, option_map};
 ghost use Rattle.std.specs.List.{list_any};
 ghost use Rattle.clap.specs.Words.{all_of, first_of, found_of, rows_of, rule_of};
-ghost use Rattle.phase_words.specs.Outputs.{clash, clashes_in, others_in, has_file, lack_file, pair_of};
+ghost use Rattle.phase_words.specs.Outputs.{clash, clashes_in, has_file, is_beside_columns, lack_file, others_in};
+ghost use Rattle.phase_words.specs.Outputs.{pair_of};
 ghost use Rattle.phase_words.specs.Outputs.{pair_as, pairs_by, pairs_in, sink_in, to_rule, words_by};
 
 use crate::SinkFile;
@@ -41,6 +42,13 @@ fn lacks_file(word: &str) -> bool
     ensures { result ≡ not (has_file word.now) }
 {
     word.split_once('=').is_none()
+}
+
+/// Whether all sinks are asked for as columns, and a sink is named beside that.
+pub(crate) fn is_beside_columns(columns: bool, pairs: &[SinkFile<'_>]) -> bool
+    ensures { result ≡ is_beside_columns columns (map pair_as pairs.now) }
+{
+    columns && !pairs.is_empty()
 }
 
 /// Whether a word names none.

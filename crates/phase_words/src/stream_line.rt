@@ -7,9 +7,11 @@ ghost use Rattle.phase_words.specs.Outputs.{output_kinds, output_kinds_by, pair_
 ghost use Rattle.phase_words.specs.StreamLine.{AsksStream, stream_app, stream_by, stream_in};
 ghost use Rattle.phase_words.specs.StreamLine.{stream_kinds_of, stream_asked, stream_with};
 
-use crate::command_line::{explain_of, explain_word, found_by, is_given, no_call};
-use crate::help::{STREAM, STREAM_END, TO_LACKS, TO_TWICE};
-use crate::outputs::{files_of, has_clash, lack_file, output_sink, pairs, to_word, to_words};
+use crate::command_line::{columns_word, explain_of, explain_word, found_by, is_given, no_call};
+use crate::help::{COLUMNS_BESIDE, STREAM, STREAM_END, TO_LACKS, TO_TWICE};
+use crate::outputs::{
+    files_of, has_clash, is_beside_columns, lack_file, output_sink, pairs, to_word, to_words,
+};
 use crate::sink_line::{graph_of, sink_command};
 use crate::{NoCall, SinkFile, StreamCall};
 use clap::error::ErrorKind;
@@ -22,6 +24,7 @@ fn stream_command<'a>(alloc: Global) -> Result<Command<'a>, AllocError>
 {
     sink_command(alloc, "phase stream", STREAM, STREAM_END)?
         .arg(to_word(alloc))?
+        .arg(columns_word(alloc))?
         .arg(explain_word(alloc))
 }
 
@@ -38,16 +41,20 @@ fn call_of<'a>(
         graph: graph_of(matches),
         sink: output_sink(pairs),
         files: files_of(alloc, pairs)?,
+        columns: is_given(matches.get_str("columns")),
         explain: explain_of(matches.get_str("explain")),
         beside: is_given(matches.get_str("beside")),
     })
 }
 
-/// Why words are refused by which sinks go where: one behind `--to` names no file, or a sink or a
-/// file stands twice.
-fn refusal(lacks: bool, clashes: bool) -> Option<(ErrorKind, &'static str)>
-    ensures { output_kinds_by lacks clashes ≡ option_map_or (λ r. r.0 ∷ []) result [] }
+/// Why words are refused by which sinks go where: some are named beside `--columns`, one behind
+/// `--to` names no file, or a sink or a file stands twice.
+fn refusal(beside: bool, lacks: bool, clashes: bool) -> Option<(ErrorKind, &'static str)>
+    ensures { output_kinds_by beside lacks clashes ≡ option_map_or (λ r. r.0 ∷ []) result [] }
 {
+    if beside {
+        return Some((ErrorKind::ArgumentConflict, COLUMNS_BESIDE));
+    }
     if lacks {
         return Some((ErrorKind::ValueValidation, TO_LACKS));
     }
@@ -83,7 +90,8 @@ fn parse<'a>(alloc: Global, words: &'a [String]) -> Result<StreamCall<'a>, Error
     let matches = found_by(stream_command(alloc), words)?;
     let named = to_words(alloc, &matches)?;
     let pairs = pairs(alloc, matches.get_str("sink"), &named)?;
-    if let Some((kind, text)) = refusal(lack_file(&named), has_clash(&pairs)) {
+    let beside = is_beside_columns(is_given(matches.get_str("columns")), &pairs);
+    if let Some((kind, text)) = refusal(beside, lack_file(&named), has_clash(&pairs)) {
         return Err(refused(alloc, kind, text));
     }
     Ok(call_of(alloc, &matches, &pairs)?)

@@ -2,6 +2,7 @@ pub mod Children
 pub mod Ending
 pub mod FirstRefusals
 pub mod Keeping
+pub mod Missing
 pub mod NumberWaits
 pub mod PlaceSteps
 pub mod Statuses

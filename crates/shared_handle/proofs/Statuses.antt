@@ -12,12 +12,15 @@ use Rattle.phase_shared.specs.phase_history.declared.refusal.SignalRefusal.{Sign
 use Rattle.phase_shared.specs.phase_history.declared.refusal.SignalRefusal.TheVariants as signal
 use Rattle.phase_shared.specs.phase_history.declared.refusal.WaitRefusal.{WaitRefusal}
 use Rattle.phase_shared.specs.phase_history.declared.refusal.WaitRefusal.TheVariants as wait
+use Rattle.phase_shared.specs.phase_history.declared.refusal.NoTask.{NoTask}
+use Rattle.phase_shared.specs.phase_core.declared.standing.Standing.{Standing}
 use Rattle.phase_shared.specs.declared.tried.Tried.{Tried}
 use Rattle.phase_shared.specs.declared.tried.Tried.TheVariants.{Busy, Refused}
 use Rattle.handle_numbers.specs.Numbers.{signal_number, wait_number, signal_status, wait_status, wait_block_status, phase_or}
 use Rattle.handle_numbers.specs.declared.numbers.TheConstants.{GOOD, ENDED, SIGNALLED}
 use Rattle.shared_handle.specs.declared.any_member.AnyMember.{AnyMember}
-use Rattle.shared_handle.specs.Told.{tried_status, next_status, register_status, start_got, phase_signalled, value_after, phase_got, value_got, first_got, count_got}
+use Rattle.shared_handle.specs.declared.standing_exports.Counts.{Counts}
+use Rattle.shared_handle.specs.Told.{tried_status, next_status, register_status, missing_status, start_got, phase_signalled, value_after, phase_got, value_got, first_got, count_got, counts_told}
 
 -- the number fits
 abbrev pub IsStatus : ℤ → Type 0
@@ -89,7 +92,18 @@ wait_block_fits (Ok block.Ended) = refl
 wait_block_fits (Err Busy) = refl
 wait_block_fits (Err (Refused refusal)) = wait_number_fits refusal
 
+missing_fits : (answer : Result Standing (Tried NoTask))
+    → IsStatus (tried_status missing_status answer)
+missing_fits (Ok standing) = refl
+missing_fits (Err Busy) = refl
+missing_fits (Err (Refused refusal)) = refl
+
 -- ---- what a call answers is the status of its answer
+
+pub missing_told : (answer : Result Standing (Tried NoTask)) (code : ℤ)
+    → code ≡ tried_status missing_status answer
+    → to_z w32 (of_z w32 code) ≡ tried_status missing_status answer
+missing_told answer code is = ap (λ r. to_z w32 (of_z w32 r)) is ∙ missing_fits answer
 
 pub signal_told : (answer : Result ℕ (Tried SignalRefusal)) (code : ℤ)
     → code ≡ tried_status signal_status answer
@@ -117,6 +131,13 @@ pub register_told : {X : Type 0} (answer : Result X (Tried RegisterRefusal)) (co
 register_told answer code is = ap (λ r. to_z w32 (of_z w32 r)) is ∙ register_fits answer
 
 -- ---- where nothing was got
+
+pub missing_unwritten : (answer : Result Standing (Tried NoTask)) (old new : Counts)
+    (old_places new_places : List ℕ) → tried_status missing_status answer ≢ GOOD
+    → new ≡ counts_told answer old → OnErr answer (new_places ≡ old_places)
+    → (new ≡ old) × (new_places ≡ old_places)
+missing_unwritten (Ok standing) old new old_places new_places none is same = absurd (none refl)
+missing_unwritten (Err tried) old new old_places new_places none is same = (is, same)
 
 pub signal_unwritten : (answer : Result ℕ (Tried SignalRefusal)) (old : ℕ)
     → tried_status signal_status answer ≢ GOOD → phase_or answer old ≡ old

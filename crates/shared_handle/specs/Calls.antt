@@ -21,11 +21,15 @@ use Rattle.phase_shared.specs.phase_history.declared.refusal.WaitRefusal.TheVari
 use Rattle.phase_shared.specs.phase_history.Histories.{History, entry_at}
 use Rattle.phase_shared.specs.phase_history.Replies.{signal_reply, after_signal}
 use Rattle.phase_shared.specs.phase_history.Others.{OthersCame}
+use Rattle.phase_shared.specs.phase_history.declared.refusal.NoTask.{NoTask}
+use Rattle.phase_shared.specs.phase_core.Standings.{missing_of, put_over}
+use Rattle.phase_shared.specs.phase_core.declared.standing.Standing.{Standing}
 use Rattle.phase_shared.specs.declared.next.Next.{Next}
 use Rattle.phase_shared.specs.declared.tried.Tried.{Tried}
 use Rattle.phase_shared.specs.declared.tried.Tried.TheVariants.{Busy, Refused}
 use Rattle.phase_shared.specs.Blocks.{SignalsValues, WaitsBlock, entry_after_block, entry_after_values}
 use Rattle.phase_shared.specs.Calls.{Tries, Waits, MayWait, HasRegistered, RefusesRegister}
+use Rattle.phase_shared.specs.Standings.{TellsStanding, unregistered}
 use Rattle.phase_shared.specs.Entries.{entry_stays, entry_after_signal, entry_after_wait, entry_after_both}
 use Rattle.phase_shared.specs.Joins.{HasRegisteredNow}
 use Rattle.shared_handle.specs.Members.{Registration, limits_by, IsOnlyOne, StaysAt}
@@ -119,6 +123,28 @@ BlockWaitCall value old_out new_out old new answer =
     IsMemberTry wait.NoTask entry_after_values ((new ≡ old) × (new_out ≡ old_out))
     (WaitsBlock value (limits_by old.at) old.number old.seen new.seen old_out new_out) old new
     answer
+
+-- ---- how a phaser stands
+
+-- events of others, and there how the phaser stands; the numbers of those that are missing are
+-- written over the places
+pub record FindsMissing (me : ℕ) (old new : History) (old_places new_places : List ℕ)
+    (standing : Standing) : Type 0 where
+  pub stands : TellsStanding me old new standing
+  pub places_are : new_places ≡ put_over (missing_of new) old_places
+
+-- so it is answered, and never refused
+abbrev pub AnswersMissing : ℕ → History → History → List ℕ → List ℕ → Result Standing NoTask
+    → Type 0
+AnswersMissing me old new old_places new_places (Ok standing) =
+    FindsMissing me old new old_places new_places standing
+AnswersMissing me old new old_places new_places (Err refusal) = ⊥
+
+abbrev pub MissingCall : List ℕ → List ℕ → Registration → Registration
+    → Result Standing (Tried NoTask) → Type 0
+MissingCall old_places new_places old new answer =
+    IsMemberTry unregistered entry_stays ((new ≡ old) × (new_places ≡ old_places))
+    (AnswersMissing old.number old.seen new.seen old_places new_places) old new answer
 
 -- ---- children
 

@@ -13,18 +13,21 @@ use Rattle.phase_shared.specs.phase_history.declared.got.GotBlock.TheVariants as
 use Rattle.phase_shared.specs.phase_history.declared.refusal.RegisterRefusal.{RegisterRefusal}
 use Rattle.phase_shared.specs.phase_history.declared.refusal.SignalRefusal.{SignalRefusal}
 use Rattle.phase_shared.specs.phase_history.declared.refusal.WaitRefusal.{WaitRefusal}
+use Rattle.phase_shared.specs.phase_history.declared.refusal.NoTask.{NoTask}
+use Rattle.phase_shared.specs.phase_core.declared.standing.Standing.{Standing as PhaserStanding}
 use Rattle.phase_shared.specs.declared.tried.Tried.{Tried}
 use Rattle.phase_shared.specs.declared.tried.Tried.TheVariants.{Busy, Refused}
 use Rattle.handle_numbers.specs.Numbers.{Names, signal_status, wait_status, wait_block_status, signal_number, register_number, value_number, mode_number, op_number, phase_or}
-use Rattle.handle_numbers.specs.declared.numbers.TheConstants.{GOOD, ENDED, SIGNALLED, BUSY, BAD_SINGLE, BAD_VALUE, TOO_MANY_SENDS}
+use Rattle.handle_numbers.specs.declared.numbers.TheConstants.{GOOD, ENDED, SIGNALLED, BUSY, NO_TASK, BAD_SINGLE, BAD_VALUE, TOO_MANY_SENDS}
 use Rattle.shared_handle.specs.Members.{Registration}
-use Rattle.shared_handle.specs.Calls.{SignalCall, NextCall, WaitCall, BlockSignalCall}
+use Rattle.shared_handle.specs.Calls.{SignalCall, NextCall, WaitCall, BlockSignalCall, MissingCall}
 use Rattle.shared_handle.specs.NumberBlocks.{NumbersCall}
 use Rattle.shared_handle.specs.AnyMembers.{op_in, op_asked, asked_state, state_in, state_of, held_in, StillHas}
 use Rattle.shared_handle.specs.declared.any_asked.AnyAsked.{AnyAsked}
 use Rattle.shared_handle.specs.declared.any_member.AnyMember.{AnyMember}
 use Rattle.shared_handle.specs.declared.kept.Kept.{Kept}
 use Rattle.shared_handle.specs.declared.member_exports.Standing.{Standing}
+use Rattle.shared_handle.specs.declared.standing_exports.Counts.{Counts}
 
 -- ---- statuses
 
@@ -45,6 +48,11 @@ next_status (Err refusal) = signal_number refusal
 abbrev pub register_status : {X : Type 0} → Result X RegisterRefusal → ℤ
 register_status (Ok child) = GOOD
 register_status (Err refusal) = register_number refusal
+
+-- the status of how a phaser stands, which is never refused
+abbrev pub missing_status : Result PhaserStanding NoTask → ℤ
+missing_status (Ok standing) = GOOD
+missing_status (Err refusal) = NO_TASK
 
 -- the handle is refused with this status, and what is behind it stays as it was
 abbrev pub RefusedAs : ℤ → ℤ → Option Kept → Option Kept → Type 0
@@ -118,6 +126,17 @@ count_got (Err refusal) old = old
 abbrev pub start_got : {R : Type 0} → Result AnyMember R → ℕ → ℕ
 start_got (Ok child) old = (state_in child).entry.wait_phase
 start_got (Err refusal) old = old
+
+-- how a phaser stands, in the numbers of C, or what stood there
+abbrev pub counts_told : {R : Type 0} → Result PhaserStanding R → Counts → Counts
+counts_told (Ok standing) old = record {
+  tasks = standing.tasks;
+  signallers = standing.signallers;
+  waiters = standing.waiters;
+  phase = standing.phase;
+  signalled = standing.signalled;
+}
+counts_told (Err refusal) old = old
 
 -- the child is behind the handle that was given for it, under its parent's operation; or what was
 -- there still is
@@ -199,6 +218,15 @@ pub record TellsBlockWait (old_values new_values : List ℤ) (old new : AnyMembe
   pub status_is : status ≡ tried_status wait_block_status answer
   pub phase_is : new_phase ≡ first_got answer old_phase
   pub count_is : new_count ≡ count_got answer old_count
+
+-- how the phaser stands, and who is missing
+pub record TellsMissing (old_places new_places : List ℕ) (old new : AnyMember) (status : ℤ)
+    (old_counts new_counts : Counts) : Type 0 where
+  pub answer : Result PhaserStanding (Tried NoTask)
+  pub call : MissingCall old_places new_places (state_in old) (state_in new) answer
+  pub op : op_in new ≡ op_in old
+  pub status_is : status ≡ tried_status missing_status answer
+  pub counts_are : new_counts ≡ counts_told answer old_counts
 
 -- a registration, by one of the two calls: what it says of the parent before and after it
 pub record TellsRegister

@@ -167,6 +167,16 @@ impl AnyAsked {
         each!(self, one => one.told())
     }
 
+    /// Closes its phaser, for ever.
+    pub fn close(&self) {
+        each!(self, one => one.close())
+    }
+
+    /// Returns whether its phaser was closed.
+    pub fn is_closed(&self) -> bool {
+        each!(self, one => one.is_closed())
+    }
+
     /// Looks whether its next phase was made. Else it asks still. It takes no turn.
     pub fn look(
         self,

@@ -4,14 +4,16 @@ ghost use Rattle.phase_shared.specs.phase_base.declared.limits.TheConstants.{SEN
 ghost use Rattle.phase_shared.specs.phase_accum.Sends.{AreSends};
 ghost use Rattle.phase_shared.specs.phase_accum.Values.{value_by};
 ghost use Rattle.shared_handle.specs.Members.{IsInItsHistory, IsFounding, IsOnlyOne, HasLeft};
-ghost use Rattle.shared_handle.specs.Calls.{SignalCall, NextCall, WaitCall, BlockSignalCall, BlockWaitCall, AddCall, AddNowCall};
+ghost use Rattle.shared_handle.specs.Calls.{SignalCall, NextCall, WaitCall, BlockSignalCall, BlockWaitCall, AddCall, AddNowCall, MissingCall};
 ghost use Rattle.shared_handle.specs.AnyMembers.{op_in, state_in, state_of};
 
 use crate::member::Member;
 use phase_shared::Tried;
 use phase_shared::phase_accum::{Any, Greatest, Least, Op, Outcome, Product, Single, Sum};
 use phase_shared::phase_base::{Entry, Mode, Spec};
-use phase_shared::phase_core::{Got, GotBlock, RegisterRefusal, SignalRefusal, WaitRefusal};
+use phase_shared::phase_core::{
+    Got, GotBlock, NoTask, RegisterRefusal, SignalRefusal, Standing, WaitRefusal,
+};
 use std::alloc::{AllocError, Global};
 
 /// A registration with its phaser, by the operation of the phaser. Each call is the one of `Member`
@@ -216,6 +218,27 @@ impl AnyMember {
         ensures err { OnErr result (self.new ≡ self.old) }
     {
         each_child!(self, one => one.add_now())
+    }
+
+    /// Tells how its phaser stands, and writes who is missing into the first places, as many as
+    /// there are of both. It takes no memory.
+    pub fn missing(&mut self, places: &mut [u64]) -> Result<Standing, Tried<NoTask>>
+        ensures call { MissingCall places.old places.new (state_in self.old) (state_in self.new)
+            result }
+        ensures op { op_in self.new ≡ op_in self.old }
+        ensures err { OnErr result (places.new ≡ places.old) }
+    {
+        each!(self, one => one.missing(places))
+    }
+
+    /// Closes its phaser, for ever.
+    pub fn close(&self) {
+        each!(self, one => one.close())
+    }
+
+    /// Returns whether its phaser was closed.
+    pub fn is_closed(&self) -> bool {
+        each!(self, one => one.is_closed())
     }
 
     /// Ends the registration. Where another is in the middle of a call it comes back as it was. It

@@ -128,6 +128,16 @@ impl<A: Accumulate> AskedMember<A> {
         self.phaser.told()
     }
 
+    /// Closes its phaser, for ever: `Phaser::close`.
+    pub fn close(&self) {
+        self.phaser.close()
+    }
+
+    /// Returns whether its phaser was closed: `Phaser::is_closed`.
+    pub fn is_closed(&self) -> bool {
+        self.phaser.is_closed()
+    }
+
     /// Looks whether its next phase was made. Else it asks still. It takes no turn.
     pub fn look(
         self,

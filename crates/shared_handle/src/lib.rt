@@ -35,6 +35,8 @@ mod member;
 mod member_calls;
 mod member_exports;
 mod place;
+mod standing_calls;
+mod standing_exports;
 mod told;
 mod words;
 
@@ -50,3 +52,4 @@ pub use member_exports::{
     phase_member_told, phase_member_view,
 };
 pub use phase_shared;
+pub use standing_exports::{Counts, phase_member_close, phase_member_closed, phase_member_missing};

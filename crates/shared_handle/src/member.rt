@@ -3,13 +3,13 @@ ghost use Rattle.std.specs.Prelude.{◌≡◌, ◌≤◌, ℕ, Ok, IfOk, IfErr, 
 ghost use Rattle.phase_shared.specs.phase_base.declared.limits.TheConstants.{SENDS_MAX};
 ghost use Rattle.phase_shared.specs.phase_accum.Sends.{AreSends};
 ghost use Rattle.shared_handle.specs.Members.{IsInItsHistory, IsFounding, IsOnlyOne, HasLeft};
-ghost use Rattle.shared_handle.specs.Calls.{SignalCall, NextCall, WaitCall, BlockSignalCall, BlockWaitCall, AddCall, AddNowCall};
+ghost use Rattle.shared_handle.specs.Calls.{SignalCall, NextCall, WaitCall, BlockSignalCall, BlockWaitCall, AddCall, AddNowCall, MissingCall};
 
 use phase_any::held;
 use phase_shared::phase_accum::{Accumulate, Outcome, Pending, Single};
 use phase_shared::phase_base::{Entry, Mode, Spec};
 use phase_shared::phase_core::{
-    Got, GotBlock, RegisterRefusal, SignalRefusal, WaitRefusal, hold_each,
+    Got, GotBlock, NoTask, RegisterRefusal, SignalRefusal, Standing, WaitRefusal, hold_each,
 };
 use phase_shared::{Loose, Phaser, Tried, Unwoken};
 use std::alloc::{AllocError, Global};
@@ -195,6 +195,26 @@ impl<A: Accumulate> Member<A> {
             })),
             Err(tried) => Ok(Err(tried)),
         }
+    }
+
+    /// Tells how its phaser stands, and writes who is missing into the first places, as many as
+    /// there are of both. It takes no memory.
+    pub fn missing(&mut self, places: &mut [u64]) -> Result<Standing, Tried<NoTask>>
+        ensures call { MissingCall places.old places.new self.old self.new result }
+        ensures err { OnErr result (places.new ≡ places.old) }
+    {
+        let phaser: &Phaser<A, Unwoken> = &self.phaser;
+        self.loose.reg.try_missing(phaser, places)
+    }
+
+    /// Closes its phaser, for ever: `Phaser::close`.
+    pub fn close(&self) {
+        self.phaser.close()
+    }
+
+    /// Returns whether its phaser was closed: `Phaser::is_closed`.
+    pub fn is_closed(&self) -> bool {
+        self.phaser.is_closed()
     }
 
     /// Ends the registration. Where another is in the middle of a call it comes back as it was. It

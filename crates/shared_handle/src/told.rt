@@ -1,12 +1,13 @@
 //! What a try is answered, as a number, and what of it is written.
 ghost use Rattle.std.specs.Prelude.{◌≡◌};
 ghost use Rattle.handle_numbers.specs.Numbers.{signal_status, wait_status, wait_block_status, phase_or};
-ghost use Rattle.shared_handle.specs.Told.{tried_status, next_status, phase_signalled, value_after, phase_got, value_got, first_got, count_got};
+ghost use Rattle.shared_handle.specs.Told.{tried_status, next_status, missing_status, phase_signalled, value_after, phase_got, value_got, first_got, count_got, counts_told};
 
+use crate::standing_exports::Counts;
 use handle_numbers::numbers::*;
 use handle_numbers::{signal_code, value_code, wait_code};
 use phase_shared::Tried;
-use phase_shared::phase_core::{Got, GotBlock, SignalRefusal, WaitRefusal};
+use phase_shared::phase_core::{Got, GotBlock, NoTask, SignalRefusal, Standing, WaitRefusal};
 
 /// The number of what a signal is answered.
 pub fn told_signal(answer: &Result<u64, Tried<SignalRefusal>>) -> i32
@@ -71,6 +72,17 @@ pub fn told_wait_block(answer: &Result<GotBlock, Tried<WaitRefusal>>) -> i32
     }
 }
 
+/// The number of what is answered to who asks how a phaser stands.
+pub fn told_missing(answer: &Result<Standing, Tried<NoTask>>) -> i32
+    ensures { result ≡ tried_status missing_status answer.now }
+{
+    match answer {
+        Ok(_) => GOOD,
+        Err(Tried::Busy) => BUSY,
+        Err(Tried::Refused(_)) => NO_TASK,
+    }
+}
+
 /// Writes the phase, where one was signalled.
 pub fn write_signalled(answer: &Result<u64, Tried<SignalRefusal>>, phase: &mut u64)
     ensures { phase.new ≡ phase_or answer.now phase.old }
@@ -132,5 +144,20 @@ pub fn write_block(
     {
         *phase = *first;
         *count = *many as usize;
+    }
+}
+
+/// Writes how a phaser stands, where that was told.
+pub fn write_counts(answer: &Result<Standing, Tried<NoTask>>, counts: &mut Counts)
+    ensures { counts.new ≡ counts_told answer.now counts.old }
+{
+    if let Ok(standing) = answer {
+        *counts = Counts {
+            tasks: standing.tasks,
+            signallers: standing.signallers,
+            waiters: standing.waiters,
+            phase: standing.phase,
+            signalled: standing.signalled,
+        };
     }
 }

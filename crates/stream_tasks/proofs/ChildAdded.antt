@@ -1,6 +1,6 @@
 -- A task has registered a child: what its state and the child's holds are, by what either way of
 -- registering leaves of the moment.
-use Rattle.std.proofs.Common.{◌≡◌, ◌≢◌, ℕ, ◌+◌, ◌<◌, ◌≤◌, ◌-◌, ℤ, true, false, List, [], ◌∷◌, ◌++◌, Some, None, length, get_or, set, refl, sym, ap, subst, ◌∙◌, arith, ◌⊎◌, inl, inr}
+use Rattle.std.proofs.Common.{◌≡◌, ◌≢◌, ℕ, ◌+◌, ◌<◌, ◌≤◌, ◌-◌, true, false, List, [], ◌∷◌, ◌++◌, Some, None, length, get_or, set, refl, sym, ap, ◌∙◌, arith, ◌⊎◌, inl, inr}
 use Rattle.std.specs.Prelude.{slice_get, Vec}
 use Rattle.std.specs.Global.{Global}
 use Rattle.std.specs.Vec.{with_item}
@@ -25,7 +25,6 @@ use Rattle.graph_runs.proofs.Reaching.{one_registration}
 use Rattle.graph_runs.specs.Parts.{HasPart}
 use Rattle.graph_runs.specs.Places.{IsJoining, KnowsOthers}
 use Rattle.graph_runs.specs.TaskEnds.{IsChildOf, HasNumbers, HasOwnCalls}
-use Rattle.graph_runs.specs.Steps.{HasFilter}
 use Rattle.stream_tasks.specs.Holds.{HasMade}
 use Rattle.stream_tasks.specs.Registering.{HasFirstHolds}
 use Rattle.stream_tasks.specs.Tasks.{DealsNothing, IsOn, IsHeldOn, HasGivenNumbers, IsOwnTaskAt, IsWhole, place_of_state}

@@ -14,7 +14,7 @@ use Rattle.graph_runs.specs.graph_base.Graphs.{Task, task_at, phaser_at}
 use Rattle.stream_eval.specs.stream_lists.Jobs.{Job}
 use Rattle.graph_runs.specs.Moments.{Moment}
 use Rattle.stream_members.specs.Members.{Spot}
-use Rattle.stream_members.specs.AnyMembers.{member_in, member_op, room_for}
+use Rattle.stream_members.specs.AnyMembers.{member_in, room_for}
 use Rattle.stream_members.specs.declared.any_member.AnyMember.{AnyMember}
 use Rattle.stream_members.specs.declared.places.Places.{Places}
 use Rattle.graph_runs.specs.Answers.{output_at}

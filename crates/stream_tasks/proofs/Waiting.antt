@@ -42,7 +42,7 @@ use Rattle.stream_tasks.specs.declared.hold.Hold.{Hold}
 use Rattle.stream_tasks.specs.declared.hold.Hold.TheVariants.{On}
 use Rattle.stream_tasks.specs.declared.task_state.TaskState.{TaskState}
 use Rattle.stream_tasks.proofs.Holding.{sees_own, on_after}
-use Rattle.stream_tasks.proofs.Turning.{Changes, changed, as_it_is, FitPlaces, StayPlaces, fits, no_joiner, owes_values, state_moves, whole_moves, goes, held}
+use Rattle.stream_tasks.proofs.Turning.{Changes, changed, as_it_is, FitPlaces, StayPlaces, no_joiner, owes_values, state_moves, whole_moves, goes, held}
 
 -- who owes nothing owes nothing by the definitions
 pub owes_none : (s : TaskState) → OwesNothing s → owed_by s.owed s.made.items ≡ turns.nothing

@@ -1,6 +1,6 @@
 -- The founder of a phaser, as contracts see it, the tasks that it registers, and what it leaves
 -- behind.
-use Rattle.std.specs.Prelude.{◌≡◌, ℕ, List, [], ◌∷◌, None, true}
+use Rattle.std.specs.Prelude.{◌≡◌, ℕ, List, [], ◌∷◌, true}
 use Rattle.graph_runs.specs.phase_base.declared.mode.Mode.{Mode}
 use Rattle.graph_runs.specs.phase_base.declared.operation.Op.{Op}
 use Rattle.graph_runs.specs.phase_history.declared.event.Event.TheVariants.{Made, Registered}

@@ -44,7 +44,7 @@ impl<'a> TaskState<'a> {
         ensures room { result ≡ true → length self.now.made.items < self.now.most }
     {
         let count = self.made.len() as u64;
-        if kind_of(job, self.number) != Kind::Join || !gate.is_open() || count >= self.own {
+        if count >= self.own || kind_of(job, self.number) != Kind::Join || !gate.is_open() {
             return false;
         }
         let (k, _) = output_of(job, self.number, 0);

@@ -386,7 +386,7 @@ fn make_room(lines: &mut Vec<i64>, sink: bool, steps: usize) -> bool
     true
 }
 
-/// KeepsTask the numbers of what a sink got, for which there is room. Other tasks keep nothing.
+/// Keeps the numbers of what a sink got, for which there is room. Other tasks keep nothing.
 fn keep(lines: &mut Vec<i64>, sink: bool, outcomes: &[Outcome])
     requires { sink ≡ true → vec_len lines.old + length outcomes.now ≤ vec_capacity lines.old }
     ensures kept { sink ≡ true → lines.new.items ≡ lines.old.items ++ map number outcomes.now }
@@ -396,7 +396,7 @@ fn keep(lines: &mut Vec<i64>, sink: bool, outcomes: &[Outcome])
     }
 }
 
-/// KeepsTask the numbers of these outcomes, for which there is room.
+/// Keeps the numbers of these outcomes, for which there is room.
 pub fn keep_all(lines: &mut Vec<i64>, outcomes: &[Outcome])
     requires { vec_len lines.old + length outcomes.now ≤ vec_capacity lines.old }
     ensures kept { lines.new.items ≡ lines.old.items ++ map number outcomes.now }

@@ -14,6 +14,8 @@ mod blocks;
 mod calls;
 #[cfg(test)]
 mod churn;
+#[cfg(test)]
+mod closing;
 pub mod counting;
 #[cfg(test)]
 mod head;
@@ -33,6 +35,8 @@ mod receiver_blocks;
 mod receiver_next;
 #[cfg(test)]
 mod receiver_tries;
+#[cfg(test)]
+mod standing;
 #[cfg(test)]
 mod threads;
 #[cfg(test)]

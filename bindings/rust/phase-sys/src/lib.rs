@@ -65,6 +65,7 @@ pub const PHASE_E_NOT_YET: i32 = -43;
 pub const PHASE_E_BUSY: i32 = -44;
 pub const PHASE_E_NOT_ASKED: i32 = -45;
 pub const PHASE_E_CANNOT_ASK: i32 = -46;
+pub const PHASE_E_CLOSED: i32 = -47;
 
 pub const PHASE_SUM: u32 = 1;
 pub const PHASE_PRODUCT: u32 = 2;

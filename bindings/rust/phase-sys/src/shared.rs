@@ -27,6 +27,25 @@ pub struct PhaseMemberStanding {
     pub operation: u32,
 }
 
+/// How a phaser stands.
+#[repr(C)]
+#[derive(Clone, Copy, Debug, Default, PartialEq, Eq)]
+pub struct PhaseMemberCounts {
+    /// How many registrations it has.
+    pub tasks: u64,
+    /// How many of them signal.
+    pub signallers: u64,
+    /// How many of them wait.
+    pub waiters: u64,
+    /// The first phase that is not complete, counted from 0.
+    pub phase: u64,
+    /// How many of those that signal have signalled it.
+    pub signalled: u64,
+}
+
+/// As many nanoseconds as it takes.
+pub const PHASE_FOR_EVER: u64 = u64::MAX;
+
 /// The place of a registration, which has none while it is `NONE`.
 #[repr(C)]
 #[derive(Debug)]
@@ -271,6 +290,93 @@ unsafe extern "C" {
     /// # Safety
     /// As of `phase_shared_new`.
     pub fn phase_shared_wait_block_for(
+        registration: *mut PhaseRegistration,
+        values: *mut i64,
+        values_len: usize,
+        phase: *mut u64,
+        count: *mut usize,
+        nanoseconds: u64,
+    ) -> i32;
+
+    /// # Safety
+    /// As of `phase_shared_new`.
+    pub fn phase_shared_missing(
+        registration: *mut PhaseRegistration,
+        counts: *mut PhaseMemberCounts,
+        places: *mut u64,
+        places_len: usize,
+    ) -> i32;
+
+    /// # Safety
+    /// As of `phase_shared_new`.
+    pub fn phase_shared_try_missing(
+        registration: *mut PhaseRegistration,
+        counts: *mut PhaseMemberCounts,
+        places: *mut u64,
+        places_len: usize,
+    ) -> i32;
+
+    /// # Safety
+    /// As of `phase_shared_new`, but that another call on the place may be running, if that does
+    /// not end the registration.
+    pub fn phase_shared_close(registration: *const PhaseRegistration) -> i32;
+
+    /// # Safety
+    /// As of `phase_shared_close`.
+    pub fn phase_shared_closed(registration: *const PhaseRegistration) -> i32;
+
+    /// # Safety
+    /// As of `phase_shared_new`.
+    pub fn phase_shared_signal_or_closed(
+        registration: *mut PhaseRegistration,
+        values: *const i64,
+        values_len: usize,
+        single: u32,
+        low: i64,
+        high: i64,
+        phase: *mut u64,
+        nanoseconds: u64,
+    ) -> i32;
+
+    /// # Safety
+    /// As of `phase_shared_new`.
+    pub fn phase_shared_next_or_closed(
+        registration: *mut PhaseRegistration,
+        values: *const i64,
+        values_len: usize,
+        single: u32,
+        low: i64,
+        high: i64,
+        phase: *mut u64,
+        value: *mut i64,
+        nanoseconds: u64,
+    ) -> i32;
+
+    /// # Safety
+    /// As of `phase_shared_new`.
+    pub fn phase_shared_wait_or_closed(
+        registration: *mut PhaseRegistration,
+        phase: *mut u64,
+        value: *mut i64,
+        nanoseconds: u64,
+    ) -> i32;
+
+    /// # Safety
+    /// As of `phase_shared_new`.
+    pub fn phase_shared_signal_block_or_closed(
+        registration: *mut PhaseRegistration,
+        values: *const i64,
+        values_len: usize,
+        single: u32,
+        low: i64,
+        high: i64,
+        phase: *mut u64,
+        nanoseconds: u64,
+    ) -> i32;
+
+    /// # Safety
+    /// As of `phase_shared_new`.
+    pub fn phase_shared_wait_block_or_closed(
         registration: *mut PhaseRegistration,
         values: *mut i64,
         values_len: usize,

@@ -49,6 +49,9 @@ pub enum PhaserError {
     /// Another call on the phaser is in the middle. It comes to calls of [`shared`](crate::shared)
     /// alone, and of these to those that try once.
     Busy,
+    /// The phaser is closed, and the call would have to wait. It comes to calls of
+    /// [`shared`](crate::shared) alone, and of these to those with `_or_closed`.
+    Closed,
     /// Memory ran out.
     OutOfMemory,
 }
@@ -77,6 +80,7 @@ impl fmt::Display for PhaserError {
             PhaserError::SignalFirst => "the task has not signalled since its last wait",
             PhaserError::NotYet => "the phase is not complete",
             PhaserError::Busy => "another call on the phaser is in the middle",
+            PhaserError::Closed => "the phaser is closed",
             PhaserError::OutOfMemory => "out of memory",
         })
     }
@@ -109,6 +113,7 @@ pub(crate) fn of(status: i32) -> PhaserError {
         PHASE_E_SIGNAL_FIRST => PhaserError::SignalFirst,
         PHASE_E_NOT_YET => PhaserError::NotYet,
         PHASE_E_BUSY => PhaserError::Busy,
+        PHASE_E_CLOSED => PhaserError::Closed,
         PHASE_E_MEMORY => PhaserError::OutOfMemory,
         other => unreachable!("libphase answered a status that is none: {other}"),
     }

@@ -63,6 +63,38 @@
 //! refused so, too, and it alone as `Busy`, while another call is in the middle. Any refusal leaves
 //! the registration as it was.
 //!
+//! # When a thread fails
+//!
+//! A thread that ends leaves, and the others go on without it. Where they should end instead, they
+//! take the calls with `_or_closed`, which wait no longer once the phaser is closed: by
+//! [`Registration::close`], or by a thread that panics and asked for that.
+//!
+//! ```
+//! use phase::{Operation, PhaserError};
+//! use phase::shared::{Next, Registration, mode::SigWait};
+//! use std::thread;
+//!
+//! let mut founder = Registration::founder(Operation::Sum, 2, 1000)?;
+//! let works = |mut own: Registration<SigWait>, breaks: bool| {
+//!     for step in 0..1000 {
+//!         assert!(!breaks || step < 3, "it fails in step 3");
+//!         let Next::Value(_) = own.next_or_closed(&[step], None)? else { break };
+//!     }
+//!     Ok::<(), PhaserError>(())
+//! };
+//! thread::scope(|scope| {
+//!     let own = [founder.register()?, founder.register()?, founder.register()?];
+//!     drop(founder);
+//!     let ends = own.map(Registration::closing_on_panic).into_iter().enumerate();
+//!     let ends = ends.map(|(at, own)| scope.spawn(move || works(own, at == 1)));
+//!     // The other two end, too.
+//!     let failed = ends.collect::<Vec<_>>().into_iter().filter_map(|it| it.join().err());
+//!     assert_eq!(failed.count(), 1);
+//!     Ok::<(), PhaserError>(())
+//! })?;
+//! # Ok::<(), phase::PhaserError>(())
+//! ```
+//!
 //! # What is proved
 //!
 //! The answers, which come from calls of the library that never wait. How a call waits is tested,
@@ -70,7 +102,7 @@
 use crate::phaser::{Got, GotBlock, Operation, Single, Standing, done, numbers_of};
 use crate::{PhaserError, phaser_error};
 use phase_sys::*;
-use std::{cell::UnsafeCell, fmt, marker::PhantomData, time::Duration};
+use std::{cell::UnsafeCell, fmt, marker::PhantomData, thread, time::Duration};
 
 pub mod mode;
 
@@ -112,6 +144,8 @@ pub enum Next {
 pub struct Registration<M: mode::Mode> {
     // A place with a registration, which no other value has.
     place: UnsafeCell<PhaseRegistration>,
+    // Whether it closes the phaser where its thread panics.
+    closes: bool,
     mode: PhantomData<fn() -> M>,
 }
 
@@ -150,7 +184,7 @@ impl Registration<mode::Single> {
 
 impl<M: mode::Mode> Registration<M> {
     fn of(place: PhaseRegistration) -> Registration<M> {
-        Registration { place: UnsafeCell::new(place), mode: PhantomData }
+        Registration { place: UnsafeCell::new(place), closes: false, mode: PhantomData }
     }
 
     /// Registers a child in the mode `N`, which the mode of this one holds, at both of its phases.
@@ -219,7 +253,7 @@ impl<M: mode::Mode> Registration<M> {
 
     /// Returns its number, which no other registration of its phaser has.
     pub fn number(&self) -> u64 {
-        self.standing().number
+        self.standing_at().number
     }
 
     /// Returns what it stands at.
@@ -233,11 +267,11 @@ impl<M: mode::Mode> Registration<M> {
     /// # Ok::<(), phase::PhaserError>(())
     /// ```
     pub fn view(&self) -> Standing {
-        let PhaseMemberStanding { signal_phase, wait_phase, .. } = self.standing();
+        let PhaseMemberStanding { signal_phase, wait_phase, .. } = self.standing_at();
         Standing { signal_phase, wait_phase, mode: M::MODE }
     }
 
-    fn standing(&self) -> PhaseMemberStanding {
+    fn standing_at(&self) -> PhaseMemberStanding {
         let mut standing = PhaseMemberStanding::default();
         // SAFETY: the place has a registration of this thread; no other call on it is under way,
         // since it is not `Sync`, and each returns before the next.
@@ -251,7 +285,7 @@ impl<M: mode::Mode> Registration<M> {
     /// `u64::MAX` where nobody is left to wait for. It is a hint for when to try.
     pub fn told(&self) -> (u64, u64) {
         let (mut complete, mut got) = (0, 0);
-        // SAFETY: as in `standing`.
+        // SAFETY: as in `standing_at`.
         let status = unsafe { phase_shared_told(self.place.get(), &mut complete, &mut got) };
         debug_assert_eq!(status, PHASE_OK);
         (complete, got)
@@ -641,6 +675,10 @@ impl<M: Signals + Waits> Registration<M> {
     }
 }
 
+mod ends;
+
+pub use ends::Counts;
+
 /// Its phases, in order, until no more will come. Each is waited for.
 impl Iterator for Registration<mode::Wait> {
     type Item = PhaseValue;
@@ -656,6 +694,9 @@ impl Iterator for Registration<mode::Wait> {
 
 impl<M: mode::Mode> Drop for Registration<M> {
     fn drop(&mut self) {
+        if self.closes && thread::panicking() {
+            self.close();
+        }
         // SAFETY: the place is of this thread, and nothing uses it behind this call. Where there is
         // no registration the call does nothing.
         unsafe { phase_shared_leave(self.place.get()) };

@@ -62,6 +62,13 @@ impl Bell {
         }
     }
 
+    // Wakes those that sleep, and leaves the number. Who is about to sleep sleeps for its time.
+    fn wake<K: SignalRule>(&self) {
+        if self.sleepers.load(SeqCst) != 0 {
+            K::wake(&self.number);
+        }
+    }
+
     // Counts a sleeper, and returns the number. Whoever tells something looks for sleepers behind
     // it. So it sees this one, or this one sees what was told, where it looks from now on.
     pub fn lie_down(&self) -> u64 {
@@ -121,6 +128,8 @@ pub struct Hints {
     wanted: CachePadded<AtomicU64>,
     // How many tasks are registered, and a bit for each lane that is taken.
     tasks: CachePadded<(AtomicU64, AtomicU64)>,
+    // Whether the phaser was closed: 1, and else 0.
+    closed: CachePadded<AtomicU64>,
     bound: u64,
 }
 
@@ -132,12 +141,25 @@ impl Hints {
             room: CachePadded::new(Bell::new()),
             wanted: CachePadded::new(AtomicU64::new(wanted)),
             tasks: CachePadded::new((AtomicU64::new(1), AtomicU64::new(0))),
+            closed: CachePadded::new(AtomicU64::new(0)),
             bound,
         }
     }
 
     pub fn bound(&self) -> u64 {
         self.bound
+    }
+
+    // Closes the phaser, and wakes those that sleep: each looks behind its sleep whether it is.
+    pub fn close<K: SignalRule>(&self) {
+        self.closed.store(1, SeqCst);
+        self.phases.ring::<K>();
+        self.room.wake::<K>();
+    }
+
+    // Whether the phaser was closed.
+    pub fn is_closed(&self) -> bool {
+        self.closed.load(SeqCst) != 0
     }
 
     // A task was registered.

@@ -21,3 +21,23 @@ returns-in-Ok-clause-answers g c =
       answered = rw help at c.run_cli-in-Ok.ensures.answered;
       unopened = rw help at c.run_cli-in-Ok.ensures.unopened;
     })
+
+-- and what is written of a table
+pub returns-in-Behind-clause-table : goal.returns-in-Behind-clause-table
+returns-in-Behind-clause-table g c = rw c.in-Behind.is (record {
+  ends = c.run_cli.ensures.status;
+  asked = c.run_cli.ensures.table;
+  answered = c.run_cli.ensures.answered;
+  unopened = c.run_cli.ensures.unopened;
+})
+
+pub returns-in-Ok-clause-table : goal.returns-in-Ok-clause-table
+returns-in-Ok-clause-table g c =
+    let help : texts c.as_slice.result.now ≡ codes "--help" ∷ [] =
+    rw c.as_slice.ensures.value c.in-Ok.ensures in
+    rw c.in-Help.is (record {
+      ends = rw help at c.run_cli-in-Ok.ensures.status;
+      asked = rw help at c.run_cli-in-Ok.ensures.table;
+      answered = rw help at c.run_cli-in-Ok.ensures.answered;
+      unopened = rw help at c.run_cli-in-Ok.ensures.unopened;
+    })

@@ -3,7 +3,7 @@ use Rattle.phase_words.proofs.Answering.{may-end-answered, may-end-taken, refuse
 use Rattle.phase_words.specs.StreamLine.{Stream}
 use Rattle.graph_commands.specs.watched_io.States.{writer_state}
 use Rattle.graph_commands.specs.Folders.{known_by}
-use Rattle.phase_stream.specs.Ends.{EndsAsAsked}
+use Rattle.phase_stream.specs.Ends.{EndsAsAsked, EndsAsTable}
 use Rattle.phase_stream.proofs.Alone.{ends_alone}
 use Rattle.phase_stream.proofs.cli.run_cli.Goals as goal
 
@@ -16,7 +16,7 @@ returns-in-Ok-clause-status g c =
 pub returns-in-Ok-clause-stream : goal.returns-in-Ok-clause-stream
 returns-in-Ok-clause-stream g c =
     λ what asks.
-    inr (λ alone. ends_alone (known_by what.beside what.graph (g.F.Files.file c.args.streams.now.files))
+    inr (λ alone sinks. ends_alone (known_by what.beside what.graph (g.F.Files.file c.args.streams.now.files))
     what g.F.Opens.knows g.W.Write.contents g.F.Writer.Write.contents c.run_call.result
     c.args.streams.now.output c.run_call.new.streams.output c.run_call.new.made.items
     (writer_state g.E.Write.contents c.args.streams.now.faults)
@@ -26,7 +26,7 @@ returns-in-Ok-clause-stream g c =
     c.args.streams.now.output c.run_call.new.streams.output c.run_call.new.made.items
     (writer_state g.E.Write.contents c.args.streams.now.faults)
     (writer_state g.E.Write.contents c.run_call.new.streams.faults))
-    (sym c.in-Ok.ensures.call.stream ∙ asks.stream) c.run_call.ensures.ends) alone)
+    (sym c.in-Ok.ensures.call.stream ∙ asks.stream) c.run_call.ensures.ends sinks) alone)
 
 pub returns-in-Ok-clause-files : goal.returns-in-Ok-clause-files
 returns-in-Ok-clause-files g c =
@@ -37,6 +37,15 @@ returns-in-Ok-clause-files g c =
     (writer_state g.E.Write.contents c.args.streams.now.faults)
     (writer_state g.E.Write.contents c.run_call.new.streams.faults))
     (sym c.in-Ok.ensures.call.stream ∙ asks.stream) c.run_call.ensures.ends)
+
+pub returns-in-Ok-clause-table : goal.returns-in-Ok-clause-table
+returns-in-Ok-clause-table g c =
+    λ what asks.
+    inr (subst (λ (what : Stream). EndsAsTable what (g.F.Files.file c.args.streams.now.files)
+    g.W.Write.contents c.run_call.result c.args.streams.now.output c.run_call.new.streams.output
+    (writer_state g.E.Write.contents c.args.streams.now.faults)
+    (writer_state g.E.Write.contents c.run_call.new.streams.faults))
+    (sym c.in-Ok.ensures.call.stream ∙ asks.stream) c.run_call.ensures.table)
 
 pub returns-in-Ok-clause-answered : goal.returns-in-Ok-clause-answered
 returns-in-Ok-clause-answered g c = λ untaken. absurd (untaken c.in-Ok.ensures.call.taken)
@@ -61,6 +70,11 @@ returns-in-Err-clause-stream g c =
 
 pub returns-in-Err-clause-files : goal.returns-in-Err-clause-files
 returns-in-Err-clause-files g c =
+    λ what asks. inl (unbegun _ c.in-Err.none _ _ _ _ _ _ asks.taken c.in-Err.ensures.no_call
+    c.answer.ensures.answer)
+
+pub returns-in-Err-clause-table : goal.returns-in-Err-clause-table
+returns-in-Err-clause-table g c =
     λ what asks. inl (unbegun _ c.in-Err.none _ _ _ _ _ _ asks.taken c.in-Err.ensures.no_call
     c.answer.ensures.answer)
 

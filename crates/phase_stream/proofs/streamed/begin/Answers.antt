@@ -47,7 +47,7 @@ go-requires-clause-stands g c =
       known,
       _,
       c.make_files.ensures.same,
-      c.in-Ok.ensures.stands known _ _ bare,
+      (c.in-Ok.ensures.stands known _ _ bare).0,
     )
 
 pub returns-in-Ok-make_files-clause-done : goal.returns-in-Ok-make_files-clause-done
@@ -71,7 +71,7 @@ returns-in-Ok-make_files-clause-done g c =
     (λ k. ap (λ ts. task_for ts k) c.in-Ok.ensures.targets ∙ c.requires.targets.goes k
     ∙ ap (λ j. task_to j what.sink what.files k) (sym c.in-Ok.ensures.job))
     (whole known _ (λ name. c.make_files.ensures.same name ∙ is name)
-    (c.in-Ok.ensures.stands known _ _ bare)))
+    (c.in-Ok.ensures.stands known _ _ bare).0))
     c.go.ensures.done
 
 pub returns-in-Ok-make_files-clause-failed : goal.returns-in-Ok-make_files-clause-failed
@@ -95,5 +95,5 @@ returns-in-Ok-make_files-clause-failed g c =
     ∙ ap (λ j. task_to j what.sink what.files k) (sym c.in-Ok.ensures.job))
     (ap length c.in-Ok.ensures.targets ∙ c.requires.targets.many)
     (stops known _ (λ name. c.make_files.ensures.same name ∙ is name)
-    (c.in-Ok.ensures.stands known _ _ bare)))
+    (c.in-Ok.ensures.stands known _ _ bare).0))
     c.go.ensures.failed

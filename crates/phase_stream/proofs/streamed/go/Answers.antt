@@ -105,9 +105,9 @@ loop-preserved g c = elim c.match-stop.branch [
         λ other. w.refill.ensures.files other ∙ c.loop.invariant.1 other,
         λ held old is st.
             (let stopped = c.in-Ok.ensures.ok held old (c.loop.invariant.2 held old is st) in
-            w.in_default.ensures.ok held old _
+            (w.in_default.ensures.ok held old _
             (held_later held (g.F.Files.file c.args.files.now) (g.F.Files.file c.loop.files)
-            c.loop.invariant.1 is) (w.close_left.ensures.stands held old _ _ stopped).stands),
+            c.loop.invariant.1 is) (w.close_left.ensures.stands held old _ _ stopped).stands).later),
       )
   | in-Full w ↦
       rw (w.files-is, w.session-is) (

@@ -4,7 +4,6 @@ use Rattle.clap.proofs.OnLiterals.{clap_on_literals}
 use Rattle.clap.specs.declared.error.kind.ErrorKind.TheVariants.{ArgumentConflict, UnknownArgument}
 use Rattle.phase_words.specs.CommandLine.{asked_in, kinds_of, phase_app}
 use Rattle.phase_words.specs.RunLine.{run_app, run_kinds_of}
-use Rattle.phase_words.specs.StreamLine.{stream_app, stream_kinds_of}
 use Rattle.phase_words.proofs.Refused.{refused}
 use Rattle.phase_words.proofs.laws.words_for_columns.Goals as goal
 
@@ -35,7 +34,3 @@ returns-clause-check c = refused _ UnknownArgument [] refl refl
 pub returns-clause-run : goal.returns-clause-run
 unfolding run_kinds_of run_app clap_on_literals
 returns-clause-run c = refused _ UnknownArgument [] refl refl
-
-pub returns-clause-stream : goal.returns-clause-stream
-unfolding stream_kinds_of stream_app clap_on_literals
-returns-clause-stream c = refused _ UnknownArgument [] refl refl

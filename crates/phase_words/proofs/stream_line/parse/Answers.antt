@@ -1,15 +1,15 @@
 -- What clap says of its own reading, at the command line behind `phase stream`, and of which sinks go
 -- where.
-use Rattle.std.proofs.Common.{◌≡◌, ◌∙◌, [], ap, ap₂, subst, codes, map}
+use Rattle.std.proofs.Common.{◌≡◌, ◌∙◌, [], ap, ap₂, subst, sym, codes, map}
 use Rattle.std.proofs.lemmas.Result.{err_from_is_err_and}
 use Rattle.clap.proofs.WalkLemmas.{first_value-rows}
 use Rattle.clap.specs.Kinds.{or_else}
-use Rattle.clap.specs.Words.{HasKind, fault_of, found_of, matches_of, rows_of}
+use Rattle.clap.specs.Words.{HasKind, fault_of, first_of, found_of, matches_of, rows_of}
 use Rattle.phase_words.proofs.Conflicts.{has-first}
 use Rattle.phase_words.proofs.OutputKinds.{kinds-one, kinds-none}
 use Rattle.phase_words.proofs.Simple.{stream_app-is_free, stream_app-is_simple}
-use Rattle.phase_words.specs.CommandLine.{texts}
-use Rattle.phase_words.specs.Outputs.{clashes_in, lack_file, output_kinds, pair_as, pairs_by, pairs_in, words_by}
+use Rattle.phase_words.specs.CommandLine.{is_given, texts}
+use Rattle.phase_words.specs.Outputs.{clashes_in, is_beside_columns, lack_file, output_kinds, output_kinds_by, pair_as, pairs_by, pairs_in, words_by}
 use Rattle.phase_words.specs.StreamLine.{stream_app, stream_by, stream_in, stream_kinds_of, stream_with}
 use Rattle.phase_words.proofs.stream_line.parse.Goals as goal
 
@@ -37,14 +37,23 @@ returns-in-Some-clause-fails c =
     let pairs : map pair_as c.in_ok-pairs.pairs.items ≡ pairs_in rows =
     c.in_ok-pairs.ensures ∙ ap₂ pairs_by (c.get_str.ensures ∙ first_value-rows found (codes "sink"))
     (ap (map (λ s. s.now)) c.deref.ensures.value ∙ named) in
+    let beside : c.is_beside_columns-beside.result
+    ≡ is_beside_columns (is_given (first_of (codes "columns") rows)) (pairs_in rows) =
+    c.is_beside_columns-beside.ensures ∙ ap₂ is_beside_columns
+    (c.is_given.ensures ∙ ap is_given (c.get_str-2.ensures ∙ first_value-rows found (codes "columns")))
+    (ap (map pair_as) c.deref-2.ensures.value ∙ pairs) in
     let lacks : c.lack_file.result ≡ lack_file (words_by rows) =
-    c.lack_file.ensures ∙ ap lack_file (ap (map (λ s. s.now)) c.deref-2.ensures.value ∙ named) in
+    c.lack_file.ensures ∙ ap lack_file (ap (map (λ s. s.now)) c.deref-3.ensures.value ∙ named) in
     let clashes : c.has_clash.result ≡ clashes_in (pairs_in rows) =
-    c.has_clash.ensures ∙ ap clashes_in (ap (map pair_as) c.deref-3.ensures.value ∙ pairs) in
+    c.has_clash.ensures ∙ ap clashes_in (ap (map pair_as) c.deref-4.ensures.value ∙ pairs) in
+    let kinds : output_kinds rows
+    ≡ output_kinds_by c.is_beside_columns-beside.result c.lack_file.result c.has_clash.result =
+    sym (ap₂ (λ one two. output_kinds_by one two c.has_clash.result) beside lacks
+    ∙ ap (output_kinds_by (is_beside_columns (is_given (first_of (codes "columns") rows))
+    (pairs_in rows)) (lack_file (words_by rows))) clashes) in
     subst (λ rows. HasKind (or_else (fault_of stream_app words) (output_kinds rows)) c.refused.result) is
-    (kinds-one (fault_of stream_app words) c.lack_file.result c.has_clash.result
-    (lack_file (words_by rows)) (clashes_in (pairs_in rows)) c.in-Some.kind c.in-Some.text c.refusal.result
-    c.refused.result clean lacks clashes c.refusal.ensures c.in-Some.is c.refused.ensures)
+    (kinds-one (fault_of stream_app words) (output_kinds rows) c.in-Some.kind c.in-Some.text
+    c.refusal.result c.refused.result clean (kinds ∙ c.refusal.ensures) c.in-Some.is c.refused.ensures)
 
 -- or not
 pub returns-clause-fails : goal.returns-clause-fails
@@ -61,14 +70,23 @@ returns-clause-fails c =
     let pairs : map pair_as c.in_ok-pairs.pairs.items ≡ pairs_in rows =
     c.in_ok-pairs.ensures ∙ ap₂ pairs_by (c.get_str.ensures ∙ first_value-rows found (codes "sink"))
     (ap (map (λ s. s.now)) c.deref.ensures.value ∙ named) in
+    let beside : c.is_beside_columns-beside.result
+    ≡ is_beside_columns (is_given (first_of (codes "columns") rows)) (pairs_in rows) =
+    c.is_beside_columns-beside.ensures ∙ ap₂ is_beside_columns
+    (c.is_given.ensures ∙ ap is_given (c.get_str-2.ensures ∙ first_value-rows found (codes "columns")))
+    (ap (map pair_as) c.deref-2.ensures.value ∙ pairs) in
     let lacks : c.lack_file.result ≡ lack_file (words_by rows) =
-    c.lack_file.ensures ∙ ap lack_file (ap (map (λ s. s.now)) c.deref-2.ensures.value ∙ named) in
+    c.lack_file.ensures ∙ ap lack_file (ap (map (λ s. s.now)) c.deref-3.ensures.value ∙ named) in
     let clashes : c.has_clash.result ≡ clashes_in (pairs_in rows) =
-    c.has_clash.ensures ∙ ap clashes_in (ap (map pair_as) c.deref-3.ensures.value ∙ pairs) in
+    c.has_clash.ensures ∙ ap clashes_in (ap (map pair_as) c.deref-4.ensures.value ∙ pairs) in
+    let kinds : output_kinds rows
+    ≡ output_kinds_by c.is_beside_columns-beside.result c.lack_file.result c.has_clash.result =
+    sym (ap₂ (λ one two. output_kinds_by one two c.has_clash.result) beside lacks
+    ∙ ap (output_kinds_by (is_beside_columns (is_given (first_of (codes "columns") rows))
+    (pairs_in rows)) (lack_file (words_by rows))) clashes) in
     subst (λ rows. or_else (fault_of stream_app words) (output_kinds rows) ≡ []) is
-    (kinds-none (fault_of stream_app words) c.lack_file.result c.has_clash.result
-    (lack_file (words_by rows)) (clashes_in (pairs_in rows)) c.refusal.result clean lacks clashes
-    c.refusal.ensures c.in_default.is)
+    (kinds-none (fault_of stream_app words) (output_kinds rows) c.refusal.result clean
+    (kinds ∙ c.refusal.ensures) c.in_default.is)
 
 pub returns-clause-call : goal.returns-clause-call
 unfolding stream_in
@@ -80,6 +98,6 @@ returns-clause-call c =
     c.in_ok-pairs.ensures ∙ ap₂ pairs_by (c.get_str.ensures ∙ first_value-rows found (codes "sink"))
     (ap (map (λ s. s.now)) c.deref.ensures.value ∙ named) in
     c.in_ok-call_of.ensures
-    ∙ ap (stream_with rows) (ap (map pair_as) c.deref-4.ensures.value ∙ pairs)
+    ∙ ap (stream_with rows) (ap (map pair_as) c.deref-5.ensures.value ∙ pairs)
     ∙ ap stream_by
     (c.in_ok-matches.ensures.found stream_app stream_app-is_simple c.stream_command.ensures)

@@ -1,4 +1,4 @@
--- Two more words.
+-- Three more words.
 use Rattle.std.proofs.Common.{◌∙◌, ap₂}
 use Rattle.std.proofs.lemmas.Result.{IfOk-weaker}
 use Rattle.clap.specs.Words.{with_rule}
@@ -10,6 +10,8 @@ unfolding stream_app
 returns c =
     let with_files = c.in_ok-arg.ensures.shape c.to_word.ensures.local
     ∙ ap₂ with_rule c.in_ok-sink_command.ensures c.to_word.ensures.rule in
-    IfOk-weaker c.arg-2.result _ _
+    let with_columns = c.in_ok-arg-2.ensures.shape c.columns_word.ensures.local
+    ∙ ap₂ with_rule with_files c.columns_word.ensures.rule in
+    IfOk-weaker c.arg-3.result _ _
     (λ r adds. adds.shape c.explain_word.ensures.local
-    ∙ ap₂ with_rule with_files c.explain_word.ensures.rule) c.arg-2.ensures
+    ∙ ap₂ with_rule with_columns c.explain_word.ensures.rule) c.arg-3.ensures

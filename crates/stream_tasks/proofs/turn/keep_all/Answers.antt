@@ -1,5 +1,5 @@
 -- One number more is kept.
-use Rattle.std.proofs.Common.{rules, SFits, w64, to_z, of_z, pos, ◌≡◌, ◌<◌, ◌≤◌, ◌+◌, ◌++◌, ◌∷◌, [], length, map, get_or, refl, sym, ap, subst, ◌∙◌, arith, to_z-of_z}
+use Rattle.std.proofs.Common.{rules, SFits, w64, to_z, of_z, pos, ◌≡◌, ◌<◌, ◌≤◌, ◌+◌, ◌++◌, ◌∷◌, [], length, map, get_or, refl, sym, ap, ◌∙◌, arith, to_z-of_z}
 use Rattle.std.specs.Prelude.{take}
 use Rattle.std.proofs.lemmas.List.{append_assoc, append-nil, take_more, take_all, length-append, length-map, length-take-le, map-append}
 use Rattle.graph_runs.specs.phase_accum.declared.outcome.Outcome.TheVariants.{Value}

@@ -1,5 +1,5 @@
 -- A filter owes what it has made, and another task what follows its first wait.
-use Rattle.std.proofs.Common.{Bool, Option, true, false, ◌≡◌, ◌∷◌, [], ◌++◌, length, map, pos, get_or, refl, sym, ap, subst, ◌∙◌, rules, SFits, w64, to_z, of_z, to_z-of_z}
+use Rattle.std.proofs.Common.{Bool, Option, true, false, ◌≡◌, ◌∷◌, [], pos, get_or, refl, sym, ap, subst, ◌∙◌, rules, SFits, w64, to_z, of_z, to_z-of_z}
 use Rattle.std.specs.Prelude.{IfSome}
 use Rattle.std.specs.Bool.{then_some}
 use Rattle.graph_runs.specs.phase_accum.declared.outcome.Outcome.TheVariants.{Value}

@@ -1,7 +1,7 @@
-use Rattle.std.proofs.Common.{Option, List, ℕ}
+use Rattle.std.proofs.Common.{◌≡◌, Option, List, ℕ, ℤ}
 use Rattle.graph_commands.specs.FileJobs.{Known}
 use Rattle.stream_job.specs.declared.stopped.Stopped.{Stopped}
-use Rattle.phase_stream.specs.Sessions.{IsSameSession, StandsStopped}
+use Rattle.phase_stream.specs.Sessions.{AreSources, IsSameSession, StandsStopped}
 use Rattle.phase_stream.proofs.session.Session.close_left.Given as goal
 
 -- the session stands as before
@@ -10,3 +10,6 @@ invariant-loop-k g l = ((held : Known) (old now : ℕ → Option (List ℕ)) (st
     → StandsStopped g.R.Read.remaining held old now l.fn.self stop
     → StandsStopped g.R.Read.remaining held old now l.self stop)
     × IsSameSession l.fn.self l.self
+    × ((held : Known) (s : List (List ℤ)) → AreSources g.R.Read.remaining held l.fn.self s
+    → AreSources g.R.Read.remaining held l.self s)
+    × (l.self.stream ≡ l.fn.self.stream)

@@ -1,5 +1,5 @@
 -- One phaser's more are tasks'.
-use Rattle.std.proofs.Common.{◌≡◌, ℕ, List, [], map, get_or, sym, ap, subst, ◌∙◌, arith}
+use Rattle.std.proofs.Common.{◌≡◌, ℕ, [], map, get_or, sym, ap, ◌∙◌, arith}
 use Rattle.std.proofs.lemmas.List.{get_or-map}
 use Rattle.stream_tasks.specs.Agreeing.{AreOfTasks}
 use Rattle.stream_tasks.proofs.Agreed.{below_next}

@@ -1,8 +1,7 @@
 -- The turn keeps the task one of its run, with the child that it is registering.
-use Rattle.std.proofs.Common.{◌≡◌, ℕ, Option, false, sym, subst}
-use Rattle.stream_eval.specs.stream_lists.Jobs.{Job}
-use Rattle.stream_tasks.specs.Registering.{IsRegistering, IsWith}
-use Rattle.stream_tasks.specs.Tasks.{IsDue, IsTask, IsWhole}
+use Rattle.std.proofs.Common.{◌≡◌, false}
+use Rattle.stream_tasks.specs.Registering.{IsRegistering}
+use Rattle.stream_tasks.specs.Tasks.{IsDue}
 use Rattle.stream_tasks.proofs.StillRegistering.{registering_task}
 use Rattle.stream_tasks.proofs.task.Task.turn.Goals as goal
 

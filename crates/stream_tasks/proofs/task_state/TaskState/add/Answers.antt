@@ -2,14 +2,10 @@
 use Rattle.std.proofs.Common.{◌≡◌, ◌<◌, ℕ, Bool, Some, [], ◌∷◌, ◌++◌, length, get_or, sym, subst, ap, ◌∙◌, arith}
 use Rattle.std.specs.Prelude.{slice_get}
 use Rattle.std.proofs.lemmas.Option.{slice_get_within, slice_get-get_or, same_Some}
-use Rattle.graph_runs.specs.phase_base.declared.mode.Mode.{Mode}
 use Rattle.graph_runs.specs.graph_base.Graphs.{Graph, Task, task_at}
 use Rattle.stream_eval.specs.stream_lists.Jobs.{Job}
 use Rattle.stream_members.specs.AnyMembers.{member_in}
 use Rattle.graph_runs.specs.TaskPlaces.{registration_at}
-use Rattle.stream_tasks.specs.Holds.{HoldGoesOn}
-use Rattle.stream_tasks.specs.Tasks.{IsWhole}
-use Rattle.stream_tasks.specs.Registering.{IsRegistering, MemberHasAdded}
 use Rattle.stream_tasks.specs.declared.child.Child.{Child}
 use Rattle.stream_tasks.specs.declared.task_state.TaskState.{TaskState}
 use Rattle.stream_tasks.proofs.StillRegistering.{registering_waits, registering_adds, next_now, whole_keeps, adds_goes}

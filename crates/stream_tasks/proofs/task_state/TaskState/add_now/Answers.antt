@@ -1,11 +1,8 @@
 -- The parent's moment serves the child after each answer, and tells where it begins.
-use Rattle.std.proofs.Common.{◌≡◌, [], ◌∷◌, ◌++◌, sym, subst, ap, ◌∙◌}
+use Rattle.std.proofs.Common.{◌≡◌, [], ◌∷◌, ◌++◌, sym, ap, ◌∙◌}
 use Rattle.std.proofs.lemmas.Option.{same_Some}
 use Rattle.stream_members.specs.AnyMembers.{member_in}
-use Rattle.stream_tasks.specs.Tasks.{IsWhole}
-use Rattle.stream_tasks.specs.Registering.{IsRegistering}
 use Rattle.stream_tasks.specs.declared.child.Child.{Child}
-use Rattle.stream_tasks.specs.declared.task_state.TaskState.{TaskState}
 use Rattle.stream_tasks.proofs.StillRegistering.{registering_waits_now, registering_adds_now, whole_keeps, adds_now_goes}
 use Rattle.stream_tasks.proofs.task_state.TaskState.add_now.Goals as goal
 

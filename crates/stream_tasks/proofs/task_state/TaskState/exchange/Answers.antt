@@ -1,18 +1,15 @@
 -- The peer is registered on E, as it owes its wait there.
-use Rattle.std.proofs.Common.{◌≡◌, ◌<◌, ◌≤◌, ◌∷◌, [], length, refl, sym, ap, subst, ◌∙◌, arith, to_z-of_z, rules, SFits, to_z, of_z, w64, Ok, get_or, pos, Option, Some, false}
-use Rattle.std.specs.Vec.{with_item}
-use Rattle.std.specs.Prelude.{take, vec_len}
+use Rattle.std.proofs.Common.{◌≡◌, ◌≤◌, ◌∷◌, [], length, refl, sym, ap, subst, ◌∙◌, arith, to_z-of_z, rules, SFits, to_z, of_z, w64, Ok, get_or}
+use Rattle.std.specs.Prelude.{take}
 use Rattle.std.proofs.lemmas.List.{get_or-take, length-take-le}
 use Rattle.graph_runs.specs.phase_accum.declared.outcome.Outcome.{Outcome}
-use Rattle.graph_runs.specs.phase_accum.declared.outcome.Outcome.TheVariants.{Value}
 use Rattle.graph_runs.specs.TaskPlaces as turns
 use Rattle.graph_runs.specs.TaskPlaces.{owed_after_exchange}
 use Rattle.graph_runs.specs.Steps.{owed_of}
 use Rattle.graph_runs.specs.graph_base.Graphs.{task_at}
-use Rattle.graph_runs.specs.Nexts.{registrations_at}
 use Rattle.stream_eval.specs.stream_lists.Lists.{number}
 use Rattle.stream_tasks.specs.Holds.{HoldGoesOn, WaitGave, MemberHasWaited, IsAtMost}
-use Rattle.stream_tasks.proofs.Taking.{first_of, some_of}
+use Rattle.stream_tasks.proofs.Taking.{first_of}
 use Rattle.stream_tasks.proofs.Turning.{task_sees, whole_moves, as_it_is, fits}
 use Rattle.stream_tasks.proofs.Waiting.{exchange_on, task_exchanges, owes_exchange, exchange_fits}
 use Rattle.stream_tasks.proofs.task_state.TaskState.exchange.Goals as goal

@@ -1,13 +1,12 @@
 -- The wait is on the input that the steps begin with.
-use Rattle.std.proofs.Common.{◌≡◌, ◌<◌, ◌≤◌, ◌+◌, [], ◌∷◌, ◌++◌, true, false, length, refl, sym, subst, ap, ◌∙◌, arith, Ok, rules, map}
-use Rattle.std.specs.Prelude.{take, drop, vec_len}
+use Rattle.std.proofs.Common.{◌≡◌, ◌≤◌, ◌+◌, ◌++◌, true, false, length, refl, sym, subst, ap, ◌∙◌, arith, Ok, map}
+use Rattle.std.specs.Prelude.{take, drop}
 use Rattle.std.proofs.lemmas.List.{length-take-le, take-append-le, take-append-drop}
 use Rattle.graph_runs.proofs.Entries.{take_length}
 use Rattle.graph_runs.specs.graph_base.Graphs.{is_sink, task_at}
 use Rattle.stream_eval.specs.stream_lists.Lists.{is_sink_at, number}
-use Rattle.graph_runs.specs.Nexts.{registrations_at}
 use Rattle.stream_tasks.specs.Holds.{HoldGoesOn, WaitGave, MemberHasWaited, IsAtMost}
-use Rattle.stream_tasks.proofs.Turning.{filter_of, task_sees, whole_moves, as_it_is, fits}
+use Rattle.stream_tasks.proofs.Turning.{filter_of, task_sees, whole_moves, as_it_is}
 use Rattle.stream_tasks.proofs.Waiting.{task_takes, input_on}
 use Rattle.stream_tasks.proofs.EndingLemmas.{runs_out}
 use Rattle.stream_tasks.proofs.task_state.TaskState.first_wait.Goals as goal

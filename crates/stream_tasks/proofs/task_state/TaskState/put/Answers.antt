@@ -1,7 +1,6 @@
 -- The value is that which is owed.
-use Rattle.std.proofs.Common.{◌≡◌, ◌<◌, length, sym, refl, subst, ap, ◌∙◌, arith, to_z-of_z, to_z, of_z, w64}
+use Rattle.std.proofs.Common.{◌≡◌, length, sym, refl, subst, ap, ◌∙◌, arith, to_z-of_z, to_z, of_z, w64}
 use Rattle.std.specs.Prelude.{[], ◌∷◌}
-use Rattle.graph_runs.specs.Nexts.{registrations_at}
 use Rattle.graph_runs.specs.TaskPlaces.{owed_after_signal}
 use Rattle.graph_runs.specs.Steps.{owed_of}
 use Rattle.graph_runs.specs.graph_base.Graphs.{task_at, phaser_at}

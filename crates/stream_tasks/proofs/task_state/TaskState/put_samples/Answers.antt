@@ -5,7 +5,6 @@ use Rattle.std.proofs.lemmas.List.{length-take-le, length-drop}
 use Rattle.graph_runs.specs.graph_base.Graphs.{task_at, phaser_at}
 use Rattle.graph_runs.specs.graph_base.Registrations.{signalled_by}
 use Rattle.stream_eval.specs.stream_lists.Jobs.{samples_at}
-use Rattle.graph_runs.specs.Places.{MayMake}
 use Rattle.graph_runs.proofs.TellsNext.{ended_no_sample}
 use Rattle.stream_tasks.specs.Holds.{HoldGoesOn, MemberHasSignalled}
 use Rattle.stream_tasks.specs.Tasks.{place_of_state}

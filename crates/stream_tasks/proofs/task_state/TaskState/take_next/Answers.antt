@@ -1,19 +1,16 @@
 -- The wait is on the input whose turn it is. What it gets stands behind what was taken before.
-use Rattle.std.proofs.Common.{◌≡◌, ◌+◌, ◌<◌, ◌≤◌, ◌∷◌, ◌++◌, [], Ok, Some, false, true, get_or, length, refl, sym, ap, subst, ◌∙◌, arith, rules, SFits, to_z, of_z, to_z-of_z, w64}
-use Rattle.std.specs.Prelude.{take, vec_len}
-use Rattle.std.specs.Vec.{with_item}
+use Rattle.std.proofs.Common.{◌≡◌, ◌≤◌, ◌∷◌, ◌++◌, [], Ok, false, get_or, length, refl, sym, ap, subst, ◌∙◌, arith, rules, SFits, to_z, of_z, to_z-of_z, w64}
+use Rattle.std.specs.Prelude.{take}
 use Rattle.std.proofs.lemmas.List.{get_or-take, length-take-le}
 use Rattle.graph_runs.specs.graph_base.Graphs.{task_at}
 use Rattle.graph_runs.specs.graph_base.declared.line.Kind.TheVariants as kind
-use Rattle.graph_runs.specs.Moments.{input_at}
 use Rattle.graph_runs.specs.phase_accum.declared.outcome.Outcome.{Outcome}
 use Rattle.stream_eval.specs.stream_lists.Lists.{number}
-use Rattle.stream_tasks.specs.Holds.{HasRunOut, HasSeenOthers, HoldGoesOn, IsAtMost, MemberHasWaited, WaitGave}
-use Rattle.stream_tasks.specs.Tasks.{IsTask}
+use Rattle.stream_tasks.specs.Holds.{HasRunOut, HoldGoesOn, IsAtMost, MemberHasWaited, WaitGave}
 use Rattle.stream_tasks.proofs.EndingLemmas.{runs_out}
 use Rattle.stream_tasks.proofs.JoinStates.{ended_sees, join_children, join_owes_none, join_sees, task_joins}
 use Rattle.stream_tasks.proofs.Taking.{first_of}
-use Rattle.stream_tasks.proofs.Turning.{as_it_is, fits, task_sees, whole_moves}
+use Rattle.stream_tasks.proofs.Turning.{as_it_is, fits, whole_moves}
 use Rattle.stream_tasks.proofs.Waiting.{input_on}
 use Rattle.stream_tasks.proofs.task_state.TaskState.take_next.Goals as goal
 

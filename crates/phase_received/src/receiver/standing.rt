@@ -1,0 +1,90 @@
+//! How its phaser stands, as a receiver is told.
+ghost use Rattle.std.specs.Prelude.{◌≡◌, Ok, OnOk, OnErr};
+ghost use Rattle.phase_shared.specs.phase_core.Standings.{missing_of, put_over};
+ghost use Rattle.phase_shared.specs.Regs.{phaser_lock, phaser_terms};
+ghost use Rattle.phase_shared.specs.Calls.{IsCall, IsTry, Tries};
+ghost use Rattle.phase_shared.specs.Entries.{entry_stays};
+ghost use Rattle.phase_shared.specs.Standings.{AnswersStanding, TellsStanding, unregistered};
+ghost use Rattle.phase_received.specs.Received.{received_of};
+
+use super::Receiver;
+use phase_shared::phase_accum::Accumulate;
+use phase_shared::phase_core::{NoTask, Standing, laws};
+use phase_shared::{Phaser, SignalRule, Tried};
+use std::sync::Wait;
+
+impl<A: Accumulate, K: SignalRule> Receiver<A, K> {
+    /// Tells how many are registered, and how many of the signallers have signalled the first phase
+    /// that is not complete, and writes the numbers of those that are missing into the first
+    /// places, as many as there are of both: of the signallers that have not. It is never refused,
+    /// makes no event, and takes no memory.
+    pub fn try_missing(
+        &mut self,
+        phaser: &Phaser<A, K>,
+        places: &mut [u64],
+    ) -> Result<Standing, Tried<NoTask>>
+        requires at { self.old.at ≡ phaser_lock phaser.now }
+
+        ensures call { let old = self.old in
+            IsTry K.allows (phaser_terms phaser.now) unregistered entry_stays
+            (Tries (self.new ≡ old) (AnswersStanding old.number old.seen self.new.seen) result)
+            old self.new result }
+        ensures received { received_of A.operation self.new ≡ received_of A.operation self.old }
+        ensures held { self.new.held ≡ self.old.held }
+        ensures places { OnOk result (places.new ≡ put_over (missing_of self.new.seen) places.old) }
+        ensures busy { OnErr result (places.new ≡ places.old) }
+    {
+        laws::own_part_stays();
+        self.reg.try_missing(phaser, places)
+    }
+
+    /// Tells how many are registered, and how many of the signallers have signalled the first phase
+    /// that is not complete, and writes the numbers of those that are missing into the first
+    /// places, as many as there are of both: of the signallers that have not. It makes no event. It
+    /// waits for its turn, and takes no memory.
+    pub fn missing<W: Wait>(
+        &mut self,
+        rt: &W,
+        phaser: &Phaser<A, K>,
+        places: &mut [u64],
+    ) -> Standing
+        requires at { self.old.at ≡ phaser_lock phaser.now }
+
+        ensures call { let old = self.old in
+            IsCall K.allows (phaser_terms phaser.now) unregistered entry_stays
+            (TellsStanding old.number old.seen self.new.seen result) old self.new (Ok result) }
+        ensures received { received_of A.operation self.new ≡ received_of A.operation self.old }
+        ensures held { self.new.held ≡ self.old.held }
+        ensures places { places.new ≡ put_over (missing_of self.new.seen) places.old }
+    {
+        laws::own_part_stays();
+        self.reg.missing(rt, phaser, places)
+    }
+
+    /// Tells what `try_missing` does, and writes nothing.
+    pub fn try_standing(&mut self, phaser: &Phaser<A, K>) -> Result<Standing, Tried<NoTask>>
+        requires at { self.old.at ≡ phaser_lock phaser.now }
+
+        ensures call { let old = self.old in
+            IsTry K.allows (phaser_terms phaser.now) unregistered entry_stays
+            (Tries (self.new ≡ old) (AnswersStanding old.number old.seen self.new.seen) result)
+            old self.new result }
+        ensures received { received_of A.operation self.new ≡ received_of A.operation self.old }
+        ensures held { self.new.held ≡ self.old.held }
+    {
+        self.try_missing(phaser, &mut [])
+    }
+
+    /// Tells what `missing` does, and writes nothing. It waits for its turn.
+    pub fn standing<W: Wait>(&mut self, rt: &W, phaser: &Phaser<A, K>) -> Standing
+        requires at { self.old.at ≡ phaser_lock phaser.now }
+
+        ensures call { let old = self.old in
+            IsCall K.allows (phaser_terms phaser.now) unregistered entry_stays
+            (TellsStanding old.number old.seen self.new.seen result) old self.new (Ok result) }
+        ensures received { received_of A.operation self.new ≡ received_of A.operation self.old }
+        ensures held { self.new.held ≡ self.old.held }
+    {
+        self.missing(rt, phaser, &mut [])
+    }
+}
