@@ -215,11 +215,12 @@ to standard output, as with --sink y. The files are made anew before the first
 sample is read, and a pipe of the name waits for its reader. A sink that is
 named nowhere is read and thrown away. With --columns all sinks go to standard
 output as a table, a line as soon as each of them has its value or has ended,
-as `phase eval --columns` writes them; then memory holds the values that wait
-for those of slower sinks. The file of a source may be a pipe, and -
-is standard input, for one source. It is opened when the graph waits for its
-first sample. There is no limit on how many samples come, and memory does not
-grow with them.
+as `phase eval --columns` writes them.
+
+The file of a source may be a pipe, and - is standard input, for one source. It
+is opened when the graph waits for its first sample. There is no limit on how
+many samples come, and memory does not grow with them, but for the values of a
+table that wait for those of slower sinks.
 
 Files are opened from the current folder, by their names as they are written,
 and with --beside those of the sources in the folder of the graph.
