@@ -10,6 +10,7 @@
 
 mod buffers;
 mod calls;
+mod dealing;
 mod filtering;
 mod in_range;
 mod input;

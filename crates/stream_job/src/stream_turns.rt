@@ -196,6 +196,13 @@ impl Stream {
         ensures met { self.new.met ≡ None }
     {
         for made in 0..TURNS {
+            if self
+                .machine
+                .go_by_block(&self.job, &self.plan, &mut self.buffers, t)
+            {
+                self.plan.pass(&self.job, &self.machine.tasks, t);
+                continue;
+            }
             let most = self.own_steps(t);
             let Went::On = self.turn(t, most)? else {
                 return Ok(made > 0);
