@@ -66,10 +66,10 @@ join_has_none job t c u is kind there has same =
     ∙ ap has_children kind in cc
 
 -- numbers as values in range
-abbrev oks : List ℤ → List (Result ℤ TooBigValue)
+abbrev pub oks : List ℤ → List (Result ℤ TooBigValue)
 oks vs = map (λ v. Ok v) vs
 
-length-oks : (vs : List ℤ) → length (oks vs) ≡ length vs
+pub length-oks : (vs : List ℤ) → length (oks vs) ≡ length vs
 length-oks [] = refl
 length-oks (v ∷ vs) = ap suc (length-oks vs)
 
@@ -86,7 +86,7 @@ lacks_as job m t at o stands is =
     rw is at stands.lacks
 
 -- a task that stays on all its phasers keeps its registrations
-keeps_staying : (m after : Moment) (t : ℕ)
+pub keeps_staying : (m after : Moment) (t : ℕ)
     → ((q u : ℕ) → after.number q u ≡ m.number q u) → IsStaying m t → IsStaying after t
     → KeepsPlaces m after t
 keeps_staying m after t numbers before now = record {
