@@ -1,4 +1,4 @@
--- Reading a line and decl_spelling it agree: what is spelled is read so.
+-- Reading a line and spelling it agree: what is spelled is read so.
 use Rattle.std.proofs.Common.{suc, ◌≡◌, ◌+◌, ◌==◌, ◌&&◌, not, nat_le, Bool, true, false, List, [], ◌∷◌, ◌++◌, length, refl, ap, sym, ◌∙◌, arith, Option, Some, None, codes, IfSome, IsTrue, ne_eqb, append-nil, append_assoc}
 use Rattle.std.specs.List.{list_all, prefix_len}
 use Rattle.std.proofs.Math.Seq.{take-append_seam, drop-append_seam}

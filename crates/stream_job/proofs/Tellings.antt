@@ -41,7 +41,7 @@ use Rattle.std.proofs.lemmas.Bool.{cases_lt}
 use Rattle.std.specs.List.{All}
 use Rattle.graph_runs.proofs.Stepping.{line_sizes}
 
--- ---- what is word_of_answer
+-- ---- what is told
 
 pub tells_so : (job : Job) (m : Moment) (t : ℕ) (answer : Answer) (it : Made)
     → MadeShows job m t answer it → word_of_answer job m answer ≡ Some (told_of (told_by it t))

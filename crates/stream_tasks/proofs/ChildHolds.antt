@@ -1,4 +1,4 @@
--- A task registers a child: what its state and the child's child_holds are after each call.
+-- A task registers a child: what its state and the child's holds are after each call.
 use Rattle.std.proofs.Common.{◌≡◌, ◌≢◌, ℕ, ◌<◌, ◌≤◌, true, false, List, [], Some, None, length, get_or, set, refl, sym, ap, subst, ◌∙◌, arith, ◌⊎◌, inl, inr}
 use Rattle.std.specs.Prelude.{slice_get}
 use Rattle.std.specs.Vec.{with_item}

@@ -153,7 +153,7 @@ impl<'a> Hold<'a> {
         }
     }
 
-    /// HoldLeaves, by waiting, and forgets what it has seen.
+    /// Leaves, by waiting, and forgets what it has seen.
     pub fn dismiss<W: Wait>(self, rt: &W) {
         match self {
             Hold::On(member) => drop(member.leave(rt)),

@@ -12,7 +12,7 @@ use Rattle.graph_runs.specs.Moments.{Moment}
 use Rattle.worked_runs.specs.Runs.{TaskEvent, sample, first_wait, opened, after_all}
 use Rattle.worked_runs.specs.Worked.{bus, founded}
 
--- the greatest_number value, 2^63 - 1
+-- the greatest value, 2^63 - 1
 abbrev pub greatest_number : ℤ
 greatest_number = pos 9223372036854775807
 
@@ -40,7 +40,7 @@ faulty_graph = record {
   files = codes "a.csv" ∷ codes "b.csv" ∷ codes "c.csv" ∷ [];
 }
 
--- each source has the greatest_number value
+-- each source has the greatest value
 abbrev pub faulty : Job
 faulty = record {
   graph = faulty_graph;
