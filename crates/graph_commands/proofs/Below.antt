@@ -8,7 +8,7 @@ use Rattle.std.proofs.lemmas.Grind.{flat_map-append}
 use Rattle.stream_eval.proofs.stream_lists_lemmas.Firsts.{range_more}
 use Rattle.graph_show.proofs.watched_io_lemmas.Items.{flat_map-push}
 
-range-parts : (a k m : ℕ) → range_with_len a (k + m) ≡ range_with_len a k ++ range_with_len (a + k) m
+pub range-parts : (a k m : ℕ) → range_with_len a (k + m) ≡ range_with_len a k ++ range_with_len (a + k) m
 range-parts a zero m =
     let none : zero + m ≡ m = omega arith in
     let same : a ≡ a + zero = omega arith in

@@ -1,4 +1,4 @@
-mod Below
+pub mod Below
 pub mod Counted
 mod Decimals
 pub mod Ends

@@ -1,10 +1,11 @@
 -- Places of a graph: where a value is out of range, and the sinks.
-use Rattle.std.proofs.Common.{◌≡◌, ◌<◌, ◌≤◌, ◌⊎◌, inl, inr, ◌++◌, ◌∷◌, [], ℕ, ℤ, List, length, map, get_or, Option, Some, None, option_map, suc, sym, ◌∙◌, ap, subst, arith, rules, zero-add}
+use Rattle.std.proofs.Common.{◌≡◌, ◌<◌, ◌≤◌, ◌⊎◌, inl, inr, ◌++◌, ◌∷◌, [], ℕ, ℤ, List, length, map, get_or, Option, Some, None, option_map, suc, sym, ◌∙◌, ap, subst, arith, zero-add}
 use Rattle.std.specs.List.{All, range_with_len}
 use Rattle.std.proofs.lemmas.Bool.{cases_lt}
 use Rattle.std.proofs.lemmas.List.{get_or-map, get_or_push, get_or_append_left, length_push, length-map}
 use Rattle.std.proofs.lemmas.List.Elements.{All-filter, All-map}
 use Rattle.std.proofs.lemmas.List.FromFn.{get_or-map-range_with_len, get_or-range_with_len, length-map-range_with_len, length-range_with_len}
+use Rattle.std.proofs.lemmas.Option.{none-some}
 use Rattle.graph_show.specs.graph_base.Graphs.{IsPlace}
 use Rattle.graph_show.specs.graph_base.declared.place.Place.{Place}
 use Rattle.graph_show.specs.graph_base.declared.place.Place.TheVariants as place
@@ -17,13 +18,10 @@ use Rattle.stream_eval.specs.declared.whole.Lines.{Lines}
 
 -- ---- the place of a value that is out of range
 
-none-not-some : {A : Type 0} (a : A) → None ≡ Some a → ⊥
-none-not-some a = λ e. search rules
-
 -- the first that is there is one of them
 first_some-found : {A : Type 0} (os : List (Option A)) (a : A) → first_some os ≡ Some a
     → (k : ℕ) × (k < length os) × (get_or os k None ≡ Some a)
-first_some-found [] a e = absurd (none-not-some a e)
+first_some-found [] a e = absurd (none-some a e)
 first_some-found (None ∷ os) a e =
     let found = first_some-found os a e in (suc found.0, omega (arith, found.1), found.2)
 first_some-found (Some b ∷ os) a e = (0, omega arith, e)
@@ -35,7 +33,7 @@ place_or at (Some w) = w.0
 -- the place is the one that was put to the number
 place-option_map : (at : Place) (o : Option ℕ) (w : Where)
     → option_map (λ n. (at, n)) o ≡ Some w → at ≡ w.0
-place-option_map at None w e = absurd (none-not-some w e)
+place-option_map at None w e = absurd (none-some w e)
 place-option_map at (Some n) w e = ap (place_or at) e
 
 -- what a task makes on a phaser is out of range at that task

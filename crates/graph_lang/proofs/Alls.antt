@@ -3,12 +3,9 @@ use Rattle.std.proofs.Common.{ℕ, suc, ◌≡◌, ◌<◌, ◌≤◌, ◌+◌, 
 use Rattle.std.specs.List.{list_all, list_any}
 use Rattle.std.proofs.Math.Seq.{take-length}
 use Rattle.std.proofs.lemmas.List.{drop_all, take_more, map-append}
+use Rattle.std.proofs.lemmas.Bool.{and_parts}
 use Rattle.graph_text.specs.phase_base.Words.{Word}
 use Rattle.graph_text.specs.Plain.{plain}
-
-pub both : (a b : Bool) → (a && b) ≡ true → (a ≡ true) × (b ≡ true)
-both true b h = (refl, h)
-both false b h = absurd (cc)
 
 pub is_some-if : {A : Type 0} (b : Bool) (x : A) → is_some (if b then Some x else None) ≡ b
 is_some-if true x = refl
@@ -59,7 +56,7 @@ pub words-first : (test : Word → Bool) (xs : List (Bor Word)) (i : ℕ) (d : B
     → list_all test (plain (drop i xs)) ≡ true
     → (test (get_or xs i d).now ≡ true) × (list_all test (plain (drop (i + 1) xs)) ≡ true)
 words-first test xs i d below all =
-    both (test (get_or xs i d).now) (list_all test (plain (drop (i + 1) xs)))
+    and_parts (test (get_or xs i d).now) (list_all test (plain (drop (i + 1) xs)))
     (sym (words-next test xs i d below) ∙ all)
 
 -- ---- some word passes

@@ -5,6 +5,7 @@ use Rattle.std.specs.Str.Parse.{AllDigits}
 use Rattle.std.specs.Fmt.{decimal, signed_decimal}
 use Rattle.std.proofs.lemmas.Str.Parse.{digit_from_value}
 use Rattle.std.proofs.lemmas.List.{take_more, take-append-drop}
+use Rattle.std.proofs.lemmas.Option.{same_Some}
 use Rattle.csv.specs.Machine.{Read, next_record, step, is_end, ends_at_end, fields_after, field_after, in_field, start_field, start_record}
 use Rattle.csv.specs.Reading.{Reached, default_config, is_bom, strip_bom}
 use Rattle.csv.specs.declared.parser.State.{State}
@@ -307,13 +308,10 @@ goes s fields field (c ∷ front) back plain =
     }
     at more false = more
 
-some-one : {A : Type 0} (a b : A) → Some a ≡ Some b → a ≡ b
-some-one a b e = cc
-
 -- a record of the part that is of a value is the text's
 same-record : (part whole : Option Read) (back : List ℕ) (p : Read) → Goes part whole back → part ≡ Some p
     → (IsOther p.0 → ⊥) → IsSame p whole back
-same-record part whole back p g is value = at g.read g.which (some-one g.read p (sym g.is ∙ is))
+same-record part whole back p g is value = at g.read g.which (same_Some g.read p (sym g.is ∙ is))
   where
     at : (q : Read) → IsSame q whole back ⊎ (IsOther q.0 × IsOfNone whole) → q ≡ p → IsSame p whole back
     at q (inl same) e = subst (λ (r : Read). IsSame r whole back) e same
@@ -415,7 +413,7 @@ other-whole s front back good row sends plain other parts =
     let there = goes parts.at [] [] on.rest back on.plain in
     let next =
     subst (λ (xs : List ℕ). next_record default_config parts.at [] [] xs ≡ Some parts.read) on.left parts.next in
-    which on there.which (some-one there.read parts.read (sym there.is ∙ next))
+    which on there.which (same_Some there.read parts.read (sym there.is ∙ next))
   where
     which : (on : ComesTo s front back good parts.at parts.left) {q : Read}
         → IsSame q (next_record default_config parts.at [] [] (on.rest ++ (44 ∷ back))) back

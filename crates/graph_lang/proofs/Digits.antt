@@ -1,13 +1,15 @@
 -- Digits, one more at a time.
-use Rattle.std.proofs.Common.{ℕ, suc, zero, ◌≡◌, ◌≤◌, ◌<◌, ◌^◌, List, length, take, get_or, ap, sym, arith, subst}
+use Rattle.std.proofs.Common.{ℕ, suc, zero, ◌≡◌, ◌≤◌, ◌<◌, ◌^◌, List, length, take, get_or, ap, sym, arith, subst, ℤ, ◌∙◌, Option, Some, None, IfSome, IfNone}
 use Rattle.std.specs.Str.Parse.{AllDigits, digits_value}
-use Rattle.std.specs.Fmt.{decimal}
+use Rattle.std.specs.Fmt.{decimal, signed_decimal}
 use Rattle.std.proofs.lemmas.Int.Digits.{digits_value-lt}
 use Rattle.std.proofs.lemmas.List.{length-take-le}
 use Rattle.std.proofs.lemmas.Str.Parse.{numerals_by_value, tells_digits}
 use Rattle.std.proofs.lemmas.Fmt.{decimal-digits_value, decimal_is_IsNumeral, first_decimal, length-decimal-le, decimal_digit}
 use Rattle.std.proofs.Math.Nat.{pow-le-pow_right}
-use Rattle.graph_base.specs.phase_accum.Sends.{value_max}
+use Rattle.graph_text.specs.phase_base.Numbers.{int_within}
+use Rattle.graph_base.specs.phase_accum.Sends.{value_max, IsSend}
+use Rattle.graph_base.proofs.phase_accum_lemmas.phase_base_lemmas.Numbers.{int_found, int_only}
 
 -- the number of at most 18 digits is below 10 ^ 18
 pub few_digits : (bs : List ℕ) (i : ℕ) → i < length bs → i ≤ 18 → AllDigits 10 (take i bs) → digits_value 10 (take i bs) < 10 ^ 18
@@ -37,3 +39,20 @@ looks_decimal n small =
     plain : (n : ℕ) → n ≤ value_max → get_or (decimal n) 0 0 ≡ 48 → length (decimal n) ≡ 1
     plain zero small e = ap length (decimal_digit 0 (omega arith))
     plain (suc n) small e = absurd (omega (arith, first_decimal (suc n) (omega arith) (omega arith)))
+
+-- ---- values, by their words
+
+pub value_found : (word : List ℕ) (o : Option ℤ) → o ≡ int_within value_max word
+    → IfSome o (λ v. (word ≡ signed_decimal v) × IsSend v)
+value_found word None e = tt
+value_found word (Some v) e =
+    let is = int_found value_max word v (omega arith) (sym e) in
+    (is.0, record { small = is.1 })
+
+pub value_other : (word : List ℕ) (o : Option ℤ) → o ≡ int_within value_max word
+    → IfNone o ((v : ℤ) → IsSend v → word ≡ signed_decimal v → ⊥)
+value_other word None e = λ v send is.
+    let read : None ≡ Some v =
+    e ∙ ap (int_within value_max) is ∙ int_only value_max v (omega arith) send.small in
+    absurd (cc)
+value_other word (Some v) e = tt

@@ -12,11 +12,11 @@ mod Sound
 mod Wellformed
 mod WorkedText
 pub mod Commas
-mod Digits
+pub mod Digits
 mod Fields
-mod PlainLines
+pub mod PlainLines
 mod Reading
 mod Shrinks
-mod Unique
+pub mod Unique
 pub use Rattle.graph_base.proofs as graph_base_lemmas
 pub use Rattle.watched_io.proofs as watched_io_lemmas

@@ -2,6 +2,7 @@
 use Rattle.std.proofs.Common.{◌≡◌, ◌⊎◌, inl, inr, List, [], ◌∷◌, ◌++◌, Bool, true, false, cond, Some, None, refl, sym, ap, ◌∙◌, subst, bytes_eq, eq-eqb, All}
 use Rattle.std.proofs.lemmas.List.Elements.{All-head, All-tail, All-push, All-weaker}
 use Rattle.std.proofs.lemmas.Slice.Eq.{bytes_eq-Decides}
+use Rattle.std.proofs.lemmas.Option.{same_Some}
 use Rattle.graph_text.specs.phase_base.Words.{Word, is_name}
 use Rattle.graph_base.specs.Graphs.{Graph, Named, IsPlace, is_same_place, name_among}
 use Rattle.graph_base.specs.Names.{place_of}
@@ -13,9 +14,6 @@ use Rattle.graph_base.specs.declared.place.Place.TheVariants as place
 
 same_bytes : (x : Word) → bytes_eq x x ≡ true
 same_bytes x = (bytes_eq-Decides x x).1 refl
-
-same_option : {A : Type 0} (a b : A) → Some a ≡ Some b → a ≡ b
-same_option a b e = cc
 
 pub place_of-append : (names more : List Named) (x : Word) (at : Place) → place_of names x ≡ Some at
     → place_of (names ++ more) x ≡ Some at
@@ -47,7 +45,7 @@ place_of-push [] name x to at e = last (bytes_eq x name) refl e
   where
     last : (b : Bool) → bytes_eq x name ≡ b → cond b (Some to) None ≡ Some at
         → (place_of [] x ≡ Some at) ⊎ ((x ≡ name) × (to ≡ at))
-    last true same e = inr ((bytes_eq-Decides x name).0 same, same_option to at e)
+    last true same e = inr ((bytes_eq-Decides x name).0 same, same_Some to at e)
     last false same e = absurd (cc)
 place_of-push (n ∷ ns) name x to at e = next (bytes_eq x n.0) (place_of-push ns name x to at) e
   where
@@ -69,7 +67,7 @@ place_of-All P (n ∷ ns) x at all e =
     next : (b : Bool) → (place_of ns x ≡ Some at → P at)
         → cond b (Some n.1) (place_of ns x) ≡ Some at → P at
     next true rest e =
-        subst P (same_option n.1 at e) (All-head (λ named. P named.1) n ns all)
+        subst P (same_Some n.1 at e) (All-head (λ named. P named.1) n ns all)
     next false rest e = rest e
 
 -- ---- the name of a place

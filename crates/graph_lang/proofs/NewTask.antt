@@ -2,7 +2,7 @@
 use Rattle.std.proofs.Common.{ℕ, suc, ◌≡◌, ◌<◌, ◌≤◌, ◌==◌, ◌&&◌, ◌||◌, not, List, [], ◌∷◌, ◌++◌, length, get_or, Bool, true, false, Option, Some, None, is_some, option_map, IfSome, IsSome, IsTrue, nat_lt, nat_le, unsigned_abs, refl, sym, ap, ◌∙◌, subst, arith, bytes_eq, ne_eqb, eqb-true, ltb-true, leb-true, All, Contains, inl, inr, ◌⊎◌}
 use Rattle.std.specs.List.{list_all, list_any}
 use Rattle.std.specs.Option.{option_map_or}
-use Rattle.std.proofs.lemmas.Bool.{or_parts, or_from, or_cases, not-true}
+use Rattle.std.proofs.lemmas.Bool.{or_parts, or_from, or_cases, not-true, not-false, and_parts}
 use Rattle.std.proofs.lemmas.List.{length-map, map-append}
 use Rattle.std.proofs.lemmas.List.Elements.{All-weaker, All-map}
 use Rattle.std.proofs.lemmas.List.Sums.{AllPass-from_list_all}
@@ -27,8 +27,7 @@ use Rattle.graph_base.specs.declared.line.Kind.TheVariants as kind
 use Rattle.graph_lang.specs.declared.fault.FaultKind.TheVariants.{Limit, Twice, Unknown, OutBeforeIn, BadParent, NotHeld, OverBound}
 use Rattle.graph_base.specs.declared.place.Place.{Place}
 use Rattle.graph_base.specs.declared.place.Place.TheVariants as place
-use Rattle.graph_lang.proofs.Alls.{both}
-use Rattle.graph_lang.proofs.Sound.{row-passed, not-false, nothing-there}
+use Rattle.graph_lang.proofs.Sound.{row-passed, nothing-there}
 use Rattle.graph_lang.proofs.NamesKept.{place_of-All}
 use Rattle.graph_lang.proofs.Grown.{weaken_some}
 
@@ -76,23 +75,23 @@ task-sound before name body ends e =
     let bad = row-passed (not (may_be_parent before line.parent)) BadParent _ order.1 in
     let held = row-passed (not (is_held before line)) NotHeld _ bad.1 in
     let over = row-passed (not (is_block_within before line)) OverBound _ held.1 in
-    let room = both (is_body_within body && are_ends_within ends)
+    let room = and_parts (is_body_within body && are_ends_within ends)
     (nat_lt (length before.tasks) TASKS_MAX) (not-false _ limit.0) in
-    let numbers = both (is_body_within body) (are_ends_within ends) room.0 in
-    let counted = both (option_map_or (λ by. is_count_within by.at) ends.by true
+    let numbers = and_parts (is_body_within body) (are_ends_within ends) room.0 in
+    let counted = and_parts (option_map_or (λ by. is_count_within by.at) ends.by true
     && option_map_or is_count_within ends.until true)
     (option_map_or is_bound_within ends.block true) numbers.1 in
-    let steps = both (option_map_or (λ by. is_count_within by.at) ends.by true)
+    let steps = and_parts (option_map_or (λ by. is_count_within by.at) ends.by true)
     (option_map_or is_count_within ends.until true) counted.0 in
     let new = or_parts (is_some (place_of names name)) (not (are_distinct (phasers_of body)))
     twice.0 in
-    let known = both (list_all (is_phaser names) (phasers_of body)) (is_parent_known names ends.by)
+    let known = and_parts (list_all (is_phaser names) (phasers_of body)) (is_parent_known names ends.by)
     (not-false _ unknown.0) in
-    let ordered = both (list_all (λ x. list_all (nat_lt x) line.outputs) line.inputs)
+    let ordered = and_parts (list_all (λ x. list_all (nat_lt x) line.outputs) line.inputs)
     (is_exchange_below line.kind line.inputs) (not-false _ order.0) in
-    let holds = both (list_all (is_plain before) line.outputs) (holds_for before line line.parent)
+    let holds = and_parts (list_all (is_plain before) line.outputs) (holds_for before line line.parent)
     (not-false _ held.0) in
-    let wide = both (list_all (is_within_bound before line.block) line.inputs)
+    let wide = and_parts (list_all (is_within_bound before line.block) line.inputs)
     (list_all (is_within_bound before line.block) line.outputs) (not-false _ over.0) in
     record {
       within = numbers.0;
@@ -184,7 +183,7 @@ number-new : (before : Graph) → AreNames before → (word : Word) (words : Lis
     → list_any (λ q. q == number_in before.names word) (phaser_numbers before.names words) ≡ false
 number-new before are word [] is all none = refl
 number-new before are word (other ∷ words) is all none =
-    let first = both (is_phaser before.names other) (list_all (is_phaser before.names) words) all in
+    let first = and_parts (is_phaser before.names other) (list_all (is_phaser before.names) words) all in
     let apart = or_parts (bytes_eq word other) (list_any (bytes_eq word) words) none in
     let differ : number_in before.names other ≡ number_in before.names word → ⊥ = λ same.
     let one : bytes_eq word other ≡ true =
@@ -200,8 +199,8 @@ numbers-distinct : (before : Graph) → AreNames before → (words : List Word)
     → is_distinct (phaser_numbers before.names words) ≡ true
 numbers-distinct before are [] all distinct = refl
 numbers-distinct before are (word ∷ words) all distinct =
-    let first = both (is_phaser before.names word) (list_all (is_phaser before.names) words) all in
-    let apart = both (not (list_any (bytes_eq word) words)) (are_distinct words) distinct in
+    let first = and_parts (is_phaser before.names word) (list_all (is_phaser before.names) words) all in
+    let apart = and_parts (not (list_any (bytes_eq word) words)) (are_distinct words) distinct in
     let new = number-new before are word words first.0 first.1 (not-true _ apart.0) in
     rw new (numbers-distinct before are words first.1 apart.1)
 
@@ -221,14 +220,14 @@ count-ends : (before : List Named) (body : BodyWords) → is_body_within body �
 count-ends names (source file output) e = (refl, refl)
 count-ends names (fir input output shift taps) e = (refl, refl)
 count-ends names (split input outputs) e =
-    let within = both (nat_le 2 (length outputs)) (nat_le (length outputs) ENDS_MAX) e in
+    let within = and_parts (nat_le 2 (length outputs)) (nat_le (length outputs) ENDS_MAX) e in
     let same = length-map outputs (number_in names) in (
       refl,
       rw same (leb-true 2 (length outputs) within.0),
       rw same (leb-true (length outputs) ENDS_MAX within.1),
     )
 count-ends names (join inputs output) e =
-    let within = both (nat_le 2 (length inputs)) (nat_le (length inputs) ENDS_MAX) e in
+    let within = and_parts (nat_le 2 (length inputs)) (nat_le (length inputs) ENDS_MAX) e in
     let same = length-map inputs (number_in names) in (
       rw same (leb-true 2 (length inputs) within.0),
       rw same (leb-true (length inputs) ENDS_MAX within.1),
@@ -250,9 +249,9 @@ has-taps : (body : BodyWords) → IsBody body → is_body_within body ≡ true
     → HasTaps (kind_of_body body) (taps_of body) (shift_of body)
 has-taps (source file output) is e = (refl, refl)
 has-taps (fir input output shift taps) is e =
-    let counts = both (nat_le (nat_value shift) SHIFT_MAX && nat_le (length taps) TAPS_MAX)
+    let counts = and_parts (nat_le (nat_value shift) SHIFT_MAX && nat_le (length taps) TAPS_MAX)
     (list_all is_tap_within taps) e in
-    let limits = both (nat_le (nat_value shift) SHIFT_MAX) (nat_le (length taps) TAPS_MAX)
+    let limits = and_parts (nat_le (nat_value shift) SHIFT_MAX) (nat_le (length taps) TAPS_MAX)
     counts.0 in
     let same = length-map taps int_value in
     let some = is.3.0 in
@@ -312,9 +311,9 @@ new-parent : (before : Graph) → AreNames before → (child : Task) (by : Optio
 new-parent before are child None known at may holds allowed = tt
 new-parent before are child (Some by) known at may holds allowed =
     let above = task_at before (or_zero (task_named before.names by.parent)) in
-    let held = both (list_all (is_number_in above.inputs) child.inputs)
+    let held = and_parts (list_all (is_number_in above.inputs) child.inputs)
     (list_all (is_number_in above.outputs) child.outputs) holds in
-    let may_be = both (has_children above.kind) (not above.joins_now) may in
+    let may_be = and_parts (has_children above.kind) (not above.joins_now) may in
     record {
       above = task-below before are by.parent known;
       steps = leb-true (nat_value by.at) STEPS_MAX at;
@@ -344,7 +343,7 @@ block-some : (block : Option Word) → option_map_or is_bound_within block true 
 block-some None e = omega arith
 block-some (Some steps) e =
     leb-true 1 (nat_value steps)
-    (both (nat_le 1 (nat_value steps)) (nat_le (nat_value steps) BOUND_MAX) e).0
+    (and_parts (nat_le 1 (nat_value steps)) (nat_le (nat_value steps) BOUND_MAX) e).0
 
 -- a task of another kind has none of several steps
 block-kind : (version : Version) (body : BodyWords) (block : Option Word)
@@ -407,7 +406,7 @@ IsTaskLine-new version before n name body ends is is_body are_ends sound =
     let Wide : ℕ → Type 0 = λ p. steps ≤ (phaser_at before p).bound in
     let wide : (p : ℕ) → is_within_bound before steps p ≡ true → Wide p =
     λ p. leb-true steps (phaser_at before p).bound in
-    let known = both (list_all (is_phaser names) (inputs_of body))
+    let known = and_parts (list_all (is_phaser names) (inputs_of body))
     (list_all (is_phaser names) (outputs_of body))
     (sym (list_all-append (is_phaser names) (inputs_of body) (outputs_of body)) ∙ sound.phasers) in
     let together : phaser_numbers names (phasers_of body)

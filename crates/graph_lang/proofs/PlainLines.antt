@@ -25,7 +25,7 @@ abbrev pub IsWord : List ℕ → Type 0
 IsWord [] = Unit {0}
 IsWord (c ∷ cs) = (44 < c) × (c < 58) × IsWord cs
 
-digits-word : (ds : List ℕ) → AllDigits 10 ds → IsWord ds
+pub digits-word : (ds : List ℕ) → AllDigits 10 ds → IsWord ds
 digits-word [] digits = tt
 digits-word (c ∷ cs) digits =
     let d = digit_from_value c digits.0 in
@@ -58,14 +58,14 @@ value-word (negsuc n) send =
 
 -- ---- a line of a word
 
-joins : (c : ℕ) → 44 < c → step default_config st.InField c ≡ (st.InField, act.Copy)
+pub joins : (c : ℕ) → 44 < c → step default_config st.InField c ≡ (st.InField, act.Copy)
 joins c high =
     let comma : (c == 44) ≡ false = ne_eqb c 44 (λ e. omega (arith, e)) in
     let return : (c == 13) ≡ false = ne_eqb c 13 (λ e. omega (arith, e)) in
     let feed : (c == 10) ≡ false = ne_eqb c 10 (λ e. omega (arith, e)) in
     rw (comma, return, feed) refl
 
-starts : (c : ℕ) → 44 < c → step default_config st.StartRecord c ≡ (st.InField, act.Copy)
+pub starts : (c : ℕ) → 44 < c → step default_config st.StartRecord c ≡ (st.InField, act.Copy)
 starts c high =
     let comma : (c == 44) ≡ false = ne_eqb c 44 (λ e. omega (arith, e)) in
     let return : (c == 13) ≡ false = ne_eqb c 13 (λ e. omega (arith, e)) in

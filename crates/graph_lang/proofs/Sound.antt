@@ -23,10 +23,6 @@ pub row-passed : {R : Type 0} (b : Bool) (r : R) (rest : Option R)
 row-passed true r rest e = absurd (cc)
 row-passed false r rest e = (refl, e)
 
-pub not-false : (b : Bool) → not b ≡ false → b ≡ true
-not-false true e = refl
-not-false false e = absurd (cc)
-
 pub nothing-there : {A : Type 0} (o : Option A) → is_some o ≡ false → o ≡ None
 nothing-there None e = refl
 nothing-there (Some x) e = absurd (cc)

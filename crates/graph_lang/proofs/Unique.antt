@@ -4,6 +4,7 @@ use lib.IntN.{pos, negsuc}
 use lib.Signed.{mag}
 use Rattle.std.specs.Fmt.{signed_decimal}
 use Rattle.std.proofs.lemmas.Fmt.{signed_decimal_injective}
+use Rattle.std.proofs.lemmas.Option.{same_Some}
 use Rattle.csv.specs.Machine.{Read, next_record}
 use Rattle.csv.specs.Reading.{AreRecords, Reached}
 use Rattle.csv.specs.declared.parser.Config.{Config}
@@ -11,13 +12,10 @@ use Rattle.csv.specs.declared.parser.State.{State}
 use Rattle.graph_base.specs.phase_accum.Sends.{IsSend, AreSends}
 use Rattle.graph_lang.specs.Samples.{row_of}
 
-some_same : (p q : Read) → Some p ≡ Some q → p ≡ q
-some_same p q e = cc
-
 row_same : (a b : List ℕ) → a ∷ [] ≡ b ∷ [] → a ≡ b
 row_same a b e = cc
 
-small_mag : (v : ℤ) → IsSend v → mag v < 2 ^ 63
+pub small_mag : (v : ℤ) → IsSend v → mag v < 2 ^ 63
 small_mag (pos n) a = let small = a.small in omega arith
 small_mag (negsuc n) a = let small = a.small in omega arith
 
@@ -40,7 +38,7 @@ values_same cfg (v ∷ vs) [] s xs a b p q = absurd (not_both cfg s q.0 xs q.1 p
 values_same cfg (v ∷ vs) (w ∷ ws) s xs a b p q =
     let (s1, y1, (r1, next1, is1, more1), end1) = p in
     let (s2, y2, (r2, next2, is2, more2), end2) = q in
-    let same : r1 ≡ r2 = some_same r1 r2 (sym next1 ∙ next2) in
+    let same : r1 ≡ r2 = same_Some r1 r2 (sym next1 ∙ next2) in
     let rows : row_of v ≡ row_of w = is1 ∙ ap (λ (r : Read). r.0) same ∙ sym is2 in
     let head = row_of_injective v w a.0 b.0 rows in
     let later : AreRecords cfg r1.1 r1.2 (map row_of ws) = rw same (s2, y2, more2, end2) in
@@ -55,12 +53,12 @@ next_of_value cfg [] [] row s t xs ys a p q = absurd (not_both cfg s p.0 xs p.1 
 next_of_value cfg [] (g ∷ good) row s t xs ys a p q = absurd (not_both cfg s p.0 xs p.1 q.0 p.2.0 p.2.1 p.3 q.1)
 next_of_value cfg (v ∷ vs) [] row s t xs ys a p q =
     let (s1, y1, (r1, next1, is1, more1), end1) = p in
-    let same : r1 ≡ q.0 = some_same r1 q.0 (sym next1 ∙ q.1) in
+    let same : r1 ≡ q.0 = same_Some r1 q.0 (sym next1 ∙ q.1) in
     (v, a.0, q.2 ∙ ap (λ (r : Read). r.0) (sym same) ∙ sym is1)
 next_of_value cfg (v ∷ vs) (g ∷ good) row s t xs ys a p q =
     let (s1, y1, (r1, next1, is1, more1), end1) = p in
     let (r2, next2, is2, more2) = q in
-    let same : r1 ≡ r2 = some_same r1 r2 (sym next1 ∙ next2) in
+    let same : r1 ≡ r2 = same_Some r1 r2 (sym next1 ∙ next2) in
     next_of_value cfg vs good row r1.1 t r1.2 ys a.1 (s1, y1, more1, end1) (rw same more2)
 
 -- the first records of a text that are of no value stand behind as many good ones
@@ -70,13 +68,13 @@ pub good_same : (cfg : Config) (good fine : List ℤ) (row other : List (List �
 unfolding Reached
 good_same cfg [] [] row other s t u xs ys zs a b bad worse p q = refl
 good_same cfg [] (w ∷ fine) row other s t u xs ys zs a b bad worse p q =
-    let same : p.0 ≡ q.0 = some_same p.0 q.0 (sym p.1 ∙ q.1) in
+    let same : p.0 ≡ q.0 = same_Some p.0 q.0 (sym p.1 ∙ q.1) in
     absurd (bad w b.0 (p.2 ∙ ap (λ (r : Read). r.0) same ∙ sym q.2))
 good_same cfg (v ∷ good) [] row other s t u xs ys zs a b bad worse p q =
-    let same : p.0 ≡ q.0 = some_same p.0 q.0 (sym p.1 ∙ q.1) in
+    let same : p.0 ≡ q.0 = same_Some p.0 q.0 (sym p.1 ∙ q.1) in
     absurd (worse v a.0 (q.2 ∙ ap (λ (r : Read). r.0) (sym same) ∙ sym p.2))
 good_same cfg (v ∷ good) (w ∷ fine) row other s t u xs ys zs a b bad worse p q =
     let (r1, next1, is1, more1) = p in
     let (r2, next2, is2, more2) = q in
-    let same : r1 ≡ r2 = some_same r1 r2 (sym next1 ∙ next2) in
+    let same : r1 ≡ r2 = same_Some r1 r2 (sym next1 ∙ next2) in
     ap suc (good_same cfg good fine row other r1.1 t u r1.2 ys zs a.1 b.1 bad worse more1 (rw same more2))

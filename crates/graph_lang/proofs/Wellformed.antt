@@ -2,7 +2,7 @@
 use Rattle.std.proofs.Common.{ℕ, ◌≡◌, All, get_or, lt_trans, ◌<◌, ◌≤◌, ◌+◌, ◌&&◌, ◌⊎◌, inl, inr, List, [], ◌∷◌, ◌++◌, length, true, false, not, cond, Option, Some, None, Ok, Err, is_some, option_map, nat_lt, nat_le, unsigned_abs, refl, sym, ap, ◌∙◌, subst, arith, ne_eqb, ltb-true, leb-true}
 use Rattle.std.specs.Option.{option_map_or}
 use Rattle.std.specs.Int.Signed.{le_z, le_z_yes}
-use Rattle.std.proofs.lemmas.Bool.{cases_lt}
+use Rattle.std.proofs.lemmas.Bool.{cases_lt, not-false, and_parts}
 use Rattle.std.proofs.lemmas.List.{get_or_append_left, length_push, length-append}
 use Rattle.std.proofs.lemmas.List.Elements.{All-nil, All-cons, All-append}
 use Rattle.std.proofs.lemmas.List.Sums.{sum_by_push}
@@ -25,8 +25,7 @@ use Rattle.graph_lang.specs.declared.fault.FaultKind.{FaultKind}
 use Rattle.graph_lang.specs.declared.fault.FaultKind.TheVariants.{Limit, Twice, Syntax}
 use Rattle.graph_base.specs.declared.place.Place.{Place}
 use Rattle.graph_base.specs.declared.place.Place.TheVariants as place
-use Rattle.graph_lang.proofs.Alls.{both}
-use Rattle.graph_lang.proofs.Sound.{row-passed, not-false, nothing-there}
+use Rattle.graph_lang.proofs.Sound.{row-passed, nothing-there}
 use Rattle.graph_lang.proofs.NamesKept.{AreNames-more, AddsName}
 use Rattle.graph_lang.proofs.Grown.{Grows, IsTaskLine-stays, each-push}
 use Rattle.graph_lang.proofs.NewTask.{IsSound, task-sound, IsTaskLine-new}
@@ -75,8 +74,8 @@ phaser-sound before name operation bound function e =
     let fits = is_bound_within bound && option_map_or is_function_within function true in
     let limit = row-passed (not (fits && nat_lt (length before.phasers) PHASERS_MAX)) Limit _ e in
     let twice = row-passed (is_some (place_of before.names name)) Twice _ limit.1 in
-    let room = both fits (nat_lt (length before.phasers) PHASERS_MAX) (not-false _ limit.0) in
-    let numbers = both (is_bound_within bound) (option_map_or is_function_within function true)
+    let room = and_parts fits (nat_lt (length before.phasers) PHASERS_MAX) (not-false _ limit.0) in
+    let numbers = and_parts (is_bound_within bound) (option_map_or is_function_within function true)
     room.0 in
     record {
       within = numbers.0;
@@ -95,8 +94,8 @@ can-name (Some halve) e = tt
 can-name (Some (clamp low high)) e =
     let small = nat_le (unsigned_abs (int_value low)) value_max
     && nat_le (unsigned_abs (int_value high)) value_max in
-    let ordered = both small (le_z (int_value low) (int_value high)) e in
-    let ends = both (nat_le (unsigned_abs (int_value low)) value_max)
+    let ordered = and_parts small (le_z (int_value low) (int_value high)) e in
+    let ends = and_parts (nat_le (unsigned_abs (int_value low)) value_max)
     (nat_le (unsigned_abs (int_value high)) value_max) ordered.0 in
     record {
       ordered = le_z_yes (rw ordered.1 tt);
@@ -108,7 +107,7 @@ IsPhaserLine-new : (operation : Op) (bound : Word) (function : Option FunctionWo
     → is_bound_within bound ≡ true → option_map_or is_function_within function true ≡ true
     → IsPhaserLine (phaser_line operation bound function)
 IsPhaserLine-new operation bound function within fits =
-    let limits = both (nat_le 1 (nat_value bound)) (nat_le (nat_value bound) BOUND_MAX) within in
+    let limits = and_parts (nat_le 1 (nat_value bound)) (nat_le (nat_value bound) BOUND_MAX) within in
     record {
       bound = (leb-true 1 (nat_value bound) limits.0, leb-true (nat_value bound) BOUND_MAX limits.1);
       single = can-name function fits;

@@ -3,7 +3,7 @@ use Rattle.std.proofs.Common.{◌≡◌, ℕ, zero, suc, ◌+◌, ◌-◌, ◌<�
 use Rattle.std.specs.Prelude.{slice_get}
 use Rattle.std.specs.List.{filter_map, cons_option, fold}
 use Rattle.std.proofs.lemmas.List.{append-nil, length-append, length-map}
-use Rattle.std.proofs.lemmas.Bool.{eqb-true, eq-eqb, cases_lt, le-leb, lt-leb}
+use Rattle.std.proofs.lemmas.Bool.{eqb-true, eq-eqb, cases_lt, le-leb, lt-leb, or_cases, cases_Bool}
 use Rattle.std.proofs.lemmas.Option.{same_Some}
 use Rattle.phase_history.specs.phase_base.Limits.{Limits}
 use Rattle.phase_history.specs.phase_base.declared.entry.Entry.{Entry}
@@ -133,10 +133,6 @@ gathered_is limits h number member (t ∷ ts) n legal below agree =
 
 -- ---- how far a phaser has come
 
-pub is_in-or : (a b : Bool) → (a || b) ≡ true → (a ≡ true) ⊎ (b ≡ true)
-is_in-or true b e = inl refl
-is_in-or false b e = inr e
-
 -- the member of a registered task, by its number
 abbrev pub Found : (ℕ → Option ℕ) → List ℕ → ℕ → Type 0
 Found number ts task = (t : ℕ) × (is_in t ts ≡ true) × (number t ≡ Some task)
@@ -149,7 +145,7 @@ found number (t ∷ ts) task e =
     → is_in task (cons_option o (filter_map number ts)) ≡ true → Found number (t ∷ ts) task) [
       | None ↦ λ q f. (let r = found number ts task f in (r.0, later r.0 r.1, r.2))
       | Some k ↦ λ q f.
-          here q (is_in-or (eqb k task) (is_in task (filter_map number ts)) f)
+          here q (or_cases (eqb k task) (is_in task (filter_map number ts)) f)
           (λ f. found number ts task f)
     ] refl e
   where
@@ -177,7 +173,7 @@ pub agrees_at : (h : History) (number : ℕ → Option ℕ) (member : ℕ → Op
     → AllAgree h number member ts → Agrees h (number t) (member t)
 agrees_at h number member [] t e agree = absurd (cc)
 agrees_at h number member (u ∷ ts) t e agree =
-    split (is_in-or (eqb u t) (is_in t ts) e) (λ f. agrees_at h number member ts t f agree.1)
+    split (or_cases (eqb u t) (is_in t ts) e) (λ f. agrees_at h number member ts t f agree.1)
   where
     split : (eqb u t ≡ true) ⊎ (is_in t ts ≡ true)
         → (is_in t ts ≡ true → Agrees h (number t) (member t)) → Agrees h (number t) (member t)
@@ -198,7 +194,7 @@ pub end_within : (member : ℕ → Option Contribution) (ts : List ℕ) (t a : �
     → end_of_contribution (member t) ≤ fold max a (map (λ t. end_of_contribution (member t)) ts)
 end_within member [] t a e = absurd (cc)
 end_within member (u ∷ ts) t a e =
-    split (is_in-or (eqb u t) (is_in t ts) e)
+    split (or_cases (eqb u t) (is_in t ts) e)
     (λ f. end_within member ts t (max a (end_of_contribution (member u))) f)
   where
     rest : ℕ
@@ -237,10 +233,6 @@ all_within member (t ∷ ts) a n le each =
 abbrev pub Strangers : History → List ℕ → Type 0
 Strangers h tasks = (task : ℕ) → is_in task tasks ≡ false → IsSilent h task
 
-pub bool_case : (b : Bool) → (b ≡ true) ⊎ (b ≡ false)
-bool_case true = inl refl
-bool_case false = inr refl
-
 -- no phase past the greatest end is complete
 pub done_within : (limits : Limits) (h : History) (number : ℕ → Option ℕ)
     (member : ℕ → Option Contribution) (ts : List ℕ)
@@ -251,7 +243,7 @@ done_within limits h number member ts legal strangers agree =
     let r : ReachesTop h = ReachesTop-of limits h legal in
     let at_top : r.start.signal_phase + phases_signalled h r.task ≡ top_of h = r.reaches in
     let reach : top_of h ≤ r.start.signal_phase + phases_signalled h r.task = omega arith in
-    split top r reach (bool_case (is_in r.task (filter_map number ts)))
+    split top r reach (cases_Bool (is_in r.task (filter_map number ts)))
   where
     silent : (r : ReachesTop h) → IsSilent h r.task
         → top_of h ≤ r.start.signal_phase + phases_signalled h r.task → top_of h ≡ 0

@@ -7,6 +7,7 @@ use Rattle.std.proofs.lemmas.List.{length-map, get_or-map}
 use Rattle.phase_history.specs.Histories.{has_dropped, HasNoSignaller}
 use Rattle.phase_history.specs.Others.{IsUsed}
 use Rattle.phase_history.proofs.Signallers.{quiet_from}
+use Rattle.phase_history.proofs.Received.{none_from}
 use Rattle.stream_lists.specs.graph_base.declared.line.Parent.{Parent}
 use Rattle.stream_lists.specs.graph_base.declared.registration.Registration.{Registration}
 use Rattle.stream_lists.specs.graph_base.Graphs.{task_at}
@@ -25,10 +26,6 @@ use Rattle.graph_runs.proofs.TurnRegistering.{is_for, on_parent}
 
 -- ---- a task that is registered on all its phasers
 
-none_is : {X : Type 0} (o : Option X) → is_some o ≡ false → o ≡ None
-none_is None e = refl
-none_is (Some x) e = absurd (cc)
-
 -- where it is not live, it has none left
 none_kept : (job : Job) (m : Moment) (t : ℕ) → t < length job.graph.tasks
     → first_missing job m t ≡ None → is_live job m t ≡ false → first_kept job m t ≡ None
@@ -37,7 +34,7 @@ none_kept job m t there all dead =
     ap (λ b. b && not (is_some (first_missing job m t)) && is_some (first_kept job m t))
     (lt-ltb t (length job.graph.tasks) there)
     ∙ ap (λ o. not (is_some o) && is_some (first_kept job m t)) all in
-    none_is (first_kept job m t) (sym is ∙ dead)
+    none_from (first_kept job m t) (sym is ∙ dead)
 
 -- where it has none left, it has left each
 left_each : (job : Job) (m : Moment) (t p n : ℕ) → IsGraph job.graph → t < length job.graph.tasks
@@ -93,7 +90,7 @@ misses job m t r is there found =
     record {
       p = r.phaser;
       on = rw f.1.2 at (is_for job t f.1.0 is there f.1.1).on_line;
-      absent = none_is (m.number r.phaser t) (not-true (has_registered m t r) f.0);
+      absent = none_from (m.number r.phaser t) (not-true (has_registered m t r) f.0);
     }
 
 -- its parent has begun the steps after which it comes

@@ -1,11 +1,10 @@
 -- The value of a complete phase is that of what its tasks have sent in it: in any order, or because
 -- one task alone has sent.
-use Rattle.std.proofs.Common.{◌≡◌, ◌≢◌, ℕ, zero, suc, ◌+◌, ◌-◌, ◌<◌, ◌≤◌, Bool, true, false, ◌&&◌, ◌||◌, cond, eqb, leb, List, [], ◌∷◌, Option, Some, None, ℤ, length, refl, sym, ap, ◌∙◌, arith, ◌⊎◌, inl, inr}
+use Rattle.std.proofs.Common.{◌≡◌, ◌≢◌, ℕ, zero, suc, ◌+◌, ◌-◌, ◌<◌, ◌≤◌, Bool, true, false, ◌&&◌, ◌||◌, cond, eqb, leb, List, [], Option, Some, None, ℤ, length, refl, sym, ap, ◌∙◌, arith, ◌⊎◌, inl, inr}
 use Rattle.std.specs.Prelude.{slice_get, if◌then◌else◌}
 use Rattle.std.specs.List.{range_with_len, cons_option, list_any, find}
-use Rattle.std.specs.Option.{option_map}
 use Rattle.std.proofs.lemmas.Bool.{eqb-true, cases_lt, le-leb, lt-leb}
-use Rattle.std.proofs.lemmas.Option.{same_Some}
+use Rattle.std.proofs.lemmas.Option.{same_Some, slice_get_within}
 use Rattle.phase_history.specs.phase_accum.Exchanges.{Exchanges}
 use Rattle.phase_history.proofs.phase_accum_lemmas.Orders.{Exchanges-sum, Exchanges-product, Exchanges-least, Exchanges-greatest}
 use Rattle.phase_history.specs.Histories.{History}
@@ -22,9 +21,10 @@ use Rattle.stream_lists.specs.graph_base.TaskLines.{IsGraph}
 use Rattle.stream_lists.specs.Jobs.{Job, index_in}
 use Rattle.stream_lists.specs.Spans.{signalled_by, puts_on, spans_of, end_of, span_in, schedule_of}
 use Rattle.stream_lists.specs.Lists.{Contribution, send_in, contribution_at, contribution_by, value_by, numbers_of, output_on}
-use Rattle.stream_lists.specs.Meetings.{is_any, overlap, meet_on, meets_on, meets_above, meeting_line}
+use Rattle.stream_lists.specs.Meetings.{is_any, meet_on, meets_on, meets_above, meeting_line}
 use Rattle.stream_lists.proofs.Ordered.{place-at}
 use Rattle.stream_lists.proofs.ListLengths.{outputs_long}
+use Rattle.stream_lists.proofs.EachPhase.{no_line, overlap_from, find_none, any_none}
 use Rattle.graph_runs.specs.Moments.{Moment, numbers_on, limits_at, value_at, PhaserRan}
 use Rattle.graph_runs.proofs.Composed.{Agrees}
 use Rattle.graph_runs.proofs.Agreed.{AllAgree, agrees_at, sent_is, Found, found}
@@ -41,40 +41,6 @@ op_case Least = inl Exchanges-least
 op_case Greatest = inl Exchanges-greatest
 op_case Any = inr refl
 
--- where no number passes, none does
-find-no : (test : ℕ → Bool) (a n t : ℕ) → find test (range_with_len a n) ≡ None → a ≤ t → t < a + n
-    → test t ≡ false
-find-no test a zero t e low high = absurd (omega arith)
-find-no test a (suc n) t e low high =
-    by (test a) refl e (cases_lt a t)
-    (λ f more. find-no test (a + 1) n t f (omega arith) (omega arith))
-  where
-    by : (b : Bool) → test a ≡ b → cond b (Some a) (find test (range_with_len (a + 1) n)) ≡ None
-        → (a < t) ⊎ (t ≤ a)
-        → (find test (range_with_len (a + 1) n) ≡ None → a < t → test t ≡ false) → test t ≡ false
-    by true is e c rec = absurd (cc)
-    by false is e (inl more) rec = rec e more
-    by false is e (inr here) rec = let same : t ≡ a = omega arith in ap test same ∙ is
-
-any-no : (test : ℕ → Bool) (a n t : ℕ) → list_any test (range_with_len a n) ≡ false → a ≤ t
-    → t < a + n → test t ≡ false
-any-no test a zero t e low high = absurd (omega arith)
-any-no test a (suc n) t e low high =
-    by (test a) refl e (cases_lt a t)
-    (λ f more. any-no test (a + 1) n t f (omega arith) (omega arith))
-  where
-    by : (b : Bool) → test a ≡ b → (b || list_any test (range_with_len (a + 1) n)) ≡ false
-        → (a < t) ⊎ (t ≤ a)
-        → (list_any test (range_with_len (a + 1) n) ≡ false → a < t → test t ≡ false)
-        → test t ≡ false
-    by true is e c rec = absurd (let no : true ≡ false = e in cc)
-    by false is e (inl more) rec = rec e more
-    by false is e (inr here) rec = let same : t ≡ a = omega arith in ap test same ∙ is
-
-no_line : (f : ℕ → ℕ) (o : Option ℕ) → option_map f o ≡ None → o ≡ None
-no_line f None e = refl
-no_line f (Some t) e = absurd (cc)
-
 -- no task meets one above it
 pub do_not_meet : (job : Job) (p t u : ℕ) → meeting_line job ≡ None → p < length job.graph.phasers
     → is_any (phaser_at job.graph p).op ≡ true
@@ -84,28 +50,14 @@ do_not_meet job p t u apart pp any there above =
     let none : find (meets_above job.graph spans) (range_with_len 0 (length job.graph.tasks))
     ≡ None = no_line (λ t. (task_at job.graph t).line) _ apart in
     let here : meets_above job.graph spans t ≡ false =
-    find-no (meets_above job.graph spans) 0 (length job.graph.tasks) t none (omega arith)
+    find_none (meets_above job.graph spans) 0 (length job.graph.tasks) t none (omega arith)
     (omega arith) in
     let on : meets_on job.graph spans t p ≡ false =
-    any-no (meets_on job.graph spans t) 0 (length job.graph.phasers) p here (omega arith)
+    any_none (meets_on job.graph spans t) 0 (length job.graph.phasers) p here (omega arith)
     (omega arith) in
     let one : list_any (meet_on job.graph spans t p) (range_with_len 0 t) ≡ false =
     ap (λ b. b && list_any (meet_on job.graph spans t p) (range_with_len 0 t)) (sym any) ∙ on in
-    any-no (meet_on job.graph spans t p) 0 t u one (omega arith) (omega arith)
-
--- two that signal in phase n do
-two_meet : (a ae b be n : ℕ) → a ≤ n → n < ae → b ≤ n → n < be → overlap a ae b be ≡ true
-two_meet a ae b be n la ha lb hb =
-    let one : leb (suc a) ae ≡ true = le-leb (suc a) ae (omega arith) in
-    let two : leb (suc b) be ≡ true = le-leb (suc b) be (omega arith) in
-    let three : leb (suc a) be ≡ true = le-leb (suc a) be (omega arith) in
-    let four : leb (suc b) ae ≡ true = le-leb (suc b) ae (omega arith) in
-    rw (one, two, three, four) refl
-
-some_below : (xs : List ℤ) (k : ℕ) (v : ℤ) → slice_get xs k ≡ Some v → k < length xs
-some_below [] k v e = absurd (cc)
-some_below (x ∷ xs) zero v e = omega arith
-some_below (x ∷ xs) (suc k) v e = let r : k < length xs = some_below xs k v e in omega arith
+    any_none (meet_on job.graph spans t p) 0 t u one (omega arith) (omega arith)
 
 -- what a member sends is within it
 pub sends_within : (n : ℕ) (member : Contribution) (v : ℤ) → send_in n member ≡ Some v
@@ -122,7 +74,7 @@ sends_within n member v e = by (cases_lt n member.0)
         let test : leb (suc n) member.0 ≡ false = lt-leb (suc n) member.0 (omega arith) in
         let some : slice_get member.1 (n - member.0) ≡ Some v =
         ap (λ b. cond b None (slice_get member.1 (n - member.0))) (sym test) ∙ e in
-        (later, omega (arith, some_below member.1 (n - member.0) v some))
+        (later, omega (arith, slice_get_within member.1 (n - member.0) v some))
 
 -- a task that sends in phase n signals it
 pub signals_at : (job : Job) (p t n : ℕ) (member : Contribution) (v : ℤ) → IsGraph job.graph
@@ -237,7 +189,7 @@ are_gathered job m p ready pp ran agree n below = by (op_case (phaser_at job.gra
         let no : meet_on job.graph (spans_of job) t p u ≡ false =
         do_not_meet job p t u ready.apart pp any one.0 above in
         let yes : meet_on job.graph (spans_of job) t p u ≡ true =
-        two_meet (span_in job t).offset (end_of job.graph (spans_of job) p t)
+        overlap_from (span_in job t).offset (end_of job.graph (spans_of job) p t)
         (span_in job u).offset (end_of job.graph (spans_of job) p u) n one.1 one.2 other.1
         other.2 in
         (let e : true ≡ false = sym yes ∙ no in cc)

@@ -13,12 +13,13 @@ use Rattle.stream_lists.specs.graph_base.TaskLines.{IsGraph}
 use Rattle.stream_lists.specs.Jobs.{Job}
 use Rattle.stream_lists.specs.Lists.{is_sink_at, start_in}
 use Rattle.stream_lists.proofs.Starts.{lengths_stay}
+use Rattle.stream_lists.proofs.Basics.{sink_kind}
 use Rattle.graph_runs.proofs.Started.{ready_as, run_started}
 use Rattle.graph_runs.proofs.StartsAtEnd.{start_of_others, start_registered, start_absent, start_in_time}
 use Rattle.graph_runs.proofs.Whole.{stands_all}
 use Rattle.graph_runs.specs.Moments.{Moment, started, IsOver, HasMetNone, limits_at, value_at}
 use Rattle.graph_runs.specs.Settled.{IsReady}
-use Rattle.graph_runs.proofs.Results.{map-filtered, sink_is}
+use Rattle.graph_runs.proofs.Results.{map-filtered}
 use Rattle.graph_runs.proofs.TooBigs.{answer_is}
 use Rattle.graph_runs.proofs.Framed.{part_came}
 use Rattle.graph_runs.specs.Nexts.{registrations_at}
@@ -215,7 +216,7 @@ answer_at_end job ends ready r =
           (λ t lt e. (let there : t < length job.graph.tasks = omega arith in
           ap (λ values. (t, values))
           (sink_lines job ends ready.graph s t there
-          (sink_is (task_at job.graph t).kind e)))));
+          (sink_kind (task_at job.graph t).kind e)))));
       began = begins_at job ends ready.graph r ready;
       in_time = λ t start there e.
           (rw (lengths_stay job (starts_at_end job ends ready.graph r) ready.graph) at (start_in_time (started job m) m t start ready_now ran_now over_now there e));

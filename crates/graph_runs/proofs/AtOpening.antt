@@ -38,7 +38,7 @@ use Rattle.graph_runs.proofs.TurnRegistering.{is_for}
 
 -- ---- phasers
 
-are_limits : (job : Job) (p : ℕ) → IsGraph job.graph → p < length job.graph.phasers
+pub are_limits : (job : Job) (p : ℕ) → IsGraph job.graph → p < length job.graph.phasers
     → AreLimits (limits_at job p)
 are_limits job p is pp =
     let bound = (is.phasers p pp).bound in

@@ -4,6 +4,7 @@ use Rattle.std.specs.Prelude.{nat_le}
 use Rattle.std.proofs.lemmas.Bool.{ltb-false, leb-false, le-leb, eq-eqb, cases_lt}
 use Rattle.phase_history.specs.phase_base.Members.{signal_phases, least}
 use Rattle.phase_history.specs.Histories.{members_of, done_of}
+use Rattle.phase_history.proofs.Received.{none_from}
 use Rattle.stream_lists.specs.graph_base.declared.line.Kind.{Kind}
 use Rattle.stream_lists.specs.graph_base.declared.line.Kind.TheVariants.{Source, Fir, Split, Join, Peer, Sink}
 use Rattle.stream_lists.specs.graph_base.Graphs.{task_at}
@@ -100,10 +101,6 @@ all_taken job m t is ran there none k lt = by (task_at job.graph t).kind k refl 
 
 -- ---- no child is due
 
-no_missing : {X : Type 0} (o : Option X) → is_some o ≡ false → o ≡ None
-no_missing None e = refl
-no_missing (Some x) e = absurd (cc)
-
 pub none_due : (job : Job) (m : Moment) (t p : ℕ) → IsGraph job.graph → TaskRan job m t
     → t < length job.graph.tasks → first_due job m t ≡ None → NoneDue job m t p
 none_due job m t p is ran there none c n u below parent of_t at absent on =
@@ -130,7 +127,7 @@ none_due job m t p is ran there none c n u below parent of_t at absent on =
         let line = is.tasks c below in
         let there : m.number p c ≡ Some (number_on m c p) =
         numbered job m c p line (registrations-phasers job.graph c (task_at job.graph c) line)
-        (no_missing (first_missing job m c) all) on in
+        (none_from (first_missing job m c) all) on in
         (let wrong : Some (number_on m c p) ≡ None = sym there ∙ absent in cc)
 
     by : (m.begun t < u.at) ⊎ (u.at ≤ m.begun t) → m.begun t < u.at
@@ -138,14 +135,6 @@ none_due job m t p is ran there none c n u below parent of_t at absent on =
     by (inr ge) = let le : m.begun t ≤ u.at = early in absurd (clash (omega arith))
 
 -- ---- the end
-
-pub or_false : (a b : Bool) → (a || b) ≡ false → (a ≡ false) × (b ≡ false)
-or_false false b e = (refl, e)
-or_false true b e = absurd (cc)
-
-pub or_true : (a b : Bool) → (a || b) ≡ true → (a ≡ true) ⊎ (b ≡ true)
-or_true true b e = inl refl
-or_true false b e = inr e
 
 pub one_more : (until : Option ℕ) (b : ℕ) → is_cut until b ≡ false → AtMost b until
     → AtMost (suc b) until

@@ -2,7 +2,7 @@
 use Rattle.std.proofs.Common.{◌≡◌, ℕ, zero, suc, ◌+◌, ◌<◌, ◌-◌, ◌≤◌, true, false, not, ◌||◌, List, Option, Some, None, is_some, length, get_or, refl, sym, ap, subst, ◌∙◌, arith, ◌⊎◌, inl, inr}
 use Rattle.std.specs.Prelude.{Result, Ok, Err, nat_le, unwrap_or, take, drop, min, slice_range}
 use Rattle.std.proofs.lemmas.List.{length-take-le, length-drop}
-use Rattle.std.proofs.lemmas.Bool.{and_parts, leb-true, eqb-true}
+use Rattle.std.proofs.lemmas.Bool.{and_parts, leb-true, eqb-true, or_cases}
 use Rattle.phase_history.specs.phase_base.Members.{signal_phases}
 use Rattle.phase_history.specs.phase_accum.declared.outcome.Outcome.{Outcome}
 use Rattle.phase_history.specs.declared.got.Got.{Got}
@@ -38,7 +38,7 @@ use Rattle.graph_runs.proofs.PlacesLemmas.{find-none, find-some, place_of_output
 use Rattle.graph_runs.proofs.Signalling.{Live, number_there, stays, event_or, signalled, lists_sendable, owed, not_ended}
 use Rattle.graph_runs.proofs.Nexts.{further-length}
 use Rattle.graph_runs.proofs.Blocks.{AnsweredBlock, answered_block, block_few, may_go_on}
-use Rattle.graph_runs.proofs.Boundaries.{all_put, made_many, peer_ends, none_due, goes_on, no_signaller, or_true}
+use Rattle.graph_runs.proofs.Boundaries.{all_put, made_many, peer_ends, none_due, goes_on, no_signaller}
 
 -- ---- the answer to a wait
 
@@ -353,7 +353,7 @@ may_end : (job : Job) (m : Moment) (t : ℕ)
     || has_input_ended job m t (task_at job.graph t).kind) ≡ true
     → MayStop m (task_at job.graph t) t (length (samples_at job t))
 may_end job m t e =
-    by (or_true (is_cut (task_at job.graph t).until (m.begun t))
+    by (or_cases (is_cut (task_at job.graph t).until (m.begun t))
     (has_input_ended job m t (task_at job.graph t).kind) e)
   where
     End : Type 0

@@ -10,6 +10,7 @@ use Rattle.phase_history.specs.declared.event.Event.TheVariants.{Registered, Reg
 use Rattle.phase_history.specs.Histories.{History, IsBeginning, done_of, has_dropped, greatest_used}
 use Rattle.phase_history.specs.Legal.{IsLegal, IsAccepted}
 use Rattle.phase_history.proofs.Refused.{registers_from}
+use Rattle.phase_history.proofs.Beginnings.{IsBeginning-refl}
 use Rattle.stream_lists.specs.graph_base.declared.line.Parent.{Parent}
 use Rattle.stream_lists.specs.graph_base.Graphs.{task_at}
 use Rattle.stream_lists.specs.graph_base.TaskLines.{IsGraph, has_children}
@@ -40,7 +41,7 @@ use Rattle.graph_runs.proofs.TurnRegistering.{is_for, on_parent, plain_takes}
 use Rattle.graph_runs.specs.Parts.{HasPart, HasSeen, SeesOthers}
 use Rattle.graph_runs.specs.Places.{IsJoining, HasNewChild, HasSeenBoth, HasAddedChild, HasAddedNow}
 use Rattle.graph_runs.proofs.FollowsPlace.{seen_follows}
-use Rattle.graph_runs.proofs.PartsLemmas.{with_history, same_at, other_at, where_at, still, no_change, seen}
+use Rattle.graph_runs.proofs.PartsLemmas.{with_history, same_at, other_at, where_at, no_change, seen}
 use Rattle.graph_runs.proofs.TellsNext.{owes_as}
 
 -- a parent stands above its child
@@ -120,7 +121,7 @@ child_is_new job m t c u is there there_c part parent of_t none = record {
     parent_ran : TaskRan job (with_child c m) t
     parent_ran =
         task_later job m (with_child c m) t is there
-        (record { was = part.legal; legal = part.legal; beginning = λ q on. still (m.history q) })
+        (record { was = part.legal; legal = part.legal; beginning = λ q on. IsBeginning-refl (m.history q) })
         (record {
           same = same;
           number = λ q. refl;
@@ -222,7 +223,7 @@ both_see job m t c p n u numbers now is there there_c part joining parent of_t a
       beginning = λ q on.
           where_at p now m q (λ h. IsBeginning (m.history q) h)
           (λ e. (rw e (record { later = sees.others.later; is = sees.others.is })))
-          (still (m.history q));
+          (IsBeginning-refl (m.history q));
     }
 
     ran : TaskRan job (with_history p now m) c

@@ -1,15 +1,10 @@
 -- Lists that begin others.
-use Rattle.std.proofs.Common.{◌≡◌, ℕ, zero, suc, ◌+◌, ◌-◌, ◌<◌, ◌≤◌, List, [], ◌∷◌, ◌++◌, length, get_or, take, drop, refl, sym, ap, ◌∙◌, arith}
+use Rattle.std.proofs.Common.{◌≡◌, ℕ, zero, suc, ◌+◌, ◌<◌, ◌≤◌, List, [], ◌∷◌, ◌++◌, length, get_or, take, drop, refl, sym, ap, ◌∙◌, arith}
 use mathlib.Core.List.{IsPrefix}
-use Rattle.std.proofs.lemmas.List.{append-nil, append_assoc, length-append, get_or_append_left, take-append-le, drop-append-le, length-drop}
+use Rattle.std.proofs.lemmas.List.{append-nil, length-append, get_or_append_left, take-append-le}
 
 pub IsPrefix-refl : {X : Type 0} (xs : List X) → IsPrefix xs xs
 IsPrefix-refl xs = ([], append-nil xs)
-
-pub IsPrefix-trans : {X : Type 0} (xs ys zs : List X) → IsPrefix xs ys → IsPrefix ys zs
-    → IsPrefix xs zs
-IsPrefix-trans xs ys zs a b =
-    (a.0 ++ b.0, sym (append_assoc xs a.0 b.0) ∙ ap (λ l. l ++ b.0) a.1 ∙ b.1)
 
 pub prefix_length : {X : Type 0} (xs ys : List X) → IsPrefix xs ys → length xs ≤ length ys
 prefix_length xs ys a =
@@ -68,14 +63,6 @@ take_full (suc n) (x ∷ xs) le = ap (λ l. suc l) (take_full n xs (omega arith)
 pub take_of_prefix : {X : Type 0} (n : ℕ) (xs ys : List X) → IsPrefix xs ys → n ≤ length xs
     → take n ys ≡ take n xs
 take_of_prefix n xs ys a le = ap (λ l. take n l) (sym a.1) ∙ take-append-le n xs a.0 le
-
-pub part_of_longer : {X : Type 0} (xs ys : List X) (w k : ℕ) → IsPrefix xs ys → w + k ≤ length xs
-    → take k (drop w ys) ≡ take k (drop w xs)
-part_of_longer xs ys w k a fits =
-    ap (λ l. take k (drop w l)) (sym a.1)
-    ∙ ap (λ l. take k l) (drop-append-le w xs a.0 (omega arith))
-    ∙ take-append-le k (drop w xs) a.0
-    (let e : length (drop w xs) ≡ length xs - w = length-drop w xs in omega arith)
 
 pub get_or-take : {X : Type 0} (xs : List X) (n i : ℕ) (d : X) → i < n
     → get_or (take n xs) i d ≡ get_or xs i d

@@ -1,9 +1,9 @@
 -- With a value that is out of range and counts, a job does not fit.
-use Rattle.std.proofs.Common.{◌≡◌, ◌≢◌, ℕ, zero, suc, ◌+◌, ◌<◌, true, false, List, [], ◌∷◌, Some, None, ℤ, pos, leb, length, get_or, unsigned_abs, refl, sym, ◌∙◌, arith}
-use Rattle.std.proofs.lemmas.Bool.{and_parts, le-leb}
+use Rattle.std.proofs.Common.{◌≡◌, ◌≢◌, ℕ, zero, suc, ◌+◌, ◌<◌, true, false, List, [], ◌∷◌, Some, None, ℤ, pos, length, get_or, refl, sym, ◌∙◌, arith}
+use Rattle.std.proofs.lemmas.Bool.{and_parts}
 use Rattle.phase_history.specs.phase_accum.declared.outcome.Outcome.{Outcome}
 use Rattle.phase_history.specs.phase_accum.declared.outcome.Outcome.TheVariants.{Value, Empty, TooBig}
-use Rattle.phase_history.specs.phase_accum.Sends.{IsSend, AreSends, value_max}
+use Rattle.phase_history.specs.phase_accum.Sends.{IsSend, AreSends}
 use Rattle.stream_lists.specs.graph_base.Graphs.{task_at}
 use Rattle.stream_lists.specs.graph_base.TaskLines.{IsGraph}
 use Rattle.stream_lists.specs.Jobs.{Job, index_in}
@@ -12,7 +12,7 @@ use Rattle.stream_lists.specs.Lists.{contributions_on, sends_in, numbers_of, out
 use Rattle.stream_lists.specs.Ranges.{is_out_of_range, are_made, task_takes, is_taken, is_too_big, is_fault, first_too_big}
 use Rattle.stream_lists.specs.Entries.{AreInRange}
 use Rattle.stream_lists.proofs.EachPhase.{length-list}
-use Rattle.stream_lists.proofs.Fitting.{any-from, takes_parts, in_range}
+use Rattle.stream_lists.proofs.Fitting.{any-from, takes_parts, in_range, send-fits}
 use Rattle.stream_lists.proofs.Ordered.{place-at}
 use Rattle.graph_runs.specs.Moments.{value_at}
 
@@ -25,11 +25,6 @@ send_at : (xs : List ℤ) (i : ℕ) → AreSends xs → i < length xs → IsSend
 send_at [] i are lt = absurd (omega arith)
 send_at (x ∷ xs) zero are lt = are.0
 send_at (x ∷ xs) (suc i) are lt = send_at xs i are.1 (omega arith)
-
-send_fits : (v : ℤ) → IsSend v → is_out_of_range v ≡ false
-send_fits v is =
-    let small : leb (unsigned_abs v) value_max ≡ true =
-    le-leb (unsigned_abs v) value_max is.small in rw small refl
 
 -- a phase of phaser p that is too big and that some task takes
 pub phase_faults : (job : Job) (p n : ℕ) → IsGraph job.graph → p < length job.graph.phasers
@@ -68,5 +63,5 @@ output_faults_at job p t j i is pp there place live made lt e fits =
       made = made;
     }) in
     let fine : is_out_of_range (get_or list i (pos 0)) ≡ false =
-    send_fits (get_or list i (pos 0)) (send_at list i sends lt) in
+    send-fits (get_or list i (pos 0)) (send_at list i sends lt) in
     (let clash : true ≡ false = sym e ∙ fine in cc)

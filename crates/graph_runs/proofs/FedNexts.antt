@@ -1,26 +1,20 @@
 -- Where a task stands and what it does next stay with other samples, but for a source that was starved
 -- and has samples now.
-use Rattle.std.proofs.Common.{◌≡◌, ℕ, ℤ, Bool, cond, List, [], ◌∷◌, Option, Some, None, length, map, take, drop, refl, ap, ◌∙◌}
+use Rattle.std.proofs.Common.{◌≡◌, ℕ, ℤ, cond, List, [], Option, Some, None, length, map, take, drop, refl, ap, ◌∙◌}
 use Rattle.std.specs.Prelude.{nat_le, nat_lt, ◌||◌}
-use Rattle.std.specs.List.{range_with_len, find}
+use Rattle.std.specs.List.{range_with_len}
 use Rattle.stream_lists.specs.graph_base.Graphs.{task_at}
 use Rattle.stream_lists.specs.graph_base.declared.line.Kind.{Kind}
 use Rattle.stream_lists.specs.graph_base.declared.line.Kind.TheVariants.{Source, Fir, Split, Join, Peer, Sink}
 use Rattle.stream_lists.specs.stream_filters.Range.{ranged}
 use Rattle.stream_lists.specs.Jobs.{Job, samples_at, samples_in, with_samples}
 use Rattle.stream_lists.specs.Spans.{signalled_by}
+use Rattle.stream_lists.proofs.Basics.{find-same}
 use Rattle.graph_runs.specs.Moments.{Moment}
 use Rattle.graph_runs.specs.Nexts.{is_not_live, leaves, next_step, is_owed, first_owed, is_live, of_live, first_due, at_boundary, has_input_ended, is_cut, next_of}
 use Rattle.graph_runs.specs.TaskPlaces.{Owed, nothing, values, exchange, OwesUpTo, TaskPlace, StandsUpTo}
 use Rattle.graph_runs.specs.Feeds.{MayHaveRun}
 use Rattle.graph_runs.proofs.FedRuns.{made_fed}
-
-find-same : {X : Type 0} (f g : X → Bool) (xs : List X) → ((x : X) → f x ≡ g x)
-    → find f xs ≡ find g xs
-find-same f g [] same = refl
-find-same f g (x ∷ xs) same =
-    ap (λ b. cond b (Some x) (find f xs)) (same x)
-    ∙ ap (λ o. cond (g x) (Some x) o) (find-same f g xs same)
 
 -- of a source alone
 abbrev pub MayBe : Job → Moment → List (List ℤ) → ℕ → Type 0

@@ -45,7 +45,7 @@ use Rattle.graph_runs.proofs.Lacking.{first_none, first_is, lacks_here, next_all
 use Rattle.graph_runs.proofs.Stepping.{owes_nothing}
 
 -- what stands behind a list
-behind : (xs : List ℤ) (x : ℤ) (i : ℕ) → i ≡ length xs → get_or (xs ++ x ∷ []) i (pos 0) ≡ x
+pub behind : (xs : List ℤ) (x : ℤ) (i : ℕ) → i ≡ length xs → get_or (xs ++ x ∷ []) i (pos 0) ≡ x
 behind xs x i same =
     let le : length xs ≤ i = omega arith in
     let off : i - length xs ≡ 0 = omega arith in
@@ -60,7 +60,7 @@ in_range_is x e =
     rw small refl
 
 -- of its turns below a step, at the step that is its turn
-turn_count : (m b : ℕ) → 0 < m → turns_below m (b % m) b ≡ b / m
+pub turn_count : (m b : ℕ) → 0 < m → turns_below m (b % m) b ≡ b / m
 turn_count m b some =
     let split : b / m * m + b % m ≡ b = div-add-mod' b m in
     let rest : b % m < m = mod_below b m some in

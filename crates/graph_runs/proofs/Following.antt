@@ -1,7 +1,7 @@
 -- A task's place after others' events, and after those of its own that signal and wait for nothing.
 use Rattle.std.proofs.Common.{◌≡◌, ◌≢◌, ℕ, ◌+◌, ◌-◌, ◌<◌, ◌≤◌, Bool, true, false, cond, eqb, List, [], ◌∷◌, ◌++◌, Some, length, get_or, slice_get, map, ℤ, pos, refl, sym, ap, ◌∙◌, arith, ◌⊎◌, inl, inr}
 use Rattle.std.specs.Prelude.{nat_lt, unwrap_or, take, drop}
-use Rattle.std.specs.List.{find, range_with_len}
+use Rattle.std.specs.List.{range_with_len}
 use Rattle.std.proofs.lemmas.Bool.{eqb-true, eq-eqb, ne_eqb, cases_lt, le-ltb}
 use Rattle.std.proofs.lemmas.List.{length-append, get_or-append_right, get_or_append_left}
 use Rattle.std.proofs.lemmas.Option.{slice_get-get_or, slice_get_past}
@@ -20,6 +20,7 @@ use Rattle.stream_lists.specs.graph_base.TaskLines.{IsGraph}
 use Rattle.stream_lists.specs.Jobs.{Job}
 use Rattle.stream_lists.specs.Spans.{signalled_by}
 use Rattle.stream_lists.specs.Lists.{number}
+use Rattle.stream_lists.proofs.Basics.{find-same}
 use Rattle.graph_runs.specs.Moments.{Moment, made_now, limits_at}
 use Rattle.graph_runs.specs.Moves.{HasMoved, SameTask, Registers, RegistersNow, SignalsAll, WaitsAll}
 use Rattle.graph_runs.proofs.OwnEvents.{made_still, history_where}
@@ -29,13 +30,6 @@ use Rattle.graph_runs.specs.TaskPlaces.{Owed, nothing, values, exchange, OwesUpT
 use Rattle.graph_runs.proofs.Reaching.{one_registration}
 
 -- ---- what is owed stays
-
-find-same : {X : Type 0} (f g : X → Bool) (xs : List X) → ((x : X) → f x ≡ g x)
-    → find f xs ≡ find g xs
-find-same f g [] same = refl
-find-same f g (x ∷ xs) same =
-    ap (λ b. cond b (Some x) (find f xs)) (same x)
-    ∙ ap (λ o. cond (g x) (Some x) o) (find-same f g xs same)
 
 -- what a moment says of the steps of a task, wherever they begin
 pub record SameSteps (before after : Moment) (t : ℕ) : Type 0 where

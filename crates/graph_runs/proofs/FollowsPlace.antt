@@ -32,7 +32,7 @@ use Rattle.graph_runs.specs.Places.{owing, after_steps, after_leaving, IsMost}
 use Rattle.graph_runs.proofs.TellsNext.{staying_at, owes_as, ranged_values, is_first}
 
 -- a task that stays on all its phasers before and after keeps its registrations
-keeps_staying : (m after : Moment) (t : ℕ)
+pub keeps_staying : (m after : Moment) (t : ℕ)
     → ((q u : ℕ) → after.number q u ≡ m.number q u) → IsStaying m t → IsStaying after t
     → KeepsPlaces m after t
 keeps_staying m after t numbers before now = record {
@@ -41,7 +41,7 @@ keeps_staying m after t numbers before now = record {
 }
 
 -- what the outputs lack at a place that owes this
-lacks_as : {most : ℕ} (job : Job) (m : Moment) (t : ℕ) (at : TaskPlace) (o : Owed)
+pub lacks_as : {most : ℕ} (job : Job) (m : Moment) (t : ℕ) (at : TaskPlace) (o : Owed)
     → StandsUpTo most job m t at → at.owed ≡ o → Lacks job m t o
 lacks_as job m t at o stands is =
     rw is at stands.lacks

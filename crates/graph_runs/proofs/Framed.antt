@@ -1,13 +1,11 @@
 -- What a moment has of a task stays under others' events.
-use Rattle.std.proofs.Common.{◌≡◌, ℕ, ◌+◌, ◌<◌, ◌≤◌, true, eqb, [], ◌∷◌, Option, Some, None, length, map, refl, sym, ap, subst, ◌∙◌, arith, inl, inr}
+use Rattle.std.proofs.Common.{◌≡◌, ℕ, ◌+◌, ◌<◌, ◌≤◌, [], ◌∷◌, Option, Some, None, length, map, refl, sym, ap, subst, ◌∙◌, arith, inl, inr}
 use mathlib.Core.List.{IsPrefix}
-use Rattle.std.proofs.lemmas.Bool.{eq-eqb}
 use Rattle.std.proofs.lemmas.List.FromFn.{length-map-range_with_len}
 use Rattle.phase_history.specs.phase_base.declared.entry.Entry.{Entry}
 use Rattle.phase_history.specs.Histories.{History, done_of, has_dropped, start_of, phases_signalled}
 use Rattle.phase_history.specs.Phases.{received_by, stream_of, value_of_phase}
 use Rattle.phase_history.specs.Others.{OthersCame}
-use Rattle.phase_history.specs.phase_base.Lists.{is_in}
 use Rattle.phase_history.specs.Sent.{sent_by, IsSilent}
 use Rattle.phase_history.proofs.OthersEvents.{sent_by-others, has_dropped-others, received_by-others, phases_signalled-others}
 use Rattle.phase_history.proofs.Used.{start_of-longer}
@@ -24,11 +22,9 @@ use Rattle.graph_runs.specs.Moments.{one, Moment, BeginsBy, input_at, taken_now,
 use Rattle.graph_runs.specs.Moves.{SameTask, HasGrown, PartStays, OthersMoved}
 use Rattle.graph_runs.proofs.OnLines.{on_phaser}
 use Rattle.graph_runs.proofs.Tasks.{first_looks}
+use Rattle.graph_runs.proofs.Founding.{in_one}
 
 -- ---- the histories of others
-
-in_one : (n : ℕ) → is_in n (n ∷ []) ≡ true
-in_one n = let here : eqb n n ≡ true = eq-eqb n n refl in rw here refl
 
 -- others' events leave it
 pub part_came : (n : ℕ) (old new : History) → OthersCame (n ∷ []) old new → PartStays n old new

@@ -115,7 +115,7 @@ sink_line job c p is there sink =
     let outs : signalled_by (task_at job.graph c) ≡ (task_at job.graph c).outputs = rw sink refl in
     (both.0, ap length outs ∙ both.1)
 
-no_place : (xs : List ℕ) (p j : ℕ) → length xs ≡ 0 → index_in xs p ≡ Some j → ⊥
+pub no_place : (xs : List ℕ) (p j : ℕ) → length xs ≡ 0 → index_in xs p ≡ Some j → ⊥
 no_place [] p j none e = cc
 no_place (x ∷ xs) p j none e = absurd (omega arith)
 

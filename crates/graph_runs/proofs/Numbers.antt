@@ -2,13 +2,10 @@
 use Rattle.std.proofs.Common.{◌≡◌, ℕ, zero, suc, ◌+◌, ◌<◌, ◌≤◌, Bool, true, false, not, ◌&&◌, ◌||◌, eqb, List, Option, Some, None, length, refl, ap, ◌∙◌, arith, ◌⊎◌, inl, inr}
 use Rattle.std.specs.List.{filter_map, cons_option, range_with_len}
 use Rattle.std.proofs.lemmas.Bool.{eqb-true, eq-eqb, cases_lt}
+use Rattle.std.proofs.Math.Bool.{or-true}
 use Rattle.phase_history.specs.phase_base.Lists.{is_distinct, is_in}
 use Rattle.stream_lists.specs.Jobs.{Job}
 use Rattle.graph_runs.specs.Moments.{Moment, numbers_on, PhaserRan}
-
-or_right : (b : Bool) → (b || true) ≡ true
-or_right true = refl
-or_right false = refl
 
 -- a task's number stands among them
 pub in_numbers : (f : ℕ → Option ℕ) (from many t a : ℕ) → from ≤ t → t < from + many → f t ≡ Some a
@@ -28,7 +25,7 @@ in_numbers f from (suc many) t a low high e =
         skip : (o : Option ℕ) → is_in a (filter_map f (range_with_len (from + 1) many)) ≡ true
             → is_in a (cons_option o (filter_map f (range_with_len (from + 1) many))) ≡ true
         skip None g = g
-        skip (Some b) g = ap (λ c. eqb b a || c) g ∙ or_right (eqb b a)
+        skip (Some b) g = ap (λ c. eqb b a || c) g ∙ or-true (eqb b a)
     by (inr here) later =
         let same : from ≡ t = omega arith in
         let is : f from ≡ Some a = ap f same ∙ e in

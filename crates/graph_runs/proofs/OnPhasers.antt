@@ -1,7 +1,7 @@
 -- What the whole history of a phaser has: nobody has signalled there but the tasks, all have left,
 -- and each task's part is the one that it has seen.
 use Rattle.std.proofs.Common.{◌≡◌, ℕ, ◌<◌, Bool, true, false, eqb, ◌||◌, List, [], ◌∷◌, Option, Some, None, is_some, length, refl, sym, ap, subst, ◌∙◌, ◌⊎◌, inl, inr}
-use Rattle.std.proofs.lemmas.Bool.{eqb-true, eq-eqb}
+use Rattle.std.proofs.lemmas.Bool.{eqb-true, eq-eqb, or_right}
 use Rattle.phase_history.specs.phase_base.declared.entry.Entry.{Entry}
 use Rattle.phase_history.specs.Histories.{History, IsBeginning, start_of}
 use Rattle.phase_history.specs.declared.event.Event.TheVariants.{Made}
@@ -25,10 +25,6 @@ use Rattle.graph_runs.specs.Stops.{HasRunSoFar, IsStop}
 use Rattle.graph_runs.proofs.Founding.{events_stay, names_any, founder_silent, named_by_each}
 use Rattle.graph_runs.proofs.Owns.{used_by}
 use Rattle.graph_runs.proofs.Joined.{whole, whole_history, IsNumbered, is_numbered, number_there, number_given, number_among, among_is}
-
-or_right : (a b : Bool) → b ≡ true → (a || b) ≡ true
-or_right true b e = refl
-or_right false b e = e
 
 module _ (job : Job) (ends : Ends) (is : IsGraph job.graph) (r : IsStop job ends) (p : ℕ)
     (founder : FounderEnd) (w : HasRunSoFar job ends p founder (whole_history job ends is r p)) where

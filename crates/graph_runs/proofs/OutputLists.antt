@@ -6,6 +6,7 @@ use mathlib.Core.List.{IsPrefix}
 use Rattle.std.proofs.lemmas.List.FromFn.{length-map-range_with_len, get_or-map-range_with_len}
 use Rattle.std.proofs.lemmas.Bool.{le-leb}
 use Rattle.std.proofs.lemmas.Nat.{mod_below}
+use Rattle.phase_history.proofs.Streams.{IsPrefix-trans}
 use Rattle.stream_lists.specs.stream_filters.Filter.{outputs, output_at, output_after}
 use Rattle.stream_lists.specs.graph_base.declared.line.Kind.{Kind}
 use Rattle.stream_lists.specs.graph_base.declared.line.Kind.TheVariants.{Source, Fir, Split, Join, Peer, Sink}
@@ -15,7 +16,7 @@ use Rattle.stream_lists.specs.Spans.{turns_below, takes_from, puts_on, signalled
 use Rattle.stream_lists.specs.Lists.{entry, every, turn_at, in_turn, mixed_at, mixed, output_list}
 use Rattle.stream_lists.proofs.ListLengths.{steps_long}
 use Rattle.graph_runs.specs.Moments.{HasExchanged, HasSamples}
-use Rattle.graph_runs.proofs.Entries.{IsPrefix-trans, prefix_length, prefix_at, prefix_by, take_prefix, take_of_prefix}
+use Rattle.graph_runs.proofs.Entries.{prefix_length, prefix_at, prefix_by, take_prefix, take_of_prefix}
 use Rattle.graph_runs.proofs.TurnsLemmas.{turns-mono, turn-within, turn-taken}
 use Rattle.graph_runs.proofs.StepsLemmas.{has_inputs}
 

@@ -347,7 +347,7 @@ exchanged_more Peer zero put a b le x = tt
 exchanged_more Peer (suc j) put a b le x = let fits : put ≤ a = x in omega arith
 
 -- what was made before begins what is made after
-made_more : (job : Job) (before after : Moment) (t j : ℕ) (put : List ℤ)
+pub made_more : (job : Job) (before after : Moment) (t j : ℕ) (put : List ℤ)
     → IsTaskLine job.graph t (task_at job.graph t) → TaskRan job before t
     → j < length (signalled_by (task_at job.graph t)) → before.begun t ≤ after.begun t
     → ((k : ℕ) → k < length (task_at job.graph t).inputs

@@ -21,6 +21,7 @@ use Rattle.phase_history.proofs.Answered.{ended_tells}
 use Rattle.stream_lists.specs.Lists.{number}
 use Rattle.phase_history.specs.Phases.{received_by}
 use Rattle.phase_history.specs.Legal.{IsLegal, IsAccepted}
+use Rattle.phase_history.proofs.Beginnings.{IsBeginning-refl}
 use Rattle.stream_lists.specs.graph_base.Graphs.{task_at}
 use Rattle.stream_lists.specs.graph_base.TaskLines.{IsGraph}
 use Rattle.stream_lists.specs.Jobs.{Job}
@@ -32,7 +33,7 @@ use Rattle.graph_runs.proofs.OwnEvents.{eq_case, own_signals, own_waits}
 use Rattle.graph_runs.proofs.OwnLeaves.{own_leave}
 use Rattle.graph_runs.proofs.InBlocks.{next_signals_are, next_samples_are, first_waits_are}
 use Rattle.graph_runs.proofs.Nexts.{further-length}
-use Rattle.graph_runs.proofs.Turned.{exchange_wait_is, next_leave_is}
+use Rattle.graph_runs.proofs.Turned.{exchange_wait_is, next_leave_is, at_same}
 use Rattle.graph_runs.specs.Parts.{HasPart, SeesOthers, SeesOwn, put_event, AreNextValues, AreNextSamples, BeginsSteps, IsExchange, HasMovedOn, HasSeen, HasPut, HasGot, LeavesPart}
 
 -- ---- one history later
@@ -57,9 +58,6 @@ where_at p h m q P here there = by (eq_case q p)
     by : (q ≡ p) ⊎ (q ≢ p) → P ((with_history p h m).history q)
     by (inl e) = subst P (sym (ap (λ x. (with_history p h m).history x) e ∙ same_at p h m)) (here e)
     by (inr apart) = subst P (sym (other_at p h m q apart)) there
-
-pub still : (h : History) → IsBeginning h h
-still h = record { later = []; is = refl }
 
 pub no_change : (n : ℕ) (h : History) → PartStays n h h
 no_change n h = record { sent = refl; dropped = refl; signalled = refl; received = λ value. refl }
@@ -94,7 +92,7 @@ module _ (job : Job) (m : Moment) (t p n : ℕ) (h : History) (s : SeesOthers jo
         where_at p h m q (λ x. IsBeginning (m.history q) x)
         (λ e. (let B : ℕ → Type 0 = λ x. IsBeginning (m.history x) h in
         subst B (sym e) (record { later = s.others.later; is = s.others.is })))
-        (still (m.history q));
+        (IsBeginning-refl (m.history q));
   }
 
   moved : OthersMoved job m (with_history p h m) t
@@ -147,9 +145,6 @@ event_at : (p : ℕ) (event : Event) (before : History) (m after : Moment)
     → after.history p ≡ event ∷ before
 event_at p event before m after came = came ∙ ap (λ h. event ∷ h) (same_at p before m)
 
-set_at : {X : Type 0} (p : ℕ) (x : X) (f : ℕ → X) → with_at p x f p ≡ x
-set_at p x f = let here : eqb p p ≡ true = eq-eqb p p refl in rw here refl
-
 module _ (job : Job) (m after : Moment) (t p n : ℕ) (event : Event) (before : History)
     (part : HasPart job m t) (legal : IsLegal (limits_at job p) (event ∷ before))
     (moved : HasMoved job (with_history p before m) after t p event) where
@@ -182,7 +177,7 @@ module _ (job : Job) (m after : Moment) (t p n : ℕ) (event : Event) (before : 
     others_begun = λ u apart. (moved.others u apart).begun;
   }
 
-  -- it has left none of its phasers still
+  -- it has left none of its phasers IsBeginning-refl
   staying_after : ((h : History) (u : ℕ) → has_dropped (event ∷ h) u ≡ has_dropped h u)
       → IsStaying m t → IsStaying (with_history p before m) t → IsStaying after t
   staying_after same staying staying_before = λ q u at.
@@ -228,7 +223,7 @@ module _ (job : Job) (m : Moment) (t p n : ℕ) (before : History) (is : IsGraph
         record {
           moved = moved_on job m after t p n event before part sees.legal signals.moved ran
               (λ u. refl);
-          begun_is = set_at t begun m.begun ∙ same;
+          begun_is = at_same t begun m.begun ∙ same;
           taken = signals.taken;
           put = signals.put;
           other_puts = signals.other_puts;
@@ -311,7 +306,7 @@ module _ (job : Job) (m : Moment) (t p n : ℕ) (before : History) (is : IsGraph
           record {
             moved = moved_on job m after t p n wait before part sees.legal waits.moved ran
                 (λ u. refl);
-            begun_is = set_at t begun m.begun ∙ same;
+            begun_is = at_same t begun m.begun ∙ same;
             taken = waits.taken;
             other_takes = waits.other_takes;
             put = waits.put;
@@ -397,7 +392,7 @@ module _ (job : Job) (m : Moment) (t p n : ℕ) (before : History) (is : IsGraph
             → IsBeginning (now.history q) ((after_leave p n now).history q)
         begins q (inl e) =
             let B : ℕ → Type 0 = λ x. IsBeginning (now.history x) ((after_leave p n now).history x) in
-            subst B (sym e) (record { later = Dropped n ∷ []; is = set_at p (Dropped n ∷ now.history p) now.history })
+            subst B (sym e) (record { later = Dropped n ∷ []; is = at_same p (Dropped n ∷ now.history p) now.history })
         begins q (inr apart) = record { later = []; is = ne_at q apart }
           where
             ne_at : (q : ℕ) → q ≢ p → (after_leave p n now).history q ≡ now.history q

@@ -3,12 +3,12 @@ use Rattle.std.proofs.Common.{◌≡◌, ℕ, zero, suc, ◌+◌, ◌<◌, ◌�
 use mathlib.Core.List.{IsPrefix}
 use Rattle.std.specs.List.{range_with_len, filter}
 use Rattle.std.proofs.lemmas.List.FromFn.{length-map-range_with_len}
+use Rattle.std.proofs.lemmas.Bool.{cases_Bool}
 use Rattle.phase_history.specs.Histories.{done_of, HasNoSignaller}
 use Rattle.phase_history.specs.Phases.{stream_of, value_of_phase}
-use Rattle.stream_lists.specs.graph_base.declared.line.Kind.{Kind}
-use Rattle.stream_lists.specs.graph_base.declared.line.Kind.TheVariants.{Source, Fir, Split, Join, Peer, Sink}
+use Rattle.stream_lists.specs.graph_base.declared.line.Kind.TheVariants.{Sink}
 use Rattle.stream_lists.specs.graph_base.declared.line.Parent.{Parent}
-use Rattle.stream_lists.specs.graph_base.Graphs.{Task, task_at, is_sink}
+use Rattle.stream_lists.specs.graph_base.Graphs.{Task, task_at}
 use Rattle.stream_lists.specs.graph_base.TaskLines.{IsParent}
 use Rattle.stream_lists.specs.declared.span.Span.{Span}
 use Rattle.stream_lists.specs.Jobs.{Job, samples_at, start_at, index_in}
@@ -16,6 +16,7 @@ use Rattle.stream_lists.specs.Spans.{spans_of, lengths_of, span_at, span_in, off
 use Rattle.stream_lists.specs.Lists.{numbers_of, list_over, phase_in, contributions_on, taken_from, sink_over, sinks_of, is_sink_at, lines_of}
 use Rattle.stream_lists.proofs.SpansAbove.{spans_all}
 use Rattle.stream_lists.proofs.Ordered.{parent_waits}
+use Rattle.stream_lists.proofs.Basics.{sink_kind}
 use Rattle.graph_runs.specs.Moments.{Moment, HasRun, IsRegistered, IsOver, IsChild, HasNotPassed, TakenOn, input_at, value_at}
 use Rattle.graph_runs.specs.Settled.{Stands}
 use Rattle.graph_runs.proofs.Composed.{Composes}
@@ -141,10 +142,6 @@ came_out job m ready ran over t p j there pp place none live =
     (λ u i there_u at registered. stands_all job m ready ran u there_u registered) (suc t) t j
     (omega arith) there place none live []).held (over.quiet p pp)
 
-dead_or : (b : Bool) → (b ≡ true) ⊎ (b ≡ false)
-dead_or true = inl refl
-dead_or false = inr refl
-
 dead_span : (job : Job) (t n : ℕ) (task : Task) (o : Option ℕ)
     → span_in job t ≡ span_at task n (lengths_of job) o → (span_in job t).live ≡ false
     → (span_in job t).steps ≡ 0
@@ -180,7 +177,7 @@ pub sinks_whole : (job : Job) (m : Moment) (t : ℕ) → IsReadyAt job m → Has
     → (task_at job.graph t).kind ≡ Sink
     → m.taken t 0 ≡ taken_from (numbers_of job) (task_at job.graph t) (span_in job t) 0
 sinks_whole job m t ready ran over there sink =
-    by (m.number (input_at (task_at job.graph t) 0) t) refl (dead_or ((span_in job t).live))
+    by (m.number (input_at (task_at job.graph t) 0) t) refl (cases_Bool ((span_in job t).live))
   where
     lt : 0 < length (task_at job.graph t).inputs
     lt = (let both : (length (task_at job.graph t).inputs ≡ 1)
@@ -230,15 +227,6 @@ map-filtered f g test a (suc n) same =
       | false ↦ λ e. rest
     ] refl
 
--- the one kind of a sink
-pub sink_is : (kind : Kind) → is_sink kind ≡ true → kind ≡ Sink
-sink_is Source e = absurd (cc)
-sink_is Fir e = absurd (cc)
-sink_is Split e = absurd (cc)
-sink_is Join e = absurd (cc)
-sink_is Peer e = absurd (cc)
-sink_is Sink e = refl
-
 -- the lines of a job are what its sinks have taken
 pub lines_are : (job : Job) (m : Moment) → IsReadyAt job m → HasRun job m → IsOver job m
     → lines_of job ≡ map (λ t. (t, m.taken t 0)) (sinks_of job)
@@ -247,4 +235,4 @@ lines_are job m ready ran over =
     (is_sink_at job) 0 (length job.graph.tasks)
     (λ t lt e. (let there : t < length job.graph.tasks = omega arith in
     ap (λ values. (t, values))
-    (sym (sinks_whole job m t ready ran over there (sink_is (task_at job.graph t).kind e)))))
+    (sym (sinks_whole job m t ready ran over there (sink_kind (task_at job.graph t).kind e)))))

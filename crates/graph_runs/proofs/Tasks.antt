@@ -12,6 +12,7 @@ use Rattle.phase_history.specs.Phases.{value_of_phase, stream_of}
 use Rattle.phase_history.specs.Laws.{HasReceivedFrom}
 use Rattle.phase_history.proofs.Left.{received_law}
 use Rattle.phase_history.proofs.Streams.{prefix_of_values}
+use Rattle.phase_history.proofs.Received.{part_of_longer}
 use Rattle.stream_lists.specs.graph_base.declared.line.Kind.{Kind}
 use Rattle.stream_lists.specs.graph_base.declared.line.Kind.TheVariants.{Source, Fir, Split, Join, Peer, Sink}
 use Rattle.stream_lists.specs.graph_base.declared.line.Parent.{Parent}
@@ -22,11 +23,11 @@ use Rattle.stream_lists.specs.Jobs.{Job, samples_at}
 use Rattle.stream_lists.specs.Spans.{spans_of, lengths_of, span_at, span_in, offset_of, cut_at, enough_for, values_from, takes_from, signalled_by, puts_on, LooksAt, schedule_of}
 use Rattle.stream_lists.specs.Lists.{contributions_on, number, numbers_of, list_over, phase_in, output_on, taken_by, taken_from}
 use Rattle.stream_lists.proofs.ListsAbove.{numbers_all}
-use Rattle.stream_lists.proofs.ListLengths.{length-numbers, outputs_long}
+use Rattle.stream_lists.proofs.ListLengths.{length-numbers, outputs_long, source_enough}
 use Rattle.graph_runs.specs.Moments.{Moment, BeginsBy, input_at, taken_now, made_now, limits_at, value_at, PhaserRan, TaskRan, MayStop, at_until, no_sample, no_input, OnInput, TakenOn, Joined, HasExchanged, first_input}
 use Rattle.graph_runs.specs.Settled.{Stands, PutsOut}
 use Rattle.graph_runs.proofs.Composed.{Composes, HasRead}
-use Rattle.graph_runs.proofs.Entries.{prefix_whole, take_prefix, take_full, part_of_longer}
+use Rattle.graph_runs.proofs.Entries.{prefix_whole, take_prefix, take_full}
 use Rattle.graph_runs.proofs.StepsLemmas.{within_cut, cut_below, cut_until, has_inputs, enough-above, enough-below, takes-mono, taken_count, taken_most}
 use Rattle.graph_runs.proofs.OutputLists.{outputs_begin, length_made}
 use Rattle.std.specs.Prelude.{slice_range, max, if◌then◌else◌}
@@ -165,10 +166,6 @@ first_looks task b ends not = by task.kind refl
     by Join e = rw e (mod_below b (length task.inputs) some, tt)
     by Peer e = rw e (some, refl)
     by Sink e = rw e (some, tt)
-
-source_enough : (task : Task) (samples : ℕ) (values : List ℕ) → task.kind ≡ Source
-    → enough_for task samples values ≡ samples
-source_enough task samples values e = rw e refl
 
 pub stands_from : (job : Job) (m : Moment) (t : ℕ) → IsGraph job.graph → t < length job.graph.tasks
     → TaskRan job m t

@@ -3,7 +3,7 @@ use Rattle.std.proofs.Common.{◌≡◌, ℕ, zero, suc, ◌+◌, ◌-◌, ◌<�
 use Rattle.std.specs.Prelude.{nat_le, nat_lt, min, slice_range}
 use Rattle.std.proofs.lemmas.List.{length-take, length-take-le, length-drop}
 use Rattle.std.specs.List.{find, range_with_len}
-use Rattle.std.proofs.lemmas.Bool.{and_parts, and_cases, leb-false, ltb-false, cases_lt, not_from_false}
+use Rattle.std.proofs.lemmas.Bool.{and_parts, and_cases, leb-false, ltb-false, cases_lt, not_from_false, or_parts}
 use Rattle.std.proofs.lemmas.Option.{same_Some}
 use Rattle.phase_history.specs.phase_base.Members.{signal_phases}
 use Rattle.phase_history.specs.phase_accum.Sends.{AreSends}
@@ -29,7 +29,7 @@ use Rattle.graph_runs.proofs.PlacesLemmas.{place_of_output}
 use Rattle.graph_runs.proofs.Signalling.{Live, live-is, number_there, stays, owed, not_ended, values_few}
 use Rattle.graph_runs.proofs.Found.{all_fail}
 use Rattle.graph_runs.proofs.Blocks.{block_some, block_few}
-use Rattle.graph_runs.proofs.Boundaries.{made_many, peer_ends, goes_on, no_signaller, or_false}
+use Rattle.graph_runs.proofs.Boundaries.{made_many, peer_ends, goes_on, no_signaller}
 use Rattle.graph_runs.proofs.Calling.{waits_as_peer, source_ends}
 use Rattle.graph_runs.proofs.Ranged.{made_ranged, sends_ranged, take_ranged, drop_ranged}
 use Rattle.graph_runs.proofs.TurnEntries.{on_output}
@@ -290,7 +290,7 @@ boundary_told steps most job m t sizes is samples reached live kept =
         (next_step (task_at job.graph t) (m.begun t) (task_at job.graph t).kind)))
     by true end = leave_told job m t is reached live kept
     by false end =
-        let both = or_false (is_cut (task_at job.graph t).until (m.begun t))
+        let both = or_parts (is_cut (task_at job.graph t).until (m.begun t))
         (has_input_ended job m t (task_at job.graph t).kind) end in
         step_told steps most job m t sizes is samples reached live both.0 both.1
 

@@ -6,6 +6,7 @@ use Rattle.std.proofs.lemmas.List.{length-append, append_assoc}
 use Rattle.phase_history.specs.phase_accum.declared.outcome.Outcome.{Outcome}
 use Rattle.phase_history.specs.declared.event.Event.TheVariants.{Registered, Signalled, Waited, Dropped}
 use Rattle.phase_history.specs.phase_base.declared.mode.Mode.{Mode}
+use Rattle.phase_history.proofs.Streams.{IsPrefix-trans}
 use Rattle.stream_lists.specs.graph_base.declared.line.Parent.{Parent}
 use Rattle.stream_lists.specs.graph_base.declared.line.Kind.{Kind}
 use Rattle.stream_lists.specs.graph_base.declared.line.Kind.TheVariants.{Source, Fir, Split, Join, Peer, Sink}
@@ -18,7 +19,7 @@ use Rattle.stream_lists.proofs.Ordered.{place-at}
 use Rattle.graph_runs.specs.Moments.{Moment, HasRun, TaskRan, made_now, taken_now}
 use Rattle.graph_runs.specs.Moves.{IsBlock, Signals, Waits, Leaves, Registers, SameTask, HasMoved}
 use Rattle.graph_runs.specs.Turned.{with_at, after_signal, after_wait, after_leave, after_register, IsAcceptedSignal, IsNextSignal, IsNextSample, IsAnsweredWait, IsFirstWait, IsExchangeWait, IsNextLeave, IsNextChild}
-use Rattle.graph_runs.proofs.Entries.{IsPrefix-trans, take_prefix, take_full, get_or-take}
+use Rattle.graph_runs.proofs.Entries.{take_prefix, take_full, get_or-take}
 use Rattle.graph_runs.proofs.OwnEvents.{made_still, eq_case}
 use Rattle.graph_runs.proofs.Keeping.{signal_keeps, wait_keeps, leave_keeps}
 use Rattle.graph_runs.proofs.ChildJoins.{register_keeps}

@@ -1,5 +1,6 @@
 -- A turn makes an event that is the task's next one.
 use Rattle.std.proofs.Common.{◌≡◌, ℕ, Bool, true, false, ◌||◌, cond, Option, Some, None, length, refl, sym, ◌∙◌}
+use Rattle.std.proofs.lemmas.Bool.{or_parts}
 use Rattle.stream_lists.specs.graph_base.declared.line.Kind.{Kind}
 use Rattle.stream_lists.specs.graph_base.declared.line.Kind.TheVariants.{Source, Fir, Split, Join, Peer, Sink}
 use Rattle.stream_lists.specs.graph_base.Graphs.{task_at}
@@ -12,7 +13,6 @@ use Rattle.graph_runs.specs.Nexts.{HasChildrenToCome, is_not_live, leaves, signa
 use Rattle.graph_runs.specs.NextBlocks.{AreSizes, MaySize}
 use Rattle.graph_runs.specs.Answers.{makes, answer_up_to, turn_up_to}
 use Rattle.graph_runs.proofs.Signalling.{Live, live-is, signal_next}
-use Rattle.graph_runs.proofs.Boundaries.{or_false}
 use Rattle.graph_runs.proofs.Calling.{sample_next, first_wait_next, exchange_next, leave_next}
 
 -- the rest of a step
@@ -80,7 +80,7 @@ childless steps most job m t event sizes is ran live none due answer =
         → IsNext job m event
     by true end answer = leave_next job m t event is ran live none due end answer
     by false end answer =
-        let both = or_false (is_cut (task_at job.graph t).until (m.begun t))
+        let both = or_parts (is_cut (task_at job.graph t).until (m.begun t))
         (has_input_ended job m t (task_at job.graph t).kind) end in
         stepping steps most job m t event sizes is ran live none due both.0 both.1 answer
 

@@ -4,33 +4,18 @@ use Rattle.std.specs.List.{range_with_len}
 use Rattle.std.proofs.Math.Seq.{take-append_seam}
 use Rattle.std.proofs.lemmas.List.FromFn.{length-range_with_len}
 use Rattle.std.proofs.lemmas.List.{append_assoc, drop_more, length-drop, length-map, length-take-le, map_more, set-append_right}
-use Rattle.phase_core.specs.phase_base.Limits.{Limits, AreLimits}
+use Rattle.phase_core.specs.phase_base.Limits.{Limits}
 use Rattle.phase_core.specs.phase_accum.declared.outcome.Outcome.{Outcome}
-use Rattle.phase_core.specs.phase_history.declared.event.Event.TheVariants.{Made, Registered, RegisteredNow, Signalled, Waited, Dropped}
 use Rattle.phase_core.specs.phase_history.declared.got.GotBlock.{GotBlock}
 use Rattle.phase_core.specs.phase_history.declared.got.GotBlock.TheVariants as block
 use Rattle.phase_core.specs.phase_history.declared.refusal.WaitRefusal.{WaitRefusal}
 use Rattle.phase_core.specs.phase_history.Histories.{History, done_of}
-use Rattle.phase_core.specs.phase_history.Legal.{IsLegal}
 use Rattle.phase_core.specs.phase_history.Phases.{stream_of, value_of_phase}
 use Rattle.phase_core.specs.phase_history.Replies.{wait_block_reply}
 use Rattle.phase_core.specs.Blocks.{written}
 use Rattle.phase_core.proofs.phase_history_lemmas.BlockAnswers.{block_answers_law}
 use Rattle.handle_numbers.specs.Blocks.{numbers_written, numbers_after}
 use Rattle.handle_numbers.specs.Numbers.{value_number}
-
--- the limits of a legal history are within theirs
-pub legal-limits : (limits : Limits) (h : History) → IsLegal limits h → AreLimits limits
-legal-limits limits [] legal = absurd legal
-legal-limits limits (Made task ∷ before) legal = legal.0
-legal-limits limits (Registered parent child mode ∷ before) legal =
-    legal-limits limits before legal.0
-legal-limits limits (RegisteredNow parent child ∷ before) legal =
-    legal-limits limits before legal.0
-legal-limits limits (Signalled task lists single ∷ before) legal =
-    legal-limits limits before legal.0
-legal-limits limits (Waited task n ∷ before) legal = legal-limits limits before legal.0
-legal-limits limits (Dropped task ∷ before) legal = legal-limits limits before legal.0
 
 -- ---- what is written
 

@@ -1,9 +1,21 @@
 -- Parts of lists of sends, and what a task holds, under the laws of an accumulator.
-use Rattle.std.proofs.Common.{◌≡◌, ◌+◌, ◌≤◌, ℤ, List, [], ◌∷◌, ◌++◌, length, refl, sym, ◌∙◌, ap, arith, length-append}
+use Rattle.std.proofs.Common.{◌≡◌, ◌+◌, ◌≤◌, ℕ, zero, suc, ℤ, List, [], ◌∷◌, ◌++◌, length, take, drop, nat_abs, SFits, w64, to_z, of_z, refl, sym, ◌∙◌, ap, arith, length-append}
+use Rattle.std.proofs.lemmas.Int.{ints}
 use Rattle.phase_base.specs.declared.limits.TheConstants.{SENDS_MAX}
-use Rattle.phase_accum.specs.Sends.{IsSend, AreSends}
+use Rattle.phase_accum.specs.Sends.{IsSend, AreSends, value_max}
 use Rattle.phase_accum.specs.Operations.{Operation, part, IsPartOf, MayJoin, AccumulateLaws}
 use Rattle.phase_accum.specs.Parcels.{Parcel, parcel, StandsForSends}
+
+-- ---- values that can be sent
+
+-- a number of 64 bits that is not the lowest can be sent
+pub can_send : (v : ℤ) → SFits w64 v → (of_z w64 v ≡ 9223372036854775808 → ⊥) → IsSend v
+can_send v fits other = record { small = omega (arith, ints) }
+
+-- and what can be sent is one of 64 bits
+pub send-same : (v : ℤ) → IsSend v → to_z w64 (of_z w64 v) ≡ v
+send-same v is =
+    let small : nat_abs v ≤ value_max = is.small in omega (arith, ints, small)
 
 -- ---- lists of sends
 
@@ -18,6 +30,16 @@ AreSends-append_left (x ∷ xs) ys s = (s.0, AreSends-append_left xs ys s.1)
 pub AreSends-append_right : (xs ys : List ℤ) → AreSends (xs ++ ys) → AreSends ys
 AreSends-append_right [] ys s = s
 AreSends-append_right (x ∷ xs) ys s = AreSends-append_right xs ys s.1
+
+pub AreSends-take : (n : ℕ) (xs : List ℤ) → AreSends xs → AreSends (take n xs)
+AreSends-take zero xs are = tt
+AreSends-take (suc n) [] are = tt
+AreSends-take (suc n) (x ∷ xs) are = (are.0, AreSends-take n xs are.1)
+
+pub AreSends-drop : (n : ℕ) (xs : List ℤ) → AreSends xs → AreSends (drop n xs)
+AreSends-drop zero xs are = are
+AreSends-drop (suc n) [] are = tt
+AreSends-drop (suc n) (x ∷ xs) are = AreSends-drop n xs are.1
 
 -- ---- parts
 

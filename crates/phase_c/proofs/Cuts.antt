@@ -8,19 +8,12 @@ use Rattle.std.specs.List.{sum}
 use Rattle.stream_eval.specs.stream_filters.Range.{lowest}
 use Rattle.graph_numbers.specs.graph_lang.phase_accum.Sends.{AreSends, IsSend}
 use Rattle.stream_eval.specs.stream_lists.JobFields.{items_of}
+use Rattle.stream_eval.proofs.stream_lists_lemmas.phase_accum_lemmas.Parts.{AreSends-append}
 use Rattle.phase_c.specs.Lent.{cut}
-
--- a number of 64 bits that is not the lowest can be sent
-pub can_send : (v : ℤ) → SFits w64 v → (of_z w64 v ≡ 9223372036854775808 → ⊥) → IsSend v
-can_send v fits other = record { small = omega (arith, ints) }
 
 -- the one with these bits is the lowest
 pub is_lowest : (v : ℤ) → SFits w64 v → of_z w64 v ≡ 9223372036854775808 → v ≡ lowest
 is_lowest v fits same = omega (arith, ints)
-
-pub AreSends-append : (xs ys : List ℤ) → AreSends xs → AreSends ys → AreSends (xs ++ ys)
-AreSends-append [] ys s t = t
-AreSends-append (x ∷ xs) ys s t = (s.0, AreSends-append xs ys s.1 t)
 
 -- one more can be sent
 pub sends_more : (values : List ℤ) (i : ℕ) (d : ℤ) → i < length values

@@ -10,12 +10,12 @@ use Rattle.graph_numbers.specs.graph_lang.phase_accum.Sends.{AreSends, IsSend, v
 use Rattle.stream_eval.specs.stream_filters.Filter.{FirState, StandsFor, back, output_after, shifted_down}
 use Rattle.stream_eval.specs.stream_filters.Range.{ranged}
 use Rattle.stream_eval.specs.stream_filters.declared.fault.TooBigValue.{TooBigValue}
-use Rattle.stream_eval.proofs.Made.{ranged-err, ranged-ok}
 use Rattle.stream_eval.proofs.stream_lists_lemmas.Growing.{map-same}
 use Rattle.stream_eval.proofs.stream_lists_lemmas.InRange.{IsSend-in_range}
 use Rattle.stream_eval.proofs.stream_lists_lemmas.stream_filters_lemmas.Weighted.{weighted-same}
+use Rattle.stream_eval.proofs.stream_lists_lemmas.phase_accum_lemmas.Parts.{AreSends-append}
+use Rattle.stream_eval.proofs.stream_lists_lemmas.stream_filters_lemmas.Made.{ranged-ok, ranged-err}
 use Rattle.phase_c.specs.Filtered.{AreOfFilter, Filters, FiltersAll, FiltersTo, ShowsLast, first_outputs, output_behind}
-use Rattle.phase_c.proofs.Cuts.{AreSends-append}
 
 -- ---- one sample after the other
 

@@ -22,6 +22,7 @@ use Rattle.phase_history.proofs.Each.{Each, Each-of_picked, Each-picked, least_l
 use Rattle.phase_history.proofs.MemberLemmas.{Each-entry, Each-changed}
 use Rattle.phase_history.proofs.Refused.{WaitsNow, waits_from}
 use Rattle.phase_history.proofs.Steps.{member_entry_is, first_named_not}
+use Rattle.phase_history.proofs.Bounded.{none_least}
 
 -- ---- phases that no signal has joined
 
@@ -61,11 +62,6 @@ pub record Waits {A : Type 0} (old new : CoreState A) (task n : ℕ) : Type 0 wh
   pub top_same : new.top ≡ old.top
   pub kept : (slowest p : ℕ) (slot : KeptSlot A) → least (wait_phases new.members) ≡ Some slowest → slowest ≤ p
       → IsSlotOf old p slot → IsSlotOf new p slot
-
--- a list without a least has no number
-pub none_least : (P : ℕ → Type 0) (xs : List ℕ) → least xs ≡ None → Each P xs
-none_least P [] none = tt
-none_least P (x ∷ xs) none = absurd (cc)
 
 -- the slowest waiter before a wait was no further than after it
 pub slowest_before : (ms : Members) (task n slowest : ℕ) (e : Entry) → entry_of ms task ≡ Some e → mode_waits e.mode ≡ true

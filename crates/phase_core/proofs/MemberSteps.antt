@@ -18,7 +18,7 @@ use Rattle.phase_history.proofs.Each.{Each, Each-of_picked, Each-picked, Each-fi
 use Rattle.phase_history.proofs.MemberLemmas.{Each-entry, holds_waits}
 use Rattle.phase_history.proofs.Steps.{member_entry_is}
 use Rattle.phase_history.proofs.Refused.{Registers as MayRegister, registers_from}
-use Rattle.phase_core.proofs.CoreSteps.{none_least}
+use Rattle.phase_history.proofs.Bounded.{none_least}
 
 -- where some waiter is left, the slowest one was there before
 slowest_kept : (ms more : Members)

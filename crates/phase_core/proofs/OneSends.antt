@@ -1,25 +1,13 @@
 -- Values that can be sent, and places that hold one send each.
-use Rattle.std.proofs.Common.{◌≡◌, ℕ, zero, suc, ◌+◌, ◌<◌, ◌≤◌, List, [], ◌∷◌, ◌++◌, ℤ, length, take, get_or, set, nat_abs, w64, to_z, of_z, arith}
+use Rattle.std.proofs.Common.{ℕ, suc, ◌+◌, ◌<◌, ◌≤◌, List, [], ◌∷◌, ◌++◌, ℤ, length, take, get_or, set, arith}
 use Rattle.std.specs.Prelude.{unsigned_abs}
 use Rattle.std.specs.List.{All}
-use Rattle.std.proofs.lemmas.Int.{ints}
 use Rattle.std.proofs.lemmas.List.{map_more, take_more_set}
+use Rattle.phase_ring.proofs.Held.{AreSends-at}
 use Rattle.phase_history.specs.phase_accum.Operations.{Operation}
 use Rattle.phase_history.specs.phase_accum.Parcels.{Parcel, StandsForSends}
-use Rattle.phase_history.specs.phase_accum.Sends.{AreSends, IsSend, value_max}
+use Rattle.phase_history.specs.phase_accum.Sends.{AreSends, value_max}
 use Rattle.phase_core.specs.Blocks.{StandForLists, one_each}
-
--- a number that can be sent is one of 64 bits
-pub send-same : (v : ℤ) → IsSend v → to_z w64 (of_z w64 v) ≡ v
-send-same v is =
-    let small : nat_abs v ≤ value_max = is.small in omega (arith, ints, small)
-
--- each of them can be sent
-pub send-at : (values : List ℤ) (i : ℕ) (d : ℤ) → AreSends values → i < length values
-    → IsSend (get_or values i d)
-send-at [] i d are within = absurd (omega arith)
-send-at (v ∷ values) zero d are within = are.0
-send-at (v ∷ values) (suc i) d are within = send-at values i d are.1 (omega arith)
 
 -- those of which each is small are those that can be sent
 pub small-sends : (values : List ℤ) → All (λ v. unsigned_abs v ≤ value_max) values
@@ -32,7 +20,7 @@ small-sends (v ∷ values) all = (
 
 pub sends-small : (values : List ℤ) → AreSends values
     → All (λ v. unsigned_abs v ≤ value_max) values
-sends-small values are = λ k d within. (send-at values k d are within).small
+sends-small values are = λ k d within. (AreSends-at values k d are within).small
 
 stand-push : {A : Type 0} (op : Operation A) (held : List (Parcel A)) (lists : List (List ℤ))
     (more : Parcel A) (sends : List ℤ) → StandForLists op held lists

@@ -1,6 +1,6 @@
 -- A signal and a wait of the only member, at a phase that no signal has joined.
 use Rattle.std.proofs.Common.{◌≡◌, ℕ, ℤ, ◌+◌, ◌<◌, eqb, leb, ltb, true, false, not, cond, List, [], ◌∷◌, ◌++◌, Option, Some, None, Ok, max, length, refl, sym, subst, ◌∙◌, ap, arith, inl, inr, ◌≤◌}
-use Rattle.std.specs.Prelude.{is_some, unwrap_or, IfSome}
+use Rattle.std.specs.Prelude.{unwrap_or, IfSome}
 use Rattle.std.specs.Option.{option_and_then}
 use Rattle.std.proofs.lemmas.Option.{same_Some}
 use Rattle.std.proofs.lemmas.Bool.{eq-eqb, ne_eqb, eqb-true, le-leb, lt-leb, lt-ltb, le-ltb}
@@ -27,6 +27,7 @@ use Rattle.phase_history.specs.Replies.{wait_reply, refused_or, got_at}
 use Rattle.phase_history.specs.Legal.{IsLegal}
 use Rattle.phase_history.proofs.Refused.{first_row_none}
 use Rattle.phase_history.proofs.Steps.{member_entry_is}
+use Rattle.phase_history.proofs.Standstill.{limits_of}
 use Rattle.phase_ring.specs.declared.board.Board.{Board}
 use Rattle.phase_ring.specs.declared.role.Role.TheVariants.{Signaller, Waiter}
 use Rattle.phase_ring.specs.Rings.{slot_at}
@@ -41,13 +42,8 @@ use Rattle.phase_core.proofs.Admitting.{Met, passed, admitted, replied}
 use Rattle.phase_core.proofs.Boarded.{boarded_beside, slowest_is}
 use Rattle.phase_core.proofs.CoreSteps.{none_from_top}
 use Rattle.phase_core.proofs.LeastCounts.{one-same}
-use Rattle.phase_core.proofs.Replies.{limits_of, got_value}
+use Rattle.phase_core.proofs.Replies.{got_value}
 use Rattle.phase_core.proofs.SignalSlots.{lists-are}
-
--- there is none
-pub none_of : {X : Type 0} (o : Option X) → is_some o ≡ false → o ≡ None
-none_of None none = refl
-none_of (Some x) none = absurd (cc)
 
 -- ---- one member
 

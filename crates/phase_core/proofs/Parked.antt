@@ -10,6 +10,7 @@ use Rattle.phase_history.proofs.Each.{Each, Each-of_picked, least_low}
 use Rattle.phase_history.specs.phase_accum.Operations.{Operation}
 use Rattle.phase_history.specs.phase_accum.declared.single.Single.{Single}
 use Rattle.phase_history.specs.declared.event.Event.TheVariants.{Made, Dropped}
+use Rattle.phase_history.proofs.Standstill.{limits_of}
 use Rattle.phase_registry.specs.phase_base.Limits.{AreLimits, Limits}
 use Rattle.phase_registry.specs.phase_base.Modes.{mode_signals, mode_waits}
 use Rattle.phase_registry.specs.phase_base.declared.entry.Entry.{Entry}
@@ -29,7 +30,6 @@ use Rattle.phase_core.specs.Cores.{CoreState, StandsFor, IsBoarded, IsCore, core
 use Rattle.phase_core.specs.Plain.{IsPlain, left_roster, plain_core, plain_slot, unused_slot}
 use Rattle.phase_core.proofs.Boarded.{slowest_is}
 use Rattle.phase_core.proofs.LeastCounts.{one-same, one-other, signaller-counted}
-use Rattle.phase_core.proofs.Replies.{limits_of}
 
 -- ---- slots that stand aside
 

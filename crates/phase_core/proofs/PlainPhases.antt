@@ -4,6 +4,8 @@ use Rattle.std.specs.Prelude.{slice_get}
 use Rattle.std.proofs.lemmas.List.{append-nil, length-append, length-map, length-drop}
 use Rattle.std.proofs.lemmas.Option.{same_Some}
 use Rattle.std.proofs.lemmas.Bool.{le-leb, lt-ltb, lt-leb, cases_lt}
+use Rattle.phase_ring.proofs.Slots.{slice_get-append_left}
+use Rattle.phase_ring.proofs.Held.{AreSends-at}
 use Rattle.phase_registry.specs.phase_base.Limits.{Limits}
 use Rattle.phase_registry.specs.phase_base.declared.entry.Entry.{Entry}
 use Rattle.phase_registry.specs.phase_base.Members.{entry_of, changed_at, signalled, waited, wait_phases, least}
@@ -24,15 +26,14 @@ use Rattle.phase_history.specs.Legal.{IsLegal}
 use Rattle.phase_core.proofs.SignalRows.{first_or, first_row-append}
 use Rattle.phase_history.specs.Legal.{AreLists}
 use Rattle.phase_history.proofs.MemberLemmas.{wait_phases-signalled}
-use Rattle.phase_history.proofs.Sendings.{list_in_phase-place, list_in_phase-below}
+use Rattle.phase_history.proofs.Sendings.{list_in_phase-place}
 use Rattle.phase_history.proofs.BlockLeaves.{is_among-below}
-use Rattle.phase_history.proofs.Steps.{first_named_not}
+use Rattle.phase_history.proofs.Steps.{first_named_not, list_in_phase-below}
 use Rattle.phase_core.specs.Slots.{KeptSlot}
 use Rattle.phase_core.specs.Blocks.{one_each}
 use Rattle.phase_core.specs.Cores.{CoreState, StandsFor, KeepsPhase, KeepsSends}
 use Rattle.phase_core.specs.Plain.{plain_slot, plain_core, unused_slot}
 use Rattle.phase_core.proofs.CoreSteps.{none_from_top, waits_stands, kept_value}
-use Rattle.phase_core.proofs.OneSends.{send-at}
 use Rattle.phase_core.proofs.Replies.{signal_phase_is}
 
 -- ---- the slots behind the values
@@ -47,12 +48,6 @@ short_core op r limits base values = record {
   base = base;
   slots = map (plain_slot op) values;
 }
-
-get-front : {X : Type 0} (xs ys : List X) (i : ℕ) → i < length xs
-    → slice_get (xs ++ ys) i ≡ slice_get xs i
-get-front [] ys i below = absurd (omega arith)
-get-front (x ∷ xs) ys zero below = refl
-get-front (x ∷ xs) ys (suc i) below = get-front xs ys i (omega arith)
 
 -- both stand for the same
 pub to_short : {A : Type 0} (op : Operation A) (r : Roster) (limits : Limits) (base : ℕ) (xs : List ℤ) (h : History)
@@ -71,7 +66,7 @@ to_short op r limits base xs h stands = record {
         is_slot = record {
           place = k.is_slot.place;
           place_is = k.is_slot.place_is;
-          found = sym (get-front (map (plain_slot op) xs) (replicate (limits.bound + 1 - length xs) (unused_slot op)) k.is_slot.place within) ∙ k.is_slot.found;
+          found = sym (slice_get-append_left (map (plain_slot op) xs) (replicate (limits.bound + 1 - length xs) (unused_slot op)) k.is_slot.place within) ∙ k.is_slot.found;
         };
         keeps = k.keeps;
       };
@@ -93,7 +88,7 @@ to_plain op r limits base xs h stands = record {
         is_slot = record {
           place = k.is_slot.place;
           place_is = k.is_slot.place_is;
-          found = get-front (map (plain_slot op) xs) (replicate (limits.bound + 1 - length xs) (unused_slot op)) k.is_slot.place within ∙ k.is_slot.found;
+          found = slice_get-append_left (map (plain_slot op) xs) (replicate (limits.bound + 1 - length xs) (unused_slot op)) k.is_slot.place within ∙ k.is_slot.found;
         };
         keeps = k.keeps;
       };
@@ -193,7 +188,7 @@ signals_stand {A} op laws r new limits base xs values h task e stands found at_t
               found = found_behind (plain_slot op) xs values i (pos 0) within;
             };
             keeps = record {
-              part_is = rw is (IsPartOf-one op v laws (send-at values i (pos 0) sends within));
+              part_is = rw is (IsPartOf-one op v laws (AreSends-at values i (pos 0) sends within));
               count_is = ap length (sym is);
               named_is = sym (ap (λ o. first_named o (is_among s (length lists) p) None) nothing.1 ∙ ap (λ b. first_named None b None) among);
             };

@@ -1,17 +1,17 @@
 -- Waits of a phaser that keeps values alone.
-use Rattle.std.proofs.Common.{◌≡◌, ℕ, zero, suc, ◌+◌, ◌-◌, ◌<◌, ◌≤◌, ◌&&◌, true, false, not, Bool, ℤ, pos, List, [], ◌∷◌, ◌++◌, Option, Some, None, Ok, length, map, take, drop, get_or, set, min, unwrap_or, refl, sym, ap, subst, ◌∙◌, arith, ⊎_elim}
+use Rattle.std.proofs.Common.{◌≡◌, ℕ, zero, suc, ◌+◌, ◌-◌, ◌<◌, ◌≤◌, ◌&&◌, true, ℤ, pos, List, [], ◌∷◌, ◌++◌, Option, Some, None, Ok, length, map, take, drop, get_or, set, min, unwrap_or, refl, sym, ap, subst, ◌∙◌, arith, ⊎_elim}
 use Rattle.std.specs.Prelude.{is_some, slice_range, IsSome, slice_index_or}
 use Rattle.std.specs.List.{All, range_with_len}
-use Rattle.std.proofs.lemmas.Bool.{cases_eq, cases_lt, le-leb, true≢false}
+use Rattle.std.proofs.lemmas.Bool.{cases_eq, cases_lt, le-leb, true≢false, not-false}
 use Rattle.std.proofs.lemmas.Option.{same_Some}
-use Rattle.std.proofs.lemmas.List.{append_assoc, drop_more, get_or-drop, length-drop, length-map, length-take, map_more, take-append-drop, take-append-le, take-map, take-take}
+use Rattle.std.proofs.lemmas.List.{append_assoc, drop_more, get_or-drop, length-drop, length-map, length-take, map_more, take-append-le, take-map, take-take}
 use Rattle.std.proofs.Math.Seq.{set-append_seam}
 use Rattle.circular_buffer.specs.Buffer.{Buffer}
 use Rattle.phase_history.proofs.Each.{Each, least_low, least_or_high}
 use Rattle.phase_history.proofs.MemberLemmas.{entry_of-changed_same, signal_phases-waited}
 use Rattle.phase_history.proofs.Refused.{no_row}
 use Rattle.phase_history.proofs.BlockAnswers.{asked_some}
-use Rattle.phase_history.proofs.phase_accum_lemmas.Parts.{AreSends-append_right}
+use Rattle.phase_history.proofs.phase_accum_lemmas.Parts.{AreSends-drop}
 use Rattle.phase_history.specs.phase_accum.Operations.{AccumulateLaws, Operation}
 use Rattle.phase_history.specs.phase_accum.Sends.{AreSends}
 use Rattle.phase_history.specs.declared.event.Event.TheVariants.{Waited}
@@ -165,10 +165,6 @@ refused_as op r limits base xs h task n e o plain stands found row =
     (sym (done_of_plain op r limits base xs h plain stands))
     ∙ sym row
 
-not_false : (b : Bool) → not b ≡ false → b ≡ true
-not_false true e = refl
-not_false false e = absurd (cc)
-
 -- a wait that is not refused
 pub may_take : {A : Type 0} (op : Operation A) (limits : Limits) (plain : Plain) (task n : ℕ)
     (e : Entry) → KeepsValues op limits plain → entry_of plain.registry.members task ≡ Some e
@@ -181,7 +177,7 @@ may_take op limits plain task n e keeps found none =
     → wait_refusal limits h task n ≡ None = λ h stands. refused_as op plain.registry limits plain.base plain.values.items h task n e None keeps stands found (sym none) in
     record {
       found = found;
-      waits = not_false (mode_waits e.mode) rows.0;
+      waits = not-false (mode_waits e.mode) rows.0;
       asked = asked_some limits keeps.history task n (accepted keeps.history keeps.stands);
       before = ⊎_elim (λ (below : e.wait_phase < top). below)
           (λ (past : top ≤ e.wait_phase). absurd (true≢false
@@ -238,10 +234,6 @@ ones_fill f values old out i y d within room is value =
     ∙ ap (λ xs. xs ++ rest) (ap (λ z. front ++ z ∷ []) value ∙ sym (map_more f values i d within))
 
 -- ---- after it
-
-pub AreSends-drop : (n : ℕ) (xs : List ℤ) → AreSends xs → AreSends (drop n xs)
-AreSends-drop n xs sends =
-    AreSends-append_right (take n xs) (drop n xs) (subst AreSends (sym (take-append-drop n xs)) sends)
 
 module _ {A : Type 0} (op : Operation A) (limits : Limits) (old new : Plain) (task n : ℕ) (e : Entry)
     (keeps : KeepsValues op limits old) (may : MayPassValues old task n e)

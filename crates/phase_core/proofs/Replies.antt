@@ -1,13 +1,11 @@
 -- Refusals and replies of a core, by its members.
-use Rattle.std.proofs.Common.{◌≡◌, ℕ, ◌<◌, ◌≤◌, cond, List, [], ◌∷◌, Option, Some, ℤ, sym, ap, ◌∙◌}
+use Rattle.std.proofs.Common.{◌≡◌, ℕ, ◌<◌, ◌≤◌, cond, List, [], Option, Some, ℤ, sym, ap, ◌∙◌}
 use Rattle.std.specs.Prelude.{is_some}
 use Rattle.std.proofs.lemmas.Bool.{lt-ltb, le-ltb}
-use Rattle.phase_registry.specs.phase_base.Limits.{Limits, AreLimits}
 use Rattle.phase_registry.specs.phase_base.declared.limits.TheConstants.{PHASES_MAX}
 use Rattle.phase_registry.specs.phase_base.declared.entry.Entry.{Entry}
 use Rattle.phase_history.specs.phase_accum.declared.outcome.Outcome.{Outcome}
 use Rattle.phase_history.specs.phase_accum.Operations.{Operation}
-use Rattle.phase_history.specs.declared.event.Event.TheVariants.{Made, Registered, RegisteredNow, Signalled, Waited, Dropped}
 use Rattle.phase_history.specs.declared.got.Got.TheVariants as got
 use Rattle.phase_history.specs.declared.refusal.WaitRefusal.{WaitRefusal}
 use Rattle.phase_history.specs.declared.refusal.WaitRefusal.TheVariants as wait
@@ -17,8 +15,8 @@ use Rattle.phase_history.specs.Phases.{value_of_phase}
 use Rattle.phase_history.specs.Refusals.{refusal_at, wait_refusal, plain_wait_rows, wait_rows_at}
 use Rattle.phase_registry.specs.phase_base.Lists.{first_row}
 use Rattle.phase_history.specs.Replies.{wait_reply, refused_or, got_at}
-use Rattle.phase_history.specs.Legal.{IsLegal}
 use Rattle.phase_history.proofs.Steps.{member_entry_is}
+use Rattle.phase_history.proofs.Standstill.{limits_of}
 use Rattle.phase_core.specs.Cores.{CoreState, StandsFor}
 
 -- ---- waits
@@ -65,16 +63,6 @@ signal_phase_is op core h task e stands found =
     ap (λ (x : Entry). x.signal_phase) (member_entry_is (members_of h) task e found_h)
 
 -- ---- limits
-
--- the limits of a legal history are within theirs
-pub limits_of : (limits : Limits) (h : History) → IsLegal limits h → AreLimits limits
-limits_of limits [] legal = absurd legal
-limits_of limits (Made task ∷ before) legal = legal.0
-limits_of limits (Registered parent child mode ∷ before) legal = limits_of limits before legal.0
-limits_of limits (RegisteredNow parent child ∷ before) legal = limits_of limits before legal.0
-limits_of limits (Signalled task lists single ∷ before) legal = limits_of limits before legal.0
-limits_of limits (Waited task n ∷ before) legal = limits_of limits before legal.0
-limits_of limits (Dropped task ∷ before) legal = limits_of limits before legal.0
 
 -- the phases of a core that stands for some history are at most so many
 pub phases_most : {A : Type 0} {op : Operation A} {core : CoreState A} {h : History} → StandsFor op core h → core.limits.phases_max ≤ PHASES_MAX

@@ -1,7 +1,7 @@
 -- The refusal of a signal, and what is known of one that is accepted.
 use Rattle.std.proofs.Common.{◌≡◌, ℕ, ℤ, ◌+◌, ◌<◌, ◌≤◌, ◌⊎◌, Bool, true, false, not, eqb, ltb, List, [], Option, Some, None, length, refl, sym, ◌∙◌, ap, arith, ⊎_elim, inl, inr}
 use Rattle.std.specs.Prelude.{IsSome}
-use Rattle.std.proofs.lemmas.Bool.{ltb-false, eqb-false}
+use Rattle.std.proofs.lemmas.Bool.{ltb-false, eqb-false, or_parts}
 use Rattle.phase_registry.specs.phase_base.Limits.{Limits}
 use Rattle.phase_registry.specs.phase_base.Modes.{mode_signals}
 use Rattle.phase_registry.specs.phase_base.declared.entry.Entry.{Entry}
@@ -16,17 +16,16 @@ use Rattle.phase_history.specs.Histories.{History, members_of, top_of, done_of, 
 use Rattle.phase_history.specs.Refusals.{signal_rows, signal_rows_before, list_rows, signal_refusal, refusal_at}
 use Rattle.phase_registry.specs.phase_base.Lists.{first_row}
 use Rattle.phase_history.proofs.Refused.{no_row}
-use Rattle.phase_history.proofs.BlockAnswers.{or_false}
 use Rattle.phase_history.proofs.Tops.{top_within}
 use Rattle.phase_history.proofs.MemberLemmas.{Each-entry}
 use Rattle.phase_history.proofs.Steps.{StandsWell, IsSound, sound_of}
+use Rattle.phase_history.proofs.Standstill.{limits_of}
 use Rattle.phase_registry.specs.Rosters.{Roster}
 use Rattle.phase_ring.specs.declared.board.Board.{Board}
 use Rattle.phase_ring.specs.Blocks.{BlockFits}
 use Rattle.phase_core.specs.Cores.{CoreState, StandsFor, IsBoarded, core_of}
 use Rattle.phase_core.specs.Blocks.{StandForLists, block_rows, IsOpen}
 use Rattle.phase_core.proofs.Boarded.{boarded_of, slowest_is}
-use Rattle.phase_core.proofs.Replies.{limits_of}
 use Rattle.phase_core.proofs.SignalRows.{first_or, first_row-append, rows_same, rows_same_alone, block_near, block_fits}
 use Rattle.phase_core.proofs.SignalSlots.{lists-length}
 use Rattle.phase_core.proofs.SignalCore.{BlockStands, block_ready}
@@ -45,7 +44,7 @@ pub record BlockPassed (limits : Limits) (n : ℕ) (e : Entry) : Type 0 where
 pub block_passed : (limits : Limits) (n : ℕ) (single : Option Single) (e : Entry) → None ≡ first_row (signal_rows_before limits n single e []) → BlockPassed limits n e
 block_passed limits n single e row =
     let p = no_row (signal_rows_before limits n single e []) (sym row) in
-    let bad = or_false (eqb n 0) (ltb limits.bound n) p.1.1.0 in
+    let bad = or_parts (eqb n 0) (ltb limits.bound n) p.1.1.0 in
     let no_zero : n ≡ 0 → ⊥ = eqb-false n 0 bad.0 in
     record { signals = not_false (mode_signals e.mode) p.0; some = omega arith; few = ltb-false limits.bound n bad.1 }
   where

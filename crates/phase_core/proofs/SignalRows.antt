@@ -1,9 +1,9 @@
 -- The refusal of a signal: the rows of its phases by the ring's slots are those of any history that
 -- the core stands for.
-use Rattle.std.proofs.Common.{◌≡◌, ℕ, ℤ, ◌+◌, ◌<◌, ◌≤◌, Bool, true, false, not, ◌&&◌, cond, eqb, ltb, leb, List, [], ◌∷◌, ◌++◌, Option, Some, None, Err, length, refl, sym, ap, subst, ◌∙◌, arith, zero, suc, drop, slice_index_or, ⊎_elim}
+use Rattle.std.proofs.Common.{◌≡◌, ℕ, ℤ, ◌+◌, ◌<◌, ◌≤◌, Bool, true, false, not, ◌&&◌, cond, eqb, ltb, leb, List, [], ◌∷◌, ◌++◌, Option, Some, None, Err, length, refl, sym, ap, subst, ◌∙◌, arith, drop, slice_index_or, ⊎_elim}
 use Rattle.std.specs.Prelude.{is_some, IsSome}
 use Rattle.std.specs.Option.{option_map}
-use Rattle.std.proofs.lemmas.Bool.{leb-true, leb-false, lt-leb, le-ltb, cases_lt}
+use Rattle.std.proofs.lemmas.Bool.{leb-true, leb-false, lt-leb, le-ltb, cases_lt, not-true}
 use Rattle.phase_registry.specs.phase_base.Limits.{Limits}
 use Rattle.phase_registry.specs.phase_base.Modes.{mode_waits}
 use Rattle.phase_registry.specs.phase_base.declared.entry.Entry.{Entry}
@@ -287,10 +287,6 @@ all_four true true false d is = absurd (cc)
 all_four true false c d is = absurd (cc)
 all_four false b c d is = absurd (cc)
 
-not_true : (b : Bool) → not b ≡ true → b ≡ false
-not_true true is = absurd (cc)
-not_true false is = refl
-
 -- no row of the first phases of an entry applies
 new_row : (limits : Limits) (b : ℕ) (e : Entry) → mode_waits e.mode ≡ false → e.signal_phase < limits.phases_max → e.signal_phase < b + limits.bound
     → first_row (phase_rows limits (Some b) 0 None 0 None e) ≡ None
@@ -337,7 +333,7 @@ rows_of_new op limits (Some b) r done top held lists single e answer opened hold
     let far = leb-true (e.signal_phase + length held) limits.phases_max all.1.1.0 in
     let near : e.signal_phase + length held ≤ b + limits.bound = leb-true (e.signal_phase + length held) (b + limits.bound) all.1.1.1 in
     sym (ap (λ x. first_row (block_rows limits (Some x) r held single e)) base
-    ∙ new_rows op limits r done top held lists single e is.kept (not_true (mode_waits e.mode) all.0) above far (omega arith) holds)
+    ∙ new_rows op limits r done top held lists single e is.kept (not-true (mode_waits e.mode) all.0) above far (omega arith) holds)
 
 -- ---- the loop over a block's parcels
 
@@ -371,12 +367,6 @@ pub held_next : {A : Type 0} (op : Operation A) (lists : List (Parcel A)) (held 
 held_next {A} op lists held sends i W whole inside is holds rest more =
     let all : StandForLists op (held ∷ drop (i + 1) lists) (sends ∷ rest) = (holds, more) in
     whole (sends ∷ rest) (rw (← (ap (λ x. x ∷ drop (i + 1) lists) is ∙ sym (drop_more lists i held inside))) all)
-
-pub drop-past : {X : Type 0} (xs : List X) (i : ℕ) → length xs ≤ i → drop i xs ≡ []
-drop-past [] zero past = refl
-drop-past [] (suc i) past = refl
-drop-past (x ∷ xs) zero past = absurd (omega arith)
-drop-past (x ∷ xs) (suc i) past = drop-past xs i (omega arith)
 
 pub some-of : {R : Type 0} (o : Option R) (x : R) → o ≡ Some x → IsSome o
 some-of o x is = ap is_some is

@@ -1,21 +1,15 @@
 -- The text of values, part by part.
-use Rattle.std.proofs.Common.{◌≡◌, ◌≤◌, ◌+◌, ◌-◌, ◌++◌, ◌∷◌, ◌∙◌, ℕ, ℤ, List, [], length, take, drop, sym, ap, subst, arith, append-nil, take-append-drop}
+use Rattle.std.proofs.Common.{◌≡◌, ◌≤◌, ◌+◌, ◌-◌, ◌++◌, ◌∷◌, ◌∙◌, ℕ, ℤ, List, [], length, take, drop, sym, ap, subst, arith, append-nil}
 use Rattle.std.specs.Global.{Global}
 use Rattle.std.specs.List.{flat_map}
 use Rattle.std.specs.declared.vec.Vec.{Vec}
 use Rattle.std.proofs.lemmas.Grind.{flat_map-append}
-use Rattle.std.proofs.lemmas.List.{drop-take, take-take}
 use Rattle.std.proofs.lemmas.List.Concat.{flat_map-cons}
+use Rattle.std.proofs.Math.Seq.{take-add}
 use Rattle.graph_commands.specs.OutputTexts.{value_text}
 use Rattle.graph_commands.specs.Puts.{bytes_of}
 use Rattle.phase_eval.specs.Texts.{IsTextPart}
 use Rattle.phase_eval.specs.declared.texts.TextPart.{TextPart}
-
-take_on : (n k : ℕ) (xs : List ℤ) → take (n + k) xs ≡ take n xs ++ take k (drop n xs)
-take_on n k xs =
-    let whole : take n (take (n + k) xs) ++ drop n (take (n + k) xs) ≡ take (n + k) xs =
-    take-append-drop n (take (n + k) xs) in
-    sym (rw (take-take n (n + k) xs (omega arith), drop-take n k xs) at whole)
 
 -- the texts of parts up to a place, and the part from there on
 pub one_more : (values : List ℤ) (at : ℕ) (part : TextPart) (texts : List (Vec ℕ Global))
@@ -34,5 +28,5 @@ one_more values at part texts from is before =
     ∙ (ap (λ l. l ++ part.text.items) before
     ∙ ap (λ l. flat_map value_text (take at values) ++ l) text)
     ∙ sym (ap (flat_map value_text) (sym (ap (λ n. take n values) whole)
-    ∙ take_on at (part.to - at) values)
+    ∙ take-add at (part.to - at) values)
     ∙ flat_map-append value_text (take at values) (take (part.to - at) (drop at values)))

@@ -3,25 +3,25 @@ use Rattle.std.proofs.Common.{Option, Some, None, subst}
 use Rattle.phase_any.specs.phase_base.Limits.{Limits, AreLimits}
 use Rattle.phase_any.specs.phase_base.declared.operation.Op.{Op}
 use Rattle.phase_any.specs.phase_history.Histories.{History}
-use Rattle.handle_numbers.proofs.BlockWaits.{legal-limits}
 use Rattle.phase_any.specs.Phasers.{PhaserStandsFor}
 use Rattle.phase_handle.specs.Phasers.{Holds}
 use Rattle.phase_any.specs.declared.any_phaser.AnyPhaser.{AnyPhaser}
+use Rattle.phase_any.proofs.phase_history_lemmas.Standstill.{limits_of}
 use Rattle.phase_any.specs.declared.any_phaser.AnyPhaser.TheVariants as any
 
 -- the limits of a phaser are within theirs
 stands-limits : (phaser : AnyPhaser) (op : Op) (limits : Limits) (h : History)
     → PhaserStandsFor phaser op limits h → AreLimits limits
 stands-limits (any.Sum c) op limits h stands =
-    subst AreLimits stands.limits_are (legal-limits c.limits h stands.has_history.legal)
+    subst AreLimits stands.limits_are (limits_of c.limits h stands.has_history.legal)
 stands-limits (any.Product c) op limits h stands =
-    subst AreLimits stands.limits_are (legal-limits c.limits h stands.has_history.legal)
+    subst AreLimits stands.limits_are (limits_of c.limits h stands.has_history.legal)
 stands-limits (any.Least c) op limits h stands =
-    subst AreLimits stands.limits_are (legal-limits c.limits h stands.has_history.legal)
+    subst AreLimits stands.limits_are (limits_of c.limits h stands.has_history.legal)
 stands-limits (any.Greatest c) op limits h stands =
-    subst AreLimits stands.limits_are (legal-limits c.limits h stands.has_history.legal)
+    subst AreLimits stands.limits_are (limits_of c.limits h stands.has_history.legal)
 stands-limits (any.Any c) op limits h stands =
-    subst AreLimits stands.limits_are (legal-limits c.limits h stands.has_history.legal)
+    subst AreLimits stands.limits_are (limits_of c.limits h stands.has_history.legal)
 
 pub holds-limits : (held : Option AnyPhaser) (op : Op) (limits : Limits) (h : History)
     → Holds held op limits h → AreLimits limits

@@ -1,7 +1,7 @@
 -- What a wait for a block is answered.
-use Rattle.std.proofs.Common.{◌≡◌, ℕ, ◌+◌, ◌-◌, ◌<◌, ◌≤◌, Bool, true, false, cond, eqb, ltb, min, ℤ, List, ◌++◌, Ok, Some, None, take, drop, refl, sym, ap, ◌∙◌, arith}
+use Rattle.std.proofs.Common.{◌≡◌, ℕ, ◌+◌, ◌-◌, ◌<◌, ◌≤◌, true, false, cond, eqb, ltb, min, ℤ, List, ◌++◌, Ok, Some, None, take, drop, refl, sym, ap, ◌∙◌, arith}
 use Rattle.std.specs.Prelude.{◌||◌}
-use Rattle.std.proofs.lemmas.Bool.{ltb-true, ltb-false, le-ltb, eqb-false, ne_eqb, eq-eqb}
+use Rattle.std.proofs.lemmas.Bool.{ltb-true, ltb-false, le-ltb, eqb-false, ne_eqb, eq-eqb, or_parts}
 use Rattle.phase_accum.specs.phase_base.Limits.{Limits}
 use Rattle.phase_accum.specs.phase_base.Members.{entry_of}
 use Rattle.phase_accum.specs.declared.outcome.Outcome.{Outcome}
@@ -14,16 +14,12 @@ use Rattle.phase_history.specs.Replies.{wait_block_reply, got_block_at, refused_
 use Rattle.phase_history.specs.Blocks.{IsAnsweredBlock}
 use Rattle.phase_history.proofs.Refused.{first_row_none, Passes, passes_from}
 
-pub or_false : (a b : Bool) → (a || b) ≡ false → (a ≡ false) × (b ≡ false)
-or_false true b e = absurd (cc)
-or_false false b e = (refl, e)
-
 -- a wait for fewer phases, at least one, is not refused either
 pub wait_refusal-fewer : (limits : Limits) (h : History) (task n k : ℕ) → wait_refusal limits h task n ≡ None
     → 1 ≤ k → k ≤ n → wait_refusal limits h task k ≡ None
 wait_refusal-fewer limits h task n k none some fewer =
     let p : Passes (entry_of (members_of h) task) (wait_rows limits (positions_of h) n) = passes_from _ _ _ none in
-    let long : n ≤ limits.bound = ltb-false limits.bound n (or_false (eqb n 0) (ltb limits.bound n) p.passes.1.0).1 in
+    let long : n ≤ limits.bound = ltb-false limits.bound n (or_parts (eqb n 0) (ltb limits.bound n) p.passes.1.0).1 in
     let good : is_bad_block limits k ≡ false =
     ap (λ b. b || ltb limits.bound k) (ne_eqb k 0 (λ e. omega arith)) ∙ le-ltb limits.bound k (omega arith) in
     ap (λ o. refusal_at o wait.NoTask (wait_rows limits (positions_of h) k)) p.is_member
@@ -33,7 +29,7 @@ wait_refusal-fewer limits h task n k none some fewer =
 pub asked_some : (limits : Limits) (h : History) (task n : ℕ) → wait_refusal limits h task n ≡ None → 1 ≤ n
 asked_some limits h task n none =
     let p : Passes (entry_of (members_of h) task) (wait_rows limits (positions_of h) n) = passes_from _ _ _ none in
-    omega (arith, eqb-false n 0 (or_false (eqb n 0) (ltb limits.bound n) p.passes.1.0).0)
+    omega (arith, eqb-false n 0 (or_parts (eqb n 0) (ltb limits.bound n) p.passes.1.0).0)
 
 -- what the reply to a wait for a block tells
 pub record BlockTells (limits : Limits) (h : History) (task n phase count : ℕ) : Type 0 where

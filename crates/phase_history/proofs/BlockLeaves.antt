@@ -2,7 +2,7 @@
 use Rattle.std.proofs.Common.{◌≡◌, ℕ, suc, ◌+◌, ◌<◌, ◌≤◌, Bool, true, false, ◌&&◌, cond, eqb, leb, ltb, max, List, [], ◌∷◌, ◌++◌, Option, Some, None, ℤ, length, refl, sym, ap, ◌∙◌, arith, ⊎_elim}
 use Rattle.std.specs.Prelude.{◌||◌, is_some}
 use Rattle.std.proofs.lemmas.List.{append-nil, append_assoc}
-use Rattle.std.proofs.lemmas.Bool.{eqb-true, ne_eqb, lt-leb, le-leb, lt-ltb, le-ltb, cases_lt}
+use Rattle.std.proofs.lemmas.Bool.{eqb-true, lt-leb, le-leb, lt-ltb, le-ltb, cases_lt}
 use Rattle.phase_accum.specs.phase_base.declared.entry.Entry.{Entry}
 use Rattle.phase_accum.specs.phase_base.Members.{Members, member, entry_of, changed_at, signalled}
 use Rattle.phase_accum.specs.declared.single.Single.{Single}
@@ -11,7 +11,7 @@ use Rattle.phase_history.specs.Histories.{History, IsAlive, members_of, top_of, 
 use Rattle.phase_history.specs.Phases.{sends_of_phase, named_in_phase, list_in_phase, first_named, is_among}
 use Rattle.phase_history.specs.Blocks.{one_by_one, LeavesSame}
 use Rattle.phase_history.proofs.MemberLemmas.{entry_of-changed_same}
-use Rattle.phase_history.proofs.Steps.{member_entry_is}
+use Rattle.phase_history.proofs.Steps.{member_entry_is, list_in_phase-below}
 
 -- ---- one phase more, then n more
 
@@ -34,12 +34,6 @@ changed_at-twice task n (m ∷ ms) =
     ] refl
 
 -- ---- the lists of a phase
-
-pub list_in_phase-below : (lists : List (List ℤ)) (s p : ℕ) → p < s → list_in_phase lists s p ≡ []
-list_in_phase-below [] s p below = refl
-list_in_phase-below (sends ∷ lists) s p below =
-    ap (λ b. cond b sends (list_in_phase lists (s + 1) p)) (ne_eqb s p (λ e. omega arith))
-    ∙ list_in_phase-below lists (s + 1) p (omega arith)
 
 pub list_in_phase-first : (sends : List ℤ) (lists : List (List ℤ)) (s p : ℕ)
     → list_in_phase (sends ∷ lists) s p ≡ list_in_phase (sends ∷ []) s p ++ list_in_phase lists (s + 1) p

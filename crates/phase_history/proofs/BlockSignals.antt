@@ -4,7 +4,7 @@ use Rattle.std.proofs.Common.{◌≡◌, ℕ, zero, suc, ◌+◌, ◌<◌, ◌�
 use Rattle.std.specs.Prelude.{not, is_some}
 use Rattle.std.specs.Option.{option_or}
 use Rattle.std.proofs.lemmas.List.{append-nil}
-use Rattle.std.proofs.lemmas.Bool.{ne_eqb, ltb-false, le-ltb}
+use Rattle.std.proofs.lemmas.Bool.{ne_eqb, ltb-false, le-ltb, or_parts}
 use Rattle.phase_accum.specs.phase_base.Limits.{Limits}
 use Rattle.phase_accum.specs.phase_base.Modes.{mode_signals, is_single}
 use Rattle.phase_accum.specs.phase_base.declared.entry.Entry.{Entry}
@@ -20,7 +20,6 @@ use Rattle.phase_accum.specs.phase_base.Lists.{first_row}
 use Rattle.phase_history.specs.Blocks.{one_by_one_refusal}
 use Rattle.phase_history.proofs.MemberLemmas.{entry_of-changed_same, wait_phases-signalled}
 use Rattle.phase_history.proofs.Steps.{member_entry_is}
-use Rattle.phase_history.proofs.BlockAnswers.{or_false}
 
 -- the rows of one plain signal after a history
 abbrev plainly : Limits → History → List ℤ → Option Single → Entry → Option SignalRefusal
@@ -113,7 +112,7 @@ first_row-before limits n single e rows good =
 plain_is_good : (limits : Limits) (n : ℕ) → is_bad_block limits n ≡ false → is_bad_block limits 1 ≡ false
 plain_is_good limits zero good = absurd (cc)
 plain_is_good limits (suc n) good =
-    let long : suc n ≤ limits.bound = ltb-false limits.bound (suc n) (or_false (eqb (suc n) 0) (ltb limits.bound (suc n)) good).1 in
+    let long : suc n ≤ limits.bound = ltb-false limits.bound (suc n) (or_parts (eqb (suc n) 0) (ltb limits.bound (suc n)) good).1 in
     le-ltb limits.bound 1 (omega arith)
 
 -- where they do not apply, the others answer

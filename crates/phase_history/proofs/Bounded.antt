@@ -50,7 +50,7 @@ Each-both : {X : Type 0} (P Q R : X → Type 0) → ((x : X) → P x → Q x →
 Each-both P Q R both [] p q = tt
 Each-both P Q R both (x ∷ xs) p q = (both x p.0 q.0, Each-both P Q R both xs p.1 q.1)
 
-none_least : (P : ℕ → Type 0) (xs : List ℕ) → least xs ≡ None → Each P xs
+pub none_least : (P : ℕ → Type 0) (xs : List ℕ) → least xs ≡ None → Each P xs
 none_least P [] none = tt
 none_least P (x ∷ xs) none = absurd (cc)
 

@@ -1,7 +1,7 @@
 -- Where each child of a task of a list stands in the list, all that were used do.
 use Rattle.std.proofs.Common.{◌≡◌, ℕ, true, false, cond, eqb, ◌||◌, Bool, List, [], ◌∷◌, ◌++◌, Some, refl, ap, subst, ◌∙◌}
 use Rattle.std.specs.Prelude.{is_some}
-use Rattle.std.proofs.lemmas.Bool.{eqb-true, eq-eqb}
+use Rattle.std.proofs.lemmas.Bool.{eqb-true, eq-eqb, or_right}
 use Rattle.phase_accum.specs.phase_base.Limits.{Limits}
 use Rattle.phase_accum.specs.phase_base.declared.entry.Entry.{Entry}
 use Rattle.phase_history.specs.declared.event.Event.{Event}
@@ -18,10 +18,6 @@ use Rattle.phase_history.proofs.Used.{IsUsed-member, IsAlive-by}
 abbrev pub HasChildren : List ℕ → History → Type 0
 HasChildren tasks h = (task child : ℕ) → is_in task tasks ≡ true
     → is_in child (children_in (events_of task h)) ≡ true → is_in child tasks ≡ true
-
-or_right : (a b : Bool) → b ≡ true → (a || b) ≡ true
-or_right true b is = refl
-or_right false b is = is
 
 -- a child stays a child
 kept : (b : Bool) (event : Event) (rest : History) (child : ℕ) → is_in child (children_in rest) ≡ true

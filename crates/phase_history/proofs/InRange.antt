@@ -1,5 +1,5 @@
 -- In a legal history what is sent and what is named can be, so that each phase's value is in range.
-use Rattle.std.proofs.Common.{◌≡◌, ℕ, ◌+◌, ◌≤◌, true, false, cond, eqb, List, [], ◌∷◌, ◌++◌, Option, Ok, Some, None, Bool, ℤ, pos, negsuc, sym, subst, arith, length}
+use Rattle.std.proofs.Common.{◌≡◌, ℕ, ◌+◌, ◌≤◌, true, false, cond, eqb, List, [], ◌∷◌, Option, Ok, Some, None, Bool, ℤ, pos, negsuc, sym, subst, arith, length}
 use Rattle.std.proofs.lemmas.Int.{ints}
 use Rattle.std.proofs.lemmas.List.Elements.{All-map}
 use Rattle.std.specs.Prelude.{unsigned_abs}
@@ -14,6 +14,7 @@ use Rattle.phase_accum.specs.declared.single.Single.TheVariants.{Neg, Abs, Halve
 use Rattle.phase_accum.specs.Singles.{CanBeNamed}
 use Rattle.phase_accum.specs.Values.{AreSends, IsInRange, applied, value_max, half_of}
 use Rattle.phase_accum.specs.Operations.{Operation, AccumulateLaws}
+use Rattle.phase_accum.proofs.Parts.{AreSends-append}
 use Rattle.phase_history.specs.declared.event.Event.TheVariants.{Made, Registered, RegisteredNow, Signalled, Waited, Dropped}
 use Rattle.phase_history.specs.declared.got.Got.TheVariants as got
 use Rattle.phase_history.specs.Histories.{History, signal_phase, wait_phase, done_of}
@@ -21,10 +22,6 @@ use Rattle.phase_history.specs.Phases.{sends_of_phase, named_in_phase, value_of_
 use Rattle.phase_history.specs.Legal.{IsLegal, AreLists}
 use Rattle.phase_history.specs.Replies.{wait_reply}
 use Rattle.phase_history.proofs.LawProofs.{reply_tells}
-
-AreSends-append : (xs ys : List ℤ) → AreSends xs → AreSends ys → AreSends (xs ++ ys)
-AreSends-append [] ys a b = b
-AreSends-append (x ∷ xs) ys a b = (a.0, AreSends-append xs ys a.1 b)
 
 AreSends-list_in_phase : (lists : List (List ℤ)) (s p : ℕ) → AreLists lists → AreSends (list_in_phase lists s p)
 AreSends-list_in_phase [] s p are = tt

@@ -1,8 +1,9 @@
 -- Of tasks of which one at most has sent in a phase, the sends of the phase are what they have sent,
 -- in the same order.
-use Rattle.std.proofs.Common.{◌≡◌, ◌≢◌, ℕ, suc, Bool, true, false, not, ◌||◌, eqb, List, [], ◌∷◌, ◌++◌, ℤ, length, refl, sym, ap, subst, ◌∙◌, arith, ◌⊎◌, inl, inr}
+use Rattle.std.proofs.Common.{◌≡◌, ◌≢◌, ℕ, suc, true, false, not, ◌||◌, eqb, List, [], ◌∷◌, ◌++◌, ℤ, length, refl, sym, ap, subst, ◌∙◌, arith, ◌⊎◌, inl, inr}
 use Rattle.std.proofs.lemmas.List.{append-nil}
-use Rattle.std.proofs.lemmas.Bool.{eqb-true, eq-eqb, and_parts, not-true}
+use Rattle.std.proofs.lemmas.Bool.{eqb-true, eq-eqb, and_parts, not-true, or_cases, cases_Bool}
+use Rattle.std.proofs.Math.Bool.{or-true}
 use Rattle.phase_history.specs.Histories.{History}
 use Rattle.phase_history.specs.Phases.{sends_of_phase}
 use Rattle.phase_accum.specs.phase_base.Lists.{is_distinct, is_in}
@@ -10,23 +11,11 @@ use Rattle.phase_history.specs.Sent.{sent_in, gathered, OnlySignalled, OneHasSen
 use Rattle.phase_history.proofs.Gathered.{sends_of_phase-alone}
 use Rattle.phase_history.proofs.Sendings.{sent_in-none}
 
-or_right : (b : Bool) → (b || true) ≡ true
-or_right true = refl
-or_right false = refl
-
-either : (a b : Bool) → (a || b) ≡ true → (a ≡ true) ⊎ (b ≡ true)
-either true b e = inl refl
-either false b e = inr e
-
-bool_case : (b : Bool) → (b ≡ true) ⊎ (b ≡ false)
-bool_case true = inl refl
-bool_case false = inr refl
-
 in_front : (t : ℕ) (ts : List ℕ) → is_in t (t ∷ ts) ≡ true
 in_front t ts = let here : eqb t t ≡ true = eq-eqb t t refl in rw here refl
 
 in_rest : (u t : ℕ) (ts : List ℕ) → is_in t ts ≡ true → is_in t (u ∷ ts) ≡ true
-in_rest u t ts e = rw e (or_right (eqb u t))
+in_rest u t ts e = rw e (or-true (eqb u t))
 
 -- tasks that have sent nothing
 none_gathered : (h : History) (tasks : List ℕ) (p : ℕ)
@@ -59,7 +48,7 @@ sender h (t ∷ ts) p distinct one =
     by : (sent_in h t p ≡ []) ⊎ (sent_in h t p ≢ []) → is_in t ts ≡ false
         → ((u : ℕ) → is_in u ts ≡ true → sent_in h u p ≡ []) ⊎ Sender h ts p
         → ((u : ℕ) → is_in u (t ∷ ts) ≡ true → sent_in h u p ≡ []) ⊎ Sender h (t ∷ ts) p
-    by (inl none) apart (inl others) = inl (λ u e. at u (either (eqb t u) (is_in u ts) e))
+    by (inl none) apart (inl others) = inl (λ u e. at u (or_cases (eqb t u) (is_in u ts) e))
       where
         at : (u : ℕ) → (eqb t u ≡ true) ⊎ (is_in u ts ≡ true) → sent_in h u p ≡ []
         at u (inl same) =
@@ -102,13 +91,13 @@ gathered_alone h tasks p distinct only one = by (sender h tasks p distinct one)
         ∙ sym (none_gathered h tasks p none)
       where
         nothing : (t : ℕ) → sent_in h t p ≡ []
-        nothing t = at (bool_case (is_in t tasks))
+        nothing t = at (cases_Bool (is_in t tasks))
           where
             at : (is_in t tasks ≡ true) ⊎ (is_in t tasks ≡ false) → sent_in h t p ≡ []
             at (inl e) = none t e
             at (inr e) = silent t e
     by (inr s) = sends_of_phase-alone h s.task p
-        (λ other apart. others other apart (bool_case (is_in other tasks))
+        (λ other apart. others other apart (cases_Bool (is_in other tasks))
         (is_nil (sent_in h other p))) ∙ sym s.all
       where
         others : (other : ℕ) → other ≢ s.task

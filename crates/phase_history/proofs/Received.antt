@@ -45,7 +45,7 @@ some_or : {X : Type 0} (b : Bool) (x : X) (o : Option X) → cond b (Some x) o �
 some_or true x o none = absurd (cc)
 some_or false x o none = (refl, none)
 
-none_from : {X : Type 0} (o : Option X) → is_some o ≡ false → o ≡ None
+pub none_from : {X : Type 0} (o : Option X) → is_some o ≡ false → o ≡ None
 none_from None e = refl
 none_from (Some x) e = absurd (cc)
 
@@ -126,7 +126,7 @@ unused value limits (Dropped gone ∷ before) task legal never =
     record { signals = u.signals; waits = u.waits; received = u.received; stays = rw apart u.stays }
 
 -- a part of a list is that part of a longer one
-part_of_longer : {X : Type 0} (xs ys : List X) (w k : ℕ) → IsPrefix xs ys → w + k ≤ length xs
+pub part_of_longer : {X : Type 0} (xs ys : List X) (w k : ℕ) → IsPrefix xs ys → w + k ≤ length xs
     → take k (drop w ys) ≡ take k (drop w xs)
 part_of_longer xs ys w k longer fits =
     ap (λ l. take k (drop w l)) (sym longer.1)

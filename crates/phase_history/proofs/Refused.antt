@@ -1,6 +1,6 @@
 -- What it means for a call that it is not refused.
-use Rattle.std.proofs.Common.{◌≡◌, ℕ, ◌<◌, Bool, true, false, not, cond, List, [], ◌∷◌, Option, Some, None, ℤ, refl}
-use Rattle.std.proofs.lemmas.Bool.{leb-false}
+use Rattle.std.proofs.Common.{◌≡◌, ℕ, ◌<◌, Bool, true, false, cond, List, [], ◌∷◌, Option, Some, None, ℤ, refl}
+use Rattle.std.proofs.lemmas.Bool.{leb-false, not-false}
 use Rattle.phase_accum.specs.phase_base.Limits.{Limits}
 use Rattle.phase_accum.specs.phase_base.Modes.{mode_signals, mode_waits, holds}
 use Rattle.phase_accum.specs.phase_base.declared.mode.Mode.{Mode}
@@ -40,10 +40,6 @@ passes_from None no_task rows none = absurd (cc)
 passes_from (Some entry) no_task rows none =
     record { entry = entry; is_member = refl; passes = no_row (rows entry) none }
 
-not_false : (b : Bool) → not b ≡ false → b ≡ true
-not_false true e = refl
-not_false false e = absurd (cc)
-
 -- an accepted registration: the parent's mode holds the child's, and the child's number is new
 pub record Registers (h : History) (parent child : ℕ) (mode : Mode) : Type 0 where
   pub entry : Entry
@@ -59,7 +55,7 @@ registers_from h parent child mode none =
     record {
       entry = p.entry;
       is_member = p.is_member;
-      allowed = not_false _ p.passes.0;
+      allowed = not-false _ p.passes.0;
       new_number = leb-false _ _ p.passes.1.0;
     }
 
@@ -73,7 +69,7 @@ pub signals_from : (limits : Limits) (h : History) (task : ℕ) (lists : List (L
     → signal_refusal limits h task lists single ≡ None → SignalsNow h task
 signals_from limits h task lists single none =
     let p : Passes (entry_of (members_of h) task) (signal_rows limits h lists single) = passes_from _ _ _ none in
-    record { entry = p.entry; is_member = p.is_member; signals = not_false _ p.passes.0 }
+    record { entry = p.entry; is_member = p.is_member; signals = not-false _ p.passes.0 }
 
 -- an accepted wait: the task is a member that waits
 pub record WaitsNow (h : History) (task : ℕ) : Type 0 where
@@ -85,4 +81,4 @@ pub waits_from : (limits : Limits) (h : History) (task n : ℕ)
     → wait_refusal limits h task n ≡ None → WaitsNow h task
 waits_from limits h task n none =
     let p : Passes (entry_of (members_of h) task) (wait_rows limits (positions_of h) n) = passes_from _ _ _ none in
-    record { entry = p.entry; is_member = p.is_member; waits = not_false _ p.passes.0 }
+    record { entry = p.entry; is_member = p.is_member; waits = not-false _ p.passes.0 }

@@ -18,7 +18,7 @@ use Rattle.phase_history.specs.Histories.{History, members_of, member_entry, sig
 use Rattle.phase_history.specs.Phases.{list_in_phase, named_in_phase, single_of_phase, first_named, is_among}
 use Rattle.phase_history.specs.Legal.{IsLegal}
 use Rattle.phase_history.proofs.Refused.{Registers, registers_from, SignalsNow, signals_from}
-use Rattle.phase_history.proofs.Steps.{StandsWell, sound_of, member_entry_is}
+use Rattle.phase_history.proofs.Steps.{StandsWell, sound_of, member_entry_is, list_in_phase-below}
 use Rattle.phase_history.proofs.MemberLemmas.{Each-entry}
 use Rattle.phase_history.proofs.Received.{Counted, counted, Unused, unused, start_of-above}
 use Rattle.phase_history.specs.Others.{phases_of_signal}
@@ -66,12 +66,6 @@ list_in_phase-place (sends ∷ lists) s (suc j) p e =
     let apart : eqb s p ≡ false = ne_eqb s p (λ same. omega arith) in
     rw apart (list_in_phase-place lists (s + 1) j p (omega arith))
 
-pub list_in_phase-below : (lists : List (List ℤ)) (s p : ℕ) → p < s → list_in_phase lists s p ≡ []
-list_in_phase-below [] s p below = refl
-list_in_phase-below (sends ∷ lists) s p below =
-    let apart : eqb s p ≡ false = ne_eqb s p (λ same. omega arith) in
-    rw apart (list_in_phase-below lists (s + 1) p (omega arith))
-
 -- one list after another, by place
 get_or-after : (xs ys : List (List ℤ)) (j : ℕ) → get_or (xs ++ ys) (length xs + j) [] ≡ get_or ys j []
 get_or-after [] ys j = ap (λ n. get_or ys n []) (omega arith)
@@ -100,7 +94,7 @@ SentInTurn-silent h task start none = record {
   below = λ p e. sent_in-none h task p none;
 }
 
-nothing : List ℤ → Outcome
+pub nothing : List ℤ → Outcome
 nothing sends = Empty
 
 more_placed : (before : History) (task : ℕ) (lists : List (List ℤ)) (start : Entry) (s k p : ℕ) → SentInTurn before task start

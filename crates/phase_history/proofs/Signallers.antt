@@ -1,5 +1,5 @@
 -- Who holds a phase open, and who reached the top.
-use Rattle.std.proofs.Common.{◌≡◌, ℕ, ◌+◌, ◌<◌, ◌≤◌, true, false, cond, eqb, List, [], ◌∷◌, ◌++◌, Option, Some, None, ℤ, length, max, unwrap_or, refl, sym, ap, subst, ◌∙◌, arith, ◌⊎◌, inl, inr}
+use Rattle.std.proofs.Common.{◌≡◌, ℕ, ◌+◌, ◌<◌, ◌≤◌, true, false, cond, eqb, [], ◌∷◌, ◌++◌, Option, Some, None, length, max, unwrap_or, refl, sym, ap, subst, ◌∙◌, arith, ◌⊎◌, inl, inr}
 use Rattle.std.specs.Prelude.{is_some, IsSome}
 use Rattle.std.proofs.lemmas.Bool.{eqb-true, ne_eqb, eq-eqb, cases_lt}
 use Rattle.std.proofs.lemmas.Option.{same_Some}
@@ -8,8 +8,6 @@ use Rattle.phase_accum.specs.phase_base.Modes.{mode_signals}
 use Rattle.phase_accum.specs.phase_base.declared.mode.Mode.TheVariants.{Wait}
 use Rattle.phase_accum.specs.phase_base.declared.entry.Entry.{Entry}
 use Rattle.phase_accum.specs.phase_base.declared.member.Member.{Member}
-use Rattle.phase_accum.specs.declared.outcome.Outcome.{Outcome}
-use Rattle.phase_accum.specs.declared.outcome.Outcome.TheVariants.{Empty}
 use Rattle.phase_history.specs.declared.event.Event.TheVariants.{Made, Registered, RegisteredNow, Signalled, Waited, Dropped}
 use Rattle.phase_accum.specs.phase_base.Members.{Members, member, entry_of, signal_phases, changed_at, without, least, signalled, waited}
 use Rattle.phase_history.specs.Histories.{History, positions_of, members_of, signal_phase, wait_phase, done_of, top_of, greatest_used, start_of, founder, entry_at, phases_signalled, has_dropped, HasNoSignaller}
@@ -23,9 +21,7 @@ use Rattle.phase_history.proofs.Received.{Counted, counted, fresh, Unused, unuse
 use Rattle.phase_history.specs.Sent.{ReachesTop}
 use Rattle.phase_history.proofs.Alive.{alive_law}
 use Rattle.phase_history.proofs.Used.{start_from, start_used}
-
-nothing : List ℤ → Outcome
-nothing sends = Empty
+use Rattle.phase_history.proofs.Sendings.{nothing}
 
 -- ---- the mode in which a task began
 

@@ -29,6 +29,7 @@ use Rattle.phase_history.proofs.Each.{Each, Each-from, Each-push, Each-filter, E
 use Rattle.phase_history.proofs.MemberLemmas.{Each-entry, Each-changed, holds_waits}
 use Rattle.phase_history.proofs.Refused.{first_row_none, Passes, passes_from, registers_from, signals_from, waits_from}
 use Rattle.phase_history.proofs.Steps.{StandsWell, sound_of, member_entry_is}
+use Rattle.phase_history.proofs.Bounded.{none_least}
 
 -- ---- numbers of members are used once
 
@@ -168,17 +169,13 @@ and_false : (a : Bool) → (a && false) ≡ false
 and_false true = refl
 and_false false = refl
 
-no_least : (P : ℕ → Type 0) (xs : List ℕ) → least xs ≡ None → Each P xs
-no_least P [] none = tt
-no_least P (x ∷ xs) none = absurd (cc)
-
 -- where a list of phases has no least, no member stands there
 none_pass : (ms : Members) (test : Entry → Bool) (f : Entry → ℕ)
     → least (map (λ (m : Member). f m.entry) (filter (λ (m : Member). test m.entry) ms)) ≡ None
     → (task : ℕ) (e : Entry) → entry_of ms task ≡ Some e → test e ≡ true → ⊥
 none_pass ms test f none task e found =
     Each-entry (λ (m : Member). test m.entry ≡ true → ⊥) ms task e found
-    (Each-of_picked (λ x. ⊥) (λ (m : Member). f m.entry) (λ (m : Member). test m.entry) ms (no_least (λ x. ⊥) _ none))
+    (Each-of_picked (λ x. ⊥) (λ (m : Member). f m.entry) (λ (m : Member). test m.entry) ms (none_least (λ x. ⊥) _ none))
 
 -- no member stands below the least
 least_below : (ms : Members) (test : Entry → Bool) (f : Entry → ℕ) (b : ℕ)
@@ -305,7 +302,7 @@ may_signal limits h f = record {
 }
 
 -- the limits of a legal history are within theirs
-limits_of : (limits : Limits) (h : History) → IsLegal limits h → AreLimits limits
+pub limits_of : (limits : Limits) (h : History) → IsLegal limits h → AreLimits limits
 limits_of limits [] legal = absurd legal
 limits_of limits (Made task ∷ before) legal = legal.0
 limits_of limits (Registered parent child mode ∷ before) legal = limits_of limits before legal.0
@@ -374,7 +371,7 @@ waiter_before limits before event legal accepted has =
       | None ↦ λ none.
           let later : wait_phases (members_of (event ∷ before)) ≡ [] =
           no_wait_phases (members_of (event ∷ before)) (no_waiter_later limits before event legal accepted
-          (Each-of_picked (λ x. ⊥) (λ (m : Member). m.entry.wait_phase) (λ (m : Member). mode_waits m.entry.mode) (members_of before) (no_least (λ x. ⊥) _ none))) in
+          (Each-of_picked (λ x. ⊥) (λ (m : Member). m.entry.wait_phase) (λ (m : Member). mode_waits m.entry.mode) (members_of before) (none_least (λ x. ⊥) _ none))) in
           sym (ap (λ l. is_some (least l)) later) ∙ has
     ] refl
 

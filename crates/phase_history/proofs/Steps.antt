@@ -129,11 +129,11 @@ steps_registered_now before parent child sound r =
     record { grows = j.0; sound = j.1; same = λ value p h. refl }
 
 -- no list stands in a phase before the first
-list_in_phase_before : (lists : List (List ℤ)) (s p : ℕ) → p < s → list_in_phase lists s p ≡ []
-list_in_phase_before [] s p h = refl
-list_in_phase_before (sends ∷ lists) s p h =
+pub list_in_phase-below : (lists : List (List ℤ)) (s p : ℕ) → p < s → list_in_phase lists s p ≡ []
+list_in_phase-below [] s p h = refl
+list_in_phase-below (sends ∷ lists) s p h =
     let apart : eqb s p ≡ false = ne_eqb s p (λ e. omega arith) in
-    rw apart (list_in_phase_before lists (s + 1) p (omega arith))
+    rw apart (list_in_phase-below lists (s + 1) p (omega arith))
 
 -- a signal that does not join the phase names nothing there
 pub first_named_not : (named : Option (Option Single)) (joins : Bool) (single : Option Single)
@@ -149,7 +149,7 @@ pub signalled_before : (value : List ℤ → Outcome) (before : History) (task :
 signalled_before value before task lists single p h =
     let s = signal_phase before task in
     let sends : sends_of_phase (Signalled task lists single ∷ before) p ≡ sends_of_phase before p =
-    ap (λ l. sends_of_phase before p ++ l) (list_in_phase_before lists s p h) ∙ append-nil _ in
+    ap (λ l. sends_of_phase before p ++ l) (list_in_phase-below lists s p h) ∙ append-nil _ in
     let early : leb s p ≡ false = lt-leb s p h in
     let outside : is_among s (length lists) p ≡ false = rw early refl in
     let named : named_in_phase (Signalled task lists single ∷ before) p ≡ named_in_phase before p =

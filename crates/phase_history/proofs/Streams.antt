@@ -21,7 +21,7 @@ use Rattle.phase_history.proofs.Refused.{registers_from, signals_from, waits_fro
 use Rattle.phase_history.proofs.Steps.{Steps, steps, sound_of}
 
 -- the values of two functions at the first n numbers are the same where the functions are
-same_values : {X : Type 0} (f g : ℕ → X) (n : ℕ) (d : X) → ((p : ℕ) → p < n → g p ≡ f p)
+pub same_values : {X : Type 0} (f g : ℕ → X) (n : ℕ) (d : X) → ((p : ℕ) → p < n → g p ≡ f p)
     → map g (range_with_len 0 n) ≡ map f (range_with_len 0 n)
 same_values f g n d same =
     fill_by_all f (map g (range_with_len 0 n)) n d (length-map-range_with_len g 0 n)
@@ -36,7 +36,7 @@ prefix_of_values f g n m d fewer same =
     take-map-range_with_len g 0 m n fewer ∙ same_values f g n d same in
     (drop n all, ap (λ xs. xs ++ drop n all) (sym front) ∙ take-append-drop n all)
 
-IsPrefix-trans : {X : Type 0} (xs ys zs : List X) → IsPrefix xs ys → IsPrefix ys zs → IsPrefix xs zs
+pub IsPrefix-trans : {X : Type 0} (xs ys zs : List X) → IsPrefix xs ys → IsPrefix ys zs → IsPrefix xs zs
 IsPrefix-trans xs ys zs a b =
     (a.0 ++ b.0, sym (append_assoc xs a.0 b.0) ∙ ap (λ l. l ++ b.0) a.1 ∙ b.1)
 

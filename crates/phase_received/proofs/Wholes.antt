@@ -1,8 +1,9 @@
 -- Who has seen the end of a stream has received all of it, and no more comes.
-use Rattle.std.proofs.Common.{◌≡◌, ◌≢◌, ℕ, ◌-◌, ◌≤◌, ℤ, Bool, true, false, List, [], ◌∷◌, Option, Some, None, length, drop, refl, sym, ap, subst, ◌∙◌, arith}
+use Rattle.std.proofs.Common.{◌≡◌, ◌≢◌, ℕ, ◌-◌, ◌≤◌, ℤ, true, List, [], ◌∷◌, Option, Some, None, length, drop, sym, ap, subst, ◌∙◌, arith}
 use Rattle.std.specs.Prelude.{unwrap_or}
 use Rattle.std.proofs.lemmas.List.{length-drop, take_all}
 use Rattle.std.proofs.lemmas.List.FromFn.{length-map-range_with_len}
+use Rattle.std.proofs.lemmas.Bool.{false_from_ne_true}
 use Rattle.phase_shared.specs.phase_base.Limits.{Limits}
 use Rattle.phase_shared.specs.phase_base.Members.{entry_of}
 use Rattle.phase_shared.specs.phase_base.Modes.{mode_signals, mode_waits}
@@ -27,18 +28,13 @@ use Rattle.phase_shared.proofs.NextSteps.{waits_else}
 use Rattle.phase_shared.proofs.PartSteps.{leaver_stays}
 use Rattle.phase_received.specs.Whole.{HasSeenEnd, HasWhole}
 
--- where no registered task signals, each of them waits
-false_of : (b : Bool) → (b ≡ true → ⊥) → b ≡ false
-false_of true never = absurd (never refl)
-false_of false never = refl
-
 waits_at_end : (h : History) (task : ℕ) (entry : Entry) → HasNoSignaller h → entry_of (members_of h) task ≡ Some entry
     → mode_waits entry.mode ≡ true
 waits_at_end h task entry none member =
     let P : List ℕ → Type 0 = λ xs. Each (λ x. ⊥) xs in
     let quiet : Each (λ (m : Member). mode_signals m.entry.mode ≡ true → ⊥) (members_of h) =
     Each-of_picked (λ x. ⊥) (λ (m : Member). m.entry.signal_phase) (λ (m : Member). mode_signals m.entry.mode) (members_of h) (subst P (sym none) tt) in
-    waits_else entry.mode (false_of (mode_signals entry.mode) (Each-entry (λ (m : Member). mode_signals m.entry.mode ≡ true → ⊥) (members_of h) task entry member quiet))
+    waits_else entry.mode (false_from_ne_true (mode_signals entry.mode) (Each-entry (λ (m : Member). mode_signals m.entry.mode ≡ true → ⊥) (members_of h) task entry member quiet))
 
 pub whole_seen : (value : List ℤ → Outcome) (limits : Limits) (h : History) (task : ℕ) (entry : Entry)
     → IsLegal limits h → entry_of (members_of h) task ≡ Some entry → HasSeenEnd h task → HasWhole value h task

@@ -34,7 +34,6 @@ use Rattle.phase_core.proofs.phase_history_lemmas.LawProofs.{answers_law}
 use Rattle.phase_core.proofs.phase_history_lemmas.Refused.{Passes, passes_from}
 use Rattle.phase_core.proofs.phase_history_lemmas.Steps.{done_below_top, sound_of, member_entry_is}
 use Rattle.phase_core.proofs.phase_history_lemmas.Tops.{top_within}
-use Rattle.phase_core.proofs.Replies.{limits_of}
 use Rattle.phase_script.specs.Commands.{WholeCommand, Make, Add, Now, Send, Signal, Block, Wait, Take, Drop, IsCommand, spelling, command_of}
 use Rattle.std.specs.Prelude.{IfSome}
 use Rattle.std.specs.List.{All}
@@ -54,6 +53,7 @@ use Rattle.phase_replay.specs.declared.script_phaser.ScriptPhaser.{ScriptPhaser}
 use Rattle.phase_replay.specs.declared.any_phaser.AnyPhaser.{AnyPhaser}
 use Rattle.phase_replay.specs.declared.any_phaser.AnyPhaser.TheVariants as phaser
 use Rattle.phase_core.specs.Blocks.{one_each}
+use Rattle.phase_core.proofs.phase_history_lemmas.Standstill.{limits_of}
 use Rattle.phase_replay.specs.Scripts.{ScriptState, NoPhaser, OnePhaser, Held, held_by, done_unless, script_reply, taken_reply, refused_or_reply, block_refusal, value_reply, phaser_reply, command_reply, reply_of_line, reply_line_of}
 use Rattle.phase_replay.specs.Session.{ScriptPhaserStandsFor, AnyStandsFor, MaybeStandsFor}
 

@@ -219,7 +219,7 @@ signaller_entering op r r1 r2 bound done top q to l low later high some entered 
 
 -- ---- the parcels by their places
 
-drop-all : {X : Type 0} (xs : List X) (i : ℕ) → length xs ≤ i → drop i xs ≡ []
+pub drop-all : {X : Type 0} (xs : List X) (i : ℕ) → length xs ≤ i → drop i xs ≡ []
 drop-all [] zero past = refl
 drop-all [] (suc i) past = refl
 drop-all (x ∷ xs) zero past = absurd (omega arith)

@@ -60,7 +60,7 @@ pub sents-with : {A : Type 0} (r : Ring A) (p : ℕ) (old new : Slot A) → slot
     → sents (with_slot p new r) ≡ sents r
 sents-with r p old new found same = ap (λ ss. ring r.base ss) (map-set sent r.slots (p - r.base) old new found same)
 
-slice_get-append_left : {X : Type 0} (xs ys : List X) (i : ℕ) → i < length xs → slice_get (xs ++ ys) i ≡ slice_get xs i
+pub slice_get-append_left : {X : Type 0} (xs ys : List X) (i : ℕ) → i < length xs → slice_get (xs ++ ys) i ≡ slice_get xs i
 slice_get-append_left [] ys i within = absurd (omega arith)
 slice_get-append_left (x ∷ xs) ys zero within = refl
 slice_get-append_left (x ∷ xs) ys (suc i) within = slice_get-append_left xs ys i (omega arith)

@@ -1,31 +1,21 @@
 -- What the answer of a run says of the job.
-use Rattle.std.proofs.Common.{◌≡◌, ◌≤◌, ℕ, ℤ, List, Ok, Err, Some, None, map, get_or, refl, subst, ◌∙◌, rules}
+use Rattle.std.proofs.Common.{◌≡◌, ◌≤◌, ℕ, ℤ, List, Ok, Some, map, get_or, subst, ◌∙◌, rules}
 use Rattle.std.proofs.lemmas.List.Elements.{All-map}
 use Rattle.std.specs.List.{All}
-use Rattle.std.specs.declared.option.Option.{Option}
 use Rattle.phase_run.specs.Runs.{BeginInTime}
 use Rattle.stream_workers.specs.graph_commands.stream_lists.graph_base.Graphs.{task_at}
 use Rattle.stream_workers.specs.graph_commands.stream_lists.Jobs.{Job, with_starts}
 use Rattle.stream_workers.specs.graph_commands.stream_lists.Lists.{lines_of, start_in}
-use Rattle.stream_workers.specs.graph_commands.stream_lists.Ranges.{Fits, Where, answer_of, first_too_big}
+use Rattle.stream_workers.specs.graph_commands.stream_lists.Ranges.{answer_of}
 use Rattle.stream_workers.specs.graph_commands.stream_lists.Spans.{lengths_of}
 use Rattle.stream_workers.specs.stream_eval.Results.{sink_values}
 use Rattle.stream_workers.specs.stream_eval.declared.whole.Lines.{Lines}
-
--- a job with an answer has values that all fit
-pub answer-fits : (job : Job) (lines : List (ℕ × List ℤ)) → answer_of job ≡ Ok lines → Fits job
-answer-fits job lines is = by (first_too_big job) refl
-  where
-    by : (found : Option Where) → first_too_big job ≡ found → first_too_big job ≡ None
-    by None e = e
-    by (Some place) e =
-        let both : Err place ≡ Ok lines = rw e at is in
-        search rules
+use Rattle.stream_workers.proofs.stream_eval_lemmas.stream_lists_lemmas.Basics.{answer_fits}
 
 -- and it is the lines of its sinks
 pub answer-lines : (job : Job) (lines : List (ℕ × List ℤ)) → answer_of job ≡ Ok lines → lines ≡ lines_of job
 answer-lines job lines is =
-    let fits = answer-fits job lines is in
+    let fits = answer_fits job lines is in
     let both : Ok (lines_of job) ≡ Ok lines = rw fits at is in
     search rules
 

@@ -3,6 +3,7 @@
 use Rattle.std.proofs.Common.{◌≡◌, ◌≢◌, ℕ, ℤ, ◌+◌, ◌<◌, ◌/◌, ◌%◌, Bool, true, false, cond, eqb, ltb, List, [], ◌∷◌, ◌++◌, ◌⊎◌, Option, None, length, set, refl, sym, ap, subst, ◌∙◌, inl, inr, arith}
 use Rattle.std.specs.Prelude.{Ok}
 use Rattle.std.proofs.lemmas.Bool.{lt-ltb, eq-eqb, eqb-true, ltb-true}
+use Rattle.turn_lock.proofs.Keeping.{not_both}
 use mathlib.Core.Option.{some}
 use lib.ListN.{get_elem?}
 use Rattle.atomic_table.proofs.Lists.{set_again, set_else}
@@ -23,7 +24,7 @@ use Rattle.phase_shared.specs.Asks.{Ask, IsUnmade, IsMade, IsAnsweredAsk}
 use Rattle.phase_shared.specs.Lanes.{posted}
 use Rattle.phase_shared.specs.Desks.{View, Turning, Asking, Reading, AskStands, HasToRead, StandsAsked, AskedAt, IsPast, HeldAt, IsLane, Kept}
 use Rattle.phase_shared.specs.Tells.{Learnt, TellsAnswer, Looked}
-use Rattle.phase_shared.proofs.Small.{apart_phases, not_both}
+use Rattle.phase_shared.proofs.Small.{apart_phases}
 use Rattle.phase_shared.proofs.Stages.{signal_is, wait_is, answered}
 use Rattle.phase_shared.proofs.Steadies.{same_value}
 use Rattle.phase_shared.proofs.Places.{ask_in, same_view, stays, ne_of}

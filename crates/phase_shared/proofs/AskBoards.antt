@@ -1,5 +1,6 @@
 -- The board: who has the turn writes it where its turn completes a phase, and who was answered reads it.
 use Rattle.std.proofs.Common.{◌≡◌, ◌≢◌, ℕ, ℤ, ◌+◌, ◌<◌, true, false, List, [], ◌++◌, ◌⊎◌, Option, None, length, set, slice_index, refl, sym, ap, subst, ◌∙◌, arith, inl, inr}
+use Rattle.std.proofs.lemmas.Bool.{false_from_ne_true}
 use mathlib.Core.Option.{some}
 use lib.ListN.{get_elem?}
 use Rattle.atomic_table.proofs.Lists.{set_again}
@@ -10,7 +11,7 @@ use Rattle.phase_shared.specs.Views.{Lane, speaks_of, is_turning}
 use Rattle.phase_shared.specs.Asks.{Ask, IsAtPhases, IsUnmade, IsMade, IsAnsweredAsk, Batch, IsOneOf, asks_for}
 use Rattle.phase_shared.specs.Lanes.{board, posted, sends_of, KindIs, NumberIs, with_number}
 use Rattle.phase_shared.specs.Desks.{View, Resting, Turning, Joining, Posting, Asking, Reading, Spent, IsSound, AskStands, HasToRead, Owns, LaneIs, StandsAsked, IsLane, Kept}
-use Rattle.phase_shared.proofs.Small.{not_true_is, used_some, apart_phases}
+use Rattle.phase_shared.proofs.Small.{used_some, apart_phases}
 use Rattle.phase_shared.proofs.Stages.{signal_is, wait_is, done_within}
 use Rattle.phase_shared.proofs.Steadies.{found, none_of, stands_still}
 use Rattle.phase_shared.proofs.Places.{is_asking, ask_in, same_view, stays, asked_stays, lane_stays}
@@ -87,7 +88,7 @@ module _ {T : Type 0} (value : List ℤ → Outcome) (limits : Limits) (allows :
       let more = completes in absurd (omega arith)
 
   theirs : (j : ℕ) (u : View) (task : ℕ) → j ≢ number → get_elem? views j ≡ some u → is_in task (speaks_of u) ≡ true → is_in task f.speaks ≡ false
-  theirs j u task ne e has = not_true_is (is_in task f.speaks)
+  theirs j u task ne e has = false_from_ne_true (is_in task f.speaks)
       (λ mine. ne (sym (k.owns j u task e has).0 ∙ (k.owns number (Turning f claims said lane) task at mine).0))
 
   -- the seat that speaks for the task of an ask that was read is the one that asked
@@ -128,7 +129,7 @@ module _ {T : Type 0} (value : List ℤ → Outcome) (limits : Limits) (allows :
   none_reading j g a ne e =
       let s : HasToRead value k.log words g a = k.sound j (Reading g a) e in
       let mine : is_in a.task g.speaks ≡ true = this_is_in a.task g.speaks s.speaks in
-      let unread : asks_for claims a.task ≡ false = not_true_is (asks_for claims a.task)
+      let unread : asks_for claims a.task ≡ false = false_from_ne_true (asks_for claims a.task)
       (λ t. let r = found claims a.task t in let q = seat_is j (Reading g a) a.task e mine r.0 r.1 r.2 in not_asking q.0 r.0 q.1) in
       holds_open a.task a.phase (subst (λ (h : History). a.phase < done_of h) (sym log_is) s.below)
       (none_of limits claims f.speaks f.seen some_log a.task (theirs j (Reading g a) a.task ne e mine) unread later batch)

@@ -1,10 +1,10 @@
 -- A step of one seat, at which one word may change: what it has to show that the rule stays.
 use Rattle.std.proofs.Common.{◌≡◌, ◌≢◌, ℕ, ℤ, ◌+◌, ◌<◌, true, false, eqb, List, [], ◌∷◌, Option, Some, None, set, refl, sym, ap, subst, ◌∙◌, inl, inr}
-use Rattle.std.proofs.lemmas.Bool.{eqb-true}
+use Rattle.std.proofs.lemmas.Bool.{eqb-true, false_from_ne_true}
 use mathlib.Core.Option.{some}
 use lib.ListN.{get_elem?}
 use Rattle.atomic_table.proofs.Lists.{at_set, set_here}
-use Rattle.turn_lock.proofs.Keeping.{within}
+use Rattle.turn_lock.proofs.Keeping.{within, not_both}
 use Rattle.phase_shared.specs.Phasers.{Limits, is_in, Outcome, History, IsUsed}
 use Rattle.phase_shared.specs.declared.seats.view.Knowledge.{Knowledge}
 use Rattle.phase_shared.specs.Goods.{Allows}
@@ -12,7 +12,7 @@ use Rattle.phase_shared.specs.Views.{Lane, Unknown, Free, Own, Holds, speaks_of,
 use Rattle.phase_shared.specs.Asks.{Ask, IsMade, IsOneOf}
 use Rattle.phase_shared.specs.Lanes.{lanes_most, board, posted, owner_word, sends_of}
 use Rattle.phase_shared.specs.Desks.{View, Resting, Turning, Joining, Posting, Asking, Reading, Spent, IsSound, AskStands, HasToRead, Owns, LaneIs, SendIs, StandsAsked, HeldAt, IsLane, Kept}
-use Rattle.phase_shared.proofs.Small.{not_true_is, not_both, none_some, is_in_self}
+use Rattle.phase_shared.proofs.Small.{none_some, is_in_self}
 use Rattle.phase_shared.proofs.Places.{is_asking, same_view, was, stays, asked_stays, ne_of}
 use Rattle.phase_shared.proofs.LaneWords.{SameLane, SameElse, SameBut, lane_else, lane_but, lanes_apart}
 
@@ -97,7 +97,7 @@ module _ {T : Type 0} (value : List ℤ → Outcome) (limits : Limits) (allows :
     (number : ℕ) (v : View) (at : get_elem? views number ≡ some v) where
   -- no other seat speaks for what this one speaks for
   pub apart : (t : ℕ) → is_in t (speaks_of v) ≡ true → (j : ℕ) (u : View) → j ≢ number → get_elem? views j ≡ some u → is_in t (speaks_of u) ≡ false
-  apart t mine j u ne e = not_true_is (is_in t (speaks_of u)) (λ theirs. ne (sym (k.owns j u t e theirs).0 ∙ (k.owns number v t at mine).0))
+  apart t mine j u ne e = false_from_ne_true (is_in t (speaks_of u)) (λ theirs. ne (sym (k.owns j u t e theirs).0 ∙ (k.owns number v t at mine).0))
 
   -- a lane of another seat is another one than a lane of this one
   apart_lane : (t i : ℕ) → is_in t (speaks_of v) ≡ true → owner_word words i ≡ t + 1 → (j : ℕ) (u : View) → j ≢ number → get_elem? views j ≡ some u

@@ -3,6 +3,7 @@
 use Rattle.std.proofs.Common.{◌≡◌, ℕ, ◌+◌, ◌≤◌, ℤ, Bool, true, false, cond, ltb, List, [], ◌∷◌, Some, None, refl, sym, ap, subst, ◌∙◌, inl, arith}
 use Rattle.std.proofs.lemmas.Bool.{le-ltb}
 use Rattle.std.specs.Prelude.{Result, Ok, Err, IsErr, is_some}
+use Rattle.std.proofs.lemmas.Option.{same_Some}
 use Rattle.phase_shared.specs.Phasers.{Limits, is_in, Entry, mode_signals, mode_waits, entry_of, signalled, waited, Operation, Outcome, Event, Got, SignalRefusal, History, HasNoSignaller, IsAlive, members_of, signal_phase, wait_phase, done_of, value_of_phase, wait_refusal, wait_reply, got_at, IsLegal, OthersCame, refused_or, CoreState}
 use Rattle.phase_core.specs.phase_history.declared.event.Event.TheVariants.{Signalled, Waited}
 use Rattle.phase_core.specs.phase_history.declared.got.Got.TheVariants as got
@@ -31,7 +32,7 @@ use Rattle.phase_shared.specs.Views.{Lane, Own, knowledge, known_of, speaks_of, 
 use Rattle.phase_shared.proofs.AskAnswering.{asked_signals, asked_waits, made_signals, same_refusal}
 use Rattle.phase_shared.proofs.Giving.{member_after}
 use Rattle.phase_shared.proofs.NextSteps.{made}
-use Rattle.phase_shared.proofs.Small.{apart_phases, same_some}
+use Rattle.phase_shared.proofs.Small.{apart_phases}
 use Rattle.phase_shared.proofs.Stages.{at_entry, wait_is}
 
 no_event_is_none : (e : Event) (h : History) → e ∷ h ≡ [] → ⊥
@@ -125,7 +126,7 @@ module _ {A K : Type 0} (op : Operation A) (allows : K → Allows) (terms : Term
             first = refl;
             unmade = record { others = others; stands = at_entry (known_of v).seen t.now r.task r.phase r.phase st there };
             waits = λ other member.
-                ap (λ (f : Entry). mode_waits f.mode) (same_some other st.entry (sym member ∙ there)) ∙ waiter st.entry st.member;
+                ap (λ (f : Entry). mode_waits f.mode) (same_Some other st.entry (sym member ∙ there)) ∙ waiter st.entry st.member;
             may = may.may;
           }
 
@@ -139,7 +140,7 @@ module _ {A K : Type 0} (op : Operation A) (allows : K → Allows) (terms : Term
   alive : IsAlive old.seen r.task × IsWaiterIn old.seen r.task
   alive = (
     ap is_some asked_member,
-    λ e there. ap (λ (f : Entry). mode_waits f.mode) (same_some e old.entry (sym there ∙ asked_member)) ∙ waits,
+    λ e there. ap (λ (f : Entry). mode_waits f.mode) (same_Some e old.entry (sym there ∙ asked_member)) ∙ waits,
   )
 
   -- its seat may go on to it

@@ -4,7 +4,7 @@ use Rattle.std.proofs.lemmas.Bool.{eqb-true}
 use mathlib.Core.Option.{some}
 use lib.ListN.{get_elem?}
 use Rattle.atomic_table.proofs.Lists.{set_here}
-use Rattle.turn_lock.proofs.Keeping.{within}
+use Rattle.turn_lock.proofs.Keeping.{within, not_both}
 use Rattle.phase_shared.specs.Phasers.{Limits, Outcome, History, IsLegal, events_of, OthersCame}
 use Rattle.phase_core.proofs.phase_history_lemmas.Used.{entry_of-others}
 use Rattle.phase_shared.specs.declared.seats.view.Knowledge.{Knowledge}
@@ -14,7 +14,7 @@ use Rattle.phase_shared.specs.Asks.{Ask, IsAtPhases, IsMade, IsAnsweredAsk, IsOn
 use Rattle.phase_shared.specs.Lanes.{lanes_most, board, phase_place, send_place, owner_place, posted, owner_word, sends_of}
 use Rattle.phase_shared.specs.Desks.{View, Resting, Turning, Posting, Asking, MayMakeAsk, IsSound, AskStands, Owns, LaneIs, StandsAsked, IsLane, Kept}
 use Rattle.phase_shared.specs.WordTells.{KnowsOwn}
-use Rattle.phase_shared.proofs.Small.{apart_phases, not_both}
+use Rattle.phase_shared.proofs.Small.{apart_phases}
 use Rattle.phase_shared.proofs.Stages.{at_entry, signal_is}
 use Rattle.phase_shared.proofs.Places.{is_asking, ask_in, stays, asked_stays, lane_stays, ne_of, own_not_held, held_same}
 use Rattle.phase_shared.proofs.LaneWords.{SameElse, SameBut, send_else, send_posted, send_here, phase_else, phase_sent, phase_here, owner_else, owner_here, lane_but, free_apart}

@@ -1,6 +1,7 @@
 -- A registration that asks is taken apart and put together.
 use Rattle.std.proofs.Common.{◌≡◌, ℕ, true, [], Some, None, refl, sym, ap, subst, ◌∙◌}
 use Rattle.std.specs.Prelude.{Ok, Err}
+use Rattle.std.proofs.lemmas.Option.{same_Some}
 use Rattle.turn_lock.specs.Seats.{seat_place, seat_view}
 use Rattle.turn_lock.specs.declared.seat.Seat.{Seat}
 use Rattle.phase_shared.specs.Phasers.{Entry, History, Operation, Outcome, Parcel, SignalRefusal, StandsForSends, entry_of, members_of, mode_signals, mode_waits}
@@ -17,7 +18,6 @@ use Rattle.phase_shared.specs.declared.seats.request.Request.{Request}
 use Rattle.phase_shared.specs.declared.seats.view.View.{View}
 use Rattle.phase_shared.proofs.AskNexts.{answered_seat, answered_call, answered_back, refused_seat, refused_call, refused_back, back_seat, back_call}
 use Rattle.phase_shared.proofs.Opening.{Opened, closed}
-use Rattle.phase_shared.proofs.Small.{same_some}
 
 module _ {T A K : Type 0} (op : Operation A) (allows : K → Allows) (phaser : LockedPhaser A K)
     (entry : Entry) (held : Parcel A) (r : Request) where
@@ -37,7 +37,7 @@ module _ {T A K : Type 0} (op : Operation A) (allows : K → Allows) (phaser : L
 
   pub opened_ask : (s : Seat T (Terms K) View) → IsAsked op allows s entry held r → seat_place s ≡ locked_place phaser → OpenedAsk s
   opened_ask s k here =
-      let same : k.terms ≡ locked_terms phaser = same_some k.terms (locked_terms phaser) (sym k.named ∙ ap (λ p. p.1) here) in
+      let same : k.terms ≡ locked_terms phaser = same_Some k.terms (locked_terms phaser) (sym k.named ∙ ap (λ p. p.1) here) in
       record {
         here = here;
         asks = subst (λ (t : Terms K). AsksAt t.limits (allows t.rule) (ask_of r) (known_of (seat_view s)).seen (seat_view s)) same k.asks;

@@ -5,7 +5,7 @@ use Rattle.std.proofs.lemmas.Bool.{eq-eqb}
 use Rattle.std.proofs.lemmas.List.{length-take-le, length-drop, length-append}
 use Rattle.std.proofs.lemmas.List.FromFn.{length-map-range_with_len}
 use Rattle.std.proofs.Math.Seq.{take-append_seam}
-use Rattle.phase_shared.specs.Phasers.{Limits, entry_of, Entry, Operation, Parcel, Outcome, Single, SignalRefusal, WaitRefusal, History, HasNoSignaller, members_of, founder, done_of, start_of, entry_at, signal_phase, wait_phase, IsLegal, HasNoEvents, OthersCame, received_by, stream_of, sent_by, signal_reply, after_signal, StandForLists}
+use Rattle.phase_shared.specs.Phasers.{Limits, entry_of, Entry, Operation, Parcel, Outcome, Single, SignalRefusal, WaitRefusal, History, HasNoSignaller, members_of, founder, done_of, start_of, entry_at, signal_phase, wait_phase, IsLegal, HasNoEvents, received_by, stream_of, sent_by, signal_reply, after_signal, StandForLists}
 use Rattle.phase_core.specs.phase_base.declared.mode.Mode.TheVariants.{Wait}
 use Rattle.phase_core.specs.phase_accum.declared.outcome.Outcome.TheVariants.{Empty}
 use Rattle.phase_core.specs.phase_history.declared.event.Event.TheVariants.{RegisteredNow}
@@ -20,13 +20,8 @@ use Rattle.phase_shared.specs.Blocks.{SignalsBlock, WaitsBlock}
 use Rattle.phase_shared.specs.Joins.{HasRegisteredNow}
 use Rattle.phase_shared.specs.Parts.{PartStays, HasNoPart}
 use Rattle.phase_shared.specs.BlockParts.{SendsLists, GetsValues}
-use Rattle.phase_shared.proofs.Small.{is_in_self}
 use Rattle.phase_shared.proofs.Giving.{member_after}
-use Rattle.phase_shared.proofs.PartSteps.{PartStays-others}
-
--- a task's own, while others' events come
-own : (me : ℕ) (old new : History) → OthersCame (me ∷ []) old new → PartStays me old new
-own me old new came = PartStays-others (me ∷ []) old new me came (is_in_self me [])
+use Rattle.phase_shared.proofs.PartSteps.{own}
 
 -- ---- a signal
 

@@ -1,6 +1,7 @@
 -- What a seat that speaks for one task owes at a give.
 use Rattle.std.proofs.Common.{◌≡◌, ℕ, ◌+◌, false, cond, eqb, List, [], ◌∷◌, ◌++◌, Option, Some, refl, sym, ap, subst, ◌∙◌, inl}
 use Rattle.std.specs.Prelude.{is_some}
+use Rattle.std.proofs.lemmas.Option.{same_Some}
 use Rattle.turn_lock.specs.WordSteps.{GivesOf}
 use Rattle.phase_shared.specs.Phasers.{Limits, Entry, Operation, Event, entry_of, History, members_of, IsLegal, CoreState, StandsFor, IsUsed, is_by, events_of, OthersCame, is_in, Outcome}
 use Rattle.phase_shared.specs.declared.seats.view.View.{View}
@@ -11,7 +12,7 @@ use Rattle.phase_shared.specs.declared.seats.view.Ask.{Ask}
 use Rattle.phase_shared.specs.Steps.{GivesNoAnswer}
 use Rattle.phase_core.proofs.phase_history_lemmas.OthersEvents.{OthersCame-refl}
 use Rattle.phase_core.proofs.phase_history_lemmas.Used.{IsUsed-member, IsUsed-longer, entry_of-others}
-use Rattle.phase_shared.proofs.Small.{same_some, one_of, or_false, is_in_self, apart_phases}
+use Rattle.phase_shared.proofs.Small.{one_of, or_false, is_in_self, apart_phases}
 use Rattle.phase_shared.proofs.Stages.{wait_is}
 use Rattle.phase_shared.proofs.GivingAsks.{no_lane}
 use Rattle.phase_shared.proofs.GivingAsks as asks
@@ -130,7 +131,7 @@ module _ {A K : Type 0} (op : Operation A) (allows : K → Allows) (terms : Term
   pub told_entry : (entry expected : Entry) (h : History) (x : CoreState A) (o : Option Entry) → StandsWithin op terms.limits x h
       → o ≡ entry_of x.members me → o ≡ Some entry → entry_of (members_of h) me ≡ Some expected → entry ≡ expected
   told_entry entry expected h x o stands viewed some there =
-      same_some entry expected (sym some ∙ viewed ∙ ap (λ ms. entry_of ms me) stands.stands.members_are ∙ there)
+      same_Some entry expected (sym some ∙ viewed ∙ ap (λ ms. entry_of ms me) stands.stands.members_are ∙ there)
 
   -- the core's own history is legal at the phaser's limits
   pub legal_at : (x : CoreState A) (h : History) → StandsWithin op terms.limits x h → IsLegal terms.limits h

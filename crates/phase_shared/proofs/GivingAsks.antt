@@ -1,10 +1,12 @@
 -- A give keeps the rule: with the giver's own events, and with those of a turn for others that asked.
 use Rattle.std.proofs.Common.{◌≡◌, ◌≢◌, ℕ, ℤ, ◌+◌, ◌<◌, ◌≤◌, true, false, cond, List, [], ◌∷◌, ◌++◌, ◌⊎◌, Some, None, set, refl, sym, ap, subst, ◌∙◌, inl, inr, arith}
 use Rattle.std.specs.Prelude.{◌/◌, ◌%◌}
+use Rattle.std.proofs.lemmas.Bool.{false_from_ne_true}
+use Rattle.std.proofs.lemmas.Option.{same_Some}
 use mathlib.Core.Option.{some}
 use lib.ListN.{get_elem?}
 use Rattle.atomic_table.proofs.Lists.{at_set, set_here}
-use Rattle.turn_lock.proofs.Keeping.{within}
+use Rattle.turn_lock.proofs.Keeping.{within, not_both}
 use Rattle.phase_shared.specs.Phasers.{Limits, is_distinct, is_in, Outcome, History, done_of, value_of_phase, IsUsed, events_of, OthersCame}
 use Rattle.phase_core.proofs.phase_history_lemmas.Used.{IsUsed-longer}
 use Rattle.phase_core.proofs.phase_history_lemmas.OthersEvents.{OthersCame-refl, OthersCame-trans}
@@ -15,7 +17,7 @@ use Rattle.phase_shared.specs.Asks.{Ask, IsAtPhases, IsUnmade, IsMade, IsAnswere
 use Rattle.phase_shared.specs.Lanes.{lanes_most, board, posted, owner_word}
 use Rattle.phase_shared.specs.Desks.{View, Resting, Turning, Joining, Posting, Asking, Reading, Spent, IsSound, AskStands, HasToRead, Owns, LaneIs, IsPast, HeldAt, IsLane, Kept}
 use Rattle.phase_shared.specs.Tells.{StillAsks, LaneIsPast, EndsTurn, Leaves}
-use Rattle.phase_shared.proofs.Small.{same_some, none_some, not_true_is, not_both, apart_phases, is_in_self, in_left, in_right, used_some}
+use Rattle.phase_shared.proofs.Small.{none_some, apart_phases, is_in_self, in_left, in_right, used_some}
 use Rattle.phase_shared.proofs.Stages.{stage_goes, signal_is, wait_is, done_within}
 use Rattle.phase_shared.proofs.Steadies.{found, none_of, same_value, stands_still, stage_still, not_made_and_answered}
 use Rattle.phase_shared.proofs.Growing.{unmade_before, done_grows, own_batch}
@@ -31,7 +33,7 @@ module _ {T : Type 0} (value : List ℤ → Outcome) (limits : Limits) (allows :
 
   -- no other view speaks for any of the giver's
   mine : (j : ℕ) (v : View) (task : ℕ) → j ≢ number → get_elem? views j ≡ some v → is_in task (speaks_of v) ≡ true → is_in task f.speaks ≡ false
-  mine j v task ne e has = not_true_is (is_in task f.speaks)
+  mine j v task ne e has = false_from_ne_true (is_in task f.speaks)
       (λ yes'. ne (sym (k.owns j v task e has).0 ∙ (k.owns number (Turning f claims said lane) task at yes').0))
 
   asks_at : (j : ℕ) (g : Knowledge) (a : Ask) → get_elem? views j ≡ some (Asking g a) → AskStands value limits allows k.log told words g a
@@ -87,7 +89,7 @@ module _ {T : Type 0} (value : List ℤ → Outcome) (limits : Limits) (allows :
     none : (j : ℕ) (v : View) → j ≢ number → get_elem? views j ≡ some v → is_asking v ≡ false
         → (task : ℕ) → is_in task (speaks_of v) ≡ true → events_of task later ≡ []
     none j v ne e not_asking task has' = none_of limits used f.speaks k.log some_log task (mine j v task ne e has')
-        (not_true_is (asks_for used task) (λ yes'.
+        (false_from_ne_true (asks_for used task) (λ yes'.
         let r = found used task yes' in
         let q = seat_is j v task e has' r.0 (inside r.0 r.1) r.2 in
         not_both (is_asking v) (ap is_asking q.1) not_asking))
@@ -194,7 +196,7 @@ module _ {T : Type 0} (value : List ℤ → Outcome) (limits : Limits) (allows :
 
     -- nobody else speaks for what the giver speaks for afterwards
     apart_of : (j : ℕ) (v : View) (task : ℕ) → j ≢ number → get_elem? views j ≡ some v → is_in task (speaks_of v) ≡ true → is_in task (speaks_of w) ≡ false
-    apart_of j v task ne e has' = not_true_is (is_in task (speaks_of w)) (λ yes'. elim ((each task yes').1) [
+    apart_of j v task ne e has' = false_from_ne_true (is_in task (speaks_of w)) (λ yes'. elim ((each task yes').1) [
       | inl h ↦ not_both (is_in task f.speaks) h (mine j v task ne e has')
       | inr h ↦ h (k.owns j v task e has').1
     ])
@@ -226,7 +228,7 @@ module _ {T : Type 0} (value : List ℤ → Outcome) (limits : Limits) (allows :
     gave = record {
       log = later ++ k.log;
       good = good;
-      stands = λ x e. subst (λ (z : T). StandsFor z (later ++ k.log)) (same_some y x e) stands;
+      stands = λ x e. subst (λ (z : T). StandsFor z (later ++ k.log)) (same_Some y x e) stands;
       within = within';
       holder = number;
       out = λ e. absurd (none_some y e);

@@ -1,9 +1,11 @@
 -- Seats are cut in two and joined, and the rule stays; and it holds of what was just made.
 use Rattle.std.proofs.Common.{◌≡◌, ◌≢◌, ℕ, ℤ, zero, suc, true, false, not, cond, eqb, List, [], ◌∷◌, ◌++◌, Option, Some, None, length, set, replicate, refl, sym, ap, subst, ◌∙◌, inl, arith, inr}
 use Rattle.std.specs.Prelude.{◌%◌}
-use Rattle.std.proofs.lemmas.Bool.{ne_eqb, and_parts, not-true}
+use Rattle.std.proofs.lemmas.Bool.{ne_eqb, and_parts, not-true, false_from_ne_true}
 use mathlib.Core.Option.{some, some-injective, some-ne-none}
 use Rattle.std.proofs.lemmas.List.{get_or-replicate}
+use Rattle.std.proofs.lemmas.Option.{same_Some}
+use Rattle.turn_lock.proofs.Keeping.{not_both}
 use lib.ListN.{get_elem?}
 use Rattle.atomic_table.proofs.Lists.{at_set, at_longer, set_else}
 use Rattle.phase_shared.specs.Phasers.{Limits, is_distinct, is_in, Outcome, History, IsLegal, IsUsed, OnlyUsed}
@@ -16,7 +18,7 @@ use Rattle.phase_shared.specs.Goods.{Allows}
 use Rattle.phase_shared.specs.Lanes.{posted, phase_place}
 use Rattle.phase_shared.specs.Desks.{View, Resting, Turning, Joining, Asking, Spent, IsSound, Kept}
 use Rattle.phase_shared.specs.Rule.{Learned}
-use Rattle.phase_shared.proofs.Small.{same_some, none_some, not_true_is, not_both, eqb_refl, or_false, snoc_at, one_of, is_in_self, in_second, distinct_append, in_append, used_some}
+use Rattle.phase_shared.proofs.Small.{none_some, eqb_refl, or_false, snoc_at, one_of, is_in_self, in_second, distinct_append, in_append, used_some}
 use Rattle.phase_shared.proofs.Places.{is_asking, same_view, was, stays, AskingStay, TurningStay, asked_stays, lane_stays}
 
 -- a seat's view changes from one that neither asks nor has the turn to another one
@@ -152,7 +154,7 @@ module _ {T : Type 0} (value : List ℤ → Outcome) (limits : Limits) (allows :
       let s = k.sound number (Resting f) at in
       let s' = k.sound other (Resting g) at' in
       let there : get_elem? one other ≡ some (Resting g) = set_else views number other w ne ∙ at' in
-      let apart : (t : ℕ) → is_in t f.speaks ≡ true → is_in t g.speaks ≡ false = λ t has. not_true_is (is_in t g.speaks)
+      let apart : (t : ℕ) → is_in t f.speaks ≡ true → is_in t g.speaks ≡ false = λ t has. false_from_ne_true (is_in t g.speaks)
       (λ has'. ne (sym (k.owns other (Resting g) t at' has').0 ∙ (k.owns number (Resting f) t at has).0)) in
       let owner : ℕ → ℕ = λ t. cond (is_in t g.speaks) number (k.owner t) in
       moves home told words views (set one other Spent) k
@@ -179,7 +181,7 @@ module _ {T : Type 0} (value : List ℤ → Outcome) (limits : Limits) (allows :
                     (ap (λ c. cond c number (k.owner t)) h ∙ sym q.0, o.1)
               ]
           | inr q ↦ let o = k.owns j u t q.1 has in
-              let not_theirs : is_in t g.speaks ≡ false = not_true_is (is_in t g.speaks) (λ has'. m.0 (sym o.0 ∙ (k.owns other (Resting g) t at' has').0)) in
+              let not_theirs : is_in t g.speaks ≡ false = false_from_ne_true (is_in t g.speaks) (λ has'. m.0 (sym o.0 ∙ (k.owns other (Resting g) t at' has').0)) in
               (ap (λ c. cond c number (k.owner t)) not_theirs ∙ o.0, o.1)
         ]
       ])
@@ -208,7 +210,7 @@ module _ {T : Type 0} (value : List ℤ → Outcome) (limits : Limits) (allows :
   founds x stands legal = record {
     log = Made 0 ∷ [];
     good = record { legal = legal; keeps = tt };
-    stands = λ y e. subst (λ (z : T). StandsFor z (Made 0 ∷ [])) (same_some x y e) stands;
+    stands = λ y e. subst (λ (z : T). StandsFor z (Made 0 ∷ [])) (same_Some x y e) stands;
     within = λ odd. absurd (zero_not_odd odd);
     holder = 0;
     out = λ e. absurd (none_some x e);

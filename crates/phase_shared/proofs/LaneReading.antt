@@ -1,5 +1,7 @@
 -- A holder reads the lane of another's task: there is nothing, or what is past, or what was asked, which it has read then.
 use Rattle.std.proofs.Common.{◌≡◌, ◌≢◌, ℕ, ℤ, ◌+◌, ◌<◌, false, List, [], ◌∷◌, ◌⊎◌, None, set, refl, sym, ap, subst, ◌∙◌, inl, inr, ⊎_elim, arith}
+use Rattle.std.proofs.lemmas.Bool.{false_from_ne_true}
+use Rattle.turn_lock.proofs.Keeping.{not_both}
 use mathlib.Core.Option.{some}
 use lib.ListN.{get_elem?}
 use Rattle.atomic_table.proofs.Lists.{set_again}
@@ -11,7 +13,6 @@ use Rattle.phase_shared.specs.Lanes.{lanes_most, posted, send_word, owner_word, 
 use Rattle.phase_shared.specs.Views.{Lane, Holds, is_turning}
 use Rattle.phase_shared.specs.Desks.{View, Turning, Asking, AskStands, StandsAsked, AskedAt, IsPast, Kept}
 use Rattle.phase_shared.specs.Tells.{IsClaim, LaneRead}
-use Rattle.phase_shared.proofs.Small.{not_both, not_true_is}
 use Rattle.phase_shared.proofs.Places.{ask_in, same_view}
 use Rattle.phase_shared.proofs.AskMoves.{this_is_in, held_lane, lane_still, holds}
 
@@ -36,7 +37,7 @@ module _ {T : Type 0} (value : List ℤ → Outcome) (limits : Limits) (allows :
 
   -- who asks is another
   other_task : (j : ℕ) (g : Knowledge) (a : Ask) → get_elem? views j ≡ some (Asking g a) → is_in a.task f.speaks ≡ false
-  other_task j g a e = not_true_is (is_in a.task f.speaks) (λ mine.
+  other_task j g a e = false_from_ne_true (is_in a.task f.speaks) (λ mine.
       let theirs = (k.owns j (Asking g a) a.task e (this_is_in a.task g.speaks (asks_at j g a e).speaks)).0 in
       let here = (k.owns number (Turning f claims said lane) a.task at mine).0 in
       not_both (is_turning (Turning f claims said lane)) refl

@@ -5,21 +5,19 @@ use Rattle.std.proofs.lemmas.Bool.Decides.{nat_tests}
 use Rattle.phase_shared.specs.Phasers.{Limits, mode_signals, mode_waits, Mode, Entry, Outcome, Got, entry_of, signalled, signal_phases, Single, WaitRefusal, History, members_of, positions_of, IsLegal, refusal_at, wait_rows, wait_refusal, OthersCame}
 use Rattle.phase_core.specs.phase_base.declared.mode.Mode.TheVariants.{Sig, Wait, SigWait, Single as Singles}
 use Rattle.std.specs.Prelude.{is_some, Ok}
+use Rattle.std.proofs.lemmas.Option.{same_Some}
 use Rattle.phase_core.specs.phase_base.Members.{least as least_of}
 use Rattle.phase_core.specs.phase_history.declared.event.Event.TheVariants.{Signalled}
 use Rattle.phase_core.specs.phase_history.declared.refusal.WaitRefusal.TheVariants as wait
 use Rattle.phase_core.specs.phase_history.Histories.{done_at}
-use Rattle.phase_core.proofs.Replies.{limits_of}
 use Rattle.phase_core.specs.phase_history.Refusals.{is_bad_block}
 use Rattle.phase_core.specs.phase_base.Lists.{first_row}
 use Rattle.phase_core.proofs.phase_history_lemmas.LawProofs.{turns_law}
 use Rattle.phase_core.proofs.phase_history_lemmas.MemberLemmas.{entry_of-changed_same}
+use Rattle.phase_core.proofs.phase_history_lemmas.Standstill.{limits_of}
 use Rattle.phase_shared.specs.Calls.{Waits}
 use Rattle.phase_shared.specs.Nexts.{MadeWhere, MayWait}
 use Rattle.phase_shared.proofs.Giving.{member_after}
-
-same_some : {A : Type 0} (x y : A) → Some x ≡ Some y → x ≡ y
-same_some x y e = cc
 
 -- a mode that does not signal waits
 pub waits_else : (mode : Mode) → mode_signals mode ≡ false → mode_waits mode ≡ true
@@ -35,7 +33,7 @@ pub signalled_member : (limits : Limits) (me : ℕ) (entry entry' : Entry) (old 
 signalled_member limits me entry entry' old before new single sends came seen legal member member' =
     let all : IsLegal limits (Signalled me (sends ∷ []) single ∷ before) = subst (λ (h : History). IsLegal limits h) seen legal in
     let there = member_after limits me entry old before came all.0 member in
-    same_some entry' (signalled 1 entry)
+    same_Some entry' (signalled 1 entry)
     (sym member' ∙ ap (λ h. entry_of (members_of h) me) seen ∙ entry_of-changed_same me (signalled 1) entry (members_of before) there)
 
 -- after its signal a task that waits too is ahead of its waits
@@ -72,7 +70,7 @@ only_early limits h me entry refusal legal member waits apart refused =
     last_row true b c d refusal no_a no_b no_c is = absurd (cc)
     last_row false true c d refusal no_a no_b no_c is = absurd (cc)
     last_row false false true d refusal no_a no_b no_c is = absurd (cc)
-    last_row false false false true refusal no_a no_b no_c is = sym (same_some wait.NotYet refusal is)
+    last_row false false false true refusal no_a no_b no_c is = sym (same_Some wait.NotYet refusal is)
     last_row false false false false refusal no_a no_b no_c is = absurd (cc)
 
     not_both : (a b : Bool) → (a ≡ true → b ≡ false) → (a && b) ≡ false

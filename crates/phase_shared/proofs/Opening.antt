@@ -12,9 +12,9 @@ use Rattle.phase_shared.specs.declared.rule.Terms.{Terms}
 use Rattle.phase_shared.specs.Rule.{Allows, IsSeatOfTask}
 use Rattle.std.specs.Prelude.{Result, Ok, Err, IsErr}
 use Rattle.std.specs.Result.{result_ok}
+use Rattle.std.proofs.lemmas.Option.{same_Some}
 use Rattle.phase_shared.specs.declared.tried.Tried.{Tried}
 use Rattle.phase_shared.specs.declared.tried.Tried.TheVariants.{Busy, Refused}
-use Rattle.phase_shared.proofs.Small.{same_some}
 use Rattle.phase_shared.specs.Steps.{IsStep, IsSeatOn}
 use Rattle.phase_shared.specs.Calls.{IsTry, Tries}
 use Rattle.phase_shared.specs.Entries.{entry_stays}
@@ -30,7 +30,7 @@ module _ {T A K : Type 0} (allows : K → Allows) (phaser : LockedPhaser A K) (m
       → IsReg allows o me entry → reg_state o me entry held ≡ reg → reg.at ≡ locked_place phaser → Opened entry held s reg
   opened entry held o s reg is r seen at =
       let here : index_in o ≡ locked_place phaser = ap (λ r. r.at) seen ∙ at in
-      let same : r.terms ≡ locked_terms phaser = same_some r.terms (locked_terms phaser) (sym r.named ∙ ap (λ p. p.1) here) in
+      let same : r.terms ≡ locked_terms phaser = same_Some r.terms (locked_terms phaser) (sym r.named ∙ ap (λ p. p.1) here) in
       let station : IsSeatOfTask allows (locked_terms phaser) me entry (view_in o) = subst (λ (t : Terms K). IsSeatOfTask allows t me entry (view_in o)) same r.station in
       record {
         seat = record { here = sym (ap index_in is) ∙ here; knows = subst (λ (v : View). IsSeatOfTask allows (locked_terms phaser) me entry v) (ap view_in is) station };

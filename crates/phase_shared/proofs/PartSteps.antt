@@ -32,7 +32,7 @@ PartStays-others tasks old new task came has = record {
 }
 
 -- a task's own
-own : (me : ℕ) (old new : History) → OthersCame (me ∷ []) old new → PartStays me old new
+pub own : (me : ℕ) (old new : History) → OthersCame (me ∷ []) old new → PartStays me old new
 own me old new came = PartStays-others (me ∷ []) old new me came (is_in_self me [])
 
 -- what was in a list is in a longer one

@@ -1,6 +1,7 @@
 -- What is said of the seats that asked or that have the turn stays while these seats stay.
 use Rattle.std.proofs.Common.{◌≡◌, ◌≢◌, ℕ, Bool, true, false, eqb, List, set, sym, ap, ◌∙◌, inl, inr}
 use Rattle.std.proofs.lemmas.Bool.{eq-eqb}
+use Rattle.turn_lock.proofs.Keeping.{not_both}
 use mathlib.Core.Option.{some, some-injective}
 use lib.ListN.{get_elem?}
 use Rattle.atomic_table.proofs.Lists.{at_set, set_else}
@@ -9,7 +10,6 @@ use Rattle.phase_shared.specs.declared.seats.view.Knowledge.{Knowledge}
 use Rattle.phase_shared.specs.Asks.{Ask}
 use Rattle.phase_shared.specs.Views.{Lane, Own, Holds}
 use Rattle.phase_shared.specs.Desks.{View, Turning, Asking, StandsAsked, IsLane}
-use Rattle.phase_shared.proofs.Small.{not_both}
 
 abbrev pub is_asking : View → Bool
 is_asking (Asking f a) = true

@@ -2,6 +2,7 @@
 use Rattle.std.proofs.Common.{◌≡◌, ℕ, ◌+◌, ◌<◌, ◌≤◌, true, false, cond, eqb, List, [], ◌∷◌, ◌++◌, ◌⊎◌, None, Some, refl, sym, ap, subst, ◌∙◌, inl, inr, arith}
 use Rattle.std.proofs.lemmas.Bool.{eqb-true, eq-eqb, ne_eqb}
 use Rattle.std.proofs.lemmas.Option.{same_Some}
+use Rattle.turn_lock.proofs.Keeping.{not_both}
 use Rattle.phase_shared.specs.Phasers.{Limits, is_in, mode_signals, mode_waits, entry_of, signalled, Entry, Operation, Event, History, members_of, done_of, IsLegal, is_by, OthersCame, CoreState, StandsFor}
 use Rattle.phase_core.specs.phase_history.declared.event.Event.TheVariants.{Signalled, Waited}
 use Rattle.phase_core.proofs.phase_history_lemmas.MemberLemmas.{entry_of-changed_other}
@@ -15,7 +16,7 @@ use Rattle.phase_shared.specs.Tells.{MayBeMade}
 use Rattle.phase_shared.specs.Views.{knowledge}
 use Rattle.phase_shared.specs.WordTells.{OwnerReadAt, SendReadAt}
 use Rattle.phase_shared.proofs.Growing.{done_grows, signals_grow}
-use Rattle.phase_shared.proofs.Small.{is_in_self, not_both, apart_phases, longer_some, none_below}
+use Rattle.phase_shared.proofs.Small.{is_in_self, apart_phases, longer_some, none_below}
 use Rattle.phase_shared.proofs.Stages.{at_entry, signal_is, wait_is, stage_goes, stands_other, stands_signalled, stands_waited, further}
 use Rattle.phase_shared.proofs.ServingReads.{HasRead, asked_there, owner_is}
 

@@ -9,6 +9,7 @@ use Rattle.phase_core.specs.phase_history.declared.got.Got.TheVariants as got
 use Rattle.phase_core.specs.phase_history.declared.refusal.WaitRefusal.TheVariants as wait
 use Rattle.phase_core.proofs.phase_history_lemmas.Refused.{first_row_none}
 use Rattle.phase_core.proofs.phase_history_lemmas.MemberLemmas.{entry_of-changed_other}
+use Rattle.phase_core.proofs.phase_history_lemmas.Standstill.{limits_of}
 use Rattle.phase_shared.specs.declared.seats.request.Request.{Request}
 use Rattle.phase_shared.specs.declared.seats.view.View.{View}
 use Rattle.phase_shared.specs.Asks.{Ask, IsAtPhases, IsOneOf}
@@ -22,7 +23,6 @@ use Rattle.phase_shared.proofs.Stages.{at_entry, wait_is, stands_other}
 use Rattle.phase_shared.proofs.Steadies.{same_value}
 use Rattle.phase_shared.proofs.ServingReads.{HasRead}
 use Rattle.phase_shared.proofs.ServingSteps.{further_done}
-use Rattle.phase_core.proofs.Replies.{limits_of}
 
 pub below_or : (m k : ℕ) → m < k + 1 → (m < k) ⊎ (m ≡ k)
 below_or m k low = elim (ltb m k) as (λ b. (ltb m k ≡ b) → (m < k) ⊎ (m ≡ k)) [

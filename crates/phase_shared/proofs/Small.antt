@@ -2,19 +2,13 @@
 use Rattle.std.proofs.Common.{◌≡◌, ℕ, zero, suc, ◌+◌, ◌<◌, Bool, true, false, not, eqb, List, [], ◌∷◌, ◌++◌, ◌⊎◌, Some, None, length, refl, sym, ap, inl, inr, arith}
 use Rattle.std.specs.Prelude.{◌||◌}
 use Rattle.std.proofs.lemmas.Bool.{eq-eqb, eqb-true, and_parts, and_from, not-true, not_from_false}
+use Rattle.std.proofs.Math.Bool.{or-true}
 use mathlib.Core.Option.{some, some-injective, some-ne-none}
 use lib.ListN.{get_elem?}
 use Rattle.phase_shared.specs.Phasers.{History, IsUsed, is_distinct, is_in}
 
-pub same_some : {A : Type 0} (x y : A) → Some x ≡ Some y → x ≡ y
-same_some x y e = cc
-
 pub none_some : {A : Type 0} (x : A) → Some x ≡ None → ⊥
 none_some x e = cc
-
-pub not_true_is : (b : Bool) → (b ≡ true → ⊥) → b ≡ false
-not_true_is true h = absurd (h refl)
-not_true_is false h = refl
 
 pub eqb_refl : (a : ℕ) → eqb a a ≡ true
 eqb_refl a = eq-eqb a a refl
@@ -22,9 +16,6 @@ eqb_refl a = eq-eqb a a refl
 pub or_false : (b : Bool) → (b || false) ≡ false → b ≡ false
 or_false true e = absurd (cc)
 or_false false e = refl
-
-pub not_both : (b : Bool) → b ≡ true → b ≡ false → ⊥
-not_both b e f = cc
 
 pub snoc_at : {A : Type 0} (l : List A) (a b : A) (j : ℕ) → get_elem? (l ++ a ∷ []) j ≡ some b → (get_elem? l j ≡ some b) ⊎ ((j ≡ length l) × (a ≡ b))
 snoc_at [] a b zero e = inr (refl, some-injective a b e)
@@ -91,10 +82,6 @@ none_below n low = omega arith
 pub apart_phases : (n : ℕ) → n + 1 ≡ n → ⊥
 apart_phases n e = omega arith
 
-or_true : (b : Bool) → (b || true) ≡ true
-or_true true = refl
-or_true false = refl
-
 pub in_left : (xs ys : List ℕ) (t : ℕ) → is_in t xs ≡ true → is_in t (xs ++ ys) ≡ true
 in_left [] ys t has = absurd (cc)
 in_left (x ∷ xs) ys t has = elim (eqb x t) as (λ b. (b || is_in t xs) ≡ true → (b || is_in t (xs ++ ys)) ≡ true) [
@@ -104,4 +91,4 @@ in_left (x ∷ xs) ys t has = elim (eqb x t) as (λ b. (b || is_in t xs) ≡ tru
 
 pub in_right : (xs ys : List ℕ) (t : ℕ) → is_in t ys ≡ true → is_in t (xs ++ ys) ≡ true
 in_right [] ys t has = has
-in_right (x ∷ xs) ys t has = rw (in_right xs ys t has) (or_true (eqb x t))
+in_right (x ∷ xs) ys t has = rw (in_right xs ys t has) (or-true (eqb x t))

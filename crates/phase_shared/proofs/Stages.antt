@@ -8,7 +8,7 @@ use Rattle.phase_core.proofs.phase_history_lemmas.Steps.{done_low, member_entry_
 use Rattle.phase_core.proofs.phase_history_lemmas.Streams.{legal_rest}
 use Rattle.phase_core.proofs.phase_history_lemmas.Used.{entry_of-others}
 use Rattle.phase_core.proofs.phase_history_lemmas.OthersEvents.{OthersCame-refl, OthersCame-event, OthersCame-trans}
-use Rattle.phase_shared.proofs.Small.{one_of, longer_some}
+use Rattle.phase_shared.proofs.Small.{one_of, longer_some, apart_phases}
 use Rattle.phase_shared.specs.Asks.{Ask, IsAtPhases, IsMade, IsAnsweredAsk, Stage, SignalsFor, WaitsFor, Batch}
 
 -- ---- where a task stands
@@ -93,9 +93,6 @@ stage_other limits ask seen h e legal other (inr (inr a)) = inr (inr record {
   stands = stands_other limits h e ask.task (ask.phase + 1) (ask.phase + 1) legal other a.stands;
 })
 
-apart : (n : ℕ) → n + 1 ≡ n → ⊥
-apart n e = omega arith
-
 -- its own signal: only where it was not made yet
 pub stage_signalled : (limits : Limits) (ask : Ask) (seen h : History) → IsLegal limits h
     → IsAccepted limits h (Signalled ask.task (ask.sends ∷ []) None) → signal_phase h ask.task ≡ ask.phase
@@ -109,16 +106,16 @@ stage_signalled limits ask seen h legal accepted at (inl u) = record {
   stands = stands_signalled h ask.task ask.phase ask.phase ask.sends u.stands;
 }
 stage_signalled limits ask seen h legal accepted at (inr (inl m)) =
-    absurd (apart ask.phase (sym (signal_is h ask.task (ask.phase + 1) ask.phase m.stands) ∙ at))
+    absurd (apart_phases ask.phase (sym (signal_is h ask.task (ask.phase + 1) ask.phase m.stands) ∙ at))
 stage_signalled limits ask seen h legal accepted at (inr (inr a)) =
-    absurd (apart ask.phase (sym (signal_is h ask.task (ask.phase + 1) (ask.phase + 1) a.stands) ∙ at))
+    absurd (apart_phases ask.phase (sym (signal_is h ask.task (ask.phase + 1) (ask.phase + 1) a.stands) ∙ at))
 
 -- its own wait: only where its signal was made, and the phase is complete
 pub stage_waited : (limits : Limits) (ask : Ask) (seen h : History) → IsLegal limits h → IsAccepted limits h (Waited ask.task 1)
     → signal_phase h ask.task ≡ ask.phase + 1 → wait_phase h ask.task ≡ ask.phase
     → Stage limits ask seen h → IsAnsweredAsk limits ask seen (Waited ask.task 1 ∷ h)
 stage_waited limits ask seen h legal accepted signalled at (inl u) =
-    absurd (apart ask.phase (sym signalled ∙ signal_is h ask.task ask.phase ask.phase u.stands))
+    absurd (apart_phases ask.phase (sym signalled ∙ signal_is h ask.task ask.phase ask.phase u.stands))
 stage_waited limits ask seen h legal accepted signalled at (inr (inl m)) = record {
   middle = h;
   made = m;
@@ -129,7 +126,7 @@ stage_waited limits ask seen h legal accepted signalled at (inr (inl m)) = recor
   stands = stands_waited h ask.task (ask.phase + 1) ask.phase m.stands;
 }
 stage_waited limits ask seen h legal accepted signalled at (inr (inr a)) =
-    absurd (apart ask.phase (sym (wait_is h ask.task (ask.phase + 1) (ask.phase + 1) a.stands) ∙ at))
+    absurd (apart_phases ask.phase (sym (wait_is h ask.task (ask.phase + 1) (ask.phase + 1) a.stands) ∙ at))
 
 -- ---- the events of a turn
 

@@ -1,7 +1,8 @@
 -- What stays of an ask, and of where a task stands, while a turn has no events of it.
 use Rattle.std.proofs.Common.{◌≡◌, ℕ, ℤ, ◌+◌, ◌<◌, true, false, cond, eqb, List, [], ◌∷◌, ◌++◌, ◌⊎◌, refl, sym, ap, subst, ◌∙◌, inl, inr, arith}
 use Rattle.std.specs.Prelude.{◌||◌}
-use Rattle.std.proofs.lemmas.Bool.{eq-eqb, eqb-true}
+use Rattle.std.proofs.lemmas.Bool.{eq-eqb, eqb-true, false_from_ne_true}
+use Rattle.turn_lock.proofs.Keeping.{not_both}
 use Rattle.phase_shared.specs.Phasers.{Limits, is_in, Outcome, Event, History, done_of, value_of_phase, IsLegal, is_by, events_of, OthersCame}
 use Rattle.phase_core.specs.phase_accum.declared.outcome.Outcome.TheVariants.{Empty}
 use Rattle.phase_core.specs.phase_history.declared.event.Event.TheVariants.{Waited}
@@ -10,7 +11,7 @@ use Rattle.phase_core.proofs.phase_history_lemmas.Streams.{legal_rest}
 use Rattle.phase_core.proofs.phase_history_lemmas.Used.{entry_of-others}
 use Rattle.phase_core.proofs.phase_history_lemmas.OthersEvents.{OthersCame-trans}
 use Rattle.phase_shared.specs.Asks.{Ask, IsAtPhases, IsUnmade, IsMade, IsAnsweredAsk, Stage, Batch, IsOneOf, asks_for}
-use Rattle.phase_shared.proofs.Small.{one_of, not_true_is, not_both, apart_phases, longer_some}
+use Rattle.phase_shared.proofs.Small.{one_of, apart_phases, longer_some}
 use Rattle.phase_shared.proofs.Stages.{at_entry, wait_is}
 
 -- who asked for one of these is named among them
@@ -44,7 +45,7 @@ module _ (limits : Limits) (claims : List Ask) (speaks : List ℕ) (log : Histor
       ap (λ b. cond b (e ∷ events_of task later) (events_of task later)) other ∙ rest
     where
       not_it : (a : Ask) → IsOneOf claims a → eqb a.task task ≡ false
-      not_it a one = not_true_is (eqb a.task task) (λ t. not_both (asks_for claims task) (subst (λ (n : ℕ). asks_for claims n ≡ true) (eqb-true a.task task t) (named claims a one)) asks)
+      not_it a one = false_from_ne_true (eqb a.task task) (λ t. not_both (asks_for claims task) (subst (λ (n : ℕ). asks_for claims n ≡ true) (eqb-true a.task task t) (named claims a one)) asks)
 
   -- no complete phase changes, and done grows
   pub same_value : (value : List ℤ → Outcome) (p : ℕ) (later : History) → IsLegal limits (later ++ log) → p < done_of log

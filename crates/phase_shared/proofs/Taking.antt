@@ -1,10 +1,10 @@
 -- A take that wins: the taker has then read each ask whose signal is made and whose wait is not.
 use Rattle.std.proofs.Common.{◌≡◌, ◌≢◌, ℕ, zero, suc, ℤ, ◌+◌, true, false, cond, eqb, List, [], ◌∷◌, ◌⊎◌, Option, Some, None, set, refl, sym, ap, subst, ◌∙◌, inl, inr}
-use Rattle.std.proofs.lemmas.Bool.{eq-eqb, eqb-true, and_parts, and_from}
+use Rattle.std.proofs.lemmas.Bool.{eq-eqb, eqb-true, and_parts, and_from, false_from_ne_true}
 use mathlib.Core.Option.{some, some-injective, some-ne-none}
 use lib.ListN.{get_elem?}
 use Rattle.atomic_table.proofs.Lists.{at_set, set_here, set_else}
-use Rattle.turn_lock.proofs.Keeping.{within}
+use Rattle.turn_lock.proofs.Keeping.{within, not_both}
 use Rattle.phase_shared.specs.Phasers.{Limits, is_distinct, is_in, Outcome, History, signal_phase, wait_phase}
 use Rattle.phase_shared.specs.declared.seats.view.Knowledge.{Knowledge}
 use Rattle.phase_shared.specs.Views.{Lane, Unknown, Own, Holds, knowledge, speaks_of, claims_of}
@@ -13,7 +13,7 @@ use Rattle.phase_shared.specs.Asks.{Ask, IsAtPhases, Stage, IsMade, IsOneOf}
 use Rattle.phase_shared.specs.Lanes.{board, posted, owner_word}
 use Rattle.phase_shared.specs.Desks.{View, Resting, Turning, Joining, Posting, Asking, Reading, Spent, IsSound, AskStands, Owns, LaneIs, StandsAsked, AskedAt, HeldAt, IsLane, Kept, is_made, made_asks}
 use Rattle.phase_shared.specs.Tells.{Took, TookAsked}
-use Rattle.phase_shared.proofs.Small.{none_some, not_true_is, not_both, apart_phases, is_in_self}
+use Rattle.phase_shared.proofs.Small.{none_some, apart_phases, is_in_self}
 use Rattle.phase_shared.proofs.Stages.{signal_is, wait_is}
 use Rattle.phase_shared.proofs.Places.{is_asking, ask_in, same_view, ne_of, was, own_same}
 use Rattle.phase_shared.proofs.LaneWords.{lanes_apart}
@@ -134,7 +134,7 @@ module _ {T : Type 0} (value : List ℤ → Outcome) (limits : Limits) (allows :
       let s : AskStands value limits allows k.log told words r.1 a = k.sound r.0 (Asking r.1 a) q.1 in
       let own : is_in a.task r.1.speaks ≡ true = subst (λ (l : List ℕ). is_in a.task l ≡ true) (sym s.speaks) (is_in_self a.task []) in (
         (made_stands limits a r.1.seen k.log r.3 s.stage).stands,
-        not_true_is (is_in a.task speaks) (λ yes'.
+        false_from_ne_true (is_in a.task speaks) (λ yes'.
             let mine = k.owns number v a.task at (subst (λ (l : List ℕ). is_in a.task l ≡ true) (sym speaks_is) yes') in
             q.0 (sym (k.owns r.0 (Asking r.1 a) a.task q.1 own).0 ∙ mine.0)),
       )

@@ -1,6 +1,7 @@
 -- A seat that asked goes on under its turn, from where its ask stands.
 use Rattle.std.proofs.Common.{◌≡◌, ℕ, ◌+◌, ◌<◌, ◌≤◌, true, false, [], ◌∷◌, Option, Some, None, refl, sym, ap, subst, ◌∙◌, inr, arith, inl}
 use Rattle.std.specs.Prelude.{is_some}
+use Rattle.std.proofs.lemmas.Option.{same_Some}
 use Rattle.phase_shared.specs.Phasers.{Limits, mode_waits, entry_of, signalled, waited, Entry, Operation, History, members_of, done_of, IsAlive, IsLegal, CoreState, StandsFor}
 use Rattle.phase_core.specs.phase_history.declared.event.Event.TheVariants.{Signalled, Waited}
 use Rattle.phase_core.proofs.phase_history_lemmas.MemberLemmas.{entry_of-changed_same}
@@ -12,7 +13,7 @@ use Rattle.phase_shared.specs.Rule.{StandsWithin}
 use Rattle.phase_shared.specs.Servings.{Turned, Starting, Serving, IsAnsweredIn, IsWaiterIn, WasOpen}
 use Rattle.phase_shared.specs.Tells.{TookAsked}
 use Rattle.phase_shared.specs.Views.{Holds, knowledge, known_of}
-use Rattle.phase_shared.proofs.Small.{same_some, apart_phases, none_below}
+use Rattle.phase_shared.proofs.Small.{apart_phases, none_below}
 use Rattle.phase_shared.proofs.Stages.{wait_is}
 use Rattle.phase_shared.proofs.Giving.{member_after}
 use Rattle.phase_shared.proofs.TurnParts.{false_true}
@@ -53,16 +54,16 @@ still_waits : (limits : Limits) (a : Ask) (seen h : History) → IsLegal limits 
 still_waits limits a seen h legal stage alive waits e member =
     let first = entry_in (entry_of (members_of seen) a.task) alive in
     let g = stage_member limits a seen h first.0 legal stage first.1 in
-    ap (λ (d : Entry). mode_waits d.mode) (same_some e g.entry (sym member ∙ g.member)) ∙ g.mode_is ∙ waits first.0 first.1
+    ap (λ (d : Entry). mode_waits d.mode) (same_Some e g.entry (sym member ∙ g.member)) ∙ g.mode_is ∙ waits first.0 first.1
 
 -- ---- where it stands tells how far it is
 
 module _ (limits : Limits) (a : Ask) (seen h : History) (e : Entry) (member : entry_of (members_of h) a.task ≡ Some e) where
   signals_at : (s w : ℕ) → IsAtPhases h a.task s w → e.signal_phase ≡ s
-  signals_at s w st = ap (λ (d : Entry). d.signal_phase) (same_some e st.entry (sym member ∙ st.member)) ∙ st.signal_at
+  signals_at s w st = ap (λ (d : Entry). d.signal_phase) (same_Some e st.entry (sym member ∙ st.member)) ∙ st.signal_at
 
   waits_at : (s w : ℕ) → IsAtPhases h a.task s w → e.wait_phase ≡ w
-  waits_at s w st = ap (λ (d : Entry). d.wait_phase) (same_some e st.entry (sym member ∙ st.member)) ∙ st.wait_at
+  waits_at s w st = ap (λ (d : Entry). d.wait_phase) (same_Some e st.entry (sym member ∙ st.member)) ∙ st.wait_at
 
   pub is_answered : Stage limits a seen h → a.phase < e.wait_phase → IsAnsweredAsk limits a seen h
   is_answered (inl u) more = let w = waits_at a.phase a.phase u.stands in absurd (omega arith)

@@ -1,6 +1,7 @@
 -- The parts of a turn of a seat that asks: how it begins, its own signal, and what it ends with.
 use Rattle.std.proofs.Common.{◌≡◌, ℕ, ◌+◌, ◌≤◌, Bool, true, false, eqb, [], ◌∷◌, ◌++◌, None, Some, refl, sym, ap, subst, ◌∙◌, ◌⊎◌, inl, inr, arith}
 use Rattle.std.specs.Prelude.{Err}
+use Rattle.std.proofs.lemmas.Option.{same_Some}
 use Rattle.phase_shared.specs.Phasers.{is_in, mode_waits, signalled, Entry, Limits, Operation, History, members_of, done_of, signal_phase, signal_refusal, signal_reply, SignalRefusal, IsLegal, CoreState, StandsFor}
 use Rattle.phase_core.specs.phase_history.declared.event.Event.TheVariants.{Signalled}
 use Rattle.phase_core.proofs.phase_history_lemmas.MemberLemmas.{entry_of-changed_same, entry_of-changed_other}
@@ -14,7 +15,7 @@ use Rattle.phase_shared.specs.Servings.{ask_of, Turned, Starting, Serving, IsPha
 use Rattle.phase_shared.specs.Views.{Lane, Own, Holds, knowledge, known_of}
 use Rattle.phase_shared.specs.WordTells.{KnowsOwn, IsOwnLane, IsHolder, Completes}
 use Rattle.phase_shared.proofs.Answering.{refused_is}
-use Rattle.phase_shared.proofs.Small.{same_some, or_false, none_below}
+use Rattle.phase_shared.proofs.Small.{or_false, none_below}
 use Rattle.phase_shared.proofs.Stages.{at_entry, signal_is, done_within, stage_signalled}
 
 -- another task stood before the signal where it stands after it
@@ -105,7 +106,7 @@ module _ {A : Type 0} (op : Operation A) (limits : Limits) (allows : Allows) (as
             owes = record {
               made = made;
               waits = λ e member.
-                  let is : signalled 1 first ≡ e = same_some (signalled 1 first) e
+                  let is : signalled 1 first ≡ e = same_Some (signalled 1 first) e
                   (sym (entry_of-changed_same ask.task (signalled 1) first (members_of now) s.unmade.stands.member) ∙ member) in
                   ap (λ (d : Entry). mode_waits d.mode) (sym is) ∙ s.waits first s.unmade.stands.member;
               may = s.may;

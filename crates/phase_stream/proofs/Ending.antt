@@ -1,5 +1,5 @@
 -- How a stream ends, by what its parts answered.
-use Rattle.std.proofs.Common.{◌≡◌, ◌≢◌, ◌⊎◌, ◌≤◌, ◌+◌, inl, inr, ℕ, zero, suc, Bool, true, false, List, [], ◌∷◌, Option, Some, None, Ok, Err, length, slice_get, refl, sym, ap, subst, ◌∙◌, arith}
+use Rattle.std.proofs.Common.{◌≡◌, ◌≢◌, ◌⊎◌, ◌+◌, inl, inr, ℕ, zero, suc, Bool, true, false, List, [], ◌∷◌, Option, Some, None, Ok, Err, length, slice_get, refl, sym, ap, subst, ◌∙◌, arith}
 use Rattle.std.proofs.KnownBytes.{Appends-nil}
 use Rattle.std.specs.Prelude.{IfErr, OnOk}
 use Rattle.std.specs.Io.KnownBytes.{Appends, Keeps}
@@ -12,8 +12,6 @@ use Rattle.graph_commands.specs.declared.failure.Failure.{Failure}
 use Rattle.graph_commands.specs.declared.failure.Failure.TheVariants as failure
 use Rattle.graph_commands.specs.declared.fault.JobFault.{JobFault}
 use Rattle.graph_commands.specs.declared.fault.JobFault.TheVariants as fault
-use Rattle.graph_commands.specs.declared.graph_file.TheConstants.{GRAPH_MAX}
-use Rattle.graph_commands.specs.watched_io.Files.{HasBytes, MayNeedMemory}
 use Rattle.graph_commands.specs.watched_io.States.{WriterState}
 use Rattle.graph_commands.specs.watched_io.declared.explain.Explain.{Explain}
 use Rattle.graph_commands.specs.watched_io.declared.fault.IoFault.{IoFault}
@@ -21,6 +19,7 @@ use Rattle.graph_commands.specs.watched_io.declared.fault.IoFault.TheVariants as
 use Rattle.graph_commands.specs.watched_io.declared.status.Status.{Status}
 use Rattle.graph_commands.specs.watched_io.declared.status.Status.TheVariants.{Done}
 use Rattle.graph_commands.specs.watched_io.declared.watched.Watched.{Watched}
+use Rattle.graph_commands.proofs.Needed.{needed-graph}
 use Rattle.phase_words.specs.Outputs.{Pair}
 use Rattle.phase_words.specs.StreamLine.{Stream}
 use Rattle.stream_job.specs.graph_base.Graphs.{Graph}
@@ -156,22 +155,13 @@ pub none_bare : {V : Type 0} (knows : Bool) (of_file : V → Option (List ℕ)) 
 none_bare knows of_file [] e = λ k writer there. absurd (let bad : None ≡ Some writer = there in cc)
 none_bare knows of_file (w ∷ ws) e = absurd (cc)
 
--- memory may run out over a graph that was read
-pub graph_memory : (known : Known) (name : List ℕ) (graph : Graph) → IsGraphOf known name graph
-    → MayNeedMemory GRAPH_MAX (known name)
-graph_memory known name graph of_file = by (known name) of_file.bytes
-  where
-    by : (held : Option (List ℕ)) → HasBytes held of_file.text → MayNeedMemory GRAPH_MAX held
-    by None bytes = tt
-    by (Some held) bytes = subst (λ text. length text ≤ GRAPH_MAX) bytes of_file.short
-
 -- no file was made, or not all
 pub unmade_unbegun : (known : Known) (what : Stream) (fault : IoFault) (graph : Graph)
     → IsGraphOf known what.graph graph
     → (fault ≡ io_fault.OutOfMemory) ⊎ ((fault ≡ io_fault.WriteFault) × (what.files ≢ []))
     → IsUnmadeFile known what fault
 unmade_unbegun known what fault graph of_graph (inl memory) =
-    inl (memory, graph_memory known what.graph graph of_graph)
+    inl (memory, needed-graph known what.graph graph of_graph)
 unmade_unbegun known what fault graph of_graph (inr unmade) = inr unmade
 
 -- nothing was read

@@ -1,5 +1,5 @@
 -- The lines of a table are those that its cells say.
-use Rattle.std.proofs.Common.{◌≡◌, ◌<◌, ◌≤◌, ◌+◌, ◌-◌, ◌++◌, ◌==◌, ℕ, ℤ, zero, suc, Bool, List, [], ◌∷◌, Option, Some, None, length, get_or, map, refl, sym, ap, subst, ◌∙◌, arith, append-nil, append_assoc}
+use Rattle.std.proofs.Common.{◌≡◌, ◌<◌, ◌≤◌, ◌+◌, ◌-◌, ◌++◌, ◌==◌, ℕ, ℤ, zero, suc, Bool, List, [], ◌∷◌, Option, Some, None, length, get_or, map, refl, sym, ap, subst, ◌∙◌, arith, append_assoc}
 use Rattle.std.proofs.lemmas.List.{get_or-map, length-map}
 use Rattle.std.proofs.lemmas.List.Concat.{flat_map-append}
 use Rattle.std.proofs.lemmas.List.FromFn.{get_or-map-range_with_len, length-map-range_with_len}
@@ -7,6 +7,7 @@ use Rattle.std.specs.Prelude.{codes, max}
 use Rattle.std.specs.List.{flat_map, fold, range_with_len}
 use mathlib.Core.List.{IsPrefix}
 use Rattle.graph_commands.specs.ColumnTexts.{SinkValues, cell, cell_at, columns_text, comma_before, end_at, end_from, row_text, rows_of, value_cell, value_from}
+use Rattle.graph_commands.proofs.Below.{range-parts, below-more}
 use Rattle.stream_job.specs.stream_lists.Jobs.{Job}
 use Rattle.stream_job.specs.stream_lists.Lists.{lines_of, numbers_of, sink_over, sinks_of}
 use Rattle.stream_job.specs.stream_lists.Spans.{greatest, schedule_of, span_in}
@@ -16,18 +17,6 @@ use Rattle.phase_stream.specs.Tables.{table_of}
 
 -- ---- lists of texts
 
-range_parts : (a k m : ℕ) → range_with_len a (k + m) ≡ range_with_len a k ++ range_with_len (a + k) m
-range_parts a zero m =
-    let none : zero + m ≡ m = omega arith in
-    let same : a ≡ a + zero = omega arith in
-    ap (range_with_len a) none ∙ ap (λ b. range_with_len b m) same
-range_parts a (suc k) m =
-    let longer : suc k + m ≡ suc (k + m) = omega arith in
-    let from : a + 1 + k ≡ a + suc k = omega arith in
-    ap (range_with_len a) longer
-    ∙ ap (λ xs. a ∷ xs) (range_parts (a + 1) k m
-    ∙ ap (λ b. range_with_len (a + 1) k ++ range_with_len b m) from)
-
 -- the texts of the first numbers, and of those behind them
 below_rest : (f : ℕ → List ℕ) (k n : ℕ) → k ≤ n
     → flat_map f (range_with_len 0 n)
@@ -36,18 +25,9 @@ below_rest f k n le =
     let parts : n ≡ k + (n - k) = omega arith in
     let at : 0 + k ≡ k = omega arith in
     ap (λ m. flat_map f (range_with_len 0 m)) parts
-    ∙ (ap (flat_map f) (range_parts 0 k (n - k)
+    ∙ (ap (flat_map f) (range-parts 0 k (n - k)
     ∙ ap (λ b. range_with_len 0 k ++ range_with_len b (n - k)) at)
     ∙ flat_map-append f (range_with_len 0 k) (range_with_len k (n - k)))
-
--- of one number more
-below_more : (f : ℕ → List ℕ) (n : ℕ)
-    → flat_map f (range_with_len 0 (n + 1)) ≡ flat_map f (range_with_len 0 n) ++ f n
-below_more f n =
-    let one : n + 1 - n ≡ suc 0 = omega arith in
-    below_rest f n (n + 1) (omega arith)
-    ∙ ap (λ m. flat_map f (range_with_len 0 n) ++ flat_map f (range_with_len n m)) one
-    ∙ ap (λ l. flat_map f (range_with_len 0 n) ++ l) (append-nil (f n))
 
 flat_map-same : (f g : ℕ → List ℕ) (a n : ℕ) → ((t : ℕ) → t < a + n → f t ≡ g t)
     → flat_map f (range_with_len a n) ≡ flat_map g (range_with_len a n)
@@ -63,7 +43,7 @@ pub cells_more : (head text mid now : List ℕ) (f : ℕ → List ℕ) (k : ℕ)
 cells_more head text mid now f k a b before first next is =
     next ∙ ap (λ l. l ++ b) first ∙ append_assoc text a b ∙ ap (λ l. text ++ l) is
     ∙ ap (λ l. l ++ f k) before ∙ append_assoc head (flat_map f (range_with_len 0 k)) (f k)
-    ∙ ap (λ l. head ++ l) (sym (below_more f k))
+    ∙ ap (λ l. head ++ l) (sym (below-more f k))
 
 -- the number of a sink among the lines of a job, and its values
 sink_line_at : (job : Job) (k : ℕ) → k < length (sinks_of job)
@@ -163,7 +143,7 @@ pub line_more : (job : Job) (view : View)
     ≡ table_text job view ++ line_of (cells_at job view view.step)
 line_more job view =
     let row : ℕ → List ℕ = λ n. line_of (cells_at job view n) in
-    ap (λ l. names_line job ++ l) (below_more row view.step)
+    ap (λ l. names_line job ++ l) (below-more row view.step)
     ∙ sym (append_assoc (names_line job) (flat_map row (range_with_len 0 view.step)) (row view.step))
 
 -- ---- how many lines

@@ -1,7 +1,7 @@
 -- A line more of a table: what stands in it, and how the columns stand behind it.
-use Rattle.std.proofs.Common.{◌≡◌, ◌⊎◌, inl, inr, ◌<◌, ◌≤◌, ◌+◌, ◌-◌, ◌++◌, ◌||◌, ◌&&◌, cond, ℕ, ℤ, zero, suc, Bool, true, false, List, [], ◌∷◌, Option, Some, None, length, get_or, map, refl, sym, ap, subst, ◌∙◌, append-nil, append_assoc, arith}
+use Rattle.std.proofs.Common.{◌≡◌, ◌⊎◌, inl, inr, ◌<◌, ◌≤◌, ◌+◌, ◌-◌, ◌++◌, ◌||◌, cond, ℕ, ℤ, zero, suc, Bool, true, false, List, [], ◌∷◌, Option, Some, None, length, get_or, map, refl, sym, ap, subst, ◌∙◌, append-nil, append_assoc, arith}
 use Rattle.std.proofs.KnownBytes.{Appends-trans}
-use Rattle.std.proofs.lemmas.Bool.{lt-ltb, ltb-false, ltb-true}
+use Rattle.std.proofs.lemmas.Bool.{lt-ltb, ltb-false, ltb-true, and_parts}
 use Rattle.std.proofs.lemmas.List.{get_or-map, length-map, same_lists}
 use Rattle.std.proofs.lemmas.List.FromFn.{get_or-map-range_with_len, length-map-range_with_len}
 use Rattle.std.proofs.lemmas.Option.{get_or_from_slice_get, same_Some, slice_get-get_or, slice_get_within}
@@ -276,11 +276,6 @@ shows_on job ended going s m given view one two bytes more first next = record {
 
 -- ---- writing
 
-pub both_true : (a b : Bool) → (a && b) ≡ true → (a ≡ true) × (b ≡ true)
-both_true true true e = (refl, refl)
-both_true true false e = absurd (cc)
-both_true false b e = absurd (cc)
-
 -- a line more is put
 pub line_on : (job : Job) (ended : ℕ → Bool) (going : Bool) (s : List (List ℤ)) (m : Moment)
     (given : ℕ → List ℤ) (view : View) (old new : List Column) (sent text more : List ℕ)
@@ -288,7 +283,7 @@ pub line_on : (job : Job) (ended : ℕ → Bool) (going : Bool) (s : List (List 
     → EachGoes HasPassedLine old new → more ≡ text ++ next_line old
     → ShowsMore job ended going s m given view new (sent ++ more)
 line_on job ended going s m given view old new sent text more first has each is =
-    let both = both_true (list_any has_value old) (list_all is_known old) has in
+    let both = and_parts (list_any has_value old) (list_all is_known old) has in
     subst (ShowsMore job ended going s m given view new)
     (append_assoc sent text (next_line old) ∙ ap (λ l. sent ++ l) (sym is))
     (shows_on job ended going s m given view old new (sent ++ text) (next_line old) first

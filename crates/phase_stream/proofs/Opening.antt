@@ -1,15 +1,15 @@
 -- The sources of a job, whose files are still to be opened.
-use Rattle.std.proofs.Common.{◌≡◌, ◌<◌, ◌+◌, ℕ, zero, suc, true, false, List, [], ◌∷◌, ◌++◌, Option, Some, length, slice_get, refl, sym, ap, subst, ◌∙◌, arith, inl, inr}
+use Rattle.std.proofs.Common.{◌≡◌, ◌<◌, ◌+◌, ℕ, true, false, List, [], ◌∷◌, ◌++◌, Option, Some, length, slice_get, refl, sym, ap, subst, ◌∙◌, arith, inl, inr}
 use Rattle.std.specs.Prelude.{◌⊎◌}
 use Rattle.std.proofs.lemmas.List.{length_push}
 use Rattle.std.proofs.lemmas.List.Sums.{count_by_more_yes, count_by_more_no}
-use Rattle.std.proofs.lemmas.Option.{same_Some}
 use Rattle.graph_commands.specs.FileJobs.{Known}
 use Rattle.stream_job.specs.Streams.{IsSourceAt}
 use Rattle.stream_job.specs.graph_base.Graphs.{is_source, no_task, source_number, task_at}
 use Rattle.stream_job.specs.graph_base.declared.Kind.{Kind}
 use Rattle.stream_job.specs.graph_base.declared.Kind.TheVariants.{Fir, Join, Peer, Sink, Source as SourceKind, Split}
 use Rattle.stream_job.specs.stream_lists.Jobs.{Job}
+use Rattle.stream_job.proofs.stream_lists_lemmas.Basics.{push_found}
 use Rattle.phase_stream.specs.Sources.{AreUnopened, IsSource}
 use Rattle.phase_stream.specs.declared.source.Source.{Source}
 
@@ -21,19 +21,6 @@ pub record AreUnopenedBefore {R : Type 0} (remaining : R → Option (List ℕ)) 
       → IsSourceAt job source.task k
   pub fresh : (k : ℕ) (source : Source R) → slice_get sources k ≡ Some source
       → (known : Option (List ℕ)) → IsSource remaining known [] source
-
--- what is found in a longer list is the last one or was there
-push_found : {X : Type 0} (xs : List X) (x y : X) (k : ℕ) → slice_get (xs ++ x ∷ []) k ≡ Some y
-    → (slice_get xs k ≡ Some y) ⊎ ((k ≡ length xs) × (x ≡ y))
-push_found [] x y zero found = inr (refl, same_Some x y found)
-push_found [] x y (suc k) found = absurd (cc)
-push_found (z ∷ xs) x y zero found = inl found
-push_found (z ∷ xs) x y (suc k) found = by (push_found xs x y k found)
-  where
-    by : (slice_get xs k ≡ Some y) ⊎ ((k ≡ length xs) × (x ≡ y))
-        → (slice_get xs k ≡ Some y) ⊎ ((suc k ≡ suc (length xs)) × (x ≡ y))
-    by (inl was) = inl was
-    by (inr last) = inr (ap suc last.0, last.1)
 
 kind_is : (kind : Kind) → is_source kind ≡ true → kind ≡ SourceKind
 kind_is SourceKind e = refl

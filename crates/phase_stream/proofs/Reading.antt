@@ -11,6 +11,7 @@ use Rattle.sample_pieces.specs.Pieces.{HasRead, IsBadFrom, TakesPiece}
 use Rattle.sample_pieces.specs.declared.reader.SampleReader.{SampleReader}
 use Rattle.sample_pieces.specs.graph_lang.Samples.{AreRecordsOfValues, IsBadSample}
 use Rattle.stream_job.specs.phase_accum.Sends.{AreSends}
+use Rattle.stream_job.proofs.stream_lists_lemmas.phase_accum_lemmas.Parts.{AreSends-append_right}
 use Rattle.phase_stream.specs.Sources.{BeginsSo, PieceGives, HasBadFrom, HasComeOf, HasFront, IsBehind, IsFront, IsKeptOf, IsOpenFile, IsTextOfFile, Lacks}
 use Rattle.phase_stream.specs.declared.record_text.RecordText.{RecordText}
 use Rattle.phase_stream.specs.declared.source.Lack.{Lack}
@@ -102,11 +103,6 @@ begins_by false text values reader law apart takes more all are =
 begins_by true text values reader law apart takes more all are =
     absurd (apart (text ++ more) all (length values + 1) are (takes.1 more))
 
--- the samples of a piece may be sent
-sends_behind : (xs ys : List ℤ) → AreSends (xs ++ ys) → AreSends ys
-sends_behind [] ys are = are
-sends_behind (x ∷ xs) ys are = sends_behind xs ys are.1
-
 sends_by : (bad : Bool) (text : List ℕ) (values : List ℤ) (reader : SampleReader)
     → TakesPiece bad text values reader → AreSends values
 sends_by false text values reader takes = takes.sends
@@ -161,7 +157,7 @@ piece_got remaining known values room bytes old new piece looked law apart is ta
       small = small;
       last = λ e. absurd (cc (e, more));
       come = subst (λ last. HasComeOf last known read) (sym more) come;
-      sends = sends_behind values (take piece.count room)
+      sends = AreSends-append_right values (take piece.count room)
           (sends_by new.is_bad text read new.reader takes);
       goes_on = λ e. record {
         come = come;
@@ -230,7 +226,7 @@ last_one remaining known values room v file piece is end are there one few last 
         (sym (ap (λ n. values ++ take n room) one ∙ ap (λ l. values ++ l) there)) are;
   };
   sends = subst AreSends (sym (ap (λ n. take n room) one ∙ there))
-      (sends_behind values (v ∷ []) are.sends);
+      (AreSends-append_right values (v ∷ []) are.sends);
   goes_on = λ e. absurd (cc (e, last));
 }
 

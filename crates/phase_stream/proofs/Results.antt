@@ -1,7 +1,6 @@
 -- What holds of a result, by what holds of what is in it.
-use Rattle.std.proofs.Common.{Ok, Err, Some, None}
-use Rattle.std.specs.Prelude.{IfErr, IfSome, OnErr, OnOk}
-use Rattle.std.specs.declared.option.Option.{Option}
+use Rattle.std.proofs.Common.{Ok, Err}
+use Rattle.std.specs.Prelude.{IfErr, OnErr, OnOk}
 use Rattle.std.specs.declared.result.Result.{Result}
 
 pub with_ok : {A E : Type 0} (r : Result A E) (P Q : Type 0) → (P → Q) → OnOk r P → OnOk r Q
@@ -21,8 +20,3 @@ on_err (Err e) P Q f p = f p
 pub always_err : {A E : Type 0} (r : Result A E) (P : Type 0) → P → OnErr r P
 always_err (Ok x) P p = tt
 always_err (Err e) P p = p
-
-pub when_some : {A : Type 0} (o : Option A) (P Q : A → Type 0) → ((x : A) → P x → Q x)
-    → IfSome o P → IfSome o Q
-when_some None P Q f p = tt
-when_some (Some x) P Q f p = f x p

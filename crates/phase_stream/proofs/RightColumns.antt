@@ -9,10 +9,8 @@ use mathlib.Core.List.{IsPrefix}
 use Rattle.graph_commands.specs.ColumnTexts.{end_from, value_from}
 use Rattle.stream_job.specs.SinkLines.{sink_begins_at}
 use Rattle.stream_job.specs.Streams.{IsStreamAt, StreamState, ended_at}
-use Rattle.stream_job.specs.graph_base.Graphs.{is_sink, task_at}
+use Rattle.stream_job.specs.graph_base.Graphs.{task_at}
 use Rattle.stream_job.specs.graph_base.TaskLines.{IsGraph}
-use Rattle.stream_job.specs.graph_base.declared.line.Kind.{Kind}
-use Rattle.stream_job.specs.graph_base.declared.line.Kind.TheVariants.{Fir, Join, Peer, Sink, Source, Split}
 use Rattle.stream_job.specs.graph_runs.Feeds.{IsFed}
 use Rattle.stream_job.specs.graph_runs.Moments.{HasRun, Moment, input_at, started}
 use Rattle.stream_job.specs.graph_runs.Settled.{IsReady, Stands}
@@ -25,6 +23,7 @@ use Rattle.stream_job.proofs.graph_runs_lemmas.FedRuns.{run_fed}
 use Rattle.stream_job.proofs.graph_runs_lemmas.Started.{ready_as, run_started}
 use Rattle.stream_job.proofs.graph_runs_lemmas.Whole.{stands_all}
 use Rattle.stream_job.proofs.stream_lists_lemmas.SpansAbove.{spans_all}
+use Rattle.stream_job.proofs.stream_lists_lemmas.Basics.{sink_kind}
 use Rattle.phase_stream.specs.Columns.{ColumnBeginsAt, ColumnStands, least_start}
 use Rattle.phase_stream.specs.Sessions.{sink_list}
 use Rattle.phase_stream.specs.declared.column.Column.{Column}
@@ -93,15 +92,6 @@ dead_steps job t is there dead =
         ∙ ap (span_at (task_at job.graph t) (length (samples_at job t)) (lengths_of job)) e) in
         let wrong : false ≡ true = sym dead ∙ live in
         cc)
-
--- a sink
-sink_kind : (kind : Kind) → is_sink kind ≡ true → kind ≡ Sink
-sink_kind Sink e = refl
-sink_kind Source e = absurd (cc)
-sink_kind Fir e = absurd (cc)
-sink_kind Split e = absurd (cc)
-sink_kind Join e = absurd (cc)
-sink_kind Peer e = absurd (cc)
 
 -- takes nothing then
 pub dead_list : (job : Job) (t : ℕ) → IsGraph job.graph → t < length job.graph.tasks

@@ -1,5 +1,5 @@
 -- The sinks of a job, and their numbers.
-use Rattle.std.proofs.Common.{◌≡◌, ◌<◌, ◌≤◌, ◌+◌, ◌-◌, ℕ, zero, suc, Bool, true, false, cond, List, [], ◌∷◌, ◌++◌, Option, Some, None, IfSome, length, get_or, refl, sym, ap, ◌∙◌, append-nil, arith}
+use Rattle.std.proofs.Common.{◌≡◌, ◌<◌, ◌≤◌, ◌+◌, ◌-◌, ℕ, zero, suc, true, false, cond, List, [], ◌∷◌, ◌++◌, Option, Some, None, IfSome, length, get_or, refl, sym, ap, ◌∙◌, append-nil, arith}
 use Rattle.std.specs.Prelude.{slice_get, is_some}
 use Rattle.std.specs.List.{filter, range_with_len}
 use Rattle.std.proofs.lemmas.List.Elements.{filter-append}
@@ -8,6 +8,7 @@ use Rattle.std.proofs.lemmas.List.Sums.{count_by-le-length, length-filter}
 use Rattle.std.proofs.lemmas.Option.{get_or_from_slice_get, slice_get_within}
 use Rattle.stream_job.specs.stream_lists.Jobs.{Job}
 use Rattle.stream_job.specs.stream_lists.Lists.{is_sink_at, sinks_of}
+use Rattle.stream_job.proofs.stream_lists_lemmas.Basics.{passes-at}
 use Rattle.phase_stream.specs.Sessions.{IsSinkNumber}
 use Rattle.phase_stream.specs.declared.sink.Sink.{Sink}
 
@@ -51,35 +52,6 @@ sinks_no job n e =
     ∙ append-nil (sinks_before job n)
 
 -- ---- the place of a sink
-
--- a number of a range that passes the test stands behind those below it that pass
-passes-at : (test : ℕ → Bool) (from before more : ℕ) → test (from + before) ≡ true
-    → slice_get (filter test (range_with_len from (before + suc more)))
-    (length (filter test (range_with_len from before))) ≡ Some (from + before)
-passes-at test from zero more e =
-    let here : from + 0 ≡ from = omega arith in
-    let yes : test from ≡ true = ap test (sym here) ∙ e in
-    let one : 0 + suc more ≡ suc more = omega arith in
-    ap (λ n. slice_get (filter test (range_with_len from n)) 0) one
-    ∙ (rw yes (ap (λ n. Some n) (sym here)))
-passes-at test from (suc before) more e =
-    let there : from + 1 + before ≡ from + suc before = omega arith in
-    let long : suc before + suc more ≡ suc (before + suc more) = omega arith in
-    ap (λ n. slice_get (filter test (range_with_len from n))
-    (length (filter test (range_with_len from (suc before))))) long
-    ∙ by (test from) (passes-at test (from + 1) before more (ap test there ∙ e))
-    ∙ ap (λ n. Some n) there
-  where
-    by : (b : Bool)
-        → slice_get (filter test (range_with_len (from + 1) (before + suc more)))
-        (length (filter test (range_with_len (from + 1) before))) ≡ Some (from + 1 + before)
-        → slice_get
-        (cond b (from ∷ filter test (range_with_len (from + 1) (before + suc more)))
-        (filter test (range_with_len (from + 1) (before + suc more))))
-        (length (cond b (from ∷ filter test (range_with_len (from + 1) before))
-        (filter test (range_with_len (from + 1) before)))) ≡ Some (from + 1 + before)
-    by true f = f
-    by false f = f
 
 sink_is : (job : Job) (t : ℕ) → t < length job.graph.tasks → is_sink_at job t ≡ true
     → slice_get (sinks_of job) (length (sinks_before job t)) ≡ Some t

@@ -14,9 +14,9 @@ use Rattle.stream_job.specs.graph_runs.NextBlocks.{MaySize}
 use Rattle.stream_job.specs.graph_runs.Reached.{IsReachable}
 use Rattle.stream_job.specs.graph_runs.TaskEvents.{IsNext, TaskEvent, after_turn, child, child_now, exchange_wait, first_wait, leave, sample, signal}
 use Rattle.stream_job.specs.graph_runs.Turned.{with_at}
-use Rattle.stream_job.specs.stream_lists.Jobs.{Job, index_in}
+use Rattle.stream_job.specs.stream_lists.Jobs.{Job}
 use Rattle.stream_job.specs.stream_lists.Spans.{signalled_by}
-use Rattle.stream_job.proofs.graph_runs_lemmas.JoinsNow.{sink_line}
+use Rattle.stream_job.proofs.graph_runs_lemmas.JoinsNow.{sink_line, no_place}
 use Rattle.stream_job.proofs.graph_runs_lemmas.SizedTurns.{turn_reached}
 use Rattle.stream_job.proofs.graph_runs_lemmas.Turning.{turn_makes_next}
 
@@ -55,11 +55,6 @@ given_so p c a q t number n is = by (eqb q p) (eqb t c) refl refl
     by true false e f =
         let same : q ≡ p = eqb-true q p e in
         (n, rw (e, f) (subst (λ x. number x t ≡ Some n) same is))
-
--- a sink stands on one line alone
-no_place : (xs : List ℕ) (p j : ℕ) → length xs ≡ 0 → index_in xs p ≡ Some j → ⊥
-no_place [] p j none e = cc
-no_place (x ∷ xs) p j none e = absurd (omega arith)
 
 only_input : (job : Job) (t p : ℕ) → IsGraph job.graph → t < length job.graph.tasks
     → (task_at job.graph t).joins_now ≡ true → OnLine (task_at job.graph t) p

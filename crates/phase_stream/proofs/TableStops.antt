@@ -16,6 +16,7 @@ use Rattle.stream_job.specs.graph_base.declared.line.Kind.TheVariants.{Source}
 use Rattle.stream_job.specs.graph_runs.Feeds.{IsFed}
 use Rattle.stream_job.specs.graph_runs.Moments.{Moment}
 use Rattle.stream_job.specs.stream_lists.Jobs.{Job, samples_in, with_samples}
+use Rattle.stream_job.proofs.graph_runs_lemmas.phase_history_lemmas.Streams.{IsPrefix-trans}
 use Rattle.phase_stream.specs.Outputs.{StopOf}
 use Rattle.phase_stream.specs.Sessions.{AreKeptRight, AreSources, AreTargets, HasFailed, Reaches, StandsBy, StandsFurther, StandsStopped, task_for}
 use Rattle.phase_stream.specs.TableLines.{Shows, TableStands, TableStopped, by_number, goes_on, have_left, table_text}
@@ -24,7 +25,6 @@ use Rattle.phase_stream.specs.declared.session.Session.{Session}
 use Rattle.phase_stream.specs.declared.sink.Sink.{Sink}
 use Rattle.phase_stream.specs.declared.table.Table.{Table}
 use Rattle.phase_stream.proofs.LaterColumns.{shows_later}
-use Rattle.phase_stream.proofs.Writing.{begins_further}
 
 -- ---- causes
 
@@ -162,7 +162,7 @@ fed_on : (job : Job) (ended over : ℕ → Bool) (s t more : List (List ℤ))
     → IsFed (with_samples s job) ended t → ((u : ℕ) → ended u ≡ true → over u ≡ true)
     → IsFed (with_samples t job) over more → IsFed (with_samples s job) ended more
 fed_on job ended over s t more first ends next = record {
-  begins = λ u there kind. begins_further (samples_in job s u) (samples_in job t u)
+  begins = λ u there kind. IsPrefix-trans (samples_in job s u) (samples_in job t u)
       (samples_in job more u) (first.begins u there kind) (next.begins u there kind);
   stays = λ u there kind e. next.stays u there kind (ends u e) ∙ first.stays u there kind e;
 }

@@ -1,5 +1,5 @@
 -- What was written, by what the sink has kept.
-use Rattle.std.proofs.Common.{◌≡◌, ◌<◌, ◌++◌, ℕ, ℤ, Bool, true, false, eqb, List, [], ◌∷◌, Option, Some, None, Ok, Err, length, get_or, map, zero, suc, refl, sym, ap, subst, ◌∙◌, append_assoc, rules, arith}
+use Rattle.std.proofs.Common.{◌≡◌, ◌<◌, ◌++◌, ℕ, ℤ, Bool, true, false, eqb, List, [], ◌∷◌, Option, Some, None, Ok, length, get_or, map, zero, suc, refl, sym, ap, subst, ◌∙◌, rules, arith}
 use Rattle.std.proofs.lemmas.Bool.{eq-eqb, eqb-true}
 use Rattle.std.specs.List.{flat_map}
 use Rattle.std.specs.Io.KnownBytes.{Appends}
@@ -30,8 +30,10 @@ use Rattle.stream_job.specs.graph_base.Graphs.{name_at, task_at}
 use Rattle.stream_job.specs.graph_runs.Moments.{Moment, started}
 use Rattle.stream_job.specs.stream_lists.Jobs.{Job, with_samples}
 use Rattle.stream_job.specs.stream_lists.Lists.{lines_of, numbers_of, sinks_of, start_in, taken_from, with_start}
-use Rattle.stream_job.specs.stream_lists.Ranges.{Fits, Where, answer_of, first_too_big}
+use Rattle.stream_job.specs.stream_lists.Ranges.{Fits, answer_of}
 use Rattle.stream_job.specs.stream_lists.Spans.{span_in}
+use Rattle.stream_job.proofs.graph_runs_lemmas.phase_history_lemmas.Streams.{IsPrefix-trans}
+use Rattle.stream_job.proofs.stream_lists_lemmas.Basics.{answer_fits}
 use Rattle.phase_stream.specs.Outputs.{StopOf, WriteKept, WriteParts, WriteWhole}
 use Rattle.phase_stream.specs.Sessions.{AllHanded, AreKeptRight, AreTargets, AreWritten, IsKeptWhole, IsFaultWithoutText, Reaches, StandsLacking, StandsStopped, sink_list, task_for, values_for}
 use Rattle.phase_stream.specs.Streams.{GoesOnBehind}
@@ -53,12 +55,6 @@ right_by stream t sink values s m given more is kept right =
     subst (λ u. IsPrefix (kept_by stream.job m u) (sink_list job u)) is
     (subst (λ l. IsPrefix l (sink_list job (get_or (sinks_of stream.job) sink 0))) kept right)
 
-pub begins_further : (xs ys zs : List ℤ) → IsPrefix xs ys → IsPrefix ys zs → IsPrefix xs zs
-begins_further xs ys zs first then = (
-  first.0 ++ then.0,
-  sym (append_assoc xs first.0 then.0) ∙ ap (λ l. l ++ then.0) first.1 ∙ then.1,
-)
-
 abbrev pub part_of : (held : Known) (stream : StreamState) (targets : List (Option Sink))
     (old now : ℕ → Option (List ℕ)) (s : List (List ℤ)) (m : Moment) (given values : ℕ → List ℤ)
     → Reaches held stream s m given
@@ -73,7 +69,7 @@ part_of held stream targets old now s m given values reaches begins none right w
   came = reaches.came;
   starts = (started stream.job m).starts;
   values = values;
-  right = λ k t goes more behind. begins_further (values k) (kept_by stream.job m t)
+  right = λ k t goes more behind. IsPrefix-trans (values k) (kept_by stream.job m t)
       (sink_list (started (with_samples more stream.job) m) t) (begins k t goes)
       (right k t goes s m given more reaches.at behind.feeds behind.ready);
   none = none;
@@ -102,16 +98,6 @@ kept_of held stream targets old now s m given reaches whole right written = reco
 }
 
 -- ---- all
-
--- a job with an answer has values that all fit
-answer_fits : (job : Job) (lines : List (ℕ × List ℤ)) → answer_of job ≡ Ok lines → Fits job
-answer_fits job lines is = by (first_too_big job) refl
-  where
-    by : (found : Option Where) → first_too_big job ≡ found → first_too_big job ≡ None
-    by None e = e
-    by (Some place) e =
-        let both : Err place ≡ Ok lines = rw e at is in
-        search rules
 
 -- and it is the lines of its sinks
 pub answer_lines : (job : Job) (lines : List (ℕ × List ℤ)) → answer_of job ≡ Ok lines

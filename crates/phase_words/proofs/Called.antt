@@ -1,5 +1,6 @@
 -- What clap found in the words, as what they ask for.
-use Rattle.std.proofs.Common.{◌≡◌, List, Bor, Option, Some, None, option_map, unwrap_or, ℕ, refl, ap, ap₂, rules}
+use Rattle.std.proofs.Common.{◌≡◌, List, Bor, Option, Some, None, option_map, unwrap_or, ℕ, refl, ap, ap₂}
+use Rattle.std.proofs.lemmas.Option.{none-some}
 use Rattle.clap.specs.Words.{Row, Text}
 
 abbrev Found : Type 0
@@ -13,14 +14,11 @@ abbrev rows_in : List Row → Option (List Row) → List Row
 rows_in other None = other
 rows_in other (Some rows) = rows
 
-none-not-some : {A : Type 0} (a : A) → None ≡ Some a → ⊥
-none-not-some a = λ e. search rules
-
 -- a command's name and its rows are the command
 pub found-both : (o : Option Found) (name : Text) (rows : List Row)
     → option_map (λ p. p.0) o ≡ Some name → option_map (λ p. p.1) o ≡ Some rows
     → o ≡ Some (name, rows)
-found-both None name rows e f = absurd (none-not-some name e)
+found-both None name rows e f = absurd (none-some name e)
 found-both (Some p) name rows e f =
     ap₂ (λ n r. Some (n, r)) (ap (name_in name) e) (ap (rows_in rows) f)
 

@@ -1,24 +1,21 @@
 -- What a reader has read begins the values of each text that goes on so.
-use Rattle.std.proofs.Common.{◌≡◌, ◌<◌, ◌^◌, ℕ, ℤ, Bool, true, false, List, [], ◌∷◌, ◌++◌, map, None, Some, refl, sym, ap, subst, ◌∙◌, arith}
-use lib.IntN.{pos, negsuc}
-use lib.Signed.{mag}
+use Rattle.std.proofs.Common.{◌≡◌, ℕ, ℤ, Bool, true, false, List, [], ◌∷◌, ◌++◌, map, None, Some, refl, sym, ap, subst, ◌∙◌}
 use mathlib.Core.List.{IsPrefix}
 use Rattle.std.specs.Fmt.{signed_decimal}
 use Rattle.std.proofs.lemmas.Fmt.{signed_decimal_injective}
+use Rattle.std.proofs.lemmas.Option.{same_Some}
 use Rattle.csv.specs.Machine.{Read, next_record}
 use Rattle.csv.specs.Reading.{strip_bom, default_config, Reached, AreRecords}
 use Rattle.csv.specs.declared.parser.State.{State}
 use Rattle.csv.specs.declared.parser.State.TheVariants as st
-use Rattle.graph_lang.specs.phase_accum.Sends.{IsSend, AreSends}
+use Rattle.graph_lang.specs.phase_accum.Sends.{AreSends}
 use Rattle.graph_lang.specs.Samples.{row_of, AreRecordsOfValues}
+use Rattle.graph_lang.proofs.Unique.{small_mag}
 use Rattle.sample_pieces.specs.Pieces.{HasRead}
 use Rattle.sample_pieces.specs.Scans.{Scan, nothing_read, scan_on, rows_at_end}
 use Rattle.sample_pieces.specs.declared.reader.SampleReader.{SampleReader}
 use Rattle.sample_pieces.proofs.Scanned.{Rows, pieces, records}
 use Rattle.sample_pieces.proofs.Rows.{rows_stay}
-
-some_same : (p q : Read) → Some p ≡ Some q → p ≡ q
-some_same p q e = cc
 
 not_both : (s t : State) (xs ys : List ℕ) (p : Read) → s ≡ t → xs ≡ ys
     → next_record default_config t [] [] ys ≡ None
@@ -35,14 +32,10 @@ rows_same (r ∷ rs) [] s xs p q = absurd (not_both s q.0 xs q.1 p.2.0 q.2.0 q.2
 rows_same (r ∷ rs) (w ∷ qs) s xs p q =
     let (s1, y1, (r1, next1, is1, more1), end1) = p in
     let (s2, y2, (r2, next2, is2, more2), end2) = q in
-    let same : r1 ≡ r2 = some_same r1 r2 (sym next1 ∙ next2) in
+    let same : r1 ≡ r2 = same_Some r1 r2 (sym next1 ∙ next2) in
     let head : r ≡ w = is1 ∙ ap (λ (x : Read). x.0) same ∙ sym is2 in
     let later : AreRecords default_config r1.1 r1.2 qs = rw same (s2, y2, more2, end2) in
     rw (head, rows_same rs qs r1.1 r1.2 (s1, y1, more1, end1) later) refl
-
-small_mag : (v : ℤ) → IsSend v → mag v < 2 ^ 63
-small_mag (pos n) is = let small = is.small in omega arith
-small_mag (negsuc n) is = let small = is.small in omega arith
 
 same_head : (v w : ℤ) (vs rest : Rows) → row_of v ∷ vs ≡ row_of w ∷ rest
     → signed_decimal v ≡ signed_decimal w

@@ -7,3 +7,4 @@ mod Reading
 mod Rows
 mod Scanned
 mod Widths
+pub use Rattle.graph_lang.proofs as graph_lang_lemmas

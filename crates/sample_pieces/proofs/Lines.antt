@@ -1,20 +1,16 @@
 -- What a reader has read behind a line that is a number alone.
-use Rattle.std.proofs.Common.{◌≡◌, ◌==◌, if◌then◌else◌, ℕ, suc, ℤ, ◌≤◌, ◌<◌, Bool, true, false, List, [], ◌∷◌, ◌++◌, length, map, refl, sym, ap, subst, ◌∙◌, append_assoc, append-nil, arith, eqb-true, ne_eqb, nat_abs, w64, to_z, of_z}
-use Rattle.std.proofs.lemmas.Int.{ints}
+use Rattle.std.proofs.Common.{◌≡◌, ◌==◌, if◌then◌else◌, ℕ, ℤ, ◌<◌, Bool, true, false, List, [], ◌∷◌, ◌++◌, length, map, refl, sym, ap, subst, ◌∙◌, append_assoc, append-nil, arith, eqb-true}
 use Rattle.std.proofs.lemmas.List.{map-append}
-use Rattle.std.proofs.lemmas.Fmt.{decimal_is_IsNumeral}
-use Rattle.std.proofs.lemmas.Str.Parse.{digit_from_value}
-use Rattle.std.specs.Fmt.{decimal, signed_decimal}
-use Rattle.std.specs.Str.Parse.{AllDigits}
-use lib.IntN.{pos, negsuc}
-use Rattle.csv.specs.Machine.{step, is_end, fields_after, field_after}
-use Rattle.csv.specs.Reading.{strip_bom, default_config}
+use Rattle.std.specs.Fmt.{signed_decimal}
+use Rattle.csv.specs.Machine.{is_end, fields_after, field_after}
+use Rattle.csv.specs.Reading.{strip_bom}
 use Rattle.csv.specs.declared.parser.Action.{Action}
 use Rattle.csv.specs.declared.parser.Action.TheVariants as act
 use Rattle.csv.specs.declared.parser.State.{State}
 use Rattle.csv.specs.declared.parser.State.TheVariants as st
-use Rattle.graph_lang.specs.phase_accum.Sends.{IsSend, value_max}
+use Rattle.graph_lang.specs.phase_accum.Sends.{IsSend}
 use Rattle.graph_lang.specs.Samples.{row_of}
+use Rattle.graph_lang.proofs.PlainLines.{IsWord, joins, starts, value-word}
 use Rattle.sample_pieces.specs.Pieces.{HasRead, IsMarked}
 use Rattle.sample_pieces.specs.Scans.{Scan, nothing_read, scan_on}
 use Rattle.sample_pieces.specs.declared.step.Where.TheVariants as place
@@ -23,69 +19,7 @@ use Rattle.sample_pieces.proofs.Marks.{short_text, sign_marked}
 use Rattle.sample_pieces.proofs.Reading.{known, sends_behind}
 use Rattle.sample_pieces.proofs.Scanned.{Rows, pieces}
 
--- ---- a value, and its word
-
--- a value fits in its word of 64 bits
-pub value_same : (v : ℤ) → IsSend v → to_z w64 (of_z w64 v) ≡ v
-value_same v send =
-    let small : nat_abs v ≤ value_max = send.small in omega (arith, ints, small)
-
--- ---- its word
-
--- each byte is a digit or a minus
-abbrev IsWord : List ℕ → Type 0
-IsWord [] = Unit {0}
-IsWord (c ∷ cs) = (44 < c) × (c < 58) × IsWord cs
-
-digits_word : (ds : List ℕ) → AllDigits 10 ds → IsWord ds
-digits_word [] digits = tt
-digits_word (c ∷ cs) digits =
-    let d = digit_from_value c digits.0 in
-    (omega (arith, d), omega (arith, d), digits_word cs digits.1)
-
--- such a word, which is not empty
-record IsFullWord (word : List ℕ) : Type 0 where
-  first : ℕ
-  others : List ℕ
-  word_is : word ≡ first ∷ others
-  bytes : IsWord (first ∷ others)
-
-decimal_word : (ds : List ℕ) → AllDigits 10 ds → 0 < length ds → IsFullWord ds
-decimal_word [] digits some = absurd (omega arith)
-decimal_word (c ∷ cs) digits some =
-    record { first = c; others = cs; word_is = refl; bytes = digits_word (c ∷ cs) digits }
-
-value_word : (v : ℤ) → IsSend v → IsFullWord (signed_decimal v)
-value_word (pos n) send =
-    let small = send.small in
-    let form = decimal_is_IsNumeral n (omega arith) in
-    decimal_word (decimal n) form.0.1 form.0.0
-value_word (negsuc n) send =
-    let small = send.small in
-    let form = decimal_is_IsNumeral (suc n) (omega arith) in
-    record {
-      first = 45;
-      others = decimal (suc n);
-      word_is = refl;
-      bytes = (omega arith, omega arith, digits_word (decimal (suc n)) form.0.1);
-    }
-
 -- ---- a word and its line feed, as csv scans them
-
-joins : (c : ℕ) → 44 < c → step default_config st.InField c ≡ (st.InField, act.Copy)
-joins c high =
-    let comma : (c == 44) ≡ false = ne_eqb c 44 (λ e. omega (arith, e)) in
-    let return : (c == 13) ≡ false = ne_eqb c 13 (λ e. omega (arith, e)) in
-    let feed : (c == 10) ≡ false = ne_eqb c 10 (λ e. omega (arith, e)) in
-    rw (comma, return, feed) refl
-
-starts : (c : ℕ) → 44 < c → step default_config st.StartRecord c ≡ (st.InField, act.Copy)
-starts c high =
-    let comma : (c == 44) ≡ false = ne_eqb c 44 (λ e. omega (arith, e)) in
-    let return : (c == 13) ≡ false = ne_eqb c 13 (λ e. omega (arith, e)) in
-    let feed : (c == 10) ≡ false = ne_eqb c 10 (λ e. omega (arith, e)) in
-    let quote : (c == 34) ≡ false = ne_eqb c 34 (λ e. omega (arith, e)) in
-    rw (comma, return, feed, quote) refl
 
 -- a scan behind a byte that does this
 abbrev after : State × Action → Scan → ℕ → Scan
@@ -190,7 +124,7 @@ pub line_read : (text : List ℕ) (values : List ℤ) (r new : SampleReader) (v 
     → new.at ≡ place.Between → new.field.items ≡ [] → new.is_first ≡ false
     → HasRead (text ++ (signed_decimal v ++ 10 ∷ [])) (values ++ v ∷ []) new
 line_read text values r new v has send at empty new_at new_empty past =
-    let word = value_word v send in
+    let word = value-word v send in
     subst (λ w. HasRead (text ++ (w ++ 10 ∷ [])) (values ++ v ∷ []) new) (sym word.word_is)
     (line_read_so text values r new v word.first word.others has send word.word_is word.bytes at
     empty new_at new_empty past)

@@ -13,9 +13,10 @@ use Rattle.phase_shared.specs.declared.tried.Tried.{Tried}
 use Rattle.phase_shared.specs.declared.tried.Tried.TheVariants.{Busy, Refused}
 use Rattle.phase_shared.specs.Blocks.{WaitsBlock}
 use Rattle.phase_shared.specs.Calls.{Tries}
+use Rattle.phase_shared.proofs.phase_history_lemmas.Standstill.{limits_of}
 use Rattle.handle_numbers.specs.Blocks.{numbers_after}
 use Rattle.handle_numbers.specs.Numbers.{value_number}
-use Rattle.handle_numbers.proofs.BlockWaits.{legal-limits, got_of, numbers-got}
+use Rattle.handle_numbers.proofs.BlockWaits.{got_of, numbers-got}
 use Rattle.shared_handle.specs.Calls.{BlockWaitCall}
 use Rattle.shared_handle.specs.Members.{Registration, limits_by}
 use Rattle.shared_handle.specs.NumberBlocks.{WaitsNumbers, NumbersCall}
@@ -80,7 +81,7 @@ pub numbers_call : (value : List ℤ → Outcome) (old_out new_out : List Outcom
     → NumbersCall value old_values new_values m n answer
 numbers_call value old_out new_out old_values new_values m n answer asked writes call = record {
   call_is = tries_numbers value (limits_by m.at) m.number old_out new_out old_values new_values
-      asked (legal-limits (limits_by m.at) n.seen call.stays.legal) (n ≡ m) m.seen n.seen answer
+      asked (limits_of (limits_by m.at) n.seen call.stays.legal) (n ≡ m) m.seen n.seen answer
       call.call_is writes;
   stays = call.stays;
   known = call.known;

@@ -1,28 +1,21 @@
 -- Parts of the list of a filter.
-use Rattle.std.proofs.Common.{◌≡◌, ◌≤◌, ◌<◌, ◌⊎◌, inl, inr, ℕ, ◌+◌, ◌-◌, ◌++◌, ◌∷◌, [], List, length, take, drop, get_or, ℤ, pos, None, Some, refl, sym, ap, subst, ◌∙◌, true, false, arith}
-use Rattle.std.specs.Prelude.{Option, IfSome, unsigned_abs, nat_le}
+use Rattle.std.proofs.Common.{◌≡◌, ◌≤◌, ◌<◌, ◌⊎◌, inl, inr, ℕ, ◌+◌, ◌-◌, ◌++◌, [], List, length, take, drop, get_or, ℤ, pos, None, Some, sym, ap, subst, ◌∙◌, arith}
+use Rattle.std.specs.Prelude.{Option, IfSome}
 use Rattle.std.specs.List.{position_from}
 use Rattle.std.proofs.lemmas.Bool.{cases_lt}
-use Rattle.std.proofs.lemmas.Bool.Decides.{nat_tests}
-use Rattle.std.proofs.lemmas.List.{drop-drop, drop-take, take-take, take_all, get_or-take, get_or-drop, length-take-le, length-drop, same_lists, take-append-drop}
+use Rattle.std.proofs.lemmas.List.{drop-drop, take_all, get_or-take, get_or-drop, length-take-le, length-drop, same_lists}
 use Rattle.std.proofs.lemmas.Simd.{length-chunk, get_or-chunk}
-use Rattle.stream_lists.specs.phase_accum.Sends.{AreSends, IsSend, value_max}
+use Rattle.std.proofs.Math.Seq.{take-add}
+use Rattle.stream_lists.specs.phase_accum.Sends.{AreSends}
 use Rattle.stream_lists.specs.stream_filters.Filter.{back, output_after, outputs, shifted_down}
 use Rattle.stream_lists.specs.Ranges.{is_out_of_range}
-use Rattle.stream_lists.proofs.phase_accum_lemmas.Parts.{AreSends-append}
+use Rattle.stream_lists.proofs.phase_accum_lemmas.Parts.{AreSends-append, AreSends-drop}
 use Rattle.stream_lists.proofs.stream_filters_lemmas.Outputs.{back_is, back-before, outputs-entry, outputs-length}
 use Rattle.stream_lists.proofs.stream_filters_lemmas.Weighted.{weighted-same}
-use Rattle.stream_eval.proofs.Made.{AreSends-in_range}
-use Rattle.stream_eval.proofs.Sendable.{AreSends-drop}
+use Rattle.stream_lists.proofs.Fitting.{none_out, all_sends}
 use Rattle.stream_eval.specs.Parts.{ArePart}
 
 -- ---- parts that follow one another
-
-take_on : (n k : ℕ) (xs : List ℤ) → take (n + k) xs ≡ take n xs ++ take k (drop n xs)
-take_on n k xs =
-    let whole : take n (take (n + k) xs) ++ drop n (take (n + k) xs) ≡ take (n + k) xs =
-    take-append-drop n (take (n + k) xs) in
-    sym (rw (take-take n (n + k) xs (omega arith), drop-take n k xs) at whole)
 
 pub part-none : (whole : List ℤ) (at : ℕ) → ArePart whole at at []
 part-none whole at =
@@ -40,22 +33,12 @@ part-two whole from mid to xs ys first second front behind =
           ∙ (ap (λ l. take (mid - from) (drop from whole) ++ l) (behind.values_are
           ∙ ap (λ n. take (to - mid) (drop n whole)) (sym place)
           ∙ ap (take (to - mid)) (sym (drop-drop (mid - from) from whole)))
-          ∙ (sym (take_on (mid - from) (to - mid) (drop from whole))
+          ∙ (sym (take-add (mid - from) (to - mid) (drop from whole))
           ∙ ap (λ n. take n (drop from whole)) size));
       sends = AreSends-append xs ys front.sends behind.sends;
     }
 
 -- ---- the whole
-
-send-fits : (v : ℤ) → IsSend v → is_out_of_range v ≡ false
-send-fits v is =
-    let small : unsigned_abs v ≤ value_max = is.small in
-    let test : nat_le (unsigned_abs v) value_max ≡ true = grind (arith, nat_tests, small) in
-    rw test refl
-
-none_out : (n : ℕ) (xs : List ℤ) → AreSends xs → position_from is_out_of_range n xs ≡ None
-none_out n [] all = refl
-none_out n (x ∷ xs) all = rw (send-fits x all.0) (none_out (n + 1) xs all.1)
 
 pub part-whole : (whole values : List ℤ) → ArePart whole 0 (length whole) values
     → (values ≡ whole) × (position_from is_out_of_range 0 whole ≡ None)
@@ -157,7 +140,7 @@ pub filter-part : (taps samples made : List ℤ) (shift lead from to : ℕ) → 
 filter-part taps samples made shift lead from to front order within enough is fits = record {
   values_are = ap (drop lead) is
       ∙ outputs-behind taps samples shift lead from to front order within enough;
-  sends = AreSends-drop lead made (subst AreSends (sym is) (AreSends-in_range 0 _ fits));
+  sends = AreSends-drop lead made (subst AreSends (sym is) (all_sends 0 _ fits));
 }
 
 -- of what is there, if anything is

@@ -1,18 +1,8 @@
 -- Lists of values that can be sent.
-use Rattle.std.proofs.Common.{ℕ, zero, suc, ◌+◌, List, [], ◌∷◌, get_or, map, take, drop, ℤ, arith}
+use Rattle.std.proofs.Common.{ℕ, zero, suc, ◌+◌, List, [], ◌∷◌, get_or, map, ℤ, arith}
 use Rattle.std.specs.List.{All, range_with_len}
 use Rattle.stream_lists.specs.phase_accum.Sends.{IsSend, AreSends}
 use Rattle.stream_lists.specs.Lists.{entry}
-
-pub AreSends-take : (n : ℕ) (xs : List ℤ) → AreSends xs → AreSends (take n xs)
-AreSends-take zero xs s = tt
-AreSends-take (suc n) [] s = tt
-AreSends-take (suc n) (x ∷ xs) s = (s.0, AreSends-take n xs s.1)
-
-pub AreSends-drop : (n : ℕ) (xs : List ℤ) → AreSends xs → AreSends (drop n xs)
-AreSends-drop zero xs s = s
-AreSends-drop (suc n) [] s = tt
-AreSends-drop (suc n) (x ∷ xs) s = AreSends-drop n xs s.1
 
 -- one of several lists
 pub AreSends-one : {A : Type 0} (f : A → List ℤ) (xs : List A) (k : ℕ)

@@ -10,7 +10,7 @@ use Rattle.stream_filters.specs.Range.{ranged, is_out_of_range}
 use Rattle.stream_filters.specs.declared.fault.TooBigValue.{TooBigValue}
 
 -- a place where the test fails is passed over
-position-pass : {X : Type 0} (t : X → Bool) (n : ℕ) (xs : List X) (i : ℕ) (d : X)
+pub position-pass : {X : Type 0} (t : X → Bool) (n : ℕ) (xs : List X) (i : ℕ) (d : X)
     → i < length xs → t (get_or xs i d) ≡ false
     → position_from t n (drop i xs) ≡ position_from t (n + 1) (drop (i + 1) xs)
 position-pass t n xs i d lt e =
@@ -18,7 +18,7 @@ position-pass t n xs i d lt e =
     rw (drop-cons xs i d lt, e) (ap (λ m. position_from t (n + 1) (drop m xs)) next)
 
 -- a place where it passes is the first
-position-here : {X : Type 0} (t : X → Bool) (n : ℕ) (xs : List X) (i : ℕ) (d : X)
+pub position-here : {X : Type 0} (t : X → Bool) (n : ℕ) (xs : List X) (i : ℕ) (d : X)
     → i < length xs → t (get_or xs i d) ≡ true → position_from t n (drop i xs) ≡ Some n
 position-here t n xs i d lt e = rw (drop-cons xs i d lt, e) refl
 

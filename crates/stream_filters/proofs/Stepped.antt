@@ -56,7 +56,7 @@ outputs_of_block-agree taps shift line taken (x ∷ xs) agree =
 abbrev fits : ℤ → Bool
 fits z = not (is_out_of_range z)
 
-before-cons : (z : ℤ) (zs : List ℤ) (b : Bool) → fits z ≡ b
+pub before-cons : (z : ℤ) (zs : List ℤ) (b : Bool) → fits z ≡ b
     → before_out_of_range (z ∷ zs) ≡ cond b (z ∷ before_out_of_range zs) []
 before-cons z zs b e =
     take_while-cons fits z zs ∙ ap (λ t. cond t (z ∷ before_out_of_range zs) []) e

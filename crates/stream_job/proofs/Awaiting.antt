@@ -1,16 +1,13 @@
 -- The samples that a source has still to signal, of those that came.
-use Rattle.std.proofs.Common.{◌≡◌, ℕ, zero, suc, ℤ, List, ◌∷◌, ◌+◌, ◌<◌, ◌≤◌, Bool, true, false, [], Option, Some, None, length, take, drop, get_or, slice_get, refl, sym, ap, subst, ◌∙◌, arith, take-append-drop, length-append}
-use Rattle.std.specs.List.{count_by, filter}
+use Rattle.std.proofs.Common.{◌≡◌, ℕ, zero, suc, ℤ, List, ◌∷◌, ◌<◌, ◌≤◌, Bool, true, false, [], Option, Some, None, length, drop, get_or, slice_get, refl, sym, ap, subst, ◌∙◌, arith}
 use Rattle.std.proofs.lemmas.List.{get_or_past}
-use Rattle.std.proofs.lemmas.List.Elements.{filter-append}
-use Rattle.std.proofs.lemmas.List.Sums.{count_by_more_yes, length-filter, count_by-le-length}
+use Rattle.std.proofs.lemmas.List.Sums.{count_by-le-length}
 use Rattle.std.proofs.lemmas.Option.{none-some, slice_get_read}
 use Rattle.phase_any.specs.phase_accum.Sends.{AreSends}
-use Rattle.graph_lang.specs.graph_base.Graphs.{Graph, Task, is_source, no_task, source_number, sources_of, task_at}
+use Rattle.graph_lang.specs.graph_base.Graphs.{Graph, Task, is_source, source_number, sources_of, task_at}
 use Rattle.graph_lang.specs.graph_base.declared.limits.TheConstants.{TASKS_MAX}
-use Rattle.graph_lang.specs.graph_base.declared.line.Kind.{Kind}
-use Rattle.graph_lang.specs.graph_base.declared.line.Kind.TheVariants.{Source, Fir, Split, Join, Peer, Sink}
 use Rattle.stream_eval.specs.stream_lists.Jobs.{Job, samples_in, with_samples}
+use Rattle.stream_eval.proofs.stream_lists_lemmas.Basics.{source_kind, source_within}
 use Rattle.graph_runs.specs.Moments.{Moment}
 use Rattle.stream_job.specs.Machines.{IsMachineAt, MayHaveCome}
 use Rattle.stream_job.specs.Plans.{IsPlan}
@@ -23,37 +20,11 @@ use Rattle.stream_job.specs.declared.task_state.TaskState.{TaskState}
 
 -- ---- the numbers of sources
 
--- what is counted in front is no more than all
-count_by-take : {X : Type 0} (p : X → Bool) (n : ℕ) (xs : List X)
-    → count_by p (take n xs) ≤ count_by p xs
-count_by-take p n xs =
-    let parts = ap (λ ys. length (filter p ys)) (sym (take-append-drop n xs))
-    ∙ (ap length (filter-append p (take n xs) (drop n xs))
-    ∙ length-append (filter p (take n xs)) (filter p (drop n xs))) in
-    omega (arith, parts, length-filter p xs, length-filter p (take n xs))
-
--- a source is one of the sources
-pub source_within : (graph : Graph) (t : ℕ) → t < length graph.tasks
-    → is_source (task_at graph t).kind ≡ true → source_number graph.tasks t < sources_of graph
-source_within graph t within is =
-    let is_source_task : Task → Bool = λ task. is_source task.kind in
-    let one = count_by_more_yes is_source_task graph.tasks t no_task within is in
-    let most = count_by-take is_source_task (t + 1) graph.tasks in
-    omega (arith, one, most)
-
 pub few_sources : (graph : Graph) → length graph.tasks ≤ TASKS_MAX → sources_of graph ≤ TASKS_MAX
 few_sources graph few =
     let is_source_task : Task → Bool = λ task. is_source task.kind in
     let all = count_by-le-length is_source_task graph.tasks in
     omega (arith, all)
-
-pub source_kind : (kind : Kind) → is_source kind ≡ true → kind ≡ Source
-source_kind Source is = refl
-source_kind Fir is = absurd (cc)
-source_kind Split is = absurd (cc)
-source_kind Join is = absurd (cc)
-source_kind Peer is = absurd (cc)
-source_kind Sink is = absurd (cc)
 
 -- ---- the input of a source
 

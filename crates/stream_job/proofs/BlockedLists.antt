@@ -2,7 +2,7 @@
 use Rattle.std.proofs.Common.{◌≡◌, ◌≢◌, ℕ, zero, suc, ◌<◌, ◌≤◌, Bool, true, false, ◌||◌, eqb, cond, List, [], ◌∷◌, ◌++◌, length, get_or, set, refl, sym, ap, subst, ◌∙◌, ◌⊎◌, inl, inr}
 use Rattle.std.specs.List.{list_any}
 use Rattle.std.proofs.Math.Bool.{or-false}
-use Rattle.std.proofs.lemmas.Bool.{eqb-true, eq-eqb, cases_lt}
+use Rattle.std.proofs.lemmas.Bool.{eqb-true, eq-eqb, cases_lt, or_cases}
 use Rattle.std.proofs.lemmas.List.{get_or-set_same, get_or-set_other, set_past}
 use Rattle.std.proofs.lemmas.List.Folds.{list_any-append}
 use Rattle.stream_eval.specs.stream_lists.Jobs.{Job}
@@ -10,7 +10,6 @@ use Rattle.graph_runs.specs.Moments.{Moment}
 use Rattle.graph_runs.specs.TaskEvents.{TaskEvent, after_turn}
 use Rattle.graph_runs.specs.Nexts.{next_of}
 use Rattle.graph_runs.specs.Answers.{Answer, makes, is_blocked, is_gone, has_made, is_refused, after_answer, answer_of_turn, answer_to, is_still, was_blocked}
-use Rattle.graph_runs.proofs.Boundaries.{or_true}
 use Rattle.stream_job.specs.Blocking.{called_on, AreBlocked, IsBlockedOn}
 use Rattle.stream_job.specs.Machines.{IsMachineAt}
 use Rattle.stream_job.specs.Parking.{StandsIn, with_task}
@@ -42,7 +41,7 @@ in_list t u list stands = by (list_any (λ x. eqb x t) list) stands
         → (list_any (λ x. eqb x u) list ≡ true) ⊎ (t ≡ u)
     by true stands = inl stands
     by false stands =
-        last (or_true (list_any (λ x. eqb x u) list) (eqb t u || false)
+        last (or_cases (list_any (λ x. eqb x u) list) (eqb t u || false)
         (sym (list_any-append (λ x. eqb x u) list (t ∷ [])) ∙ stands))
 
 -- task u stands in the list of p, where task t was put behind that of q

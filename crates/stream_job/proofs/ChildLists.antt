@@ -1,19 +1,19 @@
 -- Searches among the children of a task.
 use Rattle.std.proofs.Common.{◌≡◌, ◌≢◌, ℕ, ◌+◌, ◌<◌, List, [], ◌∷◌, Bool, true, false, ◌&&◌, eqb, Option, Some, None, is_some, length, get_or, set, slice_get, refl, sym, ap, subst, ◌∙◌, arith}
 use Rattle.std.specs.List.{filter, find, range_with_len}
-use Rattle.std.proofs.lemmas.Bool.{eqb-true, eq-eqb}
+use Rattle.std.proofs.lemmas.Bool.{eqb-true, eq-eqb, and_parts}
 use Rattle.std.proofs.lemmas.List.Elements.{All-filter, All-get_or, All-from_get_or}
 use Rattle.std.proofs.lemmas.List.FromFn.{get_or-range_with_len, length-range_with_len}
 use Rattle.std.proofs.lemmas.Option.{slice_get-get_or, slice_get_past}
 use Rattle.graph_lang.specs.graph_base.declared.line.Parent.{Parent}
 use Rattle.graph_lang.specs.graph_base.Graphs.{task_at}
 use Rattle.stream_eval.specs.stream_lists.Jobs.{Job}
+use Rattle.stream_eval.proofs.stream_lists_lemmas.Basics.{find_none_in_range}
 use Rattle.graph_runs.specs.Moments.{Moment}
 use Rattle.graph_runs.specs.Nexts.{comes_by, first_due, first_missing, is_due}
 use Rattle.graph_runs.proofs.Standing.{find-at}
 use Rattle.stream_job.specs.Plans.{IsTaskPlan, children_of, is_child_of}
 use Rattle.stream_job.specs.declared.plan.TaskPlan.{TaskPlan}
-use Rattle.stream_job.proofs.Searching.{find_none_in_range}
 use Rattle.stream_job.proofs.Setting.{slice_get-set_same, slice_get-set_other}
 
 -- what a test finds it finds among those that pass another, where all that it passes do
@@ -29,20 +29,16 @@ find-filter test pass (x ∷ xs) all = by (find-filter test pass xs all) (pass x
     by rest false false p t = rw (p, t) rest
     by rest false true p t = absurd (let wrong : true ≡ false = sym (all x t) ∙ p in cc)
 
-left_of : (a b : Bool) → (a && b) ≡ true → a ≡ true
-left_of true b e = refl
-left_of false b e = e
-
 comes-child : (t steps : ℕ) (parent : Option Parent) → comes_by t steps parent ≡ true
     → is_child_of t parent ≡ true
 comes-child t steps None e = e
-comes-child t steps (Some parent) e = left_of _ _ e
+comes-child t steps (Some parent) e = (and_parts _ _ e).0
 
 -- a child that is due is one
 due-child : (job : Job) (m : Moment) (t c : ℕ) → is_due job m t c ≡ true
     → is_child_of t (task_at job.graph c).parent ≡ true
 due-child job m t c e =
-    comes-child t (m.begun t) (task_at job.graph c).parent (left_of _ _ e)
+    comes-child t (m.begun t) (task_at job.graph c).parent (and_parts _ _ e).0
 
 among : (job : Job) (m : Moment) (t : ℕ)
     → first_due job m t ≡ find (is_due job m t) (children_of job t)

@@ -1,7 +1,7 @@
 -- Whether a live task makes no further step.
 use Rattle.std.proofs.Common.{◌≡◌, ◌≢◌, ℕ, ℤ, ◌-◌, ◌<◌, ◌≤◌, ◌⊎◌, inl, inr, List, Bool, true, false, not, ◌&&◌, ◌||◌, eqb, Option, Some, is_some, length, drop, get_or, nat_le, refl, sym, ap, subst, ◌∙◌, arith}
 use Rattle.std.specs.Prelude.{unwrap_or}
-use Rattle.std.proofs.lemmas.Bool.{lt-ltb, le-ltb, lt-leb, le-leb, eq-eqb, ne_eqb, cases_lt}
+use Rattle.std.proofs.lemmas.Bool.{lt-ltb, le-ltb, lt-leb, le-leb, eq-eqb, ne_eqb, cases_lt, or_parts}
 use Rattle.std.proofs.lemmas.List.{length-drop}
 use Rattle.std.proofs.lemmas.Option.{slice_get-get_or}
 use Rattle.phase_any.specs.phase_base.declared.entry.Entry.{Entry}
@@ -16,7 +16,7 @@ use Rattle.graph_runs.specs.Moments.{Moment, HasRun, input_at, first_input}
 use Rattle.graph_runs.specs.Nexts.{is_live, is_cut, has_input_ended, has_run_out, has_signaller, number_on, has_left, registrations_at}
 use Rattle.graph_runs.specs.TaskPlaces.{TaskPlace, StandsUpTo, registration_at, registration_of_output}
 use Rattle.graph_runs.proofs.Signalling.{live-is, stays}
-use Rattle.graph_runs.proofs.Boundaries.{goes_on, or_false}
+use Rattle.graph_runs.proofs.Boundaries.{goes_on}
 use Rattle.graph_runs.proofs.Standing.{of_input, of_output, many}
 use Rattle.graph_lang.specs.graph_base.Registrations.{signalled_by}
 use Rattle.graph_runs.specs.Answers.{output_at}
@@ -47,7 +47,7 @@ over_left job m t at is ran stands live left = by (is_over job m t) refl
     by : (b : Bool) → is_over job m t ≡ b → is_over job m t ≡ true
     by true e = e
     by false e =
-        let parts = or_false (is_cut (task_at job.graph t).until (m.begun t))
+        let parts = or_parts (is_cut (task_at job.graph t).until (m.begun t))
         (has_input_ended job m t (task_at job.graph t).kind) e in
         let few = stands.few_left in
         let n = get_or at.numbers 0 0 in
@@ -169,14 +169,6 @@ pub cut_is : {most : ℕ} (job : Job) (m : Moment) (t : ℕ) (at : TaskPlace) �
 cut_is job m t at stands until same =
     ap (is_cut (task_at job.graph t).until) stands.begun
     ∙ ap (λ o. is_cut o at.begun) (sym same)
-
-pub source_is : (kind : Kind) → is_source kind ≡ true → kind ≡ Source
-source_is Source e = refl
-source_is Fir e = absurd (cc)
-source_is Split e = absurd (cc)
-source_is Join e = absurd (cc)
-source_is Peer e = absurd (cc)
-source_is Sink e = absurd (cc)
 
 pub no_source : (kind : Kind) → is_source kind ≡ false → kind ≢ Source
 no_source Source e = absurd (cc)

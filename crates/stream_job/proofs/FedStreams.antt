@@ -1,7 +1,7 @@
 -- A stream whose source is fed stands at its moment, and so does one whose source ends.
 use Rattle.std.proofs.Common.{◌≡◌, ◌≢◌, ℕ, ℤ, ◌<◌, ◌≤◌, Bool, true, false, eqb, List, [], ◌++◌, Some, None, length, get_or, slice_get, set, refl, sym, ap, subst, ◌∙◌, arith}
 use Rattle.std.specs.Prelude.{◌||◌, ◌==◌, Option, is_some, if◌then◌else◌}
-use Rattle.std.proofs.lemmas.Bool.{eqb-true, eq-eqb}
+use Rattle.std.proofs.lemmas.Bool.{eqb-true, eq-eqb, or_parts}
 use Rattle.std.proofs.lemmas.List.{length-set}
 use Rattle.std.proofs.lemmas.Option.{slice_get_within, slice_get_read, slice_get-get_or}
 use Rattle.graph_lang.specs.graph_base.Graphs.{task_at, source_number, sources_of}
@@ -229,10 +229,6 @@ stream_takes stream s m given source vs input new state at apart many is found r
 
 -- ---- an end
 
-or_right : (a b : Bool) → (a || b) ≡ false → b ≡ false
-or_right true b e = absurd (cc)
-or_right false b e = e
-
 -- the same input, which has ended
 abbrev pub that_ended : Input → Input
 that_ended input = record {
@@ -265,8 +261,8 @@ stream_ends stream s m given source input at found = record {
       (λ t not. refl);
   stays_open = λ t p n there pp kind over. at.stays_open t p n there pp kind
       (let k = source_number stream.job.graph.tasks t in
-      or_right (k == source) (has_ended stream.inputs k)
-      (sym (ended_then stream.inputs source k input (that_ended input) found refl) ∙ over));
+      (or_parts (k == source) (has_ended stream.inputs k)
+      (sym (ended_then stream.inputs source k input (that_ended input) found refl) ∙ over)).1);
   none = at.none;
   faults = at.faults;
 }

@@ -1,6 +1,6 @@
 -- The turns of a run that is fed: what a stream stands for after one.
 use Rattle.std.proofs.Common.{◌≡◌, ℕ, ℤ, List, ◌+◌, ◌≤◌, ◌&&◌, ◌++◌, ◌∷◌, [], Bool, true, false, cond, eqb, not, Option, Some, None, length, slice_get, refl, sym, ap, subst, ◌∙◌, arith}
-use Rattle.std.specs.Prelude.{is_some, slice_range, vec_capacity, vec_len}
+use Rattle.std.specs.Prelude.{slice_range, vec_capacity, vec_len}
 use Rattle.std.proofs.Math.Bool.{and-true}
 use Rattle.std.specs.List.{All}
 use Rattle.std.proofs.lemmas.Bool.{eqb-true}
@@ -221,10 +221,6 @@ kept_after job s m answer inputs ran kept = λ t input there kind found.
     })
 
 -- ---- the stream
-
-pub none_met : {X : Type 0} (o : Option X) → is_some o ≡ false → o ≡ None
-none_met None none = refl
-none_met (Some x) none = absurd (let wrong : true ≡ false = none in cc)
 
 -- what a stream stands for after a turn of a task that is not hungry, which made an event and took no
 -- value out of range

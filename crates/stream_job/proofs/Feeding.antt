@@ -1,15 +1,14 @@
 -- Samples that come behind those that a source has: its input keeps them, and the run goes on.
 use Rattle.std.proofs.Common.{◌≡◌, ◌≢◌, ℕ, ℤ, zero, suc, ◌+◌, ◌<◌, ◌≤◌, Bool, true, false, eqb, ltb, List, [], ◌∷◌, ◌++◌, Some, length, get_or, slice_get, set, take, drop, refl, sym, ap, subst, ◌∙◌, arith}
 use Rattle.std.specs.Prelude.{◌||◌}
-use Rattle.std.specs.List.{count_by, filter}
+use Rattle.std.specs.List.{count_by}
 use mathlib.Core.List.{IsPrefix}
 use Rattle.std.proofs.lemmas.Bool.{eqb-true, eq-eqb, ltb-true, ltb-false}
-use Rattle.std.proofs.lemmas.List.{length-append, length-set, append-nil, set-get_or, get_or-set_same, get_or-set_other, drop-append-le, take-append-drop, take-take}
-use Rattle.std.proofs.lemmas.List.Elements.{filter-append}
-use Rattle.std.proofs.lemmas.List.Sums.{count_by_more_yes, length-filter}
+use Rattle.std.proofs.lemmas.List.{length-append, length-set, append-nil, set-get_or, get_or-set_same, get_or-set_other, drop-append-le, take-take}
+use Rattle.std.proofs.lemmas.List.Sums.{count_by_more_yes}
 use Rattle.std.proofs.lemmas.Option.{same_Some, slice_get_within, slice_get-get_or}
 use Rattle.phase_any.specs.phase_accum.Sends.{AreSends}
-use Rattle.phase_any.proofs.phase_accum_lemmas.Parts.{AreSends-append, AreSends-append_left}
+use Rattle.phase_any.proofs.phase_accum_lemmas.Parts.{AreSends-append}
 use Rattle.graph_lang.specs.graph_base.Graphs.{Graph, Task, no_task, task_at, is_source, source_number, sources_of}
 use Rattle.graph_lang.specs.graph_base.declared.line.Kind.TheVariants.{Source}
 use Rattle.stream_eval.specs.stream_lists.Jobs.{Job, samples_in, with_samples}
@@ -18,13 +17,9 @@ use Rattle.graph_runs.proofs.Entries.{IsPrefix-refl}
 use Rattle.stream_job.specs.Streams.{InputKeeps, fed, has_ended, ended_with}
 use Rattle.stream_job.specs.declared.input.Input.{Input}
 use Rattle.stream_eval.specs.stream_lists.declared.sample_counts.TheConstants.{COUNT_MAX}
+use Rattle.stream_eval.proofs.stream_lists_lemmas.Basics.{count_by-take}
 
 -- ---- inputs
-
-pub sends_taken : (n : ℕ) (xs : List ℤ) → AreSends xs → AreSends (take n xs)
-sends_taken n xs sends =
-    AreSends-append_left (take n xs) (drop n xs)
-    (subst AreSends (sym (take-append-drop n xs)) sends)
 
 pub keeps_more : (input new : Input) (begun : ℕ) (xs vs : List ℤ) → InputKeeps input begun xs
     → AreSends vs → length xs + length vs ≤ COUNT_MAX → new.from ≡ input.from
@@ -93,15 +88,6 @@ ended_then inputs i k input new found is = by (eqb k i) refl
         ∙ sym (ap (λ b. b || has_ended inputs k) e)
 
 -- ---- the numbers of the sources
-
--- what is counted in front is no more than all
-count_by-take : {X : Type 0} (p : X → Bool) (n : ℕ) (xs : List X)
-    → count_by p (take n xs) ≤ count_by p xs
-count_by-take p n xs =
-    let parts = ap (λ ys. length (filter p ys)) (sym (take-append-drop n xs))
-    ∙ (ap length (filter-append p (take n xs) (drop n xs))
-    ∙ length-append (filter p (take n xs)) (filter p (drop n xs))) in
-    omega (arith, parts, length-filter p xs, length-filter p (take n xs))
 
 abbrev is_source_task : Task → Bool
 is_source_task task = is_source task.kind

@@ -1,13 +1,13 @@
 -- What a filter makes of some numbers, and of more behind them.
 use Rattle.std.proofs.Common.{◌≡◌, ◌≢◌, ◌⊎◌, inl, inr, ℕ, zero, suc, ◌+◌, ◌-◌, ◌≤◌, Bool, true, false, ℤ, List, [], ◌∷◌, ◌++◌, length, map, refl, sym, ap, subst, ◌∙◌, arith, append_assoc, append-nil, get_or, ltb-false, ltb-true, nat_lt, ◌<◌}
-use Rattle.std.specs.Prelude.{Ok, Err, Option, Result, cond, drop, nat_le, not, take, unsigned_abs, if◌then◌else◌}
+use Rattle.std.specs.Prelude.{Ok, Err, Option, Result, drop, nat_le, not, take, unsigned_abs, if◌then◌else◌}
 use Rattle.std.proofs.lemmas.List.{length-take, map-append, take-take, take_all}
-use Rattle.std.proofs.lemmas.List.Sums.{take_while-cons}
 use Rattle.std.proofs.Math.Seq.{take-add}
 use Rattle.graph_lang.specs.graph_base.Graphs.{Task}
 use Rattle.graph_lang.specs.stream_filters.declared.fault.TooBigValue.{TooBigValue}
 use Rattle.graph_lang.specs.stream_filters.Filter.{FirState, output_after}
 use Rattle.graph_lang.specs.stream_filters.Range.{before_out_of_range, is_out_of_range, ranged}
+use Rattle.graph_lang.proofs.graph_base_lemmas.stream_filters_lemmas.Stepped.{before-cons}
 use Rattle.graph_runs.specs.Steps.{HasFilter}
 use Rattle.graph_runs.specs.TaskPlaces.{outputs_of_block}
 use Rattle.phase_any.specs.phase_accum.declared.outcome.Outcome.{Outcome}
@@ -59,11 +59,6 @@ filtered_one task x old new answer made after is next items = record {
 -- a number is in range
 abbrev fits : ℤ → Bool
 fits z = not (is_out_of_range z)
-
-before-cons : (z : ℤ) (zs : List ℤ) (b : Bool) → fits z ≡ b
-    → before_out_of_range (z ∷ zs) ≡ cond b (z ∷ before_out_of_range zs) []
-before-cons z zs b e =
-    take_while-cons fits z zs ∙ ap (λ t. cond t (z ∷ before_out_of_range zs) []) e
 
 -- the answer to one that is
 abbrev pub good : ℤ → Result ℤ TooBigValue

@@ -15,10 +15,11 @@ use Rattle.phase_any.specs.phase_history.Phases.{stream_of}
 use Rattle.phase_any.specs.phase_history.Replies.{wait_block_reply}
 use Rattle.graph_lang.specs.graph_base.declared.line.Kind.TheVariants.{Source, Fir, Split, Join, Peer, Sink}
 use Rattle.graph_lang.specs.graph_base.declared.line.Kind.{Kind}
-use Rattle.graph_lang.specs.graph_base.Graphs.{Task, task_at, is_sink}
+use Rattle.graph_lang.specs.graph_base.Graphs.{Task, task_at}
 use Rattle.graph_lang.specs.graph_base.TaskLines.{IsGraph}
 use Rattle.stream_eval.specs.stream_lists.Jobs.{Job}
 use Rattle.stream_eval.specs.stream_lists.Lists.{number, sinks_of, is_sink_at}
+use Rattle.stream_eval.proofs.stream_lists_lemmas.Basics.{sink_kind}
 use Rattle.graph_runs.specs.Moments.{Moment, HasRun, HasAnsweredNone, limits_at, value_at, first_input}
 use Rattle.graph_runs.specs.Moves.{further, IsBlock}
 use Rattle.graph_runs.proofs.Blocks.{block_few}
@@ -72,14 +73,6 @@ first_is job m t k n p outcomes first =
     ≡ m.taken t 0 ++ map number outcomes) (sym first)
     (ap (λ b. cond b (with_at 0 (m.taken t 0 ++ map number outcomes) (m.taken t)) (m.taken t) 0)
     (eq-eqb t t refl))
-
-pub sink_kind : (kind : Kind) → is_sink kind ≡ true → kind ≡ Sink
-sink_kind Sink e = refl
-sink_kind Source e = absurd (cc)
-sink_kind Fir e = absurd (cc)
-sink_kind Split e = absurd (cc)
-sink_kind Join e = absurd (cc)
-sink_kind Peer e = absurd (cc)
 
 -- a filter's first input is its only one, as a sink's
 pub zero_first : (task : Task) (b k : ℕ) (kind : Kind) → task.kind ≡ kind → kind ≢ Join

@@ -4,7 +4,7 @@ use Rattle.std.specs.Prelude.{Result, Ok, Err}
 use Rattle.std.specs.List.{position_from}
 use Rattle.std.specs.declared.vec.Vec.{Vec}
 use Rattle.std.specs.Global.{Global}
-use Rattle.std.proofs.lemmas.Bool.{eq-eqb, eqb-true}
+use Rattle.std.proofs.lemmas.Bool.{eq-eqb, eqb-true, or_right}
 use Rattle.std.proofs.lemmas.List.{drop-drop, length-drop, length-map, length-take-le, take-map}
 use Rattle.std.specs.List.{drop-map}
 use Rattle.std.proofs.lemmas.Option.{same_Some}
@@ -55,7 +55,7 @@ use Rattle.stream_job.proofs.SentValues.{all_in_range, first_over, sends_all}
 use Rattle.stream_job.proofs.SignalCalls.{SignalledCores, blocks, err_is, goes_on, ok_is, refusal_of, renumbered, reply_of, stops}
 use Rattle.stream_job.proofs.Signals.{HasMade, OwesHere, Values, signals_at}
 use Rattle.stream_job.proofs.Stalling.{never_refused, rest_few, take_all}
-use Rattle.stream_job.proofs.WentTurns.{TellsNone, or_right, turn_none}
+use Rattle.stream_job.proofs.WentTurns.{TellsNone, turn_none}
 
 -- ---- what is left of a list
 

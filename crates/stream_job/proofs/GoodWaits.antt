@@ -19,6 +19,7 @@ use Rattle.phase_any.specs.phase_history.Phases.{stream_of, value_of_phase}
 use Rattle.phase_any.specs.phase_history.Refusals.{wait_refusal}
 use Rattle.phase_any.specs.phase_history.Replies.{got_at, got_block_at, refused_or, wait_block_reply, wait_reply}
 use Rattle.phase_any.specs.phase_base.Limits.{Limits}
+use Rattle.phase_any.proofs.phase_core_lemmas.InRangeBlocks.{in_range-few}
 use Rattle.graph_runs.proofs.phase_history_lemmas.BlockAnswers.{block_answers_law, block_tells}
 use Rattle.graph_lang.specs.graph_base.declared.place.Place.TheVariants as place
 use Rattle.stream_eval.specs.stream_lists.Jobs.{Job}
@@ -128,16 +129,6 @@ none_first from (outcome.Empty ∷ xs) =
     (first_more outcome.Empty xs refl) ∙ none_first (from + 1) xs
 none_first from (outcome.TooBig ∷ xs) = refl
 
-few_first : (xs : List Outcome) → length (take_while is_not_too_big xs) ≤ length xs
-few_first [] = omega arith
-few_first (outcome.Value v ∷ xs) =
-    let rest = few_first xs in
-    let more = first_more (outcome.Value v) xs refl in omega arith
-few_first (outcome.Empty ∷ xs) =
-    let rest = few_first xs in
-    let more = first_more outcome.Empty xs refl in omega arith
-few_first (outcome.TooBig ∷ xs) = omega arith
-
 take_few : {X : Type 0} (n : ℕ) (xs : List X) → length (take n xs) ≤ n
 take_few zero xs = omega arith
 take_few (suc n) [] = omega arith
@@ -154,7 +145,7 @@ pub got_good : (stream : List Outcome) (reply : Result GotBlock WaitRefusal) (ph
 got_good stream reply phase count outcomes would are =
     let whole = slice_range stream phase (phase + would.all) in
     let first = length (take_while is_not_too_big whole) in
-    let within : first ≤ length whole = few_first whole in
+    let within : first ≤ length whole = in_range-few whole in
     let most : length whole ≤ phase + would.all - phase =
     take_few (phase + would.all - phase) (drop phase stream) in
     let is : count ≡ first = would.count_is in
@@ -352,7 +343,7 @@ first_room {allowed} job old m t k number p steps phase count got state asks at 
     ∙ ap (block_answer (λ phase count. first_wait t k p number
     (slice_range (stream_of (value_at job p) (m.history p)) phase (phase + count)))) would.reply_is in
     let all = room k p number whole state (asks.next.is m at) answer asks.found sink line read in
-    let few = few_first whole in
+    let few = in_range-few whole in
     let is : count ≡ length (take_while is_not_too_big whole) = would.count_is in
     omega arith)
 

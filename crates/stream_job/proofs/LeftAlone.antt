@@ -1,6 +1,6 @@
 -- What the event of one task leaves of another.
-use Rattle.std.proofs.Common.{◌≡◌, ◌≢◌, ℕ, zero, suc, ◌<◌, Bool, true, false, not, ◌&&◌, cond, eqb, List, [], ◌∷◌, Some, None, is_some, length, map, slice_get, refl, sym, ap, ◌∙◌, arith, inr}
-use Rattle.std.specs.List.{find, range_with_len}
+use Rattle.std.proofs.Common.{◌≡◌, ◌≢◌, ℕ, Bool, true, false, not, ◌&&◌, eqb, [], Some, None, is_some, length, map, refl, sym, ap, ◌∙◌, arith, inr}
+use Rattle.std.specs.List.{range_with_len}
 use Rattle.std.proofs.lemmas.Bool.{eqb-true, eq-eqb, ne_eqb}
 use Rattle.std.proofs.lemmas.Option.{same_Some}
 use Rattle.phase_any.specs.phase_base.declared.mode.Mode.{Mode}
@@ -9,6 +9,7 @@ use Rattle.phase_any.specs.phase_history.declared.event.Event.TheVariants.{Signa
 use Rattle.graph_lang.specs.graph_base.declared.line.Parent.{Parent}
 use Rattle.graph_lang.specs.graph_base.Graphs.{task_at, phaser_at}
 use Rattle.stream_eval.specs.stream_lists.Jobs.{Job}
+use Rattle.stream_eval.proofs.stream_lists_lemmas.Basics.{find-same}
 use Rattle.graph_runs.specs.Moments.{one, Moment}
 use Rattle.graph_runs.specs.Moves.{HasMoved, SameTask, Registers, RegistersNow}
 use Rattle.graph_runs.proofs.InBlocks.{next_samples_are, next_signals_are, first_waits_are}
@@ -28,6 +29,7 @@ use Rattle.stream_job.specs.Turning.{phaser_of}
 use Rattle.stream_job.specs.declared.machine.Machine.{Machine}
 use Rattle.stream_job.proofs.Makes.{makes_event}
 use Rattle.stream_job.proofs.Reading.{live_by, complete}
+use Rattle.stream_job.proofs.Mosts.{element}
 use Rattle.graph_runs.specs.NextBlocks.{MaySize}
 
 -- task u is as it was, and has the children to register that it had; no phaser but p had an event
@@ -37,18 +39,11 @@ pub record LeavesAlone (job : Job) (before after : Moment) (u p : ℕ) : Type 0 
   pub elsewhere : (q : ℕ) → q ≢ p → after.history q ≡ before.history q
   pub due : first_due job after u ≡ first_due job before u
 
-pub found_same : {X : Type 0} (f g : X → Bool) (xs : List X) → ((x : X) → f x ≡ g x)
-    → find f xs ≡ find g xs
-found_same f g [] same = refl
-found_same f g (x ∷ xs) same =
-    ap (λ b. cond b (Some x) (find f xs)) (same x)
-    ∙ ap (λ o. cond (g x) (Some x) o) (found_same f g xs same)
-
 missing_same : (job : Job) (before after : Moment) (c : ℕ)
     → ((q : ℕ) → after.number q c ≡ before.number q c)
     → first_missing job after c ≡ first_missing job before c
 missing_same job before after c numbers =
-    found_same (λ r. not (has_registered after c r)) (λ r. not (has_registered before c r))
+    find-same (λ r. not (has_registered after c r)) (λ r. not (has_registered before c r))
     (registrations_at job c) (λ r. ap (λ o. not (is_some o)) (numbers r.phaser))
 
 due_same : (job : Job) (before after : Moment) (u c : ℕ) → after.begun u ≡ before.begun u
@@ -65,7 +60,7 @@ alone_moved job before after t u p event moved apart = record {
   same = moved.others u apart;
   numbers = λ q. moved.numbers q u;
   elsewhere = moved.elsewhere;
-  due = found_same (is_due job after u) (is_due job before u)
+  due = find-same (is_due job after u) (is_due job before u)
       (range_with_len 0 (length job.graph.tasks))
       (λ c. due_same job before after u c (moved.others u apart).begun (λ q. moved.numbers q c));
 }
@@ -85,7 +80,7 @@ due_apart : (job : Job) (before after : Moment) (t c u : ℕ) (parent : Parent)
     → ((q d : ℕ) → d ≢ c → after.number q d ≡ before.number q d)
     → first_due job after u ≡ first_due job before u
 due_apart job before after t c u parent its_parent by_task apart begun numbers =
-    found_same (is_due job after u) (is_due job before u)
+    find-same (is_due job after u) (is_due job before u)
     (range_with_len 0 (length job.graph.tasks)) (λ d. by d (eqb d c) refl)
   where
     by : (d : ℕ) (b : Bool) → eqb d c ≡ b → is_due job after u d ≡ is_due job before u d
@@ -170,11 +165,6 @@ no_child job m (child_now t p n c a) u order none = λ e.
     (let wrong : Some order.0 ≡ None =
     sym order.1 ∙ ap (first_missing job m) (same_Some c u e) ∙ none in cc)
 
-some_at : {X : Type 0} (xs : List X) (i : ℕ) → i < length xs → (x : X) × (slice_get xs i ≡ Some x)
-some_at [] i lt = absurd (omega arith)
-some_at (x ∷ xs) zero lt = (x, refl)
-some_at (x ∷ xs) (suc i) lt = some_at xs i (omega arith)
-
 pub lives_on : {steps most : ℕ} (job : Job) (m : Moment) (machine : Machine) (t u : ℕ)
     (event : TaskEvent) → MaySize job.graph t steps most → IsMachineAt job m machine → turn_up_to steps most job m t ≡ makes event → u ≢ t
     → child_of event ≢ Some u → is_live job m u ≡ true
@@ -183,7 +173,7 @@ lives_on job m machine t u event sized at answer apart other live =
     let living = live-is job m u live in
     let there = living.there in
     let many = at.tasks_many in
-    let found = some_at machine.tasks.items u (omega arith) in
+    let found = element machine.tasks.items u (omega arith) in
     let stands = (at.tasks u found.0 found.1).stands in
     let made = makes_event job m t event sized at.graph at.reached answer in
     let after = others_follow job m u event (place_in_state found.0) at.graph at.reached.ran made.next

@@ -9,6 +9,7 @@ use Rattle.graph_lang.specs.graph_base.Graphs.{is_sink, task_at}
 use Rattle.stream_eval.specs.stream_lists.Jobs.{Job}
 use Rattle.stream_eval.specs.stream_lists.Lists.{is_sink_at, number}
 use Rattle.stream_eval.specs.stream_lists.Ranges.{Where}
+use Rattle.stream_eval.proofs.stream_lists_lemmas.Basics.{sink_kind}
 use Rattle.graph_runs.specs.Moments.{Moment, HasAnsweredNone}
 use Rattle.graph_runs.specs.TaskEvents.{TaskEvent, IsNext, sample, signal, first_wait, exchange_wait, leave, child, child_now, after_turn}
 use Rattle.graph_runs.specs.Answers.{Answer, makes, is_blocked, is_gone, has_made, is_refused, after_answer, turn_up_to}
@@ -19,18 +20,12 @@ use Rattle.stream_job.specs.Worlds.{HasMet}
 use Rattle.stream_job.specs.declared.machine.Machine.{Machine}
 use Rattle.stream_job.proofs.Events.{taken_other}
 use Rattle.stream_job.proofs.SinksKeep.{all_kept, kept_begins, kept_other, kept_wait, sink_reads}
-use Rattle.stream_job.proofs.FirstTurns.{first_is, sink_kind, zero_first}
+use Rattle.stream_job.proofs.FirstTurns.{first_is, zero_first}
 use Rattle.graph_runs.specs.NextBlocks.{MaySize}
 
 -- a list begins an equal one
 same_begins : (xs ys : List ℤ) → xs ≡ ys → IsPrefix xs ys
 same_begins xs ys same = ([], append-nil xs ∙ same)
-
-pub begins_further : (xs ys zs : List ℤ) → IsPrefix xs ys → IsPrefix ys zs → IsPrefix xs zs
-begins_further xs ys zs first then = (
-  first.0 ++ then.0,
-  sym (append_assoc xs first.0 then.0) ∙ ap (λ l. l ++ then.0) first.1 ∙ then.1,
-)
 
 -- what is kept begins what was got, behind the same
 more_begins : (xs : List ℤ) (outcomes : List Outcome)

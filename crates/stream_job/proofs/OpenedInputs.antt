@@ -1,16 +1,15 @@
 -- The inputs of the sources, to which nothing came.
-use Rattle.std.proofs.Common.{◌≡◌, ℕ, zero, suc, ◌+◌, ◌<◌, ◌≤◌, true, false, List, [], ◌∷◌, ◌++◌, Some, length, slice_get, refl, sym, ap, subst, ◌∙◌, arith, inl, inr}
+use Rattle.std.proofs.Common.{◌≡◌, ℕ, ◌+◌, ◌<◌, ◌≤◌, true, false, List, [], ◌∷◌, ◌++◌, Some, length, slice_get, refl, sym, ap, subst, ◌∙◌, arith, inl, inr}
 use Rattle.std.specs.Prelude.{◌⊎◌}
 use Rattle.std.specs.List.{All}
 use Rattle.std.proofs.lemmas.List.{length_push, take_all}
 use Rattle.std.proofs.lemmas.List.Elements.{All-nil, All-push}
 use Rattle.std.proofs.lemmas.List.Sums.{count_by_more_yes, count_by_more_no}
-use Rattle.std.proofs.lemmas.Option.{same_Some}
 use Rattle.graph_lang.specs.graph_base.Graphs.{no_task, task_at, is_source, source_number, sources_among}
 use Rattle.stream_eval.specs.stream_lists.Jobs.{Job}
+use Rattle.stream_eval.proofs.stream_lists_lemmas.Basics.{source_kind, push_found}
 use Rattle.stream_job.specs.Streams.{AreInputs, HasInputRoom, IsInputOf, InputKeeps}
 use Rattle.stream_job.specs.declared.input.Input.{Input}
-use Rattle.stream_job.proofs.Ending.{source_is}
 
 -- these are the inputs of the sources among the first n tasks
 pub record AreInputsBefore (job : Job) (n : ℕ) (inputs : List Input) : Type 0 where
@@ -18,19 +17,6 @@ pub record AreInputsBefore (job : Job) (n : ℕ) (inputs : List Input) : Type 0 
   pub each : (k : ℕ) (input : Input) → slice_get inputs k ≡ Some input → IsInputOf job k input
   pub empty : All (λ input. InputKeeps input 0 []) inputs
   pub opens : All (λ input. input.ended ≡ false) inputs
-
--- what is found in a longer list is the last one or was there
-push_found : {X : Type 0} (xs : List X) (x y : X) (k : ℕ) → slice_get (xs ++ x ∷ []) k ≡ Some y
-    → (slice_get xs k ≡ Some y) ⊎ ((k ≡ length xs) × (x ≡ y))
-push_found [] x y zero found = inr (refl, same_Some x y found)
-push_found [] x y (suc k) found = absurd (cc)
-push_found (z ∷ xs) x y zero found = inl found
-push_found (z ∷ xs) x y (suc k) found = by (push_found xs x y k found)
-  where
-    by : (slice_get xs k ≡ Some y) ⊎ ((k ≡ length xs) × (x ≡ y))
-        → (slice_get xs k ≡ Some y) ⊎ ((suc k ≡ suc (length xs)) × (x ≡ y))
-    by (inl was) = inl was
-    by (inr last) = inr (ap suc last.0, last.1)
 
 pub inputs_more : (job : Job) (n : ℕ) (inputs : List Input) (input : Input)
     → AreInputsBefore job n inputs → n < length job.graph.tasks
@@ -54,7 +40,7 @@ inputs_more job n inputs input before there is task room empty opens = record {
         record {
           there = omega arith;
           kind = ap (λ t. (task_at job.graph t).kind) own
-              ∙ source_is (task_at job.graph n).kind is;
+              ∙ source_kind (task_at job.graph n).kind is;
           number = ap (source_number job.graph.tasks) own ∙ sym before.many ∙ sym last.0;
           room = subst HasInputRoom last.1 room;
         }

@@ -1,6 +1,6 @@
 -- The opening of a run, as the code makes it.
-use Rattle.std.proofs.Common.{◌≡◌, ℕ, zero, suc, ◌+◌, ◌-◌, ◌^◌, ◌<◌, ◌≤◌, true, List, [], ◌∷◌, ◌++◌, Option, Some, None, length, refl, ap, subst, arith}
-use Rattle.std.specs.Prelude.{slice_get, nat_lt}
+use Rattle.std.proofs.Common.{◌≡◌, ℕ, zero, suc, ◌+◌, ◌-◌, ◌^◌, ◌<◌, ◌≤◌, true, [], Option, Some, None, length, refl, ap, arith}
+use Rattle.std.specs.Prelude.{nat_lt}
 use Rattle.std.proofs.lemmas.Bool.{lt-ltb}
 use Rattle.phase_any.specs.phase_base.declared.mode.Mode.{Mode}
 use Rattle.phase_any.specs.phase_history.Histories.{History, greatest_used}
@@ -60,15 +60,3 @@ founder_goes job p is pp =
     (rooted_at job p (length job.graph.tasks) is pp (omega arith))
 
 -- ---- a list that is made element by element
-
-pub each-push : {X : Type 0} (P : ℕ → X → Type 0) (xs : List X) (x : X)
-    → ((i : ℕ) (y : X) → slice_get xs i ≡ Some y → P i y) → P (length xs) x
-    → (i : ℕ) (y : X) → slice_get (xs ++ x ∷ []) i ≡ Some y → P i y
-each-push P [] x each new zero y e = subst (P 0) (same_some x y e) new
-  where
-    same_some : {X : Type 0} (a b : X) → Some a ≡ Some b → a ≡ b
-    same_some a b f = cc
-each-push P [] x each new (suc i) y e = absurd (cc)
-each-push P (z ∷ zs) x each new zero y e = each zero y e
-each-push P (z ∷ zs) x each new (suc i) y e =
-    each-push (λ k w. P (suc k) w) zs x (λ k w f. each (suc k) w f) new i y e

@@ -1,5 +1,5 @@
 -- The opening of a run, as the code has its tasks.
-use Rattle.std.proofs.Common.{◌≡◌, ℕ, zero, suc, ◌+◌, ◌-◌, ◌<◌, ◌≤◌, Bool, true, false, cond, eqb, List, [], ◌∷◌, ◌++◌, Option, Some, None, length, get_or, refl, sym, ap, ◌∙◌, arith, ◌⊎◌, inl, inr}
+use Rattle.std.proofs.Common.{◌≡◌, ℕ, zero, suc, ◌+◌, ◌-◌, ◌<◌, ◌≤◌, true, false, eqb, List, [], ◌∷◌, ◌++◌, Option, Some, None, length, get_or, refl, sym, ap, ◌∙◌, arith, ◌⊎◌, inl, inr}
 use Rattle.std.specs.Prelude.{slice_get, nat_lt, unwrap_or, option_map}
 use Rattle.std.specs.List.{find, filter, range_with_len}
 use Rattle.std.proofs.lemmas.Bool.{cases_lt, lt-leb, eq-eqb}
@@ -12,6 +12,7 @@ use Rattle.graph_lang.specs.graph_base.TaskLines.{IsGraph}
 use Rattle.stream_eval.specs.stream_lists.Jobs.{Job}
 use Rattle.stream_eval.specs.stream_lists.Lists.{is_sink_at, sinks_of}
 use Rattle.stream_eval.specs.stream_lists.Spans.{signalled_by, puts_on}
+use Rattle.stream_eval.proofs.stream_lists_lemmas.Basics.{find_none_in_range, passes-at}
 use Rattle.graph_runs.specs.Moments.{HasRun, made_now}
 use Rattle.graph_runs.proofs.OnLines.{on_phaser}
 use Rattle.graph_runs.specs.Openings.{PhaserOpened}
@@ -25,7 +26,6 @@ use Rattle.graph_runs.proofs.Boundaries.{made_many}
 use Rattle.graph_runs.proofs.PlacesLemmas.{find-none}
 use Rattle.graph_runs.proofs.Reaching.{begun_reached}
 use Rattle.graph_runs.proofs.TurnRegistering.{is_for}
-use Rattle.stream_job.proofs.Searching.{find_none_in_range}
 
 -- ---- numbers
 
@@ -145,35 +145,6 @@ opening_stands most job t numbers is there few at = record {
 }
 
 -- ---- sinks
-
--- a number of a range that passes the test stands behind those below it that pass
-passes-at : (test : ℕ → Bool) (from before more : ℕ) → test (from + before) ≡ true
-    → slice_get (filter test (range_with_len from (before + suc more)))
-    (length (filter test (range_with_len from before))) ≡ Some (from + before)
-passes-at test from zero more e =
-    let here : from + 0 ≡ from = omega arith in
-    let yes : test from ≡ true = ap test (sym here) ∙ e in
-    let one : 0 + suc more ≡ suc more = omega arith in
-    ap (λ n. slice_get (filter test (range_with_len from n)) 0) one
-    ∙ (rw yes (ap (λ n. Some n) (sym here)))
-passes-at test from (suc before) more e =
-    let there : from + 1 + before ≡ from + suc before = omega arith in
-    let long : suc before + suc more ≡ suc (before + suc more) = omega arith in
-    ap (λ n. slice_get (filter test (range_with_len from n))
-    (length (filter test (range_with_len from (suc before))))) long
-    ∙ by (test from) (passes-at test (from + 1) before more (ap test there ∙ e))
-    ∙ ap (λ n. Some n) there
-  where
-    by : (b : Bool)
-        → slice_get (filter test (range_with_len (from + 1) (before + suc more)))
-        (length (filter test (range_with_len (from + 1) before))) ≡ Some (from + 1 + before)
-        → slice_get
-        (cond b (from ∷ filter test (range_with_len (from + 1) (before + suc more)))
-        (filter test (range_with_len (from + 1) (before + suc more))))
-        (length (cond b (from ∷ filter test (range_with_len (from + 1) before))
-        (filter test (range_with_len (from + 1) before)))) ≡ Some (from + 1 + before)
-    by true f = f
-    by false f = f
 
 pub sink_is : (job : Job) (t : ℕ) → t < length job.graph.tasks → is_sink_at job t ≡ true
     → slice_get (sinks_of job) (length (filter (is_sink_at job) (range_with_len 0 t))) ≡ Some t

@@ -14,6 +14,7 @@ use Rattle.stream_eval.specs.stream_lists.Lists.{is_sink_at, sinks_of}
 use Rattle.stream_eval.specs.stream_lists.Spans.{span_in, takes_from}
 use Rattle.stream_eval.specs.declared.whole.Lines.{Lines}
 use Rattle.stream_eval.proofs.stream_lists_lemmas.Starts.{fewer_steps}
+use Rattle.stream_eval.proofs.stream_lists_lemmas.Basics.{sink_kind}
 use Rattle.graph_runs.specs.Moments.{Moment, IsRegistered, input_at, started}
 use Rattle.graph_runs.specs.Moves.{further}
 use Rattle.graph_runs.proofs.Nexts.{further-length}
@@ -35,7 +36,6 @@ use Rattle.stream_job.specs.SinkLines.{kept_by}
 use Rattle.stream_job.specs.Turning.{turn_in}
 use Rattle.stream_job.proofs.SinksKeep.{kept_within}
 use Rattle.stream_job.proofs.Lively.{live_next}
-use Rattle.stream_job.proofs.FirstTurns.{sink_kind}
 use Rattle.stream_job.proofs.Waits.{waits_few}
 use Rattle.stream_job.proofs.WhatNext.{Begins, waits_begins}
 

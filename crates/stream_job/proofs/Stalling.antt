@@ -2,7 +2,7 @@
 use Rattle.std.proofs.Common.{◌≡◌, ◌≢◌, ℕ, zero, suc, ◌+◌, ◌-◌, ◌<◌, ◌≤◌, Bool, true, false, not, eqb, ◌&&◌, ◌||◌, cond, ℤ, pos, List, [], ◌∷◌, Option, Some, None, is_some, map, take, drop, min, refl, sym, ap, subst, ◌∙◌, arith}
 use Rattle.std.specs.Prelude.{nat_le, nat_lt, length}
 use Rattle.std.specs.List.{position_from}
-use Rattle.std.proofs.lemmas.Bool.{leb-true, leb-false, le-leb, lt-ltb, le-ltb}
+use Rattle.std.proofs.lemmas.Bool.{leb-true, leb-false, le-leb, lt-ltb, le-ltb, or_right}
 use Rattle.std.proofs.lemmas.List.{length-map, length-drop, length-take-le}
 use Rattle.phase_any.specs.phase_base.Limits.{Limits}
 use Rattle.phase_any.specs.phase_base.declared.limits.TheConstants.{SENDS_MAX}
@@ -59,10 +59,6 @@ use Rattle.stream_job.proofs.WhatNext.{samples_begins, signals_owes}
 use Rattle.graph_runs.proofs.Stepping.{line_sizes}
 
 -- ---- a signal, phase by phase
-
-pub or_true : (a b : Bool) → b ≡ true → (a || b) ≡ true
-or_true true b e = refl
-or_true false b e = e
 
 pub ahead_later : (slowest : Option ℕ) (bound s more : ℕ) → s ≤ more
     → is_ahead slowest bound s ≡ true → is_ahead slowest bound more ≡ true
@@ -132,7 +128,7 @@ first_blocked event limits h single v vs entry later =
     let late : nat_lt limits.phases_max (s + suc (length vs)) ≡ true =
     lt-ltb limits.phases_max (s + suc (length vs)) (omega arith) in
     ap (λ b. b || is_ahead slowest limits.bound (s + suc (length vs) - 1)) late))
-    (λ ahead. or_true (nat_lt limits.phases_max (s + suc (length vs)))
+    (λ ahead. or_right (nat_lt limits.phases_max (s + suc (length vs)))
     (is_ahead slowest limits.bound (s + suc (length vs) - 1))
     (ahead_later slowest limits.bound s (s + suc (length vs) - 1) (omega arith) ahead))
     later

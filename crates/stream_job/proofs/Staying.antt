@@ -13,6 +13,7 @@ use Rattle.graph_lang.specs.graph_base.Graphs.{task_at, phaser_at}
 use Rattle.graph_lang.specs.graph_base.Registrations.{signalled_by}
 use Rattle.stream_eval.specs.stream_lists.Jobs.{Job, samples_at}
 use Rattle.stream_eval.specs.stream_lists.Ranges.{is_out_of_range}
+use Rattle.stream_eval.proofs.stream_lists_lemmas.Basics.{find-same}
 use Rattle.graph_runs.specs.Moments.{one, Moment, limits_at, value_at, input_at, made_now, first_input}
 use Rattle.graph_runs.specs.Moves.{SameTask}
 use Rattle.graph_runs.specs.NextBlocks.{block_of, child_allows, until_allows}
@@ -28,7 +29,7 @@ use Rattle.stream_job.specs.Blocking.{called_on, IsBlockedOn}
 use Rattle.stream_job.specs.Machines.{IsMachineAt}
 use Rattle.stream_job.specs.Turning.{phaser_of}
 use Rattle.stream_job.specs.declared.machine.Machine.{Machine}
-use Rattle.stream_job.proofs.LeftAlone.{LeavesAlone, alone, found_same, lives_on, no_child}
+use Rattle.stream_job.proofs.LeftAlone.{LeavesAlone, alone, lives_on, no_child}
 use Rattle.stream_job.proofs.SignalCalls.{goes_on, stops}
 use Rattle.stream_job.proofs.Stalling.{leave_moves, register_moves}
 use Rattle.stream_job.proofs.WhatNext.{AtStep, Doing, doing, owing, parent, leaving, stepping, begins_is}
@@ -60,7 +61,7 @@ is_call job m t turns.exchanges e = tt
 first_owed_same : (job : Job) (before after : Moment) (u : ℕ) → SameTask before after u
     → first_owed job after u ≡ first_owed job before u
 first_owed_same job before after u same =
-    found_same (is_owed job after u) (is_owed job before u)
+    find-same (is_owed job after u) (is_owed job before u)
     (range_with_len 0 (length (signalled_by (task_at job.graph u))))
     (λ j. ap (λ l. nat_lt (length l) (length (made_now job after u j))) (same.put j)
     ∙ ap (λ l. nat_lt (length (before.put u j)) (length l)) (made_same job before after u j same))

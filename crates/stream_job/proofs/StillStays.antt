@@ -1,8 +1,8 @@
 -- A task that is held up stays so with more samples behind those that came.
-use Rattle.std.proofs.Common.{◌≡◌, ◌≢◌, ℕ, ℤ, zero, suc, ◌+◌, ◌-◌, ◌<◌, ◌≤◌, ◌||◌, Bool, true, false, cond, List, [], ◌∷◌, ◌++◌, Option, Some, None, length, take, drop, refl, sym, ap, subst, ◌∙◌, arith, ◌⊎◌, inl, inr}
+use Rattle.std.proofs.Common.{◌≡◌, ◌≢◌, ℕ, ℤ, zero, suc, ◌+◌, ◌-◌, ◌<◌, ◌≤◌, ◌||◌, Bool, true, false, cond, List, [], Option, Some, None, length, take, drop, refl, sym, ap, subst, ◌∙◌, arith, ◌⊎◌, inl, inr}
 use Rattle.std.specs.Prelude.{nat_le, nat_lt}
 use Rattle.std.specs.List.{list_all, position_from}
-use Rattle.std.proofs.lemmas.Bool.{leb-false, lt-leb, lt-ltb, ltb-true}
+use Rattle.std.proofs.lemmas.Bool.{leb-false, lt-leb, lt-ltb, ltb-true, or_right}
 use mathlib.Core.List.{IsPrefix}
 use Rattle.phase_any.specs.phase_base.Limits.{Limits}
 use Rattle.phase_any.specs.phase_base.Members.{entry_of, least, wait_phases}
@@ -10,6 +10,7 @@ use Rattle.phase_any.specs.phase_base.declared.entry.Entry.{Entry}
 use Rattle.phase_any.specs.phase_accum.Sends.{AreSends}
 use Rattle.phase_any.specs.phase_history.Histories.{History, members_of}
 use Rattle.phase_any.specs.phase_history.Refusals.{is_ahead}
+use Rattle.phase_any.proofs.phase_accum_lemmas.Parts.{AreSends-append_left}
 use Rattle.graph_lang.specs.graph_base.Graphs.{task_at}
 use Rattle.graph_lang.specs.graph_base.TaskLines.{IsGraph}
 use Rattle.graph_lang.specs.graph_base.declared.line.Kind.{Kind}
@@ -32,7 +33,7 @@ use Rattle.stream_job.specs.Stepping.{blocks_signal_at, would_block}
 use Rattle.stream_job.specs.Streams.{IsStreamAt, StreamState, all_tasks, ended_at}
 use Rattle.stream_job.proofs.FedStops.{below_all}
 use Rattle.stream_job.proofs.Searching.{all_in_range}
-use Rattle.stream_job.proofs.Stalling.{ahead_later, leave_moves, or_true, sample_blocks}
+use Rattle.stream_job.proofs.Stalling.{ahead_later, leave_moves, sample_blocks}
 use Rattle.stream_job.proofs.WhatNext.{samples_begins}
 
 -- ---- what it does next
@@ -143,7 +144,7 @@ blocks_more limits h a b (Some entry) le e =
     by false is =
         let ahead : is_ahead slowest limits.bound (entry.signal_phase + a - 1) ≡ true =
         ap (λ x. x || is_ahead slowest limits.bound (entry.signal_phase + a - 1)) (sym is) ∙ e in
-        or_true (nat_lt limits.phases_max (entry.signal_phase + b))
+        or_right (nat_lt limits.phases_max (entry.signal_phase + b))
         (is_ahead slowest limits.bound (entry.signal_phase + b - 1))
         (ahead_later slowest limits.bound (entry.signal_phase + a - 1)
         (entry.signal_phase + b - 1) (omega arith) ahead)
@@ -206,10 +207,6 @@ samples_fed job m more t is sends sent reached reached' long next next' blocked 
     ∙ blocks_more (limits_at job p) h (sample_block_of job m t) (sample_block_of new m t)
     (entry_of (members_of h) n) fewer (sym (sample_blocks job m t is sends reached next) ∙ blocked)
 
-sends_before : (xs ys : List ℤ) → AreSends (xs ++ ys) → AreSends xs
-sends_before [] ys sends = tt
-sends_before (x ∷ xs) ys sends = (sends.0, sends_before xs ys sends.1)
-
 -- ---- a task
 
 -- held up, by what is known of its next call
@@ -250,7 +247,7 @@ still_held job m more t is reached reached' may grows sends held =
         let source = (samples_begins job m t next).kind in
         let grown = grows source in
         let sent = sends source in
-        let was = sends_before (samples_at job t) grown.0
+        let was = AreSends-append_left (samples_at job t) grown.0
         (subst AreSends (sym grown.1) sent) in
         let blocked : held_by true (would_block job m t samples) false ≡ true =
         sym (ap (λ b. held_by b (would_block job m t samples) false) live)

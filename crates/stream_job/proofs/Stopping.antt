@@ -9,6 +9,7 @@ use Rattle.graph_lang.specs.graph_base.Graphs.{source_number, task_at}
 use Rattle.stream_eval.specs.stream_lists.Jobs.{Job, with_samples}
 use Rattle.stream_eval.specs.stream_lists.Lists.{is_sink_at, sinks_of}
 use Rattle.stream_eval.specs.declared.whole.Lines.{Lines}
+use Rattle.stream_eval.proofs.stream_lists_lemmas.Basics.{sink_kind}
 use Rattle.graph_runs.specs.Moments.{Moment}
 use Rattle.stream_job.specs.Machines.{IsMachineAt, KeepsLines, kept_behind}
 use Rattle.stream_job.specs.SinkLines.{kept_by}
@@ -17,7 +18,6 @@ use Rattle.stream_job.specs.declared.input.Input.{Input}
 use Rattle.stream_job.specs.declared.machine.Machine.{Machine}
 use Rattle.stream_job.specs.declared.task_state.TaskState.{TaskState}
 use Rattle.stream_job.proofs.Rooms.{line_is}
-use Rattle.stream_job.proofs.FirstTurns.{sink_kind}
 
 -- ---- the states
 

@@ -178,10 +178,6 @@ or_left : (a b : Bool) → a ≡ true → (a || b) ≡ true
 or_left true b e = refl
 or_left false b e = absurd (let wrong : false ≡ true = e in cc)
 
-pub or_right : (a b : Bool) → b ≡ true → (a || b) ≡ true
-or_right true b e = refl
-or_right false b e = e
-
 -- a task whose turn of a block of its line would be blocked is at rest
 pub at_rest_by : (job : Job) (old : Machine) (m : Moment) (t : ℕ) → IsMachineAt job m old
     → turn_in (task_at job.graph t).block job old m t ≡ is_blocked → is_at_rest job m t ≡ true

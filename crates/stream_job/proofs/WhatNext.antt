@@ -1,12 +1,12 @@
 -- What a task does next tells how it stands.
 use Rattle.std.proofs.Common.{◌≡◌, ◌≢◌, ℕ, Bool, true, false, cond, ◌||◌, Option, Some, None, length, refl, sym, ap, ◌∙◌, ◌⊎◌, inl, inr}
+use Rattle.std.proofs.lemmas.Bool.{or_parts}
 use Rattle.graph_lang.specs.graph_base.declared.line.Kind.{Kind}
 use Rattle.graph_lang.specs.graph_base.declared.line.Kind.TheVariants.{Source, Fir, Split, Join, Peer, Sink}
 use Rattle.graph_lang.specs.graph_base.Graphs.{task_at}
 use Rattle.stream_eval.specs.stream_lists.Jobs.{Job}
 use Rattle.graph_runs.specs.Moments.{Moment, first_input}
 use Rattle.graph_runs.specs.Nexts.{Next, is_not_live, registers, leaves, samples, signals, waits, exchanges, next_of, of_live, in_step, at_boundary, next_step, first_owed, first_due, is_cut, has_input_ended, waits_first}
-use Rattle.graph_runs.proofs.Boundaries.{or_false}
 use Rattle.stream_job.proofs.Lively.{live_next}
 
 -- a task in a step
@@ -45,7 +45,7 @@ doing job m t next is never =
         ≡ next → Doing job m t next
     last true e none due is = leaving is
     last false e none due is =
-        let both = or_false (is_cut (task_at job.graph t).until (m.begun t))
+        let both = or_parts (is_cut (task_at job.graph t).until (m.begun t))
         (has_input_ended job m t (task_at job.graph t).kind) e in
         stepping record { none = none; due = due; uncut = both.0; more = both.1; is = is }
 

@@ -17,7 +17,7 @@ use Rattle.graph_base.specs.declared.line.Kind.{Kind}
 use Rattle.graph_base.specs.declared.line.Kind.TheVariants.{Source, Fir, Split, Join, Peer, Sink}
 use Rattle.graph_base.specs.declared.line.Parent.{Parent}
 use Rattle.stream_lists.specs.Jobs.{Job, counted, samples_at, start_at}
-use Rattle.stream_lists.specs.Spans.{nowhere, turns_below, puts_on, run_out, first_run_out, enough_for, cut_at, offset_of, values_from, span_at, span_of, spans_up_to, spans_over, end_on, end_of, length_on, lengths_up_to}
+use Rattle.stream_lists.specs.Spans.{nowhere, turns_below, puts_on, run_out, first_run_out, enough_for, offset_of, values_from, span_at, span_of, spans_up_to, spans_over, end_on, end_of, length_on, lengths_up_to}
 use Rattle.stream_lists.specs.declared.span.Span.{Span}
 use Rattle.stream_lists.specs.declared.span.TheConstants.{LENGTH_MAX}
 use Rattle.stream_lists.specs.JobFields.{IsShort, IsStage}
@@ -25,6 +25,7 @@ use Rattle.stream_lists.proofs.AsMany.{length-counted}
 use Rattle.stream_lists.proofs.Distances.{far_one, distinct_front}
 use Rattle.stream_lists.proofs.Growing.{grown-at, length-grown}
 use Rattle.stream_lists.proofs.SpansAbove.{parent-is}
+use Rattle.stream_lists.proofs.Basics.{cut_below}
 
 -- a number of samples is no greater than each may be
 count-few : (counts : List ℕ) (k most : ℕ) → All (λ n. n ≤ most) counts → get_or counts k 0 ≤ most
@@ -181,10 +182,6 @@ first_top : (inputs lengths : List ℕ) (offset n : ℕ) → AreBounded lengths 
 first_top [] lengths offset n are = omega arith
 first_top (p ∷ ps) lengths offset n are = let here = length-top lengths n p are in omega arith
 
-cut-most : (until : Option ℕ) (n : ℕ) → cut_at until n ≤ n
-cut-most None n = omega arith
-cut-most (Some until) n = omega arith
-
 -- the reach of the first t tasks: their offset and their steps together
 abbrev reach : ℕ → ℕ → ℕ
 reach n t = top n + 7 + t * 9007199254740992
@@ -330,7 +327,7 @@ span_reach job lengths n is are (suc limit) t below there =
         let fits = enough_reach task (length (samples_at job t)) offset n t lengths are line.ends
         (distinct_front task.inputs task.outputs line.distinct) few (root offset e)
         (within offset e) in
-        let cut = cut-most task.until enough in omega arith
+        let cut = cut_below task.until enough in omega arith
 
 -- ---- lengths
 

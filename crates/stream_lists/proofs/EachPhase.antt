@@ -323,7 +323,7 @@ find_none test a (suc n) t e low high =
     by false is f (inl more) rec = rec f more
     by false is f (inr here) rec = let same : t ≡ a = omega arith in ap test same ∙ is
 
-any_none : (test : ℕ → Bool) (a n t : ℕ) → list_any test (range_with_len a n) ≡ false → a ≤ t
+pub any_none : (test : ℕ → Bool) (a n t : ℕ) → list_any test (range_with_len a n) ≡ false → a ≤ t
     → t < a + n → test t ≡ false
 any_none test a zero t e low high = absurd (omega arith)
 any_none test a (suc n) t e low high =
@@ -338,7 +338,7 @@ any_none test a (suc n) t e low high =
     by (inl more) is f rec = rec f more
     by (inr here) is f rec = let same : t ≡ a = omega arith in ap test same ∙ is
 
-no_line : (f : ℕ → ℕ) (o : Option ℕ) → option_map f o ≡ None → o ≡ None
+pub no_line : (f : ℕ → ℕ) (o : Option ℕ) → option_map f o ≡ None → o ≡ None
 no_line f None e = refl
 no_line f (Some t) e = absurd (cc)
 

@@ -2,19 +2,19 @@
 use Rattle.std.proofs.Common.{◌≡◌, ◌≢◌, ℕ, zero, suc, ◌+◌, ◌<◌, ◌≤◌, Bool, true, false, List, [], ◌∷◌, ◌++◌, Some, None, ℤ, pos, length, map, get_or, take, drop, refl, sym, ap, subst, ◌∙◌, arith, not, cond, eqb}
 use Rattle.std.specs.Prelude.{Option, nat_le, unsigned_abs}
 use Rattle.std.specs.List.{range_with_len, filter, list_any, position_from}
-use Rattle.std.proofs.lemmas.Bool.{eq-eqb, eqb-true, and_parts, or_left, or_right}
+use Rattle.std.proofs.lemmas.Bool.{eq-eqb, eqb-true, and_parts}
 use Rattle.std.proofs.lemmas.List.{get_or-map}
 use Rattle.std.proofs.lemmas.List.FromFn.{length-map-range_with_len, get_or-map-range_with_len}
 use Rattle.graph_base.specs.phase_accum.declared.outcome.Outcome.TheVariants.{Value, Empty, TooBig}
 use Rattle.graph_base.specs.phase_accum.declared.single.Single.{Single}
 use Rattle.graph_base.specs.phase_accum.Values.{applied, ranged, sum_of, product_of, value_max}
-use Rattle.graph_base.specs.Graphs.{Task, task_at, phaser_at, is_sink}
+use Rattle.graph_base.specs.Graphs.{Task, task_at, phaser_at}
 use Rattle.graph_base.specs.TaskLines.{IsGraph, IsTaskLine, HasEnds}
 use Rattle.graph_base.specs.phase_base.Lists.{is_distinct}
 use Rattle.graph_base.specs.phase_base.declared.operation.Op.{Op}
 use Rattle.graph_base.specs.phase_base.declared.operation.Op.TheVariants.{Sum, Product, Least, Greatest, Any}
 use Rattle.graph_base.specs.declared.line.Kind.{Kind}
-use Rattle.graph_base.specs.declared.line.Kind.TheVariants.{Source, Fir, Split, Join, Peer, Sink}
+use Rattle.graph_base.specs.declared.line.Kind.TheVariants.{Sink}
 use Rattle.stream_lists.specs.Jobs.{Job, samples_at, start_at, index_in}
 use Rattle.stream_lists.specs.Spans.{signalled_by, takes_from, offset_of, span_at, spans_of, lengths_of, span_in, schedule_of}
 use Rattle.stream_lists.specs.Lists.{entry, taken_from, output_on, contribution_at, contribution_by, contributions_on, sends_in, value_by, number, phase_in, list_over, list_of_phaser, numbers_of, is_sink_at, sink_over, lines_of}
@@ -23,12 +23,13 @@ use Rattle.stream_lists.specs.Entries.{Takes, AreInRange}
 use Rattle.stream_lists.specs.Exact.{exact_by, exact_single, exact_in, exact_over, exact_lists, exact_lines}
 use Rattle.stream_lists.specs.declared.span.Span.{Span}
 use Rattle.stream_lists.proofs.Growing.{grown-whole, filter_map-same}
-use Rattle.stream_lists.proofs.Ordered.{looked_above}
+use Rattle.stream_lists.proofs.Ordered.{looked_above, any_front}
 use Rattle.stream_lists.proofs.SpansAbove.{spans_all}
 use Rattle.stream_lists.proofs.ListsAbove.{output_by_taken, same_members, lists_above, numbers_all}
 use Rattle.stream_lists.proofs.ListLengths.{length-numbers}
 use Rattle.stream_lists.proofs.EachPhase.{member_where, length-list}
 use Rattle.stream_lists.proofs.Fitting.{in_range}
+use Rattle.stream_lists.proofs.Basics.{sink_kind}
 
 -- ---- one phase
 
@@ -93,13 +94,6 @@ same_part (suc o) c (x ∷ xs) (y ∷ ys) long same =
     (λ n low high few. same (suc n) (omega arith) (omega arith) (omega arith))
 
 -- ---- the place of an input
-
-any_front : (test : ℕ → Bool) (xs ys : List ℕ) (k : ℕ) → k < length xs
-    → test (get_or xs k 0) ≡ true → list_any test (xs ++ ys) ≡ true
-any_front test [] ys k lt e = absurd (omega arith)
-any_front test (x ∷ xs) ys zero lt e = or_left (test x) (list_any test (xs ++ ys)) e
-any_front test (x ∷ xs) ys (suc k) lt e =
-    or_right (test x) (list_any test (xs ++ ys)) (any_front test xs ys k (omega arith) e)
 
 place_of : (n : ℕ) (xs ys : List ℕ) (k : ℕ) → k < length xs → is_distinct (xs ++ ys) ≡ true
     → position_from (λ q. eqb q (get_or xs k 0)) n xs ≡ Some (n + k)
@@ -309,14 +303,6 @@ same_picked f g test a (suc n) same =
     by true e rest =
         rw e (ap (λ h. h ∷ map f (filter test (range_with_len (a + 1) n))) (same a (omega arith) e)
         ∙ ap (λ l. g a ∷ l) rest)
-
-sink_kind : (kind : Kind) → is_sink kind ≡ true → kind ≡ Sink
-sink_kind Sink e = refl
-sink_kind Source e = absurd (cc)
-sink_kind Fir e = absurd (cc)
-sink_kind Split e = absurd (cc)
-sink_kind Join e = absurd (cc)
-sink_kind Peer e = absurd (cc)
 
 -- a task that is not live makes no step
 no_step : (job : Job) (t : ℕ) → IsGraph job.graph → t < length job.graph.tasks

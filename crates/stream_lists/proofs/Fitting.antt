@@ -21,7 +21,7 @@ use Rattle.stream_lists.specs.Entries.{output_values, sends_at, Takes, Makes, Ar
 use Rattle.stream_lists.proofs.Growing.{AreSameBelow, grown-same}
 use Rattle.stream_lists.proofs.InRange.{IsSend-in_range}
 use Rattle.stream_lists.proofs.Ordered.{looked_above, place-at}
-use Rattle.stream_lists.proofs.ListsAbove.{same_members, same_output}
+use Rattle.stream_lists.proofs.ListsAbove.{same_output, members_above}
 use Rattle.stream_lists.proofs.EachPhase.{find_none, length-list}
 
 -- ---- where none of a list is there
@@ -107,17 +107,17 @@ any-at test a (suc n) t low high e =
 
 -- ---- numbers in range
 
-send-fits : (v : ℤ) → IsSend v → is_out_of_range v ≡ false
+pub send-fits : (v : ℤ) → IsSend v → is_out_of_range v ≡ false
 send-fits v is =
     let small : unsigned_abs v ≤ value_max = is.small in
     let test : nat_le (unsigned_abs v) value_max ≡ true = grind (arith, nat_tests, small) in
     rw test refl
 
-none_out : (n : ℕ) (xs : List ℤ) → AreSends xs → position_from is_out_of_range n xs ≡ None
+pub none_out : (n : ℕ) (xs : List ℤ) → AreSends xs → position_from is_out_of_range n xs ≡ None
 none_out n [] all = refl
 none_out n (x ∷ xs) all = rw (send-fits x all.0) (none_out (n + 1) xs all.1)
 
-all_sends : (n : ℕ) (xs : List ℤ) → position_from is_out_of_range n xs ≡ None → AreSends xs
+pub all_sends : (n : ℕ) (xs : List ℤ) → position_from is_out_of_range n xs ≡ None → AreSends xs
 all_sends n [] e = tt
 all_sends n (x ∷ xs) e = by (is_out_of_range x) refl e (λ f. all_sends (n + 1) xs f)
   where
@@ -135,13 +135,6 @@ above_same : (job : Job) (p : ℕ) → p < length job.graph.phasers
 above_same job p below =
     grown-same (λ above q. map number (list_over job (schedule_of job) above q)) [] p
     (length job.graph.phasers) (omega arith)
-
-members_same : (job : Job) (p : ℕ) → IsGraph job.graph → p < length job.graph.phasers
-    → contributions_on job (schedule_of job) (numbers_above job p) p
-    ≡ contributions_on job (schedule_of job) (numbers_of job) p
-members_same job p is below =
-    same_members job (schedule_of job) p (numbers_above job p) (numbers_of job) is
-    (above_same job p below)
 
 outputs_same : (job : Job) (p t j : ℕ) → IsGraph job.graph → p < length job.graph.phasers
     → t < length job.graph.tasks → index_in (signalled_by (task_at job.graph t)) p ≡ Some j
@@ -300,7 +293,7 @@ fits_phases job p n t is fits below lt takes e =
     (contributions_on job (schedule_of job) above p) p) 0 (get_or (lengths_of job) p 0) n none
     (omega arith) (omega arith) in
     let big : is_too_big (value (sends_in (contributions_on job (schedule_of job) above p) n)) ≡ true =
-    ap (λ ms. is_too_big (value (sends_in ms n))) (members_same job p is below)
+    ap (λ ms. is_too_big (value (sends_in ms n))) (members_above job p is below)
     ∙ ap is_too_big e in
     let taken : is_taken job (schedule_of job) p n ≡ true =
     any-at (task_takes job (schedule_of job) p n) 0 (length job.graph.tasks) t (omega arith)
@@ -361,7 +354,7 @@ fits_from job is all =
     phase p below =
         map-none (λ n. (place.Phaser p, n)) _
         (ap (λ ms. first_fault (value_by (phaser_at job.graph p).op) job (schedule_of job) ms p
-        (get_or (lengths_of job) p 0)) (members_same job p is below)
+        (get_or (lengths_of job) p 0)) (members_above job p is below)
         ∙ find-none (is_fault (value_by (phaser_at job.graph p).op) job (schedule_of job)
         (contributions_on job (schedule_of job) (numbers_of job) p) p) 0 (get_or (lengths_of job) p 0)
         (λ n lt. (let long : length (list_of_phaser job p) ≡ get_or (lengths_of job) p 0 =

@@ -1,3 +1,4 @@
+pub mod Basics
 pub mod Bounds
 pub mod AsMany
 pub mod Distances

@@ -8,19 +8,16 @@ use Rattle.graph_base.specs.TaskLines.{IsGraph, IsTaskLine, HasEnds}
 use Rattle.graph_base.specs.declared.line.Kind.{Kind}
 use Rattle.graph_base.specs.declared.line.Kind.TheVariants.{Source, Fir, Split, Join, Peer, Sink}
 use Rattle.stream_lists.specs.Jobs.{Job, samples_at, start_at, index_in}
-use Rattle.stream_lists.specs.Spans.{signalled_by, LooksAt, puts_on, takes_from, turns_below, offset_of, cut_at, span_at, spans_of, lengths_of, span_in, enough_for, values_from, greatest, end_on, end_of, schedule_of}
+use Rattle.stream_lists.specs.Spans.{signalled_by, LooksAt, puts_on, takes_from, turns_below, offset_of, span_at, spans_of, lengths_of, span_in, enough_for, values_from, greatest, end_on, end_of, schedule_of}
 use Rattle.stream_lists.specs.Lists.{turn_at, mixed, mixed_at, taken_by, output_list, output_on, contribution_at, contribution_by, list_over, number, numbers_of, end_of_contribution, ends_on}
 use Rattle.stream_lists.proofs.Growing.{map-same}
 use Rattle.stream_lists.proofs.Ordered.{place-at}
 use Rattle.stream_lists.proofs.SpansAbove.{spans_all}
 use Rattle.stream_lists.proofs.ListsAbove.{first_taken, numbers_all}
 use Rattle.stream_lists.proofs.LengthsAbove.{first_value, lengths_all}
+use Rattle.stream_lists.proofs.Basics.{cut_below}
 
 -- ---- steps
-
-cut_below : (until : Option ℕ) (n : ℕ) → cut_at until n ≤ n
-cut_below None n = omega arith
-cut_below (Some until) n = omega arith
 
 -- the steps of a task have enough
 pub steps_within : (job : Job) (t : ℕ) → IsGraph job.graph → t < length job.graph.tasks
@@ -172,7 +169,7 @@ steps_long samples taken task steps j ends lt enough each =
     (λ one. each 0 (has_input task.kind _ _ ends one) (looks_first task.kind)
     ∙ one_each task steps 0 one)
 
-source_enough : (task : Task) (samples : ℕ) (values : List ℕ) → task.kind ≡ Source
+pub source_enough : (task : Task) (samples : ℕ) (values : List ℕ) → task.kind ≡ Source
     → enough_for task samples values ≡ samples
 source_enough task samples values e = rw e refl
 

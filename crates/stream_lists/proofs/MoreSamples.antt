@@ -4,7 +4,7 @@ use Rattle.std.proofs.Common.{◌≡◌, ℕ, ℤ, zero, suc, ◌+◌, ◌-◌, 
 use Rattle.std.specs.Prelude.{min, max, nat_le, nat_lt, if◌then◌else◌}
 use Rattle.std.specs.List.{range_with_len, fold, list_any, find}
 use Rattle.std.specs.Option.{option_map}
-use Rattle.std.proofs.lemmas.Bool.{and_parts}
+use Rattle.std.proofs.lemmas.Bool.{and_parts, or_parts}
 use Rattle.std.proofs.lemmas.Bool.Decides.{nat_tests}
 use Rattle.std.proofs.lemmas.Nat.{div-add-mod', mul-le, le-div}
 use Rattle.graph_base.specs.Graphs.{Task, task_at, phaser_at}
@@ -14,12 +14,13 @@ use Rattle.graph_base.specs.declared.line.Kind.TheVariants.{Source, Fir, Split, 
 use Rattle.graph_base.specs.declared.line.Parent.{Parent}
 use Rattle.stream_lists.specs.Jobs.{Job, samples_at, samples_in, start_at, index_in, with_samples}
 use Rattle.stream_lists.specs.declared.span.Span.{Span}
-use Rattle.stream_lists.specs.Spans.{nowhere, turns_below, puts_on, run_out, first_run_out, enough_for, cut_at, offset_of, values_from, span_at, span_of, spans_over, spans_of, lengths_of, lengths_up_to, end_on, end_of, length_on, signalled_by}
+use Rattle.stream_lists.specs.Spans.{nowhere, turns_below, puts_on, run_out, first_run_out, enough_for, offset_of, values_from, span_at, span_of, spans_over, spans_of, lengths_of, lengths_up_to, end_on, end_of, length_on, signalled_by}
 use Rattle.stream_lists.specs.Meetings.{is_any, meet_on, meets_on, meets_above, meeting_line}
-use Rattle.stream_lists.proofs.EachPhase.{overlap_parts}
+use Rattle.stream_lists.proofs.EachPhase.{overlap_parts, no_line}
 use Rattle.stream_lists.proofs.Growing.{length-grown, grown}
 use Rattle.stream_lists.proofs.Firsts.{fold-range_more}
 use Rattle.stream_lists.proofs.SpansAbove.{parent-is, spans_are}
+use Rattle.stream_lists.proofs.Basics.{cut_less}
 
 -- ---- numbers
 
@@ -61,10 +62,6 @@ div_less : (m a b : ℕ) → 0 < m → a ≤ b → a / m ≤ b / m
 div_less m a b some le =
     let whole = div-add-mod' a m in
     le-div (a / m) b m some (omega arith)
-
-cut_less : (until : Option ℕ) (n k : ℕ) → n ≤ k → cut_at until n ≤ cut_at until k
-cut_less None n k less = less
-cut_less (Some u) n k less = omega arith
 
 -- ---- spans
 
@@ -349,10 +346,6 @@ or_left : (a b : Bool) → (a || b) ≡ false → a ≡ false
 or_left false b e = refl
 or_left true b e = e
 
-or_right : (a b : Bool) → (a || b) ≡ false → b ≡ false
-or_right false b e = e
-or_right true b e = absurd (cc)
-
 any_fewer : (f g : ℕ → Bool) (from many : ℕ)
     → ((t : ℕ) → t < from + many → g t ≡ false → f t ≡ false)
     → list_any g (range_with_len from many) ≡ false → list_any f (range_with_len from many) ≡ false
@@ -362,7 +355,7 @@ any_fewer f g from (suc many) fewer none =
     ap (λ x. x || list_any f rest)
     (fewer from (omega arith) (or_left (g from) (list_any g rest) none))
     ∙ any_fewer f g (from + 1) many (λ t lt. fewer t (omega arith))
-    (or_right (g from) (list_any g rest) none)
+    (or_parts (g from) (list_any g rest) none).1
 
 and_fewer : (a b c : Bool) → (c ≡ false → b ≡ false) → (a && c) ≡ false → (a && b) ≡ false
 and_fewer false b c fewer none = refl
@@ -389,10 +382,6 @@ find_fewer f g from (suc many) fewer none =
         ∙ rest (sym (ap (λ x. cond x (Some from) (find g (range_with_len (from + 1) many))) e)
         ∙ none)
 
-map_none : (f : ℕ → ℕ) (o : Option ℕ) → option_map f o ≡ None → o ≡ None
-map_none f None e = refl
-map_none f (Some n) e = absurd (cc)
-
 -- who meets nobody with the longest samples meets nobody with fewer
 pub meetings_fewer : (job : Job) (more : List (List ℤ)) → IsGraph job.graph → HasNoFewer job more
     → meeting_line (with_samples more job) ≡ None → meeting_line job ≡ None
@@ -402,7 +391,7 @@ meetings_fewer job more is few none =
     let old = spans_of job in
     let new = spans_of (with_samples more job) in
     let nobody : find (meets_above job.graph new) (range_with_len 0 tasks) ≡ None =
-    map_none line (find (meets_above job.graph new) (range_with_len 0 tasks)) none in
+    no_line line (find (meets_above job.graph new) (range_with_len 0 tasks)) none in
     ap (option_map line)
     (find_fewer (meets_above job.graph old) (meets_above job.graph new) 0 tasks
     (λ t lt. any_fewer (meets_on job.graph old t) (meets_on job.graph new t) 0

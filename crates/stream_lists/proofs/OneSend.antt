@@ -4,7 +4,7 @@ use Rattle.std.specs.Prelude.{Option, nat_lt, if◌then◌else◌, slice_get}
 use Rattle.std.specs.List.{range_with_len, filter_map, cons_option}
 use Rattle.std.proofs.lemmas.Bool.{cases_lt, cases_eq}
 use Rattle.std.proofs.lemmas.Bool.Decides.{nat_tests}
-use Rattle.std.proofs.lemmas.Option.{slice_get-get_or}
+use Rattle.std.proofs.lemmas.Option.{slice_get-get_or, slice_get_within}
 use Rattle.graph_base.specs.Graphs.{task_at, phaser_at}
 use Rattle.graph_base.specs.TaskLines.{IsGraph}
 use Rattle.graph_base.specs.phase_base.declared.operation.Op.TheVariants.{Any}
@@ -68,11 +68,6 @@ one_alone h a (suc m) t v low high here others =
 
 -- ---- what a task sends
 
-some_below : (xs : List ℤ) (k : ℕ) (v : ℤ) → slice_get xs k ≡ Some v → k < length xs
-some_below [] k v e = absurd (cc)
-some_below (x ∷ xs) zero v e = omega arith
-some_below (x ∷ xs) (suc k) v e = let below = some_below xs k v e in omega arith
-
 -- a member sends in a phase from its first to its last
 send_within : (n offset : ℕ) (list : List ℤ) (v : ℤ) → send_in n (offset, list) ≡ Some v
     → (offset ≤ n) × (n < offset + length list)
@@ -88,7 +83,7 @@ send_within n offset list v e = by (cases_lt n offset)
         let test : nat_lt n offset ≡ false = grind (arith, nat_tests, later) in
         let some : slice_get list (n - offset) ≡ Some v =
         ap (λ b. if b then None else slice_get list (n - offset)) (sym test) ∙ e in
-        let below = some_below list (n - offset) v some in
+        let below = slice_get_within list (n - offset) v some in
         (later, omega arith)
 
 send_there : (n offset : ℕ) (list : List ℤ) → offset ≤ n → n < offset + length list

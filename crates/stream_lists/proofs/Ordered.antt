@@ -62,7 +62,7 @@ has-place n (q ∷ qs) (suc k) lt =
 -- ---- the place of an input
 
 -- a number that stands among the first of two lists stands in both together
-any_front : (test : ℕ → Bool) (xs ys : List ℕ) (k : ℕ) → k < length xs
+pub any_front : (test : ℕ → Bool) (xs ys : List ℕ) (k : ℕ) → k < length xs
     → test (get_or xs k 0) ≡ true → list_any test (xs ++ ys) ≡ true
 any_front test [] ys k lt e = absurd (omega arith)
 any_front test (x ∷ xs) ys zero lt e = ap (λ b. b || list_any test (xs ++ ys)) e

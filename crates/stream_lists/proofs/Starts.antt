@@ -10,11 +10,12 @@ use Rattle.graph_base.specs.declared.line.Parent.{Parent}
 use Rattle.stream_lists.specs.declared.span.Span.{Span}
 use Rattle.graph_base.specs.declared.line.Kind.TheVariants.{Sink}
 use Rattle.stream_lists.specs.Jobs.{Job, samples_at, start_at, index_in, with_starts, least}
-use Rattle.stream_lists.specs.Spans.{nowhere, offset_of, span_at, span_in, spans_over, spans_of, lengths_of, end_of, end_on, length_on, greatest, signalled_by, cut_at, enough_for, values_from}
+use Rattle.stream_lists.specs.Spans.{nowhere, offset_of, span_at, span_in, spans_over, spans_of, lengths_of, end_of, end_on, length_on, greatest, signalled_by, enough_for, values_from}
 use Rattle.stream_lists.specs.Meetings.{overlap, meet_on, meets_on, meets_above, meeting_line, is_any}
 use Rattle.stream_lists.proofs.Growing.{map-same}
 use Rattle.stream_lists.proofs.SpansAbove.{parent-is, same_offset, spans_are, spans_all}
 use Rattle.stream_lists.proofs.EachPhase.{signaller_stays, overlap_parts}
+use Rattle.stream_lists.proofs.Basics.{cut_less}
 
 -- ---- tasks that do not join now
 
@@ -200,10 +201,6 @@ meetings_stay job starts is =
     (λ u below. meet_stays job starts t p u is (omega arith) (omega arith))))))
 
 -- ---- steps
-
-cut_less : (until : Option ℕ) (n k : ℕ) → n ≤ k → cut_at until n ≤ cut_at until k
-cut_less None n k less = less
-cut_less (Some u) n k less = omega arith
 
 first_less : (lengths ps : List ℕ) (a b : ℕ) → b ≤ a
     → get_or (map (λ p. get_or lengths p 0 - a) ps) 0 0

@@ -42,7 +42,8 @@ use Rattle.stream_tasks.proofs.Dealing.{deal_begins, share_goes_on, share_is_nex
 use Rattle.stream_tasks.proofs.Holding.{sees_own, on_after}
 use Rattle.stream_tasks.proofs.Shares.{length-every, turns_few}
 use Rattle.stream_tasks.proofs.Turning.{as_it_is, FitPlaces, StayPlaces, state_moves, whole_moves, goes, held}
-use Rattle.stream_tasks.proofs.Waiting.{answered_on, makes_fewer, owes_none}
+use Rattle.stream_tasks.proofs.Waiting.{answered_on, makes_fewer}
+use Rattle.stream_tasks.proofs.Keeping.{owed_none}
 
 -- no list with places is empty
 some_in : {X : Type 0} (xs : List X) → 1 ≤ length xs → xs ≡ [] → ⊥
@@ -74,7 +75,7 @@ state_deals job spots m s p begun allowed os old new entered outcomes deal whole
     let now = Waited n (length os) ∷ w.before in
     let after = after_waits t 0 p n os (m.begun t + length os) (with_history p w.before m) in
     let left : length s.lefts.items ≡ 0 = whole.staying step.over in
-    let owed_is = owes_none s step.owed in
+    let owed_is = owed_none s step.owed in
     let stands = at.place step.owed.2 in
     let sees = sees_own job spots m t p (wait_event (length os)) old new w.before on w.made in
     let answer = answered_on job spots m t p os old new on w in

@@ -1,8 +1,7 @@
 -- A wait of a splitter that begins several steps leaves the task's part as the wait of one does.
-use Rattle.std.proofs.Common.{◌≡◌, ◌≢◌, ℕ, ◌+◌, ◌<◌, ◌≤◌, ◌⊎◌, inl, inr, ℤ, true, false, List, [], ◌∷◌, ◌++◌, Some, None, length, get_or, map, refl, sym, ap, subst, ◌∙◌, arith}
+use Rattle.std.proofs.Common.{◌≡◌, ◌≢◌, ℕ, ◌+◌, ◌<◌, ◌≤◌, ◌⊎◌, inl, inr, true, false, List, [], ◌∷◌, ◌++◌, Some, None, length, map, refl, sym, ap, subst, ◌∙◌, arith}
 use mathlib.Core.List.{IsPrefix}
 use Rattle.std.proofs.lemmas.List.{length-append, length-map, map-append}
-use Rattle.std.proofs.lemmas.List.FromFn.{length-map-range_with_len}
 use Rattle.std.proofs.lemmas.Option.{same_Some}
 use Rattle.graph_runs.specs.phase_accum.declared.outcome.Outcome.{Outcome}
 use Rattle.graph_runs.specs.phase_history.declared.event.Event.{Event}
@@ -15,19 +14,17 @@ use Rattle.graph_runs.specs.graph_base.TaskLines.{IsGraph, IsTaskLine}
 use Rattle.graph_runs.specs.graph_base.Graphs.{task_at}
 use Rattle.graph_runs.specs.graph_base.declared.line.Kind.TheVariants.{Split}
 use Rattle.graph_runs.specs.graph_base.declared.line.Parent.{Parent}
-use Rattle.stream_eval.specs.stream_lists.Jobs.{Job, samples_at}
+use Rattle.stream_eval.specs.stream_lists.Jobs.{Job}
 use Rattle.stream_eval.specs.stream_lists.Lists.{number}
-use Rattle.stream_eval.specs.stream_lists.Spans.{signalled_by, takes_from}
-use Rattle.graph_runs.specs.Moments.{AtMost, HasEnded, HasExchanged, HasNotPassed, HasTaken, Moment, OnLine, TaskRan, input_at, limits_at, made_now, one, taken_now, value_at}
+use Rattle.stream_eval.specs.stream_lists.Spans.{takes_from}
+use Rattle.graph_runs.specs.Moments.{AtMost, HasEnded, HasNotPassed, HasTaken, Moment, OnLine, TaskRan, input_at, limits_at, one, value_at}
 use Rattle.graph_runs.specs.Moves.{HasMoved, IsStaying, MayBeginTo}
 use Rattle.graph_runs.specs.Turned.{after_waits, with_at}
 use Rattle.graph_runs.specs.Parts.{HasGot, HasPart, HasSeen, IsAnsweredBy, SeesOthers, SeesOwn}
 use Rattle.graph_runs.proofs.Entries.{IsPrefix-refl}
 use Rattle.graph_runs.proofs.Following.{GetsAll}
-use Rattle.graph_runs.proofs.OutputLists.{outputs_begin}
-use Rattle.graph_runs.proofs.OwnEvents.{eq_case, history_by, inputs_later, joined_later, outputs_later}
+use Rattle.graph_runs.proofs.OwnEvents.{eq_case, history_by, inputs_later, joined_later, outputs_later, made_more}
 use Rattle.graph_runs.proofs.PartsLemmas.{later_staying, other_at, same_at, seen, with_history}
-use Rattle.graph_runs.proofs.Tasks.{exchanged_as, now_at, now_counts}
 use Rattle.graph_runs.proofs.Turned.{at_other, at_same}
 
 -- task t, a splitter and number n on phaser p, its input, has waited and was answered these outcomes,
@@ -44,31 +41,6 @@ pub record SplitWaits (job : Job) (before after : Moment) (t p n : ℕ) (outcome
   pub gets : GetsAll before after t 0 (map number outcomes)
   pub begun : after.begun t ≡ before.begun t + length outcomes
   pub may : MayBeginTo job before t (before.begun t + length outcomes)
-
--- what was made before begins what is made after
-pub made_more : (job : Job) (before after : Moment) (t j : ℕ) (put : List ℤ)
-    → IsTaskLine job.graph t (task_at job.graph t) → TaskRan job before t
-    → j < length (signalled_by (task_at job.graph t)) → before.begun t ≤ after.begun t
-    → ((k : ℕ) → k < length (task_at job.graph t).inputs
-    → IsPrefix (before.taken t k) (after.taken t k))
-    → HasExchanged (task_at job.graph t).kind j (length put) (length (before.taken t 1))
-    → IsPrefix put (made_now job before t j) → IsPrefix put (made_now job after t j)
-made_more job before after t j put line ran lt le grows exchanged begins =
-    let task = task_at job.graph t in
-    let now = taken_now before task t in
-    let all = taken_now after task t in
-    outputs_begin (samples_at job t) task now all (before.begun t) (after.begun t) j put line.ends
-    lt le
-    (length-map-range_with_len (before.taken t) 0 (length task.inputs))
-    (length-map-range_with_len (after.taken t) 0 (length task.inputs))
-    (λ k below looks. (rw (now_at before task t k below)
-    (rw (now_at after task t k below) (grows k below))))
-    (λ k below looks. now_counts job before t line ran k below looks)
-    (exchanged_as task.kind j (length put) (length (before.taken t 1)) (length (get_or now 1 []))
-    (λ e. (let both : (length task.inputs ≡ 2) × (length task.outputs ≡ 1) = rw e at line.ends in
-    ap length (sym (now_at before task t 1 (omega (arith, both.0))))))
-    exchanged)
-    begins
 
 pub split_ran : (job : Job) (before after : Moment) (t p n : ℕ) (outcomes : List Outcome)
     → IsGraph job.graph → t < length job.graph.tasks

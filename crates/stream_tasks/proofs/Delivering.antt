@@ -1,6 +1,7 @@
 -- A child that is delivered stands at its parent's moment, and its parent goes on from there.
-use Rattle.std.proofs.Common.{◌≡◌, ℕ, ◌<◌, ◌≤◌, true, List, [], ◌∷◌, ◌++◌, length, refl, sym, ap, subst, ◌∙◌, arith}
+use Rattle.std.proofs.Common.{◌≡◌, ℕ, ◌<◌, ◌≤◌, true, [], ◌++◌, length, refl, sym, ap, subst, ◌∙◌, arith}
 use Rattle.std.proofs.lemmas.Option.{same_Some}
+use Rattle.std.proofs.lemmas.List.{nil_from_length}
 use Rattle.stream_eval.specs.stream_lists.Jobs.{Job}
 use Rattle.stream_members.specs.Members.{Spot}
 use Rattle.graph_runs.specs.graph_base.Graphs.{task_at}
@@ -16,11 +17,6 @@ use Rattle.stream_tasks.specs.declared.task_state.TaskState.{TaskState}
 use Rattle.stream_tasks.proofs.ChildHolds.{child_goes_alone}
 use Rattle.stream_tasks.proofs.Keeping.{places_stay}
 use Rattle.stream_tasks.proofs.Seeding.{knows_children}
-
--- a list without an entry
-none_in : {X : Type 0} (xs : List X) → length xs ≡ 0 → xs ≡ []
-none_in [] e = refl
-none_in (x ∷ xs) e = absurd (omega arith)
 
 -- with another list for what the next child holds, a task is one of its run still
 pub goes_on : (job : Job) (spots : ℕ → Spot) (i : ℕ) (seed old new child : TaskState)
@@ -99,7 +95,7 @@ module _ (job : Job) (spots : ℕ → Spot) (i : ℕ) (seed old new child : Task
   numbers_are : child.numbers.items ≡ kid.numbers.items
   numbers_are =
       let none : length seed.numbers.items ≡ 0 = ready.received.long ∙ ready.many in
-      has.numbers ∙ ap (λ ns. ns ++ has.kid.numbers.items) (none_in seed.numbers.items none)
+      has.numbers ∙ ap (λ ns. ns ++ has.kid.numbers.items) (nil_from_length seed.numbers.items none)
       ∙ ap (λ (x : Child). x.numbers.items) (same_Some has.kid kid (sym has.found ∙ registering.found))
 
   abbrev made : TaskState

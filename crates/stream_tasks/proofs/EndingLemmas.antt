@@ -3,7 +3,7 @@ use Rattle.std.proofs.Common.{◌≡◌, ◌≢◌, ℕ, zero, suc, ◌+◌, ◌
 use Rattle.std.specs.Global.{Global}
 use Rattle.std.specs.Vec.{with_item}
 use Rattle.std.specs.Prelude.{slice_get, is_some, Option, Bool, Vec, ◌==◌, ◌&&◌}
-use Rattle.std.proofs.lemmas.Bool.{cases_lt, eqb-true}
+use Rattle.std.proofs.lemmas.Bool.{cases_lt, eqb-true, and_parts}
 use Rattle.std.proofs.lemmas.List.{length-set, get_or-set_other, length-append}
 use Rattle.std.proofs.lemmas.Option.{slice_get_within, slice_get-get_or, same_Some}
 use Rattle.graph_runs.specs.phase_history.declared.event.Event.TheVariants.{Dropped}
@@ -65,10 +65,6 @@ earlier (x ∷ ls) left l (suc i) less e = earlier ls left l i (omega arith) e
 
 -- ---- children
 
-both_left : (a b : Bool) → (a && b) ≡ true → a ≡ true
-both_left true b e = refl
-both_left false b e = absurd (let no : false ≡ true = e in cc)
-
 both_right : (a b : Bool) → (a && b) ≡ true → b ≡ true
 both_right true b e = e
 both_right false b e = absurd (let no : false ≡ true = e in cc)
@@ -77,7 +73,7 @@ both_right false b e = absurd (let no : false ≡ true = e in cc)
 pub came : (t steps : ℕ) (parent : Option Parent) → comes_by t steps parent ≡ true
     → (u : Parent) × (parent ≡ Some u) × (u.task ≡ t) × (u.at ≡ steps)
 came t steps None e = absurd (let no : false ≡ true = e in cc)
-came t steps (Some u) e = (u, refl, eqb-true u.task t (both_left (u.task == t) (u.at == steps) e), eqb-true u.at steps (both_right (u.task == t) (u.at == steps) e))
+came t steps (Some u) e = (u, refl, eqb-true u.task t (and_parts (u.task == t) (u.at == steps) e).0, eqb-true u.at steps (both_right (u.task == t) (u.at == steps) e))
 
 -- where each has as many numbers as registrations, all are there
 pub all_now : (job : Job) (s : TaskState) → IsWhole job s → HasAllNow job s → HasChildrenNow job s

@@ -1,10 +1,9 @@
 -- Where a joiner stands that has taken values and has not put them.
-use Rattle.std.proofs.Common.{◌≡◌, ◌≢◌, ℕ, suc, ◌+◌, ◌-◌, ◌*◌, ◌/◌, ◌%◌, ◌<◌, ◌≤◌, ◌⊎◌, inl, inr, ℤ, pos, true, false, cond, List, [], ◌∷◌, ◌++◌, Option, Some, None, length, map, get_or, drop, refl, sym, ap, subst, ◌∙◌, arith}
+use Rattle.std.proofs.Common.{◌≡◌, ◌≢◌, ℕ, suc, ◌+◌, ◌/◌, ◌%◌, ◌<◌, ◌≤◌, ◌⊎◌, inl, inr, ℤ, pos, true, false, cond, List, [], ◌∷◌, ◌++◌, Option, Some, None, length, map, get_or, drop, refl, sym, ap, subst, ◌∙◌, arith}
 use Rattle.std.specs.Prelude.{Ok, Result}
 use Rattle.std.specs.List.{range_with_len}
-use Rattle.std.proofs.lemmas.List.{drop-append-le, get_or-append_right, length-append, length-drop, length-map, map-append}
+use Rattle.std.proofs.lemmas.List.{drop-append-le, length-append, length-drop, length-map, map-append}
 use Rattle.std.proofs.lemmas.List.FromFn.{get_or-map-range_with_len, length-range_with_len}
-use Rattle.std.proofs.lemmas.Nat.{mod_below, div-add-mod', div-mul-add}
 use mathlib.Core.List.{IsPrefix}
 use Rattle.stream_eval.specs.stream_filters.Range.{ranged}
 use Rattle.stream_eval.specs.stream_filters.declared.fault.TooBigValue.{TooBigValue}
@@ -22,26 +21,24 @@ use Rattle.stream_eval.specs.stream_lists.Ranges.{is_out_of_range}
 use Rattle.stream_eval.specs.stream_lists.Spans.{puts_on, takes_from, turns_below}
 use Rattle.graph_runs.specs.Answers.{output_at, values_up_to}
 use Rattle.graph_runs.specs.Moments.{AtMost, Moment, first_input, input_at, made_now, taken_now}
-use Rattle.graph_runs.specs.Moves.{IsStaying}
 use Rattle.graph_runs.specs.Nexts.{exchanges, is_cut, signals, waits_first}
 use Rattle.graph_runs.specs.Parts.{AreNextValues, BeginsSteps, HasGot, HasPart, HasPut}
 use Rattle.graph_runs.specs.Places.{IsMost, after_steps, owing}
-use Rattle.graph_runs.specs.TaskPlaces.{Owed, OwesUpTo, StandsUpTo, TaskPlace, lacking, nothing, owed_after_signal, values}
+use Rattle.graph_runs.specs.TaskPlaces.{OwesUpTo, StandsUpTo, TaskPlace, lacking, nothing, owed_after_signal, values}
 use Rattle.graph_runs.specs.declared.owed.Owed.TheVariants.{Nothing}
 use Rattle.graph_runs.proofs.Boundaries.{made_many}
 use Rattle.graph_runs.proofs.Entries.{IsPrefix-refl}
-use Rattle.graph_runs.proofs.FirstWaits.{in_range_is}
-use Rattle.graph_runs.proofs.Following.{KeepsPlaces, Lacks, stays_at}
-use Rattle.graph_runs.proofs.FollowsPlace.{put_follows}
+use Rattle.graph_runs.proofs.FirstWaits.{in_range_is, turn_count, behind}
+use Rattle.graph_runs.proofs.Following.{Lacks, stays_at}
+use Rattle.graph_runs.proofs.FollowsPlace.{put_follows, keeps_staying, lacks_as}
 use Rattle.graph_runs.proofs.Lacking.{first_is, first_none, lacks_here, next_all}
-use Rattle.graph_runs.proofs.OwnEvents.{eq_case, made_still}
+use Rattle.graph_runs.proofs.OwnEvents.{eq_case, made_still, made_more}
 use Rattle.graph_runs.proofs.PlacesLemmas.{place_of_output}
 use Rattle.graph_runs.proofs.Ranged.{taken_ranged}
 use Rattle.graph_runs.proofs.Signalling.{begins_some, owed}
 use Rattle.graph_runs.proofs.Tasks.{first_looks, now_at}
 use Rattle.graph_runs.proofs.TellsNext.{next_values_are, owes_as, ranged_values, staying_at}
 use Rattle.stream_tasks.specs.Tasks.{owed_by}
-use Rattle.stream_tasks.proofs.DealWaits.{made_more}
 
 -- ---- a joiner
 
@@ -78,21 +75,6 @@ oks-append [] x = refl
 oks-append (v ∷ vs) x = ap (λ l. Ok v ∷ l) (oks-append vs x)
 
 -- ---- its signals
-
--- the outputs lack what is owed
-lacks_as : {most : ℕ} (job : Job) (m : Moment) (t : ℕ) (at : TaskPlace) (o : Owed)
-    → StandsUpTo most job m t at → at.owed ≡ o → Lacks job m t o
-lacks_as job m t at o stands is =
-    rw is at stands.lacks
-
--- a task that stays on all its phasers keeps its registrations
-keeps_staying : (m after : Moment) (t : ℕ)
-    → ((q u : ℕ) → after.number q u ≡ m.number q u) → IsStaying m t → IsStaying after t
-    → KeepsPlaces m after t
-keeps_staying m after t numbers before now = record {
-  number = λ q. numbers q t;
-  left = λ q n at. now q n (numbers q t ∙ at) ∙ sym (before q n at);
-}
 
 join_next : (job : Job) (m : Moment) (t j most : ℕ) (vs : List ℤ) (at : TaskPlace)
     → IsGraph job.graph → t < length job.graph.tasks → HasPart job m t
@@ -268,22 +250,6 @@ owed_more : (vs : List ℤ) (x : ℤ)
     → owed_by Nothing (vs ++ x ∷ []) ≡ values 0 (oks (vs ++ x ∷ []))
 owed_more [] x = refl
 owed_more (v ∷ vs) x = refl
-
--- what stands behind a list
-behind : (xs : List ℤ) (x : ℤ) (i : ℕ) → i ≡ length xs → get_or (xs ++ x ∷ []) i (pos 0) ≡ x
-behind xs x i same =
-    let le : length xs ≤ i = omega arith in
-    let off : i - length xs ≡ 0 = omega arith in
-    get_or-append_right xs (x ∷ []) (length xs) i (pos 0) refl le
-    ∙ ap (λ k. get_or (x ∷ []) k (pos 0)) off
-
--- of its turns below a step, at the step that is its turn
-turn_count : (m b : ℕ) → 0 < m → turns_below m (b % m) b ≡ b / m
-turn_count m b some =
-    let split : b / m * m + b % m ≡ b = div-add-mod' b m in
-    let rest : b % m < m = mod_below b m some in
-    let is : b + (m - 1 - b % m) ≡ b / m * m + (m - 1) = omega arith in
-    ap (λ x. x / m) is ∙ div-mul-add (b / m) m (m - 1) (omega arith)
 
 -- a list with the same beginning and one more ends with that one
 one_more : (xs ys : List ℤ) (x : ℤ) → IsPrefix xs ys → length ys ≡ length xs + 1

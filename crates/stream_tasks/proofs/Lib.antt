@@ -1,6 +1,6 @@
 mod Holding
 mod Taking
-mod Keeping
+pub mod Keeping
 mod Shares
 mod DealWaits
 mod JoinSteps

@@ -4,6 +4,7 @@ use Rattle.std.specs.Prelude.{Result, Ok, Err, IfOk, slice_get, slice_set, slice
 use Rattle.std.proofs.lemmas.List.{length-append, length-set, append_assoc, append-nil}
 use Rattle.std.specs.List.{All}
 use Rattle.std.proofs.lemmas.List.Elements.{All-append}
+use Rattle.std.proofs.lemmas.Option.{same_Some}
 use Rattle.graph_runs.specs.phase_base.declared.mode.Mode.{Mode}
 use Rattle.graph_runs.specs.phase_history.declared.event.Event.TheVariants.{Registered}
 use Rattle.graph_runs.specs.phase_history.Legal.{IsLegal}
@@ -12,6 +13,7 @@ use Rattle.graph_runs.specs.graph_base.Registrations.{registrations_of, no_regis
 use Rattle.graph_runs.specs.graph_base.TaskLines.{IsGraph}
 use Rattle.graph_runs.specs.graph_base.declared.registration.Registration.{Registration}
 use Rattle.stream_eval.specs.stream_lists.Jobs.{Job}
+use Rattle.stream_eval.proofs.stream_lists_lemmas.Basics.{each-push}
 use Rattle.stream_members.specs.Members.{Spot, limits_on}
 use Rattle.stream_members.specs.AnyPhasers.{phaser_op, phaser_spot, IsFounderOf}
 use Rattle.stream_members.specs.declared.any_phaser.AnyPhaser.{AnyPhaser}
@@ -26,25 +28,12 @@ use Rattle.stream_tasks.specs.declared.opening.founder.FounderLeft.{FounderLeft}
 
 -- ---- lists
 
-same_some : {X : Type 0} (a b : X) → Some a ≡ Some b → a ≡ b
-same_some a b e = cc
-
 -- an element that was read stands at its place
 pub stands_at : {X : Type 0} (xs : List X) (p : ℕ) (x : X) → p < length xs
     → x ≡ slice_index_or xs p x → slice_get xs p ≡ Some x
 stands_at [] p x lt e = absurd (omega arith)
 stands_at (y ∷ xs) zero x lt e = ap Some (sym e)
 stands_at (y ∷ xs) (suc p) x lt e = stands_at xs p x (omega arith) e
-
--- what holds of each, and of one that is put behind, holds of each of the longer list
-pub each-push : {X : Type 0} (P : ℕ → X → Type 0) (xs : List X) (x : X)
-    → ((i : ℕ) (y : X) → slice_get xs i ≡ Some y → P i y) → P (length xs) x
-    → (i : ℕ) (y : X) → slice_get (xs ++ x ∷ []) i ≡ Some y → P i y
-each-push P [] x each new zero y e = subst (P 0) (same_some x y e) new
-each-push P [] x each new (suc i) y e = absurd (cc)
-each-push P (z ∷ zs) x each new zero y e = each zero y e
-each-push P (z ∷ zs) x each new (suc i) y e =
-    each-push (λ k w. P (suc k) w) zs x (λ k w f. each (suc k) w f) new i y e
 
 -- and of two lists side by side
 pub pairs-push : {X Y : Type 0} (P : X → Y → Type 0) (xs : List X) (ys : List Y) (x : X) (y : Y)
@@ -53,7 +42,7 @@ pub pairs-push : {X Y : Type 0} (P : X → Y → Type 0) (xs : List X) (ys : Lis
     → (i : ℕ) (a : X) (b : Y) → slice_get (xs ++ x ∷ []) i ≡ Some a
     → slice_get (ys ++ y ∷ []) i ≡ Some b → P a b
 pairs-push P [] [] x y same each new zero a b e f =
-    subst (λ c. P c b) (same_some x a e) (subst (P x) (same_some y b f) new)
+    subst (λ c. P c b) (same_Some x a e) (subst (P x) (same_Some y b f) new)
 pairs-push P [] [] x y same each new (suc i) a b e f = absurd (cc)
 pairs-push P [] (d ∷ ys) x y same each new i a b e f = absurd (cc)
 pairs-push P (c ∷ xs) [] x y same each new i a b e f = absurd (cc)
@@ -66,7 +55,7 @@ pub each-set : {X : Type 0} (P : ℕ → X → Type 0) (xs : List X) (p : ℕ) (
     → ((i : ℕ) (y : X) → slice_get xs i ≡ Some y → P i y) → P p x
     → (i : ℕ) (y : X) → slice_get (slice_set xs p x) i ≡ Some y → P i y
 each-set P [] p x each new i y e = absurd (cc)
-each-set P (z ∷ zs) zero x each new zero y e = subst (P 0) (same_some x y e) new
+each-set P (z ∷ zs) zero x each new zero y e = subst (P 0) (same_Some x y e) new
 each-set P (z ∷ zs) zero x each new (suc i) y e = each (suc i) y e
 each-set P (z ∷ zs) (suc p) x each new zero y e = each zero y e
 each-set P (z ∷ zs) (suc p) x each new (suc i) y e =
@@ -137,7 +126,7 @@ there (c ∷ xs) (d ∷ ys) (suc p) y same e = there xs ys p y (omega arith) e
 spot_is : (phasers : List AnyPhaser) (p : ℕ) (phaser : AnyPhaser)
     → slice_get phasers p ≡ Some phaser → spot_at phasers p ≡ phaser_spot phaser
 spot_is [] p phaser e = absurd (cc)
-spot_is (c ∷ phasers) zero phaser e = ap phaser_spot (same_some c phaser e)
+spot_is (c ∷ phasers) zero phaser e = ap phaser_spot (same_Some c phaser e)
 spot_is (c ∷ phasers) (suc p) phaser e = spot_is phasers p phaser e
 
 -- the founders of a job's phasers
@@ -228,7 +217,7 @@ of_push phasers founders phaser founder of here op at = record {
 
     new : Of (length founders) founder
     new one e =
-        let same : phaser ≡ one = same_some phaser one (sym here ∙ e) in
+        let same : phaser ≡ one = same_Some phaser one (sym here ∙ e) in
         (op ∙ ap phaser_op same, at ∙ ap phaser_spot same)
 
 pub none_of : (phasers : List AnyPhaser) → AreOf phasers []
@@ -351,8 +340,3 @@ has_founder graph t i n r is same few lt e many =
     let below = on_graph graph t i is same few lt in
     let at_p = ap (λ (x : Registration). x.phaser) e in
     omega arith
-
--- a list of no elements
-pub no_elements : {X : Type 0} (xs : List X) → length xs ≡ 0 → xs ≡ []
-no_elements [] e = refl
-no_elements (x ∷ xs) e = absurd (omega arith)

@@ -2,6 +2,7 @@
 use Rattle.std.proofs.Common.{◌≡◌, ◌≢◌, ◌⊎◌, inl, inr, ℕ, zero, suc, ◌+◌, ◌<◌, ◌≤◌, true, false, List, [], ◌∷◌, ◌++◌, length, Some, None, refl, sym, ap, subst, ◌∙◌, arith}
 use Rattle.std.specs.Prelude.{slice_get, get_or, IfSome, IsSome}
 use Rattle.std.proofs.lemmas.List.{length-append}
+use Rattle.std.proofs.lemmas.Option.{same_Some}
 use Rattle.graph_runs.specs.phase_history.Histories.{History}
 use Rattle.graph_runs.specs.graph_base.declared.line.Parent.{Parent}
 use Rattle.graph_runs.specs.graph_base.Graphs.{task_at}
@@ -28,18 +29,15 @@ use Rattle.stream_tasks.specs.Seeds.{HasNoRegistration, AreChildrenBelow, IsSeed
 
 -- ---- lists
 
-same_some : {X : Type 0} (a b : X) → Some a ≡ Some b → a ≡ b
-same_some a b e = cc
-
 get_at : (xs : List ℕ) (i x : ℕ) → slice_get xs i ≡ Some x → get_or xs i 0 ≡ x
 get_at [] i x e = absurd (cc)
-get_at (y ∷ xs) zero x e = same_some y x e
+get_at (y ∷ xs) zero x e = same_Some y x e
 get_at (y ∷ xs) (suc i) x e = get_at xs i x e
 
 hold_at : (holds : List Hold) (i : ℕ) (hold : Hold) → slice_get holds i ≡ Some hold
     → get_or holds i Gone ≡ hold
 hold_at [] i hold e = absurd (cc)
-hold_at (y ∷ holds) zero hold e = same_some y hold e
+hold_at (y ∷ holds) zero hold e = same_Some y hold e
 hold_at (y ∷ holds) (suc i) hold e = hold_at holds i hold e
 
 -- an item of a list stands at its place of the longer one
@@ -57,7 +55,7 @@ last_at (z ∷ xs) y = last_at xs y
 pub each-push : {X : Type 0} (P : X → Type 0) (xs : List X) (x : X)
     → ((i : ℕ) (y : X) → slice_get xs i ≡ Some y → P y) → P x
     → (i : ℕ) (y : X) → slice_get (xs ++ x ∷ []) i ≡ Some y → P y
-each-push P [] x each new zero y e = subst P (same_some x y e) new
+each-push P [] x each new zero y e = subst P (same_Some x y e) new
 each-push P [] x each new (suc i) y e = absurd (cc)
 each-push P (z ∷ xs) x each new zero y e = each zero y e
 each-push P (z ∷ xs) x each new (suc i) y e =
@@ -84,7 +82,7 @@ apart-push children child n under apart is i j x y e f same =
     in_push : (xs : List Child) (new : Child) (k : ℕ) (z : Child)
         → slice_get (xs ++ new ∷ []) k ≡ Some z
         → (slice_get xs k ≡ Some z) ⊎ ((k ≡ length xs) × (z ≡ new))
-    in_push [] new zero z e = inr (refl, sym (same_some new z e))
+    in_push [] new zero z e = inr (refl, sym (same_Some new z e))
     in_push [] new (suc k) z e = absurd (cc)
     in_push (w ∷ xs) new zero z e = inl e
     in_push (w ∷ xs) new (suc k) z e = up (in_push xs new k z e)
@@ -147,7 +145,7 @@ one_child job t n children child u are few is has by at none = record {
         let old = are.all c v lt has_c by_v in
         (old.0, (old.1.0, found-push children child old.1.0 old.0 old.1.1, old.1.2, old.1.3))
     more c v (inr e) has_c by_v =
-        let same : u ≡ v = same_some u v (sym has ∙ ap (λ x. (task_at job.graph x).parent) (sym e) ∙ has_c) in
+        let same : u ≡ v = same_Some u v (sym has ∙ ap (λ x. (task_at job.graph x).parent) (sym e) ∙ has_c) in
         (length children, (child, last_at children child, is ∙ sym e, at ∙ ap (λ (x : Parent). x.at) same))
 
 -- one more task, which is none of its children
@@ -242,7 +240,7 @@ seen_by (hold ∷ holds) (suc i) = seen_by holds i
 seen_at : (holds : List Hold) (i : ℕ) (x : AnyMember) → slice_get holds i ≡ Some (On x)
     → seen_by holds i ≡ (member_in x).seen
 seen_at [] i x e = absurd (cc)
-seen_at (On y ∷ holds) zero x e = one (same_some (On y) (On x) e)
+seen_at (On y ∷ holds) zero x e = one (same_Some (On y) (On x) e)
   where
     one : On y ≡ On x → (member_in y).seen ≡ (member_in x).seen
     one f = cc

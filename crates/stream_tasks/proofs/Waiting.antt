@@ -43,10 +43,7 @@ use Rattle.stream_tasks.specs.declared.hold.Hold.TheVariants.{On}
 use Rattle.stream_tasks.specs.declared.task_state.TaskState.{TaskState}
 use Rattle.stream_tasks.proofs.Holding.{sees_own, on_after}
 use Rattle.stream_tasks.proofs.Turning.{Changes, changed, as_it_is, FitPlaces, StayPlaces, no_joiner, owes_values, state_moves, whole_moves, goes, held}
-
--- who owes nothing owes nothing by the definitions
-pub owes_none : (s : TaskState) → OwesNothing s → owed_by s.owed s.made.items ≡ turns.nothing
-owes_none s owes = ap (λ o. owed_by o s.made.items) owes.0 ∙ ap (λ l. owed_by Nothing l) owes.1
+use Rattle.stream_tasks.proofs.Keeping.{owed_none}
 
 -- a source has begun steps, by a signal with its next samples
 pub state_samples : (job : Job) (spots : ℕ → Spot) (m : Moment) (s : TaskState) (k p begun : ℕ)
@@ -67,7 +64,7 @@ state_samples job spots m s k p begun vs old new entered places whole few here o
     let now = put_event job p n vs ∷ before in
     let after = after_signals job t 0 p n vs (further (m.begun t) vs) (with_history p before m) in
     let left : length s.lefts.items ≡ 0 = whole.staying going in
-    let owed_is = owes_none s owes in
+    let owed_is = owed_none s owes in
     let undealt = owes.2 in
     let sees = sees_own job spots m t p (signal_event vs (phaser_at job.graph p).single) old new before on made.1 in
     let put : HasPut job m after t 0 p vs (m.begun t + length vs) now =
@@ -129,7 +126,7 @@ state_takes job spots m s k p os old new x whole few here going owes first more 
     let now = Waited n (length os) ∷ w.before in
     let after = after_waits t k p n os (further (m.begun t) os) (with_history p w.before m) in
     let left : length s.lefts.items ≡ 0 = whole.staying going in
-    let owed_is = owes_none s owes in
+    let owed_is = owed_none s owes in
     let sees = sees_own job spots m t p (wait_event (length os)) old new w.before on w.made in
     let answer = answered_on job spots m t p os old new on w in
     let got : HasGot job m after t k p os (m.begun t + length os) now =
@@ -327,7 +324,7 @@ task_samples job spots s k p begun vs old new entered places sends few here out 
           let both = goes (MemberHasSignalled vs (phaser_at job.graph p).single) job spots m s.number p old new g
           (held job spots m s k p old task.whole at few here (omega arith) looked) in
           let next_is = next_samples_at job m s.number vs (place_of_state s) task.whole.graph task.whole.there at.part (at.place step.owed.2) none
-          (owes_none s step.owed) source samples may (step.children spots m at) in
+          (owed_none s step.owed) source samples may (step.children spots m at) in
           let next = state_samples job spots m s k p begun vs both.0 both.1.0 entered places task.whole few here out
           step.over step.owed source more next_is at both.1.4 both.1.3 in (
             next.0,
@@ -370,7 +367,7 @@ task_takes job spots s k p allowed os old new x few here input step never apart 
           let next_is = subst (λ q. BeginsSteps job m s.number k q (length os)) input
           (rw first
           (next_waits_at job m s.number s.most allowed (length os) (place_of_state s) task.whole.graph task.whole.there at.part
-          (task.whole.places.most apart single) (at.place step.owed.2) none (owes_none s step.owed) never may (step.children spots m at) some less room)) in
+          (task.whole.places.most apart single) (at.place step.owed.2) none (owed_none s step.owed) never may (step.children spots m at) some less room)) in
           let next = state_takes job spots m s k p os both.0 both.1.0 x task.whole
           few here step.over step.owed first more fit then follows keeps (places.dealers apart) next_is some room at both.1.4 both.1.3 in (
             next.0,

@@ -2,6 +2,7 @@
 use Rattle.std.proofs.Common.{◌≡◌, ℕ, zero, suc, ◌<◌, List, [], ◌∷◌, length, map, Option, Some, refl, sym, ap, subst, ◌∙◌, arith}
 use Rattle.std.specs.Global.{Global}
 use Rattle.std.specs.Prelude.{Vec, slice_get, get_or}
+use Rattle.std.proofs.lemmas.Option.{same_Some}
 use Rattle.stream_tasks.specs.stream_lists.Jobs.{Job}
 use Rattle.stream_tasks.specs.stream_members.Members.{Spot}
 use Rattle.stream_tasks.specs.stream_members.AnyMembers.{left_in}
@@ -13,19 +14,16 @@ use Rattle.stream_tasks.specs.TaskLefts.{AreFoundersLeft}
 
 -- ---- lists
 
-same_some : {X : Type 0} (a b : X) → Some a ≡ Some b → a ≡ b
-same_some a b e = cc
-
 get_map : {X Y : Type 0} (f : X → Y) (xs : List X) (p : ℕ) (x : X) → slice_get xs p ≡ Some x
     → slice_get (map f xs) p ≡ Some (f x)
 get_map f [] p x e = absurd (cc)
-get_map f (y ∷ xs) zero x e = ap (λ z. Some (f z)) (same_some y x e)
+get_map f (y ∷ xs) zero x e = ap (λ z. Some (f z)) (same_Some y x e)
 get_map f (y ∷ xs) (suc p) x e = get_map f xs p x e
 
 or_map : {X Y : Type 0} (f : X → Y) (xs : List X) (p : ℕ) (x : X) (d : Y) → slice_get xs p ≡ Some x
     → get_or (map f xs) p d ≡ f x
 or_map f [] p x d e = absurd (cc)
-or_map f (y ∷ xs) zero x d e = ap f (same_some y x e)
+or_map f (y ∷ xs) zero x d e = ap f (same_Some y x e)
 or_map f (y ∷ xs) (suc p) x d e = or_map f xs p x d e
 
 some_at : {X : Type 0} (xs : List X) (p : ℕ) → p < length xs → (x : X) × (slice_get xs p ≡ Some x)

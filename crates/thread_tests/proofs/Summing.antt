@@ -1,6 +1,7 @@
 -- Each step of a counter keeps its rule.
 use Rattle.std.proofs.Common.{◌≡◌, ◌≢◌, ℕ, zero, suc, ◌+◌, ◌-◌, ◌*◌, ◌%◌, ◌^◌, ◌<◌, ◌≤◌, Option, Some, None, List, [], ◌∷◌, ◌++◌, ◌⊎◌, set, sym, refl, ap, ◌∙◌, subst, inl, inr, ⊎_elim, arith}
 use Rattle.std.proofs.Math.Nat.{add-mul}
+use Rattle.std.proofs.lemmas.Option.{same_Some}
 use mathlib.Core.Logic.{dite}
 use mathlib.Core.Option.{some, some-injective, some-ne-none}
 use native.Mathlib.Decide.{ℕ_discrete}
@@ -73,9 +74,6 @@ idle_snoc l w idle more j v e none = ⊎_elim
 
 none_some : {A : Type 0} (o : Option A) (x : A) → o ≡ None → o ≡ Some x → ⊥
 none_some o x e f = cc
-
-same_some : {A : Type 0} (x y : A) → Some x ≡ Some y → x ≡ y
-same_some x y e = cc
 
 -- the same seats took the same sums
 record SameTakes (xs ys : List Tally) : Type 0 where
@@ -178,7 +176,7 @@ took_it : (views : List Tally) (number : ℕ) (v : Tally) (x : ℕ) (s : IsSumOf
 took_it views number v x s at took = dite (ℕ_discrete number s.0)
     (λ (p : number ≡ s.0).
     let is : v ≡ s.1 = some-injective v s.1 (sym at ∙ ap (get_elem? views) p ∙ s.2) in
-    (p, same_some x (counted views % 2 ^ 64) (sym took ∙ ap (λ (z : Tally). z.took) is ∙ s.3)))
+    (p, same_Some x (counted views % 2 ^ 64) (sym took ∙ ap (λ (z : Tally). z.took) is ∙ s.3)))
     (λ (p : number ≢ s.0). absurd (none_some v.took x (s.4 number v at p) took))
 
 pub gives_sum : (n number : ℕ) (v : Tally) (x y count : ℕ) → 0 < v.parts → v.took ≡ Some x → v.count ≤ count → y ≡ (x + (count - v.count)) % 2 ^ 64

@@ -1,5 +1,5 @@
 -- Words, seats and slots.
-use Rattle.std.proofs.Common.{◌≡◌, ℕ, zero, suc, ◌*◌, ◌+◌, ◌%◌, ◌<◌, Bool, true, false, Option, Some, List, [], ◌∷◌, length, sym, refl, ap, ◌∙◌, arith}
+use Rattle.std.proofs.Common.{◌≡◌, ℕ, zero, suc, ◌*◌, ◌+◌, ◌%◌, ◌<◌, Bool, true, false, Option, Some, List, [], ◌∷◌, length, sym, ap, ◌∙◌, arith}
 use mathlib.Core.Option.{none, some, some-injective, some-ne-none}
 use Rattle.std.proofs.lemmas.Bool.{eqb-true}
 use mathlib.Core.Bool.{true≢false}
@@ -17,10 +17,6 @@ within (x ∷ xs) (suc i) a e = let h = within xs i a e in omega arith
 -- the name in a view is the lock's
 pub named : {N : Type 0} (n m : N) (o : Option N) → o ≡ Some n → o ≡ Some m → n ≡ m
 named n m o e f = cc
-
-pub not_true : (b : Bool) → (b ≡ true → ⊥) → b ≡ false
-not_true true h = absurd (h refl)
-not_true false h = refl
 
 pub not_both : (b : Bool) → b ≡ true → b ≡ false → ⊥
 not_both b e f = cc

@@ -1,6 +1,7 @@
 -- Each step of the table of a lock with words keeps its rule.
 use Rattle.std.proofs.Common.{◌≡◌, ◌≢◌, ℕ, suc, ◌*◌, ◌+◌, ◌/◌, ◌%◌, true, false, Option, Some, None, List, [], ◌∷◌, ◌++◌, map, length, set, slice_index, length-set, sym, refl, ap, ◌∙◌, subst, ⊎_elim, arith}
 use Rattle.std.proofs.lemmas.List.{set-get_or}
+use Rattle.std.proofs.lemmas.Bool.{false_from_ne_true}
 use mathlib.Core.Logic.{dite}
 use mathlib.Core.Option.{none, some, some-injective}
 use mathlib.Core.List.{map-append}
@@ -13,7 +14,7 @@ use Rattle.turn_lock.specs.declared.seat.Doing.{Doing}
 use Rattle.turn_lock.specs.Word.{doing, client, gave}
 use Rattle.turn_lock.specs.WordSteps.{TakesOf, GivesOf, LooksOf, ReadsOf, WritesOf, ReadsIn, WritesIn, JoinLooks, ForksOf, MergesOf, BusyOf}
 use Rattle.turn_lock.specs.Words.{telling, IsIdle, IsOneTurn, IsTurnWith, lock_word, slot_of, IsWordLock, saw_word, tried_word, knew, acted}
-use Rattle.turn_lock.proofs.Keeping.{within, named, not_true, not_both, Hub, hub, swapped, even_is, odd_is, or_even, or_odd, alone, same_item}
+use Rattle.turn_lock.proofs.Keeping.{within, named, not_both, Hub, hub, swapped, even_is, odd_is, or_even, or_odd, alone, same_item}
 
 -- a step that no fact speaks of
 abbrev any_step : {T : Type 0} → Step T
@@ -85,7 +86,7 @@ module _ {N V : Type 0} where
         only = λ j d at turns. let b = back j d at turns in h.only j b.0 b.1 b.2;
       }
   turn_stays (Some x) told xs ys there back idle = λ j d at.
-      not_true d.turn (λ turns. let b = back j d at turns in not_both b.0.turn b.2 (idle j b.0 b.1))
+      false_from_ne_true d.turn (λ turns. let b = back j d at turns in not_both b.0.turn b.2 (idle j b.0 b.1))
 
   turn_set : {T : Type 0} (home : Option T) (told : ℕ) (xs : List (Doing N V)) (id : ℕ) (v w : Doing N V)
       → get_elem? xs id ≡ some v → w.turn ≡ v.turn → (v.turn ≡ true → w.told ≡ v.told)
@@ -367,7 +368,7 @@ module _ {N T V : Type 0} (holds : N → Option T → ℕ → List ℕ → List 
   -- no seat has the turn, where the one that had it gave it back
   has_none : (views : List (Doing N V)) (id : ℕ) (w : Doing N V) → w.turn ≡ false
       → ((j : ℕ) (u : Doing N V) → get_elem? views j ≡ some u → u.turn ≡ true → j ≡ id) → IsIdle (set views id w)
-  has_none views id w rests only j u e = not_true u.turn (λ turns. ⊎_elim
+  has_none views id w rests only j u e = false_from_ne_true u.turn (λ turns. ⊎_elim
       (λ (q : (j ≡ id) × (w ≡ u)). not_both u.turn turns (ap (λ (z : Doing N V). z.turn) (sym q.1) ∙ rests))
       (λ (q : (j ≢ id) × (get_elem? views j ≡ some u)). q.0 (only j u q.1 turns))
       (at_set views id j w u e))

@@ -1,7 +1,5 @@
 -- Histories in which task 1 alone signals, and names no single.
-use Rattle.std.proofs.Common.{◌≡◌, ◌≢◌, ℕ, ◌<◌, true, false, eqb, cond, List, [], ◌∷◌, ◌++◌, map, None, refl, sym, ◌∙◌, arith}
-use Rattle.std.specs.List.{range_with_len}
-use Rattle.std.proofs.lemmas.List.FromFn.{length-map-range_with_len, get_or-map-range_with_len, fill_by_all}
+use Rattle.std.proofs.Common.{◌≡◌, ◌≢◌, ℕ, true, false, eqb, cond, List, [], ◌∷◌, ◌++◌, None, refl, sym, ◌∙◌}
 use Rattle.std.proofs.lemmas.Bool.{eqb-true}
 use Rattle.phase_received.specs.phase_history.declared.event.Event.TheVariants.{Made, Registered, RegisteredNow, Signalled, Waited, Dropped}
 use Rattle.phase_received.specs.phase_history.Histories.{History, signal_phase}
@@ -34,13 +32,6 @@ others_silent (Signalled t lists single ∷ h) task p k other =
     ] refl
 others_silent (Waited t n ∷ h) task p k other = others_silent h task p k other
 others_silent (Dropped t ∷ h) task p k other = others_silent h task p k other
-
--- two functions that are the same below n
-pub same_map : {X : Type 0} (f g : ℕ → X) (n : ℕ) (d : X) → ((p : ℕ) → p < n → g p ≡ f p)
-    → map g (range_with_len 0 n) ≡ map f (range_with_len 0 n)
-same_map f g n d same =
-    fill_by_all f (map g (range_with_len 0 n)) n d (length-map-range_with_len g 0 n)
-    (λ k h. get_or-map-range_with_len g 0 n k k d h (omega arith) ∙ same k h)
 
 pub same_head : {X : Type 0} (x y : X) (xs ys : List X) → x ∷ xs ≡ y ∷ ys → x ≡ y
 same_head x y xs ys e = cc

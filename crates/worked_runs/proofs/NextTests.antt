@@ -22,6 +22,7 @@ use Rattle.graph_runs.specs.Moments.{one, Moment, HasRun, limits_at, value_at, i
 use Rattle.graph_runs.proofs.OnLines.{on_phaser}
 use Rattle.graph_runs.specs.Moves.{IsStaying, NoneDue, NoneBefore, MayBegin, MayBeginTo}
 use Rattle.graph_runs.specs.Turned.{IsAcceptedSignals, IsAcceptedSignal, IsNextSignal, IsNextSample, IsAnsweredWaits, IsAnsweredWait, IsFirstWait, IsExchangeWait, IsNextLeave, IsNextChild}
+use Rattle.graph_runs.proofs.stream_lists_lemmas.Basics.{source_kind}
 use Rattle.worked_runs.specs.Runs.{IsThere}
 use Rattle.worked_runs.proofs.Tests as test
 use Rattle.worked_runs.proofs.Tests.{Test, Both, never, always, giving, both, either, each, when_some, where_so}
@@ -161,19 +162,11 @@ may_begin job m t p = may_begin_to job m t p (suc (m.begun t))
 
 -- ---- the end of a task
 
-pub source-is : (kind : Kind) → is_source kind ≡ true → kind ≡ Source
-source-is Source e = refl
-source-is Fir e = absurd (cc)
-source-is Split e = absurd (cc)
-source-is Join e = absurd (cc)
-source-is Peer e = absurd (cc)
-source-is Sink e = absurd (cc)
-
 pub no_source : (kind : Kind) → is_source kind ≡ false → kind ≡ Source → ⊥
 no_source kind e source = (let clash : true ≡ false = ap is_source (sym source) ∙ e in cc)
 
 abbrev pub is_source_kind : (kind : Kind) → Test (kind ≡ Source)
-is_source_kind kind = giving (source-is kind) (test.is_true (is_source kind))
+is_source_kind kind = giving (source_kind kind) (test.is_true (is_source kind))
 
 abbrev pub is_no_source : (kind : Kind) → Test (kind ≡ Source → ⊥)
 is_no_source kind = giving (no_source kind) (test.is_false (is_source kind))

@@ -15,6 +15,7 @@ use Rattle.graph_runs.specs.stream_lists.Spans.{signalled_by}
 use Rattle.graph_runs.specs.Moments.{limits_at, input_at, OnLine}
 use Rattle.graph_runs.proofs.OnLines.{on_phaser}
 use Rattle.graph_runs.specs.Openings.{IsOpening, PhaserOpened, TaskOpened, HasOpened}
+use Rattle.graph_runs.proofs.AtOpening.{are_limits}
 use Rattle.worked_runs.specs.Runs.{opened}
 use Rattle.worked_runs.proofs.Tests as test
 use Rattle.worked_runs.proofs.Tests.{Test, Both, never, always, giving, both, either, each, when_some, where_so}
@@ -68,17 +69,6 @@ opens limits founder (Signalled task lists single ∷ before) =
     never
 opens limits founder (Waited task phases ∷ before) =
     never
-
-pub are_limits : (job : Job) (p : ℕ) → IsGraph job.graph → p < length job.graph.phasers
-    → AreLimits (limits_at job p)
-are_limits job p is pp =
-    let bound = (is.phasers p pp).bound in
-    record {
-      bound_least = bound.0;
-      bound_most = bound.1;
-      phases_least = omega arith;
-      phases_most = omega arith;
-    }
 
 abbrev pub is_used : (h : History) (n : ℕ) → Test (IsUsed h n)
 is_used h n = test.is_true (is_some (start_of h n))

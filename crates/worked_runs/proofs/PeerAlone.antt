@@ -13,10 +13,10 @@ use Rattle.graph_runs.specs.TaskPlaces.{registration_at}
 use Rattle.graph_runs.proofs.Signalling.{sendable}
 use Rattle.graph_runs.specs.Parts.{SeesOwn, put_event}
 use Rattle.graph_runs.specs.Places.{HasChildrenBy, IsFirstMoment, IsRootOn, MayMake, IsMost}
+use Rattle.graph_runs.proofs.AtOpening.{are_limits}
 use Rattle.worked_runs.specs.Worked.{worked}
 use Rattle.worked_runs.specs.WorkedParts.{PeerKnows, peer_seen, x_before, e_before, e_signalled, peer_begins, peer_owes_e, peer_exchanges}
 use Rattle.worked_runs.proofs.Histories.{only_one}
-use Rattle.worked_runs.proofs.OpeningTests.{are_limits}
 use Rattle.worked_runs.proofs.WorkedRun.{worked-is}
 
 -- ---- legal histories

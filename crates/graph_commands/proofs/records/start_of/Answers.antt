@@ -4,8 +4,9 @@ use Rattle.std.specs.List.{range_with_len}
 use Rattle.std.proofs.lemmas.List.Sums.{count_by-le-length, length-filter}
 use Rattle.std.proofs.lemmas.List.FromFn.{length-range_with_len}
 use Rattle.stream_eval.proofs.stream_lists_lemmas.Firsts.{filter-skip}
+use Rattle.stream_eval.proofs.stream_lists_lemmas.Basics.{one_more}
 use Rattle.graph_commands.specs.Records.{begins_at, IsStart}
-use Rattle.graph_commands.proofs.Finding.{count-take, one_more}
+use Rattle.graph_commands.proofs.Finding.{count-take}
 use Rattle.graph_commands.proofs.records.start_of.Goals as goal
 use Rattle.graph_commands.proofs.records.start_of.Goals.{then-begins_at+else-records-number, else-begins_at}
 

@@ -3,9 +3,9 @@ use Rattle.std.proofs.Common.{◌≡◌, ℕ, List, ◌<◌, ◌&&◌, length, a
 use Rattle.std.specs.Str.{bytes_eq}
 use Rattle.stream_eval.specs.stream_lists.Lists.{is_sink_at}
 use Rattle.stream_eval.specs.stream_lists.Jobs.{Job}
+use Rattle.stream_eval.proofs.stream_lists_lemmas.Basics.{find_in_range, find_none_in_range, one_more}
 use Rattle.graph_show.specs.graph_base.Graphs.{name_at}
 use Rattle.graph_show.specs.graph_base.declared.place.Place.TheVariants as place
-use Rattle.graph_commands.proofs.Finding.{find_first, find_none, one_more}
 use Rattle.graph_commands.proofs.sinks.find_sink.Goals as goal
 
 abbrev is_one : Job → List ℕ → ℕ → Bool
@@ -17,7 +17,7 @@ returns-then-is_sink_of c =
     let count : c.tasks-t-end.result ≡ length job.graph.tasks =
     c.tasks-t-end.ensures.count ∙ ap (λ g. length g.tasks) c.graph.ensures.graph in
     let lt : c.loop-t.t < c.tasks-t-end.result = c.loop-t-test.true in
-    sym (find_first (is_one job c.args.name.now) (length job.graph.tasks) c.loop-t.t (omega arith)
+    sym (find_in_range (is_one job c.args.name.now) (length job.graph.tasks) c.loop-t.t (omega arith)
     c.loop-t.invariant (sym c.is_sink_of.ensures ∙ c.if-is_sink_of.true))
 
 pub loop-t-preserved : goal.loop-t-preserved
@@ -30,5 +30,5 @@ returns c =
     let job = c.args.job.now in
     let count : c.tasks-t-end.result ≡ length job.graph.tasks =
     c.tasks-t-end.ensures.count ∙ ap (λ g. length g.tasks) c.graph.ensures.graph in
-    sym (find_none (is_one job c.args.name.now) (length job.graph.tasks)
+    sym (find_none_in_range (is_one job c.args.name.now) (length job.graph.tasks)
     (λ d lt. c.loop-t.invariant d (let past = c.loop-t-test.false in omega arith)))

@@ -8,8 +8,9 @@ use Rattle.graph_show.specs.graph_base.Graphs.{Task, no_task, is_source, source_
 use Rattle.graph_show.specs.graph_lang.Samples.{AreSamplesOf}
 use Rattle.graph_show.specs.graph_lang.declared.sample.TheConstants.{TEXT_MAX}
 use Rattle.stream_eval.specs.stream_lists.JobFields.{items_of}
+use Rattle.stream_eval.proofs.stream_lists_lemmas.Basics.{source_within}
 use Rattle.graph_commands.specs.FileJobs.{AreFirstSamples, Explains, IsReached, Known, file_of}
-use Rattle.graph_commands.proofs.Counted.{items_of-push, known-same, length-items_of, samples-push, source-within}
+use Rattle.graph_commands.proofs.Counted.{items_of-push, known-same, length-items_of, samples-push}
 use Rattle.graph_commands.proofs.sources.read_sources.Goals as goal
 use Rattle.graph_commands.proofs.sources.read_sources.Goals.{then-is_source+in-Ok+in-Ok-push, else-is_source}
 
@@ -18,7 +19,7 @@ read_source-requires-clause-source g c =
     let within : c.loop-t.t < length c.args.graph.now.tasks = search rules in
     let is : is_source (task_at c.args.graph.now c.loop-t.t).kind ≡ true = search rules in
     let number : c.len.result ≡ length c.loop-t.lists.items = search rules in
-    omega (arith, number, c.loop-t.invariant.0, source-within c.args.graph.now c.loop-t.t within is)
+    omega (arith, number, c.loop-t.invariant.0, source_within c.args.graph.now c.loop-t.t within is)
 
 -- the source was reached
 pub returns-in-Err-clause-fault : goal.returns-in-Err-clause-fault

@@ -3,7 +3,8 @@ use Rattle.std.proofs.Common.{◌≡◌, ◌<◌, ◌≤◌, pos, length, take, 
 use Rattle.std.proofs.lemmas.List.{take_more, take_all, length-take-le}
 use Rattle.phase_core.specs.phase_accum.Parcels.{StandsForSends}
 use Rattle.phase_core.specs.phase_accum.Sends.{IsSend}
-use Rattle.phase_core.proofs.OneSends.{send-at, send-same}
+use Rattle.phase_core.proofs.phase_accum_lemmas.Parts.{send-same}
+use Rattle.phase_core.proofs.phase_ring_lemmas.Held.{AreSends-at}
 use Rattle.phase_any.proofs.Sending.{no-fault, not-no-value}
 use Rattle.phase_any.proofs.sends.held.Goals as goal
 
@@ -14,7 +15,7 @@ pub unreachable-requires : goal.unreachable-requires
 unreachable-requires g c =
     let l = c.loop-k in let values = c.args.values.now in let v = get_or values l.k (pos 0) in
     let within : l.k < length values = c.loop-k-test.true in
-    let sent : IsSend v = send-at values l.k (pos 0) c.requires.sends within in
+    let sent : IsSend v = AreSends-at values l.k (pos 0) c.requires.sends within in
     let few : length values ≤ 65536 = c.requires.few in
     let held : length (take l.k values) ≡ l.k = length-take-le l.k values (omega arith) in
     no-fault c.send.result c.in_default.field-0 c.in_default.is
@@ -26,7 +27,7 @@ pub loop-k-preserved : goal.loop-k-preserved
 loop-k-preserved g c =
     let l = c.loop-k in let values = c.args.values.now in let v = get_or values l.k (pos 0) in
     let within = c.loop-k-test.true in
-    let sent : IsSend v = send-at values l.k (pos 0) c.requires.sends within in
+    let sent : IsSend v = AreSends-at values l.k (pos 0) c.requires.sends within in
     rw (take_more values l.k (pos 0) within)
     (rw (send-same v sent) at (c.in-Ok.ensures.stands (take l.k values) l.invariant))
 

@@ -1,5 +1,6 @@
 use Rattle.std.proofs.Common.{◌≤◌, [], length}
-use Rattle.phase_core.proofs.SignalRows.{held_next, drop-past}
+use Rattle.phase_ring.proofs.Blocks.{drop-all}
+use Rattle.phase_core.proofs.SignalRows.{held_next}
 use Rattle.phase_core.proofs.list_refusals.are_held.Goals as goal
 
 pub loop-pending-init : goal.loop-pending-init
@@ -13,4 +14,4 @@ loop-pending-preserved g c =
 pub returns-clause-held : goal.returns-clause-held
 returns-clause-held g c =
     let past : length c.args.lists.now ≤ c.loop-pending.pending-index = c.loop-pending-test.false in
-    c.loop-pending.invariant [] (rw (drop-past c.args.lists.now c.loop-pending.pending-index past) tt)
+    c.loop-pending.invariant [] (rw (drop-all c.args.lists.now c.loop-pending.pending-index past) tt)

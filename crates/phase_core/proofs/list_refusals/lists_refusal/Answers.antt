@@ -1,9 +1,10 @@
 -- A phase that refuses is the first that does.
 use Rattle.std.proofs.Common.{◌≤◌, List, length, refl, sym, ap, ◌∙◌, arith}
+use Rattle.phase_ring.proofs.Blocks.{drop-all}
 use Rattle.phase_history.specs.phase_accum.Parcels.{Parcel}
 use Rattle.phase_registry.specs.phase_base.Lists.{first_row}
 use Rattle.phase_core.specs.Blocks.{block_rows}
-use Rattle.phase_core.proofs.SignalRows.{rows_at, first_or-some, none-of, first_or-past, drop-past, rows_of_new}
+use Rattle.phase_core.proofs.SignalRows.{rows_at, first_or-some, none-of, first_or-past, rows_of_new}
 use Rattle.phase_core.proofs.list_refusals.lists_refusal.Goals as goal
 
 pub loop-pending-init : goal.loop-pending-init
@@ -50,5 +51,5 @@ returns-clause-rows g c =
     let b = c.args.board.now in
     let past : length c.args.lists.now ≤ c.loop-pending.pending-index = c.loop-pending-test.false in
     let w = first_row (block_rows b.limits c.args.slowest b.ring c.args.lists.now c.args.single.now c.args.entry) in
-    ◌∙◌ {c = w} (ap (λ (xs : List (Parcel g.row.A.Denot)). first_row (block_rows b.limits c.args.slowest b.ring xs c.args.single.now c.loop-pending.at)) (sym (drop-past c.args.lists.now c.loop-pending.pending-index past)))
+    ◌∙◌ {c = w} (ap (λ (xs : List (Parcel g.row.A.Denot)). first_row (block_rows b.limits c.args.slowest b.ring xs c.args.single.now c.loop-pending.at)) (sym (drop-all c.args.lists.now c.loop-pending.pending-index past)))
     c.loop-pending.invariant.left

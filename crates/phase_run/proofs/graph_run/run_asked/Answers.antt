@@ -5,7 +5,8 @@ use Rattle.stream_workers.proofs.stream_eval_lemmas.SinkStarts.{outputs-are}
 use Rattle.stream_workers.specs.graph_commands.stream_lists.Jobs.{Job, with_starts}
 use Rattle.stream_workers.specs.graph_commands.stream_lists.Lists.{lines_of, start_in}
 use Rattle.stream_workers.specs.stream_eval.Results.{sink_values}
-use Rattle.phase_run.proofs.Answered.{answer-fits, answer-lines, told-in_time}
+use Rattle.stream_workers.proofs.stream_eval_lemmas.stream_lists_lemmas.Basics.{answer_fits}
+use Rattle.phase_run.proofs.Answered.{answer-lines, told-in_time}
 use Rattle.phase_run.proofs.graph_run.run_asked.Goals as goal
 
 -- the lines are those of the job's sinks, which stand where they stood
@@ -55,7 +56,7 @@ returns-in-Ok-write_sinks-clause-done g c known name sink of asks =
       starts = told.starts;
       in_time = told-in_time c.args.asked.job told.starts lines values starts
           (rw c.deref.ensures.value told.in_time);
-      fits = answer-fits job _ told.answer;
+      fits = answer_fits job _ told.answer;
       sink = c.args.asked.sink;
       asks = asks;
       written = rw outputs at c.in-Ok-write_sinks.ensures.ok;
@@ -80,7 +81,7 @@ returns-in-Ok-run_watched-clause-failed g c known name sink of asks =
         starts = told.starts;
         in_time = told-in_time c.args.asked.job told.starts lines values starts
             (rw c.deref.ensures.value told.in_time);
-        fits = answer-fits job _ told.answer;
+        fits = answer_fits job _ told.answer;
         sink = c.args.asked.sink;
         asks = asks;
         written = rw outputs at c.in-Err.ensures.err;

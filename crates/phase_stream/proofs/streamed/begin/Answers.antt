@@ -2,19 +2,20 @@
 use Rattle.std.proofs.Common.{◌≡◌, ◌+◌, ◌∙◌, ℕ, List, Option, [], inl, length, refl, sym, subst, ap}
 use Rattle.std.proofs.lemmas.List.{length-map}
 use Rattle.std.specs.Io.KnownBytes.{Appends}
+use Rattle.graph_commands.proofs.Needed.{needed-graph}
 use Rattle.phase_words.specs.Outputs.{pair_as}
 use Rattle.phase_words.specs.StreamLine.{stream_asked}
 use Rattle.stream_job.specs.stream_lists.Jobs.{Job}
 use Rattle.phase_stream.specs.Outputs.{bare_at, task_to, writers_at}
 use Rattle.phase_stream.specs.Sessions.{AreTargets, task_for}
-use Rattle.phase_stream.proofs.Ending.{begun_does, begun_stops, graph_memory, none_bare, there_of, unmade_unbegun, writers_bare}
+use Rattle.phase_stream.proofs.Ending.{begun_does, begun_stops, none_bare, there_of, unmade_unbegun, writers_bare}
 use Rattle.phase_stream.proofs.Results.{with_err, with_ok}
 use Rattle.phase_stream.proofs.streamed.begin.Goals as goal
 
 pub returns-in_default-clause-failed : goal.returns-in_default-clause-failed
 returns-in_default-clause-failed g c = λ known is of_graph.
     inl (
-      inl (refl, graph_memory known _ _ of_graph),
+      inl (refl, needed-graph known _ _ of_graph),
       refl,
       none_bare g.F.Opens.knows g.F.Writer.Write.contents c.args.made.now.items c.requires.made,
     )

@@ -1,7 +1,8 @@
 -- A stream that did not begin, or went on.
 use Rattle.std.proofs.Common.{inl, inr, refl}
+use Rattle.graph_commands.proofs.Needed.{needed-graph}
 use Rattle.phase_words.specs.StreamLine.{stream_asked}
-use Rattle.phase_stream.proofs.Ending.{graph_memory, none_bare, unread_unbegun}
+use Rattle.phase_stream.proofs.Ending.{none_bare, unread_unbegun}
 use Rattle.phase_stream.proofs.Results.{with_err, with_ok}
 use Rattle.phase_stream.proofs.streamed.stream.Goals as goal
 

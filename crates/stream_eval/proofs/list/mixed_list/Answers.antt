@@ -3,7 +3,7 @@ use Rattle.std.specs.List.{position_from}
 use Rattle.std.proofs.lemmas.Int.{to_z-of_z}
 use Rattle.stream_lists.specs.Lists.{mixed}
 use Rattle.stream_lists.specs.Ranges.{is_out_of_range}
-use Rattle.stream_eval.proofs.Made.{MadeSoFar-more, MadeSoFar-fault, MadeSoFar-all}
+use Rattle.stream_eval.proofs.Made.{MadeInRange-more, MadeInRange-fault, MadeInRange-all}
 use Rattle.stream_eval.proofs.Mixing.{length-mixed, next_mixed}
 use Rattle.stream_eval.proofs.list.mixed_list.Goals as goal
 
@@ -19,7 +19,7 @@ returns-in_default-mix-clause-too_big c step e =
     let next = next_mixed mul c.args.xs.now c.args.es.now c.loop-step.step _ _ _
     c.loop-step-test.true
     (to_z-of_z w64 _ fits_x) (to_z-of_z w64 _ fits_e ∙ c.entry_of.ensures) c.mix.ensures in
-    let here = MadeSoFar-fault _ _ _ c.in_default-mix.field-0 c.loop-step.invariant within
+    let here = MadeInRange-fault _ _ _ c.in_default-mix.field-0 c.loop-step.invariant within
     (sym next ∙ c.in_default-mix.is) in
     let same : c.loop-step.step ≡ step = grind (arith, e) in
     subst (λ m. position_from is_out_of_range 0 (mixed m c.args.xs.now c.args.es.now) ≡ Some step)
@@ -38,14 +38,14 @@ loop-step-preserved c =
     c.loop-step-test.true
     (to_z-of_z w64 _ fits_x) (to_z-of_z w64 _ fits_e ∙ c.entry_of.ensures) c.mix.ensures in
     rw (c.in-Ok-push.ensures.items, to_z-of_z w64 c.in-Ok-mix.y fits_y)
-    (MadeSoFar-more _ _ _ c.in-Ok-mix.y c.loop-step.invariant within (sym next ∙ c.in-Ok-mix.is))
+    (MadeInRange-more _ _ _ c.in-Ok-mix.y c.loop-step.invariant within (sym next ∙ c.in-Ok-mix.is))
 
 -- all values are made
 pub returns-clause-ok : goal.returns-clause-ok
 returns-clause-ok c =
     let mul = to_z w64 (of_z w64 c.args.mul) in
     let mul_is : mul ≡ c.args.mul = to_z-of_z w64 c.args.mul c.ranges.mul in
-    (MadeSoFar-all _ _ _ c.loop-step.invariant
+    (MadeInRange-all _ _ _ c.loop-step.invariant
     (omega (arith, length-mixed mul c.args.xs.now c.args.es.now, c.loop-step-test.false))).0
     ∙ ap (λ m. mixed m c.args.xs.now c.args.es.now) mul_is
 
@@ -55,5 +55,5 @@ returns-clause-in_range c =
     let mul_is : mul ≡ c.args.mul = to_z-of_z w64 c.args.mul c.ranges.mul in
     subst (λ m. position_from is_out_of_range 0 (mixed m c.args.xs.now c.args.es.now) ≡ None)
     mul_is
-    (MadeSoFar-all _ _ _ c.loop-step.invariant
+    (MadeInRange-all _ _ _ c.loop-step.invariant
     (omega (arith, length-mixed mul c.args.xs.now c.args.es.now, c.loop-step-test.false))).1

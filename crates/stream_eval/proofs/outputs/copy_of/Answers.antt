@@ -1,4 +1,4 @@
-use Rattle.stream_eval.proofs.Sendable.{AreSends-take, AreSends-drop}
+use Rattle.stream_lists.proofs.phase_accum_lemmas.Parts.{AreSends-take, AreSends-drop}
 use Rattle.stream_eval.proofs.outputs.copy_of.Goals as goal
 
 -- they are values of the list

@@ -1,4 +1,5 @@
-use Rattle.stream_eval.proofs.Sendable.{AreSends-take, AreSends-drop, AreSends-one}
+use Rattle.stream_lists.proofs.phase_accum_lemmas.Parts.{AreSends-take, AreSends-drop}
+use Rattle.stream_eval.proofs.Sendable.{AreSends-one}
 use Rattle.stream_eval.proofs.taken_values.taken_at.Goals as goal
 
 -- they are values of a list

@@ -4,11 +4,11 @@ use Rattle.std.specs.Prelude.{slice_get}
 use Rattle.std.proofs.lemmas.List.{length-append}
 use Rattle.graph_lang.specs.graph_base.Graphs.{phaser_at}
 use Rattle.stream_eval.specs.stream_lists.Jobs.{Job}
+use Rattle.stream_eval.proofs.stream_lists_lemmas.Basics.{each-push}
 use Rattle.graph_runs.specs.Moments.{limits_at}
 use Rattle.phase_any.specs.declared.any_phaser.AnyPhaser.{AnyPhaser}
 use Rattle.phase_any.specs.Phasers.{PhaserStandsFor}
 use Rattle.graph_runs.specs.Beginnings.{opening}
-use Rattle.stream_job.proofs.OpeningPhasers.{each-push}
 use Rattle.stream_job.proofs.opened_cores.opened_cores.Goals as goal
 
 -- a phaser stands at the opening

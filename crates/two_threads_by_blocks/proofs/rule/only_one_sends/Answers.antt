@@ -6,13 +6,14 @@ use Rattle.phase_received.specs.phase_accum.declared.single.Single.{Single}
 use Rattle.phase_received.specs.phase_history.Histories.{done_of, top_of}
 use Rattle.phase_received.specs.phase_history.Phases.{value_of_phase, single_of_phase, sends_of_phase}
 use Rattle.phase_received.specs.phase_history.Sent.{sent_in}
-use Rattle.two_threads_by_blocks.proofs.Sole.{names_none, others_silent, same_map}
+use Rattle.phase_received.proofs.phase_history_lemmas.Streams.{same_values}
+use Rattle.two_threads_by_blocks.proofs.Sole.{names_none, others_silent}
 use Rattle.two_threads_by_blocks.proofs.rule.only_one_sends.Goals as goal
 
 pub returns : goal.returns
 returns c = λ limits h legal keeps none.
     let at_top : done_of h ≡ top_of h = c.all_dropped.ensures.done h none in
-    same_map (λ p. sum_value (sent_in h 1 p)) (value_of_phase sum_value h) (done_of h) Empty
+    same_values (λ p. sum_value (sent_in h 1 p)) (value_of_phase sum_value h) (done_of h) Empty
     (λ p low.
     let plain : single_of_phase h p ≡ None = c.each_phase_is_named.ensures.single limits h p None legal (let low' : p < done_of h = low in omega arith) (names_none h keeps) in
     let one : sends_of_phase h p ≡ sent_in h 1 p = c.one_sender.ensures h 1 p (λ other not. others_silent h other p keeps not) in

@@ -1,15 +1,9 @@
 -- One send goes behind the others: what is held and the send are parts of lists that are together
 -- not too many.
-use Rattle.std.proofs.Common.{◌≡◌, ℤ, [], ◌∷◌, ◌++◌, arith, SFits, of_z, w64, to_z-of_z}
-use Rattle.std.proofs.lemmas.Int.{ints}
-use Rattle.phase_accum.specs.Sends.{IsSend}
+use Rattle.std.proofs.Common.{[], ◌∷◌, ◌++◌, arith, to_z-of_z}
 use Rattle.phase_accum.specs.Parcels.{StandsForSends, parcel}
-use Rattle.phase_accum.proofs.Parts.{MayJoin-held, StandsForSends-one, StandsForSends-push}
+use Rattle.phase_accum.proofs.Parts.{MayJoin-held, StandsForSends-one, StandsForSends-push, can_send}
 use Rattle.phase_accum.proofs.pending.Pending.send.Goals as goal
-
--- an `i64` that is not the lowest can be sent
-can_send : (v : ℤ) → SFits w64 v → (of_z w64 v ≡ 9223372036854775808 → ⊥) → IsSend v
-can_send v fits other = record { small = omega (arith, ints) }
 
 -- what is held and the send may be joined
 pub join-self-inside-requires : goal.join-self-inside-requires

@@ -1,16 +1,10 @@
 -- The values lie in two slices.
-use Rattle.std.proofs.Common.{ℕ, ◌-◌, List, ℤ, take, drop, sym, subst, arith}
-use Rattle.std.proofs.lemmas.List.{take-append-drop}
-use Rattle.phase_history.proofs.phase_accum_lemmas.Parts.{AreSends-append_left, AreSends-append_right}
+use Rattle.std.proofs.Common.{◌-◌, sym, subst, arith}
+use Rattle.phase_history.proofs.phase_accum_lemmas.Parts.{AreSends-append_left, AreSends-append_right, AreSends-take, AreSends-drop}
 use Rattle.phase_history.specs.phase_accum.Sends.{AreSends}
 use Rattle.phase_core.specs.Plain.{plain_value}
-use Rattle.phase_core.proofs.PlainWaits.{AreSends-drop}
 use Rattle.phase_core.proofs.TwoSlices.{written_in_two}
 use Rattle.phase_core.proofs.plain.Plain.write.Goals as goal
-
-AreSends-take : (n : ℕ) (xs : List ℤ) → AreSends xs → AreSends (take n xs)
-AreSends-take n xs sends =
-    AreSends-append_left (take n xs) (drop n xs) (subst AreSends (sym (take-append-drop n xs)) sends)
 
 pub write_ones-requires-clause-sends : goal.write_ones-requires-clause-sends
 write_ones-requires-clause-sends g c =

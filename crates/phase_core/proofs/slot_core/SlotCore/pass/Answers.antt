@@ -2,9 +2,10 @@
 use Rattle.std.proofs.Common.{◌≡◌, Some, refl, sym, ◌∙◌, ap, arith}
 use Rattle.phase_registry.specs.phase_base.Members.{entry_of, signalled}
 use Rattle.phase_history.proofs.MemberLemmas.{entry_of-changed_same}
+use Rattle.phase_history.proofs.Received.{none_from}
 use Rattle.phase_registry.specs.Rosters.{Roster}
 use Rattle.phase_core.specs.Cores.{StandsFor, core_of}
-use Rattle.phase_core.proofs.OnlyMember.{Alone, none_of, boarded, base_is, stands_alone, passes, core_passed, wait_below}
+use Rattle.phase_core.proofs.OnlyMember.{Alone, boarded, base_is, stands_alone, passes, core_passed, wait_below}
 use Rattle.phase_core.proofs.slot_core.SlotCore.pass.Given.{Over}
 use Rattle.phase_core.proofs.slot_core.SlotCore.pass.Goals.{After-part-part, After-signalled}
 use Rattle.phase_core.proofs.slot_core.SlotCore.pass.Goals as goal
@@ -22,7 +23,7 @@ alone g c =
         found = sym c.in_ok-entry.ensures.entry;
         few = c.in_ok-entry.ensures.few;
         slow = refl;
-        first = sym (none_of c.block_refusal.result (sym c.is_some.ensures ∙ c.if-is_some.false)) ∙ c.block_refusal.ensures;
+        first = sym (none_from c.block_refusal.result (sym c.is_some.ensures ∙ c.if-is_some.false)) ∙ c.block_refusal.ensures;
       };
       few = (let n = sent.1.count_is in omega arith);
       below = (let m = c.phases_max.ensures.value in omega arith);

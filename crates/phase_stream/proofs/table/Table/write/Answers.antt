@@ -3,12 +3,13 @@ use Rattle.std.proofs.Common.{◌≡◌, ◌++◌, ◌∙◌, ◌&&◌, ℕ, Lis
 use Rattle.std.proofs.KnownBytes.{Appends-nil, Appends-trans}
 use Rattle.std.specs.Io.KnownBytes.{Appends}
 use Rattle.std.specs.List.{list_all, list_any}
+use Rattle.std.proofs.lemmas.Bool.{and_parts}
 use Rattle.graph_commands.specs.watched_io.Prefix.{AppendsPrefix}
 use Rattle.graph_commands.specs.watched_io.Watched.{inner_of}
 use Rattle.phase_stream.specs.Columns.{has_value, is_known}
 use Rattle.phase_stream.specs.TableLines.{ShowsMore, has_line}
 use Rattle.phase_stream.proofs.EachColumn.{fewer_lines, left_passed}
-use Rattle.phase_stream.proofs.NextLines.{both_true, line_on, none_behind, part_behind, sent_on, shows_first}
+use Rattle.phase_stream.proofs.NextLines.{line_on, none_behind, part_behind, sent_on, shows_first}
 use Rattle.phase_stream.proofs.table.Table.write.Goals as goal
 
 pub returns-in_default-clause-err : goal.returns-in_default-clause-err
@@ -46,7 +47,7 @@ pub loop-self-smaller-then-len-ge-CHUNK_MAX : goal.loop-self-smaller-then-len-ge
 loop-self-smaller-then-len-ge-CHUNK_MAX g c =
     let columns = c.loop-self.self.columns.items in
     fewer_lines columns c.pass.new.self.columns.items c.pass.ensures
-    (both_true (list_any has_value columns) (list_all is_known columns)
+    (and_parts (list_any has_value columns) (list_all is_known columns)
     (sym c.has_line.ensures ∙ c.loop-self-test.true)).0
 
 pub loop-self-preserved-then-len-ge-CHUNK_MAX : goal.loop-self-preserved-then-len-ge-CHUNK_MAX
@@ -77,7 +78,7 @@ pub loop-self-smaller : goal.loop-self-smaller
 loop-self-smaller g c =
     let columns = c.loop-self.self.columns.items in
     fewer_lines columns c.pass.new.self.columns.items c.pass.ensures
-    (both_true (list_any has_value columns) (list_all is_known columns)
+    (and_parts (list_any has_value columns) (list_all is_known columns)
     (sym c.has_line.ensures ∙ c.loop-self-test.true)).0
 
 pub loop-self-preserved : goal.loop-self-preserved

@@ -1,10 +1,11 @@
 -- A line is read behind what was read before it.
 use Rattle.std.proofs.Common.{rules, ◌≡◌, [], ◌∷◌, ◌++◌, false, w64, to_z, of_z, refl, sym, subst}
 use Rattle.std.specs.Fmt.{signed_decimal}
+use Rattle.graph_lang.proofs.graph_base_lemmas.phase_accum_lemmas.Parts.{send-same}
 use Rattle.sample_pieces.specs.Pieces.{HasRead}
 use Rattle.sample_pieces.specs.declared.reader.SampleReader.{SampleReader}
 use Rattle.sample_pieces.specs.declared.step.Where.TheVariants as place
-use Rattle.sample_pieces.proofs.Lines.{line_read, none_in, value_same}
+use Rattle.sample_pieces.proofs.Lines.{line_read, none_in}
 use Rattle.sample_pieces.proofs.reader.SampleReader.next.Goals as goal
 
 pub returns-in-Some-clause-found : goal.returns-in-Some-clause-found
@@ -17,5 +18,5 @@ returns-in-Some-clause-found c = λ text values has.
     let v = c.in-Some.line.value in
     subst (λ line. HasRead (text ++ line) (values ++ to_z w64 (of_z w64 v) ∷ []) new) (sym begins.line_is)
     (subst (λ x. HasRead (text ++ (signed_decimal v ++ 10 ∷ [])) (values ++ x ∷ []) new)
-    (sym (value_same v begins.send))
+    (sym (send-same v begins.send))
     (line_read text values old new v has begins.send at empty at empty refl))

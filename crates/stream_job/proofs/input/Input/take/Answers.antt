@@ -2,8 +2,9 @@
 use Rattle.std.proofs.Common.{◌≡◌, ◌+◌, ◌++◌, ◌∷◌, [], ℤ, List, length, take, get_or, pos, FitsSigned, w64, rules, arith, sym, ap, ◌∙◌}
 use Rattle.std.proofs.lemmas.Int.{to_z-of_z}
 use Rattle.std.proofs.lemmas.List.{append_assoc, length-drop, length-take, take_more, take_all}
+use Rattle.phase_any.proofs.phase_accum_lemmas.Parts.{AreSends-take}
 use Rattle.stream_job.specs.Streams.{InputKeeps}
-use Rattle.stream_job.proofs.Feeding.{keeps_more, sends_taken}
+use Rattle.stream_job.proofs.Feeding.{keeps_more}
 use Rattle.stream_job.proofs.input.Input.take.Goals as goal
 
 pub loop-sample-preserved : goal.loop-sample-preserved
@@ -59,4 +60,4 @@ returns-clause-kept c xs keeps =
     (take_all c.loop-sample.sample-index (take many samples) c.loop-sample-test.false) in
     let long = length-take many samples in
     keeps_more c.forget.new.self c.loop-sample.self c.args.begun xs (take many samples) k
-    (sends_taken many samples c.requires.sends) (grind arith) was.from it
+    (AreSends-take many samples c.requires.sends) (grind arith) was.from it

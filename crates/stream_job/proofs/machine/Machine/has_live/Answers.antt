@@ -1,7 +1,8 @@
 -- The loop stops at the first task that is live.
 use Rattle.std.proofs.Common.{◌≡◌, ◌<◌, length, ap, ◌∙◌, arith, false}
+use Rattle.stream_eval.proofs.stream_lists_lemmas.Basics.{one_more}
 use Rattle.graph_runs.specs.Nexts.{is_live}
-use Rattle.stream_job.proofs.Searching.{any_in_range, none_in_range, one_more}
+use Rattle.stream_job.proofs.Searching.{any_in_range, none_in_range}
 use Rattle.stream_job.proofs.machine.Machine.has_live.Goals as goal
 
 pub returns-then-is_live : goal.returns-then-is_live

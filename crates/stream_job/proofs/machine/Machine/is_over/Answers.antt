@@ -5,11 +5,12 @@ use Rattle.phase_any.specs.phase_base.Members.{entry_of}
 use Rattle.phase_any.specs.phase_history.Histories.{members_of}
 use Rattle.graph_lang.specs.graph_base.Graphs.{task_at, phaser_at, is_source}
 use Rattle.stream_eval.specs.stream_lists.Jobs.{with_samples}
+use Rattle.stream_eval.proofs.stream_lists_lemmas.Basics.{source_kind}
 use Rattle.graph_runs.specs.Moments.{first_input, input_at, limits_at}
 use Rattle.graph_runs.specs.Nexts.{has_input_ended}
 use Rattle.graph_runs.proofs.Signalling.{live-is}
 use Rattle.stream_job.specs.Places.{place_in_state}
-use Rattle.stream_job.proofs.Ending.{over_left, over_by_input, over_by_samples, number_of_input, cut_is, no_source, source_is}
+use Rattle.stream_job.proofs.Ending.{over_left, over_by_input, over_by_samples, number_of_input, cut_is, no_source}
 use Rattle.stream_job.proofs.machine.Machine.is_over.Goals as goal
 use Rattle.stream_job.proofs.machine.Machine.is_over.Goals.{then-state-gt0-via-then-state-gt0, then-state-gt0-via-else-state-gt0+then-is_cut}
 
@@ -33,7 +34,7 @@ returns-then-is_source c = λ s m at awaits live.
     let is : is_source (task_at job.graph c.args.t).kind ≡ true =
     ap (λ graph. is_source (task_at graph c.args.t).kind) (sym c.graph.ensures.graph)
     ∙ sym c.is_source.ensures ∙ c.if-is_source.true in
-    let source = source_is (task_at job.graph c.args.t).kind is in
+    let source = source_kind (task_at job.graph c.args.t).kind is in
     over_by_samples job m c.args.t c.args.awaits.now
     (cut_is job m c.args.t (place_in_state c.state-state.result.now)
     (c.state-state.ensures s m at).stands c.until_of.result c.until_of.ensures

@@ -1,9 +1,10 @@
 -- The loop stops at the first task that does not rest.
 use Rattle.std.proofs.Common.{◌≡◌, ◌<◌, length, ap, ◌∙◌, arith, subst, true}
 use Rattle.stream_eval.specs.stream_lists.Jobs.{with_samples}
+use Rattle.stream_eval.proofs.stream_lists_lemmas.Basics.{one_more}
 use Rattle.graph_lang.specs.graph_base.Graphs.{Graph}
 use Rattle.stream_job.specs.Streams.{StreamState, ended_at, rests}
-use Rattle.stream_job.proofs.Searching.{all_in_range, not_all_in_range, one_more}
+use Rattle.stream_job.proofs.Searching.{all_in_range, not_all_in_range}
 use Rattle.stream_job.proofs.stream.Stream.all_rest.Goals as goal
 
 pub returns-then-not-rests : goal.returns-then-not-rests

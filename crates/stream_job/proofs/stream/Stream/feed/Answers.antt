@@ -1,7 +1,8 @@
 -- The samples that the input of the source takes come behind those that came.
-use Rattle.std.proofs.Common.{◌≡◌, ◌<◌, ℕ, ℤ, Bool, true, false, List, Some, slice_get, length, take, set, refl, sym, ap, subst, ◌∙◌, arith}
+use Rattle.std.proofs.Common.{◌≡◌, ◌<◌, ℕ, ℤ, true, false, List, Some, slice_get, length, take, set, refl, sym, ap, subst, ◌∙◌, arith}
 use Rattle.std.specs.Prelude.{◌||◌, is_some}
 use Rattle.std.proofs.lemmas.Option.{slice_get_read}
+use Rattle.std.proofs.lemmas.Bool.{or_right}
 use Rattle.graph_lang.specs.graph_base.Graphs.{sources_of}
 use Rattle.stream_eval.specs.stream_lists.Jobs.{samples_in}
 use Rattle.graph_runs.specs.Moments.{Moment}
@@ -10,10 +11,6 @@ use Rattle.stream_job.proofs.Feeding.{ended_found, ended_stays}
 use Rattle.stream_job.proofs.FedStreams.{feed_took, input_there, inputs_set, kept_input, none_took, stream_takes, with_input}
 use Rattle.stream_job.proofs.stream.Stream.feed.Goals as goal
 use Rattle.stream_job.proofs.stream.Stream.feed.Goals.{After-index_mut-input, After-index-2, then-index-via-then-index, then-index-via-else-index+then-is_some}
-
-or_true : (a b : Bool) → b ≡ true → (a || b) ≡ true
-or_true true b e = refl
-or_true false b e = e
 
 -- where it takes none
 pub returns-then-index-clause-took : goal.returns-then-index-clause-took
@@ -28,7 +25,7 @@ returns-then-index-clause-took c =
     let over : (is_some met || has_ended inputs c.args.source) ≡ true =
     elim c.then-index.branch as (λ x. (is_some met || has_ended inputs c.args.source) ≡ true) [
       | then-index-via-then-index w ↦
-          or_true (is_some met) (has_ended inputs c.args.source)
+          or_right (is_some met) (has_ended inputs c.args.source)
           (ended_found inputs c.args.source c.index.result.now found ∙ w.if-index.true)
       | then-index-via-else-index+then-is_some w ↦
           ap (λ b. b || has_ended inputs c.args.source) (sym w.is_some.ensures ∙ w.if-is_some.true)

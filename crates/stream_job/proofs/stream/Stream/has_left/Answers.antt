@@ -1,9 +1,11 @@
 -- The line of the sink names its task, and the machine has how that stands.
-use Rattle.std.proofs.Common.{◌≡◌, ◌<◌, ℕ, ℤ, Bool, true, false, refl, List, None, length, not, sym, ap, subst, ◌∙◌, arith}
+use Rattle.std.proofs.Common.{◌≡◌, ◌<◌, ℕ, ℤ, true, false, refl, List, None, length, not, sym, ap, subst, ◌∙◌, arith}
+use Rattle.std.proofs.lemmas.Bool.{not-true}
 use Rattle.graph_lang.specs.graph_base.Graphs.{task_at}
 use Rattle.stream_eval.specs.stream_lists.Jobs.{with_samples}
 use Rattle.stream_eval.specs.stream_lists.Lists.{is_sink_at, numbers_of, sinks_of, taken_from}
 use Rattle.stream_eval.specs.stream_lists.Spans.{span_in}
+use Rattle.stream_eval.proofs.stream_lists_lemmas.Basics.{sink_kind}
 use Rattle.graph_runs.specs.Feeds.{IsFed}
 use Rattle.graph_runs.specs.Moments.{Moment, input_at, started}
 use Rattle.graph_runs.specs.Nexts.{is_live}
@@ -13,7 +15,6 @@ use Rattle.stream_job.specs.Gone.{has_gone}
 use Rattle.stream_job.specs.Places.{place_in_state}
 use Rattle.stream_job.specs.SinkLines.{kept_by}
 use Rattle.stream_job.specs.Streams.{StreamState, IsStreamAt, ended_at}
-use Rattle.stream_job.proofs.FirstTurns.{sink_kind}
 use Rattle.stream_job.proofs.GivenLines.{line_task, sink_at, sink_there}
 use Rattle.stream_job.proofs.Gone.{gone_by, gone_kept, gone_whole, left_input}
 use Rattle.stream_job.proofs.SinksKeep.{sink_reads}
@@ -101,10 +102,6 @@ returns-else-is_registered-clause-left c =
     (there w.After-index) (c.is_registered.ensures s m st ∙ ap not c.if-is_registered.false) refl
     ∙ sym c.if-is_registered.false)))
 
-not_live : (b : Bool) → not b ≡ true → b ≡ false
-not_live false e = refl
-not_live true e = absurd (cc)
-
 pub returns-then-is_registered-clause-whole : goal.returns-then-is_registered-clause-whole
 returns-then-is_registered-clause-whole c = λ is.
     let P : StreamState → Type 0 = λ w. (s : List (List ℤ)) (m : Moment) (given : ℕ → List ℤ)
@@ -126,7 +123,7 @@ returns-then-is_registered-clause-whole c = λ is.
     let some = sink_reads job t at.machine.graph lt sinks in
     let left = left_input job m t (place_in_state c.index-state.result.now) at.machine.graph lt some st
     (c.is_registered.ensures s m st ∙ ap not c.if-is_registered.true)
-    (c.is_live.ensures s m st ∙ not_live c.is_live.result is) in
+    (c.is_live.ensures s m st ∙ not-true c.is_live.result is) in
     let ran = c.runs_go_on.ensures.ran job m more at.machine.graph at.machine.reached.ran
     (c.feeds_go_on.ensures.continues job (ended_at (inside w.After-index)) m more
     at.machine.reached.ran at.stays_open fed) in

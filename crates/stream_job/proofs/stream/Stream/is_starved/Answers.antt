@@ -3,11 +3,12 @@ use Rattle.std.proofs.Common.{◌≡◌, ℕ, ℤ, List, ◌<◌, ◌&&◌, true
 use Rattle.std.specs.Prelude.{nat_le, vec_len}
 use Rattle.graph_lang.specs.graph_base.Graphs.{is_source, task_at}
 use Rattle.stream_eval.specs.stream_lists.Jobs.{samples_at, with_samples}
+use Rattle.stream_eval.proofs.stream_lists_lemmas.Basics.{source_kind}
 use Rattle.graph_runs.specs.Feeds.{is_starved}
 use Rattle.graph_runs.specs.Moments.{Moment}
 use Rattle.graph_runs.specs.Nexts.{is_cut}
 use Rattle.stream_job.specs.Streams.{AreKept, IsStreamAt, StreamState, ended_at}
-use Rattle.stream_job.proofs.Awaiting.{input_read, input_there, source_kind}
+use Rattle.stream_job.proofs.Awaiting.{input_read, input_there}
 use Rattle.stream_job.proofs.Stopping.{ended_so, low_by, starved_by_low, starved_not_cut, starved_not_ended, state_at}
 use Rattle.stream_job.proofs.stream.Stream.is_starved.Goals as goal
 use Rattle.stream_job.proofs.stream.Stream.is_starved.Goals.{After-index}

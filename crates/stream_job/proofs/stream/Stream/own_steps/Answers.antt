@@ -5,12 +5,11 @@ use Rattle.graph_lang.specs.graph_base.Graphs.{is_sink, is_source, phaser_at, ta
 use Rattle.graph_runs.specs.Answers.{output_at}
 use Rattle.graph_runs.specs.Moments.{input_at}
 use Rattle.stream_eval.specs.stream_lists.Jobs.{Job, with_samples}
+use Rattle.stream_eval.proofs.stream_lists_lemmas.Basics.{sink_kind, source_kind}
 use Rattle.stream_job.specs.Stepping.{MayStep}
 use Rattle.stream_job.specs.Streams.{StreamState}
-use Rattle.stream_job.proofs.Ending.{source_is}
 use Rattle.stream_job.proofs.Mosts.{line_may, may_signal_in}
 use Rattle.stream_job.proofs.OwnSteps.{sink_may, source_may}
-use Rattle.stream_job.proofs.FirstTurns.{sink_kind}
 use Rattle.stream_job.proofs.stream.Stream.own_steps.Goals as goal
 use Rattle.stream_job.proofs.stream.Stream.own_steps.Goals.{After-line_block-block}
 
@@ -42,7 +41,7 @@ returns-then-is_source-clause-may c =
     let job : Job = with_samples c.self.invariant.0.0 c.self.inside.job in
     let graph = c.self.inside.job.graph in
     let kind : (task_at graph c.args.t).kind ≡ Source =
-    source_is (task_at graph c.args.t).kind
+    source_kind (task_at graph c.args.t).kind
     (ap (λ g. is_source (task_at g c.args.t).kind) (sym c.graph.ensures.graph)
     ∙ sym c.is_source.ensures ∙ c.if-is_source.true) in
     let bound : c.phaser.result.now.bound ≡ (phaser_at graph (output_at job c.args.t 0)).bound =

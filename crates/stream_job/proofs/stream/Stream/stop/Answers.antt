@@ -4,6 +4,7 @@ use Rattle.std.specs.Prelude.{slice_get, vec_len}
 use Rattle.graph_lang.specs.graph_base.Graphs.{source_number, task_at}
 use Rattle.stream_eval.specs.stream_lists.Jobs.{with_samples}
 use Rattle.stream_eval.specs.stream_lists.Lists.{sinks_of}
+use Rattle.stream_eval.proofs.stream_lists_lemmas.Basics.{sink_kind}
 use Rattle.graph_runs.specs.Moments.{Moment}
 use Rattle.stream_job.specs.Streams.{IsStreamAt, StreamState, ended_at, first_full, first_hungry, is_full, is_hungry, is_some_live, stop_by}
 use Rattle.stream_job.specs.contracts.stream.Stream.{the_view}
@@ -11,7 +12,6 @@ use Rattle.stream_job.specs.declared.stopped.Stopped.TheVariants as stopped
 use Rattle.stream_job.proofs.Awaiting.{planned}
 use Rattle.stream_job.proofs.FedStops.{done_by, found_in, full_sink, rests_so, stalled_by}
 use Rattle.stream_job.proofs.Stopping.{state_at}
-use Rattle.stream_job.proofs.FirstTurns.{sink_kind}
 use Rattle.stream_job.proofs.stream.Stream.stop.Goals as goal
 use Rattle.stream_job.proofs.stream.Stream.stop.Goals.{After-has_live, In-Some, In-Some-first_hungry}
 

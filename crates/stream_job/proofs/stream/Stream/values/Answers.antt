@@ -1,5 +1,6 @@
 -- The line of the sink keeps what was not forgotten, and it is right whatever comes.
 use Rattle.std.proofs.Common.{◌≡◌, ◌<◌, ◌++◌, ℕ, ℤ, List, None, length, sym, ap, subst, ◌∙◌}
+use Rattle.phase_any.proofs.phase_history_lemmas.Streams.{IsPrefix-trans}
 use mathlib.Core.List.{IsPrefix}
 use Rattle.graph_lang.specs.graph_base.Graphs.{task_at}
 use Rattle.stream_eval.specs.stream_lists.Jobs.{with_samples}
@@ -11,7 +12,7 @@ use Rattle.graph_runs.specs.Settled.{IsReady}
 use Rattle.stream_job.specs.SinkLines.{kept_by}
 use Rattle.stream_job.specs.Streams.{StreamState, IsStreamAt, ended_at}
 use Rattle.stream_job.proofs.GivenLines.{line_values, sink_at, sink_there}
-use Rattle.stream_job.proofs.LinesBegin.{begins_further, met_begins}
+use Rattle.stream_job.proofs.LinesBegin.{met_begins}
 use Rattle.stream_job.proofs.SinksKeep.{sink_reads}
 use Rattle.stream_job.proofs.stream.Stream.values.Goals as goal
 
@@ -58,7 +59,7 @@ returns-clause-right c =
     let it = sink_there bare sink (subst R (sym c.self.view_is) c.requires) in
     let machine = c.self.inside.machine in
     let right = started (with_samples more bare) m in
-    begins_further (given t ++ read) (m.taken t 0)
+    IsPrefix-trans (given t ++ read) (m.taken t 0)
     (taken_from (numbers_of right) (task_at bare.graph t) (span_in right t) 0)
     (subst (λ l. IsPrefix l (m.taken t 0)) (sym (whole c s m given at))
     (met_begins job m machine None at.machine at.none t it.1 it.0))

@@ -1,6 +1,7 @@
 -- Where no value was out of range the sinks keep all, and where no task is live they have it all.
 use Rattle.std.proofs.Common.{◌≡◌, ℕ, ℤ, ◌<◌, List, None, true, false, length, map, sym, ap, subst, ◌∙◌}
 use Rattle.std.specs.Prelude.{Ok}
+use Rattle.phase_any.proofs.phase_history_lemmas.Streams.{IsPrefix-trans}
 use mathlib.Core.List.{IsPrefix}
 use Rattle.graph_lang.specs.graph_base.Graphs.{task_at}
 use Rattle.stream_eval.specs.stream_lists.Spans.{span_in}
@@ -11,7 +12,7 @@ use Rattle.graph_runs.specs.Moments.{Moment, started}
 use Rattle.graph_runs.specs.Nexts.{is_live}
 use Rattle.stream_job.specs.SinkLines.{kept_by, sink_begins_at}
 use Rattle.stream_job.specs.Worlds.{WorldState, HasMet, IsWorldAt}
-use Rattle.stream_job.proofs.LinesBegin.{begins_further, met_begins}
+use Rattle.stream_job.proofs.LinesBegin.{met_begins}
 use Rattle.stream_job.proofs.SinksKeep.{lines_taken, sink_reads}
 use Rattle.stream_job.proofs.world.World.lines.Goals as goal
 
@@ -41,7 +42,7 @@ returns-clause-begin c =
     (span_in (started w.job m) t) 0) in
     subst P c.self.view_is (λ m t at there sink.
     (let job = c.self.inside.job.now in
-    begins_further (kept_by job m t) (m.taken t 0)
+    IsPrefix-trans (kept_by job m t) (m.taken t 0)
     (taken_from (numbers_of (started job m)) (task_at job.graph t) (span_in (started job m) t) 0)
     (met_begins job m c.self.inside.machine c.self.inside.met at.machine at.met t there sink)
     (c.takes.ensures job m t 0

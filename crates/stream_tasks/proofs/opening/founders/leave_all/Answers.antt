@@ -1,6 +1,7 @@
 -- The next founder has left.
 use Rattle.std.proofs.Common.{subst, sym, ◌∙◌, arith}
-use Rattle.stream_tasks.proofs.Rows.{HaveLeft, one_left, all_left, have_left, no_elements}
+use Rattle.std.proofs.lemmas.List.{nil_from_length}
+use Rattle.stream_tasks.proofs.Rows.{HaveLeft, one_left, all_left, have_left}
 use Rattle.stream_tasks.proofs.opening.founders.leave_all.Goals as goal
 
 pub loop-founder-preserved : goal.loop-founder-preserved
@@ -25,5 +26,5 @@ returns g c =
     λ job spots are. have_left job spots c.args.founders.items c.loop-founder.lefts.items are
     (all_left c.args.founders.items c.loop-founder.lefts.items
     (subst (HaveLeft c.args.founders.items c.loop-founder.lefts.items)
-    (no_elements rest.items (sym rest.ok.0 ∙ c.in_default-next.ensures.cases.0))
+    (nil_from_length rest.items (sym rest.ok.0 ∙ c.in_default-next.ensures.cases.0))
     c.loop-founder.invariant.0))
