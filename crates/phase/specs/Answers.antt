@@ -13,7 +13,7 @@ use Rattle.phase_commands.specs.phase_words.RunLine.{AsksRun, AsksWorkers, Run, 
 use Rattle.phase_commands.specs.phase_words.StreamLine.{AsksStream, Stream, stream_kinds_of}
 use Rattle.phase_run.specs.phase_eval.Ends.{EndsAsEval, MayEndAsEval}
 use Rattle.phase_run.specs.Ends.{AskNoCounts, EndsAsRun, MayEndAsRun}
-use Rattle.phase_stream.specs.Ends.{EndsAsAsked, EndsAsStream, EndsAsTable, MayEndAsStream}
+use Rattle.phase_stream.specs.Ends.{EndsAsStreamed, MayEndAsStream}
 use Rattle.phase.specs.Ways.{run, way_of}
 
 -- ---- any command
@@ -53,29 +53,13 @@ EvalAnswers words known contents status closed files old new before after =
     status closed files old new before after
 
 -- `stream` answers words of its own
-abbrev pub StreamAnswers : {F W : Type 0} → List Text → Known → (W → Option (List ℕ)) → Status
-    → F → F → Watched W → Watched W → WriterState → WriterState → Type 0
-StreamAnswers words known contents status closed files old new before after =
-    Answers (stream_kinds_of words) MayEndAsStream (AsksStream words)
-    (λ (what : Stream). EndsAsStream what known contents status old new before after)
-    status closed files old new before after
-
--- and so it does what it writes to the files of sinks
-abbrev pub SinksAnswer : {F W V : Type 0} → List Text → Known → Bool → (W → Option (List ℕ))
-    → (V → Option (List ℕ)) → Status → F → F → Watched W → Watched W → List (Watched V)
+abbrev pub StreamAnswers : {F W V : Type 0} → List Text → Known → Bool → (W → Option (List ℕ))
+    → (V → Option (List ℕ)) → Status → List (Watched V) → F → F → Watched W → Watched W
     → WriterState → WriterState → Type 0
-SinksAnswer words known knows of_output of_file status closed files old new made before after =
+StreamAnswers words known knows of_output of_file status made closed files old new before after =
     Answers (stream_kinds_of words) MayEndAsStream (AsksStream words)
-    (λ (what : Stream). EndsAsAsked what known knows of_output of_file status old new made
-    before after)
-    status closed files old new before after
-
--- and so it does the table of all sinks
-abbrev pub TableAnswers : {F W : Type 0} → List Text → Known → (W → Option (List ℕ)) → Status
-    → F → F → Watched W → Watched W → WriterState → WriterState → Type 0
-TableAnswers words known contents status closed files old new before after =
-    Answers (stream_kinds_of words) MayEndAsStream (AsksStream words)
-    (λ (what : Stream). EndsAsTable what known contents status old new before after)
+    (λ (what : Stream). EndsAsStreamed what known knows of_output of_file status made
+    old new before after)
     status closed files old new before after
 
 -- the others answer all the words: a replay of the input ends as one also where memory ran out, a

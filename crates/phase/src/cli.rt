@@ -1,13 +1,11 @@
 //! A run of the program over any input, outputs and files.
 ghost use Rattle.std.specs.Prelude.{◌≡◌, ◌≢◌, List};
 ghost use Rattle.clap.specs.Words.{Text};
-ghost use Rattle.phase.specs.Answers.{AsksNoCounts, EvalAnswers, OthersAnswer, RunAnswers};
-ghost use Rattle.phase.specs.Answers.{SinksAnswer, StreamAnswers, TableAnswers};
+ghost use Rattle.phase.specs.Answers.{AsksNoCounts, EvalAnswers, OthersAnswer, RunAnswers, StreamAnswers};
 ghost use Rattle.phase.specs.Standing.{own_texts};
 ghost use Rattle.phase.specs.Ways.{by_workers, others, run, stream, way_of};
-ghost use Rattle.phase_commands.specs.graph_commands.watched_io.States.{writer_state};
 ghost use Rattle.phase_run.specs.Ends.{AskNoCounts};
-ghost use Rattle.phase_commands.specs.phase_words.Answers.{IsAnswer};
+ghost use Rattle.phase_commands.specs.phase_words.Answers.{IsAnswer, OfStreams, Wrote};
 ghost use Rattle.phase_commands.specs.phase_words.CommandLine.{texts};
 
 use crate::way::{Own, Way, help_word, way_of};
@@ -46,36 +44,17 @@ pub fn run_cli<
 ) -> Status
     // How each command answers, by the words.
     ensures run { (own : List Text) → way_of (texts words.now) ≡ run own
-        → RunAnswers own (F.file streams.old.files) W.contents result
-        streams.old.files streams.new.files streams.old.output streams.new.output
-        (writer_state E.contents streams.old.faults)
-        (writer_state E.contents streams.new.faults) }
+        → OfStreams E.contents (RunAnswers own (F.file streams.old.files) W.contents result)
+        streams.old streams.new }
     ensures stream { (own : List Text) → way_of (texts words.now) ≡ stream own
-        → StreamAnswers own (F.file streams.old.files) W.contents result
-        streams.old.files streams.new.files streams.old.output streams.new.output
-        (writer_state E.contents streams.old.faults)
-        (writer_state E.contents streams.new.faults) }
-    ensures sinks { (own : List Text) → way_of (texts words.now) ≡ stream own
-        → SinksAnswer own (F.file streams.old.files) F.knows W.contents F.Writer.contents result
-        streams.old.files streams.new.files streams.old.output streams.new.output made.new.items
-        (writer_state E.contents streams.old.faults)
-        (writer_state E.contents streams.new.faults) }
-    ensures table { (own : List Text) → way_of (texts words.now) ≡ stream own
-        → TableAnswers own (F.file streams.old.files) W.contents result
-        streams.old.files streams.new.files streams.old.output streams.new.output
-        (writer_state E.contents streams.old.faults)
-        (writer_state E.contents streams.new.faults) }
+        → OfStreams E.contents (StreamAnswers own (F.file streams.old.files) F.knows W.contents
+        F.Writer.contents result made.new.items) streams.old streams.new }
     ensures eval { (own : List Text) → way_of (texts words.now) ≡ by_workers own
-        → EvalAnswers own (F.file streams.old.files) W.contents result
-        streams.old.files streams.new.files streams.old.output streams.new.output
-        (writer_state E.contents streams.old.faults)
-        (writer_state E.contents streams.new.faults) }
+        → OfStreams E.contents (EvalAnswers own (F.file streams.old.files) W.contents result)
+        streams.old streams.new }
     ensures others { way_of (texts words.now) ≡ others
-        → OthersAnswer (texts words.now) (F.file streams.old.files) R.remaining W.contents result
-        input.old input.new
-        streams.old.files streams.new.files streams.old.output streams.new.output
-        (writer_state E.contents streams.old.faults)
-        (writer_state E.contents streams.new.faults) }
+        → OfStreams E.contents (OthersAnswer (texts words.now) (F.file streams.old.files)
+        R.remaining W.contents result input.old input.new) streams.old streams.new }
 
     // That the input is left to the files by a run and by a stream.
     ensures unread { way_of (texts words.now) ≢ others → input.new ≡ input.old }
@@ -97,10 +76,8 @@ fn run_own<H: Threads + Wait + Clock + Sync, W: Write, E: Write, F: Opens + Refu
     own: Own<'_>,
     streams: &mut Streams<W, E, F>,
 ) -> Status
-    ensures answers { RunAnswers (own_texts own.entry) (F.file streams.old.files) W.contents result
-        streams.old.files streams.new.files streams.old.output streams.new.output
-        (writer_state E.contents streams.old.faults)
-        (writer_state E.contents streams.new.faults) }
+    ensures answers { OfStreams E.contents (RunAnswers (own_texts own.entry)
+        (F.file streams.old.files) W.contents result) streams.old streams.new }
     ensures quiet { result ≡ Status.Done → AskNoCounts (own_texts own.entry)
         → streams.new.faults ≡ streams.old.faults }
 {
@@ -120,10 +97,8 @@ fn eval_own<H: Threads + Sync, W: Write, E: Write, F: Opens + Refuses + LooksBes
     words: &[String],
     streams: &mut Streams<W, E, F>,
 ) -> Status
-    ensures answers { EvalAnswers (texts words.now) (F.file streams.old.files) W.contents result
-        streams.old.files streams.new.files streams.old.output streams.new.output
-        (writer_state E.contents streams.old.faults)
-        (writer_state E.contents streams.new.faults) }
+    ensures answers { OfStreams E.contents (EvalAnswers (texts words.now) (F.file streams.old.files)
+        W.contents result) streams.old streams.new }
     ensures quiet { result ≡ Status.Done → streams.new.faults ≡ streams.old.faults }
 {
     phase_run::phase_eval::run_cli(rt, alloc, words, streams)
@@ -136,19 +111,9 @@ fn stream_own<W: Write, E: Write, F: Opens + Refuses + LooksBeside>(
     streams: &mut Streams<W, E, F>,
     made: &mut Vec<Watched<F::Writer>>,
 ) -> Status
-    ensures answers { StreamAnswers (own_texts own.entry) (F.file streams.old.files) W.contents
-        result streams.old.files streams.new.files streams.old.output streams.new.output
-        (writer_state E.contents streams.old.faults)
-        (writer_state E.contents streams.new.faults) }
-    ensures sinks { SinksAnswer (own_texts own.entry) (F.file streams.old.files) F.knows
-        W.contents F.Writer.contents result streams.old.files streams.new.files
-        streams.old.output streams.new.output made.new.items
-        (writer_state E.contents streams.old.faults)
-        (writer_state E.contents streams.new.faults) }
-    ensures table { TableAnswers (own_texts own.entry) (F.file streams.old.files) W.contents
-        result streams.old.files streams.new.files streams.old.output streams.new.output
-        (writer_state E.contents streams.old.faults)
-        (writer_state E.contents streams.new.faults) }
+    ensures answers { OfStreams E.contents (StreamAnswers (own_texts own.entry)
+        (F.file streams.old.files) F.knows W.contents F.Writer.contents result made.new.items)
+        streams.old streams.new }
     ensures quiet { result ≡ Status.Done → streams.new.faults ≡ streams.old.faults }
 {
     match own {
@@ -162,9 +127,7 @@ fn stream_own<W: Write, E: Write, F: Opens + Refuses + LooksBeside>(
 
 /// Tells that memory ran out over the words.
 fn out_of_memory<W: Write, E: Write, F>(streams: &mut Streams<W, E, F>) -> Status
-    ensures told { IsAnswer NoCall.OutOfMemory result streams.old.output streams.new.output
-        (writer_state E.contents streams.old.faults)
-        (writer_state E.contents streams.new.faults) }
+    ensures told { Wrote E.contents (IsAnswer NoCall.OutOfMemory result) streams.old streams.new }
     ensures unopened { streams.new.files ≡ streams.old.files }
 {
     answer(

@@ -1,14 +1,13 @@
 //! A run of the program over any input, outputs and files.
-ghost use Rattle.std.specs.Prelude.{◌≡◌, ◌⊎◌, option_map};
+ghost use Rattle.std.specs.Prelude.{◌≡◌, option_map};
 ghost use Rattle.graph_commands.specs.Ends.{CheckEnds, ColumnsEnd, DrawEnds, EvalEnds};
 ghost use Rattle.graph_commands.specs.Folders.{known_by};
 ghost use Rattle.phase_commands.specs.Ends.{EndsAs, LeavesAlone, MayEndAs, MayEndAsked};
 ghost use Rattle.phase_commands.specs.Leaving.{LeavesBy};
-ghost use Rattle.phase_replay.specs.Replays.{ReplayEnds};
-ghost use Rattle.phase_words.specs.Answers.{AnswerEnds, IsUnbegun, MayEnd};
+ghost use Rattle.phase_words.specs.Answers.{AnswerEnds, MayEnd, Wrote, WroteIfBegun};
 ghost use Rattle.phase_words.specs.CommandLine.{AreTaken, AskReplay, Asked, Asks, asked_of, kinds_of};
-ghost use Rattle.phase_words.specs.CommandLine.{check, columns, draw, eval, replay_file, texts};
-ghost use Rattle.phase_replay.specs.watched_io.States.{ReaderState, reader_state, writer_state};
+ghost use Rattle.phase_words.specs.CommandLine.{check, columns, draw, eval, replay, replay_file, texts};
+ghost use Rattle.phase_replay.specs.watched_io.States.{ReaderState, reader_state};
 
 use graph_commands::{LooksBeside, Refuses, check, draw, end, eval, eval_columns, look_by};
 use phase_replay::watched_io::{Explain, Files, Status, Streams};
@@ -35,30 +34,23 @@ pub fn run_cli<R: Read, W: Write, E: Write, F: Files + Refuses + LooksBeside>(
     ensures status { MayEnd (kinds_of (texts words.now)) (MayEndAsked (texts words.now)) result }
 
     // What a replay wrote, whole or up to a fault, which has its cause and was told.
-    ensures replay { AskReplay (texts words.now) → ReplayEnds result
-        (reader_state R.remaining input.old) (reader_state R.remaining input.new)
-        (writer_state W.contents streams.old.output) (writer_state W.contents streams.new.output)
-        (writer_state E.contents streams.old.faults)
-        (writer_state E.contents streams.new.faults) }
+    ensures replay { AskReplay (texts words.now)
+        → Wrote E.contents (EndsAs replay (F.file streams.old.files) W.contents result
+        (reader_state R.remaining input.old) (reader_state R.remaining input.new))
+        streams.old streams.new }
 
     // What a replay of a file, and a check, an evaluation and a drawing of a graph wrote, whole or
     // up to a fault, why there is no other answer, and what is said further where that is asked
     // for.
     ensures asked { (what : Asked) → Asks (texts words.now) what
-        → IsUnbegun result streams.old.files streams.new.files
-        streams.old.output streams.new.output
-        (writer_state E.contents streams.old.faults) (writer_state E.contents streams.new.faults)
-        ⊎ EndsAs what (F.file streams.old.files) W.contents result
-        (reader_state R.remaining input.old) (reader_state R.remaining input.new)
-        streams.old.output streams.new.output
-        (writer_state E.contents streams.old.faults)
-        (writer_state E.contents streams.new.faults) }
+        → WroteIfBegun E.contents result (EndsAs what (F.file streams.old.files) W.contents result
+        (reader_state R.remaining input.old) (reader_state R.remaining input.new))
+        streams.old streams.new }
 
     // How other words are answered.
     ensures answered { (AreTaken (texts words.now) → ⊥)
-        → AnswerEnds (kinds_of (texts words.now)) result streams.old.output streams.new.output
-        (writer_state E.contents streams.old.faults)
-        (writer_state E.contents streams.new.faults) }
+        → Wrote E.contents (AnswerEnds (kinds_of (texts words.now)) result)
+        streams.old streams.new }
 
     // What is left alone: a replay with no file alone reads the input, and what goes by a file
     // alone opens files.
@@ -80,11 +72,9 @@ fn run_call<R: Read, W: Write, E: Write, F: Files + Refuses + LooksBeside>(
     streams: &mut Streams<W, E, F>,
 ) -> Status
     ensures status { MayEndAs (asked_of call.entry) result }
-    ensures ends { EndsAs (asked_of call.entry) (F.file streams.old.files) W.contents result
-        (reader_state R.remaining input.old) (reader_state R.remaining input.new)
-        streams.old.output streams.new.output
-        (writer_state E.contents streams.old.faults)
-        (writer_state E.contents streams.new.faults) }
+    ensures ends { Wrote E.contents (EndsAs (asked_of call.entry) (F.file streams.old.files)
+        W.contents result (reader_state R.remaining input.old) (reader_state R.remaining input.new))
+        streams.old streams.new }
     ensures left { LeavesBy call.entry input.old input.new streams.old.files streams.new.files }
     ensures quiet { result ≡ Status.Done → streams.new.faults ≡ streams.old.faults }
 {
@@ -122,10 +112,8 @@ fn run_replay<W: Write, E: Write, F: Files + Refuses>(
 ) -> Status
     ensures status { MayEndAs (replay_file strict script.now) result }
     ensures ends { (input rest : ReaderState)
-        → EndsAs (replay_file strict script.now) (F.file streams.old.files) W.contents result
-        input rest streams.old.output streams.new.output
-        (writer_state E.contents streams.old.faults)
-        (writer_state E.contents streams.new.faults) }
+        → Wrote E.contents (EndsAs (replay_file strict script.now) (F.file streams.old.files)
+        W.contents result input rest) streams.old streams.new }
     ensures quiet { result ≡ Status.Done → streams.new.faults ≡ streams.old.faults }
 {
     let Streams {
@@ -148,11 +136,8 @@ fn run_check<W: Write, E: Write, F: Files + Refuses + LooksBeside>(
     streams: &mut Streams<W, E, F>,
 ) -> Status
     ensures status { MayEndAs (check beside explain graph.now) result }
-    ensures ends { CheckEnds explain
-        (known_by beside graph.now (F.file streams.old.files)) graph.now result W.contents
-        streams.old.output streams.new.output
-        (writer_state E.contents streams.old.faults)
-        (writer_state E.contents streams.new.faults) }
+    ensures ends { Wrote E.contents (CheckEnds explain (known_by beside graph.now
+        (F.file streams.old.files)) graph.now result W.contents) streams.old streams.new }
     ensures quiet { result ≡ Status.Done → streams.new.faults ≡ streams.old.faults }
 {
     look_by(alloc, &mut streams.files, beside, graph);
@@ -181,10 +166,8 @@ fn run_draw<W: Write, E: Write, F: Files + Refuses>(
     streams: &mut Streams<W, E, F>,
 ) -> Status
     ensures status { MayEndAs (draw explain graph.now) result }
-    ensures ends { DrawEnds explain (F.file streams.old.files) graph.now result W.contents
-        streams.old.output streams.new.output
-        (writer_state E.contents streams.old.faults)
-        (writer_state E.contents streams.new.faults) }
+    ensures ends { Wrote E.contents (DrawEnds explain (F.file streams.old.files) graph.now result
+        W.contents) streams.old streams.new }
     ensures quiet { result ≡ Status.Done → streams.new.faults ≡ streams.old.faults }
 {
     let done = draw(alloc, graph, &mut streams.output, &mut streams.files);
@@ -209,12 +192,9 @@ fn run_eval<W: Write, E: Write, F: Files + Refuses + LooksBeside>(
 ) -> Status
     ensures status { MayEndAs
         (eval beside explain graph.now (option_map (λ s. s.now) sink.entry)) result }
-    ensures ends { EvalEnds explain
-        (known_by beside graph.now (F.file streams.old.files)) graph.now
-        (option_map (λ s. s.now) sink.entry) result W.contents
-        streams.old.output streams.new.output
-        (writer_state E.contents streams.old.faults)
-        (writer_state E.contents streams.new.faults) }
+    ensures ends { Wrote E.contents (EvalEnds explain (known_by beside graph.now
+        (F.file streams.old.files)) graph.now (option_map (λ s. s.now) sink.entry) result
+        W.contents) streams.old streams.new }
     ensures quiet { result ≡ Status.Done → streams.new.faults ≡ streams.old.faults }
 {
     look_by(alloc, &mut streams.files, beside, graph);
@@ -238,11 +218,8 @@ fn run_columns<W: Write, E: Write, F: Files + Refuses + LooksBeside>(
     streams: &mut Streams<W, E, F>,
 ) -> Status
     ensures status { MayEndAs (columns beside explain graph.now) result }
-    ensures ends { ColumnsEnd explain
-        (known_by beside graph.now (F.file streams.old.files)) graph.now result W.contents
-        streams.old.output streams.new.output
-        (writer_state E.contents streams.old.faults)
-        (writer_state E.contents streams.new.faults) }
+    ensures ends { Wrote E.contents (ColumnsEnd explain (known_by beside graph.now
+        (F.file streams.old.files)) graph.now result W.contents) streams.old streams.new }
     ensures quiet { result ≡ Status.Done → streams.new.faults ≡ streams.old.faults }
 {
     look_by(alloc, &mut streams.files, beside, graph);

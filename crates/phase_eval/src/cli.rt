@@ -1,10 +1,9 @@
 //! An evaluation by threads, over any outputs and files.
-ghost use Rattle.std.specs.Prelude.{◌≡◌, ◌⊎◌};
+ghost use Rattle.std.specs.Prelude.{◌≡◌};
 ghost use Rattle.phase_eval.specs.Ends.{EndsAsEval, MayEndAsEval};
-ghost use Rattle.phase_words.specs.Answers.{AnswerEnds, IsUnbegun, MayEnd};
+ghost use Rattle.phase_words.specs.Answers.{AnswerEnds, MayEnd, Wrote, WroteIfBegun};
 ghost use Rattle.phase_words.specs.CommandLine.{texts};
 ghost use Rattle.phase_words.specs.RunLine.{AreWorkersTaken, AsksWorkers, Run, run_of, workers_kinds_of};
-ghost use Rattle.graph_commands.specs.watched_io.States.{writer_state};
 
 use crate::texts::ByThreads;
 use graph_commands::watched_io::{Files, Status, Streams};
@@ -34,20 +33,13 @@ pub fn run_cli<H: Threads + Sync, W: Write, E: Write, F: Files + Refuses + Looks
     // What an evaluation of a graph wrote, whole or up to a fault, why there is no other answer,
     // and what is said further where that is asked for.
     ensures eval { (what : Run) → AsksWorkers (texts words.now) what
-        → IsUnbegun result streams.old.files streams.new.files
-        streams.old.output streams.new.output
-        (writer_state E.contents streams.old.faults) (writer_state E.contents streams.new.faults)
-        ⊎ EndsAsEval what (F.file streams.old.files) W.contents result
-        streams.old.output streams.new.output
-        (writer_state E.contents streams.old.faults)
-        (writer_state E.contents streams.new.faults) }
+        → WroteIfBegun E.contents result (EndsAsEval what (F.file streams.old.files) W.contents
+        result) streams.old streams.new }
 
     // How other words are answered, and that they open no file.
     ensures answered { (AreWorkersTaken (texts words.now) → ⊥)
-        → AnswerEnds (workers_kinds_of (texts words.now)) result
-        streams.old.output streams.new.output
-        (writer_state E.contents streams.old.faults)
-        (writer_state E.contents streams.new.faults) }
+        → Wrote E.contents (AnswerEnds (workers_kinds_of (texts words.now)) result)
+        streams.old streams.new }
     ensures unopened { (AreWorkersTaken (texts words.now) → ⊥)
         → streams.new.files ≡ streams.old.files }
     ensures quiet { result ≡ Status.Done → streams.new.faults ≡ streams.old.faults }
@@ -66,10 +58,8 @@ fn run_call<H: Threads + Sync, W: Write, E: Write, F: Files + Refuses + LooksBes
     streams: &mut Streams<W, E, F>,
 ) -> Status
     ensures status { MayEndAsEval result }
-    ensures ends { EndsAsEval (run_of call.entry) (F.file streams.old.files) W.contents result
-        streams.old.output streams.new.output
-        (writer_state E.contents streams.old.faults)
-        (writer_state E.contents streams.new.faults) }
+    ensures ends { Wrote E.contents (EndsAsEval (run_of call.entry) (F.file streams.old.files)
+        W.contents result) streams.old streams.new }
     ensures quiet { result ≡ Status.Done → streams.new.faults ≡ streams.old.faults }
 {
     let graph = call.graph;

@@ -1,7 +1,7 @@
 //! A run of the program over any outputs and files.
-ghost use Rattle.std.specs.Prelude.{◌≡◌, ◌⊎◌, false};
+ghost use Rattle.std.specs.Prelude.{◌≡◌, false};
 ghost use Rattle.phase_run.specs.Ends.{AskNoCounts, EndsAsRun, MayEndAsRun, TellsCounts};
-ghost use Rattle.phase_eval.specs.phase_words.Answers.{AnswerEnds, IsUnbegun, MayEnd};
+ghost use Rattle.phase_eval.specs.phase_words.Answers.{AnswerEnds, MayEnd, Wrote, WroteIfBegun};
 ghost use Rattle.phase_eval.specs.phase_words.CommandLine.{texts};
 ghost use Rattle.phase_eval.specs.phase_words.RunLine.{AreRunTaken, AsksRun, Run, run_kinds_of, run_of};
 ghost use Rattle.stream_workers.specs.graph_commands.Explained.{AreFurtherLines};
@@ -38,20 +38,13 @@ pub fn run_cli<
     // What a run of a graph wrote, whole or up to a fault, why there is no other answer, and what
     // is said further where that is asked for.
     ensures run { (what : Run) → AsksRun (texts words.now) what
-        → IsUnbegun result streams.old.files streams.new.files
-        streams.old.output streams.new.output
-        (writer_state E.contents streams.old.faults) (writer_state E.contents streams.new.faults)
-        ⊎ EndsAsRun what (F.file streams.old.files) W.contents result
-        streams.old.output streams.new.output
-        (writer_state E.contents streams.old.faults)
-        (writer_state E.contents streams.new.faults) }
+        → WroteIfBegun E.contents result (EndsAsRun what (F.file streams.old.files) W.contents
+        result) streams.old streams.new }
 
     // How other words are answered, and that they open no file.
     ensures answered { (AreRunTaken (texts words.now) → ⊥)
-        → AnswerEnds (run_kinds_of (texts words.now)) result
-        streams.old.output streams.new.output
-        (writer_state E.contents streams.old.faults)
-        (writer_state E.contents streams.new.faults) }
+        → Wrote E.contents (AnswerEnds (run_kinds_of (texts words.now)) result)
+        streams.old streams.new }
     ensures unopened { (AreRunTaken (texts words.now) → ⊥)
         → streams.new.files ≡ streams.old.files }
     ensures quiet { result ≡ Status.Done → AskNoCounts (texts words.now)
@@ -71,10 +64,8 @@ fn run_call<H: Threads + Wait + Clock + Sync, W: Write, E: Write, F: Files + Ref
     streams: &mut Streams<W, E, F>,
 ) -> Status
     ensures status { MayEndAsRun result }
-    ensures ends { EndsAsRun (run_of call.entry) (F.file streams.old.files) W.contents result
-        streams.old.output streams.new.output
-        (writer_state E.contents streams.old.faults)
-        (writer_state E.contents streams.new.faults) }
+    ensures ends { Wrote E.contents (EndsAsRun (run_of call.entry) (F.file streams.old.files)
+        W.contents result) streams.old streams.new }
     ensures quiet { result ≡ Status.Done → call.entry.counts ≡ false
         → streams.new.faults ≡ streams.old.faults }
 {

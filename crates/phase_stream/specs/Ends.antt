@@ -27,9 +27,9 @@ EndsAsStream what known contents status old new before after = what.files ≡ []
 
 -- and where they go to files too, which were made, and of which it may be known what is written
 abbrev pub EndsAsAsked : {W V : Type 0} → Stream → Known → Bool → (W → Option (List ℕ))
-    → (V → Option (List ℕ)) → Status → Watched W → Watched W → List (Watched V) → WriterState
+    → (V → Option (List ℕ)) → Status → List (Watched V) → Watched W → Watched W → WriterState
     → WriterState → Type 0
-EndsAsAsked what known knows of_output of_file status old new made before after =
+EndsAsAsked what known knows of_output of_file status made old new before after =
     what.columns ≡ false
     → StreamEndsBy (known_by what.beside what.graph known) what knows of_output of_file status
     old new made before after
@@ -40,3 +40,11 @@ abbrev pub EndsAsTable : {W : Type 0} → Stream → Known → (W → Option (Li
 EndsAsTable what known contents status old new before after = what.columns ≡ true
     → TableEnds what.explain (known_by what.beside what.graph known) what.graph status contents
     old new before after
+
+-- all of these
+pub record EndsAsStreamed {W V : Type 0} (what : Stream) (known : Known) (knows : Bool)
+    (of_output : W → Option (List ℕ)) (of_file : V → Option (List ℕ)) (status : Status)
+    (made : List (Watched V)) (old new : Watched W) (before after : WriterState) : Type 0 where
+  pub stream : EndsAsStream what known of_output status old new before after
+  pub files : EndsAsAsked what known knows of_output of_file status made old new before after
+  pub table : EndsAsTable what known of_output status old new before after

@@ -1,14 +1,14 @@
 //! A run of the program over any outputs and files.
-ghost use Rattle.std.specs.Prelude.{◌≡◌, ◌≢◌, ◌⊎◌, [], OnOk, IfErr};
+ghost use Rattle.std.specs.Prelude.{◌≡◌, [], OnOk, IfErr};
 ghost use Rattle.graph_commands.specs.Ends.{IsTold};
 ghost use Rattle.graph_commands.specs.Failures.{HasPlace, failure_status};
 ghost use Rattle.graph_commands.specs.Folders.{known_by};
 ghost use Rattle.graph_commands.specs.watched_io.States.{writer_state};
-ghost use Rattle.phase_stream.specs.Ends.{EndsAsAsked, EndsAsStream, EndsAsTable, MayEndAsStream};
+ghost use Rattle.phase_stream.specs.Ends.{EndsAsAsked, EndsAsStreamed, EndsAsTable, MayEndAsStream};
 ghost use Rattle.phase_stream.specs.Outputs.{StreamEndsBy};
 ghost use Rattle.phase_stream.specs.Streams.{explained};
 ghost use Rattle.phase_stream.specs.Tables.{TableEnds};
-ghost use Rattle.phase_words.specs.Answers.{AnswerEnds, IsUnbegun, MayEnd};
+ghost use Rattle.phase_words.specs.Answers.{AnswerEnds, MayEnd, Wrote, WroteIfBegun};
 ghost use Rattle.phase_words.specs.CommandLine.{texts};
 ghost use Rattle.phase_words.specs.StreamLine.{AreStreamTaken, AsksStream, Stream as AskedStream, stream_asked, stream_kinds_of};
 
@@ -42,43 +42,16 @@ pub fn run_cli<W: Write, E: Write, F: Opens + Refuses + LooksBeside>(
     // Which statuses may come, by what the words ask for.
     ensures status { MayEnd (stream_kinds_of (texts words.now)) MayEndAsStream result }
 
-    // What a stream wrote, whole or as far as it came, why there is no more, and what is said
-    // further where that is asked for.
-    ensures stream { (what : AskedStream) → AsksStream (texts words.now) what
-        → IsUnbegun result streams.old.files streams.new.files
-        streams.old.output streams.new.output
-        (writer_state E.contents streams.old.faults) (writer_state E.contents streams.new.faults)
-        ⊎ EndsAsStream what (F.file streams.old.files) W.contents result
-        streams.old.output streams.new.output
-        (writer_state E.contents streams.old.faults)
-        (writer_state E.contents streams.new.faults) }
-
-    // And the same of what it wrote to files too, behind the output.
-    ensures files { (what : AskedStream) → AsksStream (texts words.now) what
-        → IsUnbegun result streams.old.files streams.new.files
-        streams.old.output streams.new.output
-        (writer_state E.contents streams.old.faults) (writer_state E.contents streams.new.faults)
-        ⊎ EndsAsAsked what (F.file streams.old.files) F.knows W.contents F.Writer.contents result
-        streams.old.output streams.new.output made.new.items
-        (writer_state E.contents streams.old.faults)
-        (writer_state E.contents streams.new.faults) }
-
-    // What it wrote of the table of all sinks, where that is asked for.
-    ensures table { (what : AskedStream) → AsksStream (texts words.now) what
-        → IsUnbegun result streams.old.files streams.new.files
-        streams.old.output streams.new.output
-        (writer_state E.contents streams.old.faults) (writer_state E.contents streams.new.faults)
-        ⊎ EndsAsTable what (F.file streams.old.files) W.contents result
-        streams.old.output streams.new.output
-        (writer_state E.contents streams.old.faults)
-        (writer_state E.contents streams.new.faults) }
+    // What a stream wrote, whole or as far as it came, to the output, to files too, or of the table
+    // of all sinks, why there is no more, and what is said further where that is asked for.
+    ensures asked { (what : AskedStream) → AsksStream (texts words.now) what
+        → WroteIfBegun E.contents result (EndsAsStreamed what (F.file streams.old.files) F.knows
+        W.contents F.Writer.contents result made.new.items) streams.old streams.new }
 
     // How other words are answered, and that they open no file and make none.
     ensures answered { (AreStreamTaken (texts words.now) → ⊥)
-        → AnswerEnds (stream_kinds_of (texts words.now)) result
-        streams.old.output streams.new.output
-        (writer_state E.contents streams.old.faults)
-        (writer_state E.contents streams.new.faults) }
+        → Wrote E.contents (AnswerEnds (stream_kinds_of (texts words.now)) result)
+        streams.old streams.new }
     ensures unopened { (AreStreamTaken (texts words.now) → ⊥)
         → streams.new.files ≡ streams.old.files }
     ensures unmade { (AreStreamTaken (texts words.now) → ⊥) → made.new.items ≡ [] }
@@ -100,14 +73,11 @@ fn run_call<W: Write, E: Write, F: Opens + Refuses + LooksBeside>(
 ) -> Status
     requires { made.old.items ≡ [] }
     ensures status { MayEndAsStream result }
-    ensures ends { EndsAsAsked (stream_asked call.now) (F.file streams.old.files) F.knows
-        W.contents F.Writer.contents result streams.old.output streams.new.output made.new.items
-        (writer_state E.contents streams.old.faults)
-        (writer_state E.contents streams.new.faults) }
-    ensures table { EndsAsTable (stream_asked call.now) (F.file streams.old.files) W.contents
-        result streams.old.output streams.new.output
-        (writer_state E.contents streams.old.faults)
-        (writer_state E.contents streams.new.faults) }
+    ensures ends { Wrote E.contents (EndsAsAsked (stream_asked call.now)
+        (F.file streams.old.files) F.knows W.contents F.Writer.contents result made.new.items)
+        streams.old streams.new }
+    ensures table { Wrote E.contents (EndsAsTable (stream_asked call.now) (F.file streams.old.files)
+        W.contents result) streams.old streams.new }
     ensures quiet { result ≡ Status.Done → streams.new.faults ≡ streams.old.faults }
 {
     if call.columns {
@@ -125,12 +95,10 @@ fn run_sinks<W: Write, E: Write, F: Opens + Refuses + LooksBeside>(
 ) -> Status
     requires { made.old.items ≡ [] }
     ensures status { MayEndAsStream result }
-    ensures ends { StreamEndsBy
+    ensures ends { Wrote E.contents (λ old new. StreamEndsBy
         (known_by call.now.beside call.now.graph.now (F.file streams.old.files))
-        (stream_asked call.now) F.knows W.contents F.Writer.contents result
-        streams.old.output streams.new.output made.new.items
-        (writer_state E.contents streams.old.faults)
-        (writer_state E.contents streams.new.faults) }
+        (stream_asked call.now) F.knows W.contents F.Writer.contents result old new made.new.items)
+        streams.old streams.new }
     ensures quiet { result ≡ Status.Done → streams.new.faults ≡ streams.old.faults }
 {
     look_by(alloc, &mut streams.files, call.beside, call.graph);
@@ -152,11 +120,9 @@ fn run_table<W: Write, E: Write, F: Opens + Refuses + LooksBeside>(
     streams: &mut Streams<W, E, F>,
 ) -> Status
     ensures status { MayEndAsStream result }
-    ensures ends { TableEnds call.now.explain
-        (known_by call.now.beside call.now.graph.now (F.file streams.old.files))
-        call.now.graph.now result W.contents streams.old.output streams.new.output
-        (writer_state E.contents streams.old.faults)
-        (writer_state E.contents streams.new.faults) }
+    ensures ends { Wrote E.contents (TableEnds call.now.explain (known_by call.now.beside
+        call.now.graph.now (F.file streams.old.files)) call.now.graph.now result W.contents)
+        streams.old streams.new }
     ensures quiet { result ≡ Status.Done → streams.new.faults ≡ streams.old.faults }
 {
     look_by(alloc, &mut streams.files, call.beside, call.graph);

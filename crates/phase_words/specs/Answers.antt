@@ -1,6 +1,6 @@
 -- How a run of the program may end, by the kinds of answer that clap may give in place of taking
 -- its words, and how words that are not taken are answered.
-use Rattle.std.specs.Prelude.{◌≡◌, ◌⊎◌, [], ◌∷◌, ℕ, List, true, string_bytes}
+use Rattle.std.specs.Prelude.{◌≡◌, ◌⊎◌, [], ◌∷◌, ℕ, List, Option, true, string_bytes}
 use Rattle.std.specs.Io.KnownBytes.{Appends}
 use Rattle.clap.specs.Words.{Kinds}
 use Rattle.clap.specs.declared.error.kind.ErrorKind.TheVariants.{DisplayHelp, DisplayVersion}
@@ -8,12 +8,13 @@ use Rattle.phase_words.specs.CommandLine.{Refuse}
 use Rattle.phase_words.specs.declared.call.NoCall.{NoCall}
 use Rattle.phase_words.specs.declared.call.NoCall.TheVariants as no_call
 use Rattle.watched_io.specs.Prefix.{AppendsPrefix}
-use Rattle.watched_io.specs.States.{WriterState}
+use Rattle.watched_io.specs.States.{WriterState, writer_state}
 use Rattle.watched_io.specs.Statuses.{Reports, Says}
 use Rattle.watched_io.specs.Watched.{has_failed_of}
 use Rattle.watched_io.specs.declared.fault.IoFault.TheVariants.{OutOfMemory, WriteFault}
 use Rattle.watched_io.specs.declared.status.Status.{Status}
 use Rattle.watched_io.specs.declared.status.Status.TheVariants.{Done, Failed, Refused}
+use Rattle.watched_io.specs.declared.streams.Streams.{Streams}
 use Rattle.watched_io.specs.declared.watched.Watched.{Watched}
 
 -- the statuses that may come: of words that are taken those that Taken tells
@@ -31,6 +32,31 @@ pub record IsUnbegun {F W : Type 0} (status : Status) (closed files : F) (old ne
   pub unopened : files ≡ closed
   pub silent : new ≡ old
   pub says : Reports OutOfMemory before after
+
+-- ---- what a command wrote
+
+-- this holds of the files and of what was written, as they were and as they are
+abbrev pub OfStreams : {W E F : Type 0} → (E → Option (List ℕ))
+    → (F → F → Watched W → Watched W → WriterState → WriterState → Type 0)
+    → Streams W E F → Streams W E F → Type 0
+OfStreams contents Holds old new = Holds old.files new.files old.output new.output
+    (writer_state contents old.faults) (writer_state contents new.faults)
+
+-- this holds of what was written
+abbrev pub Wrote : {W E F : Type 0} → (E → Option (List ℕ))
+    → (Watched W → Watched W → WriterState → WriterState → Type 0)
+    → Streams W E F → Streams W E F → Type 0
+Wrote contents Holds old new = Holds old.output new.output
+    (writer_state contents old.faults) (writer_state contents new.faults)
+
+-- it holds, or memory ran out over the words
+abbrev pub WroteIfBegun : {W E F : Type 0} → (E → Option (List ℕ)) → Status
+    → (Watched W → Watched W → WriterState → WriterState → Type 0)
+    → Streams W E F → Streams W E F → Type 0
+WroteIfBegun contents status Holds old new =
+    OfStreams contents (IsUnbegun status) old new ⊎ Wrote contents Holds old new
+
+-- ---- words that give no call
 
 -- the status by why there is no call; what is told goes to the fault stream alone, but for help and
 -- the version

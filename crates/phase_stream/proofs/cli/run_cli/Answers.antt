@@ -13,39 +13,24 @@ pub returns-in-Ok-clause-status : goal.returns-in-Ok-clause-status
 returns-in-Ok-clause-status g c =
     may-end-taken _ _ _ c.in-Ok.ensures.call.taken c.run_call.ensures.status
 
-pub returns-in-Ok-clause-stream : goal.returns-in-Ok-clause-stream
-returns-in-Ok-clause-stream g c =
-    λ what asks.
-    inr (λ alone sinks. ends_alone (known_by what.beside what.graph (g.F.Files.file c.args.streams.now.files))
-    what g.F.Opens.knows g.W.Write.contents g.F.Writer.Write.contents c.run_call.result
-    c.args.streams.now.output c.run_call.new.streams.output c.run_call.new.made.items
-    (writer_state g.E.Write.contents c.args.streams.now.faults)
-    (writer_state g.E.Write.contents c.run_call.new.streams.faults)
-    (subst (λ (what : Stream). EndsAsAsked what (g.F.Files.file c.args.streams.now.files)
-    g.F.Opens.knows g.W.Write.contents g.F.Writer.Write.contents c.run_call.result
-    c.args.streams.now.output c.run_call.new.streams.output c.run_call.new.made.items
-    (writer_state g.E.Write.contents c.args.streams.now.faults)
-    (writer_state g.E.Write.contents c.run_call.new.streams.faults))
-    (sym c.in-Ok.ensures.call.stream ∙ asks.stream) c.run_call.ensures.ends sinks) alone)
-
-pub returns-in-Ok-clause-files : goal.returns-in-Ok-clause-files
-returns-in-Ok-clause-files g c =
-    λ what asks.
-    inr (subst (λ (what : Stream). EndsAsAsked what (g.F.Files.file c.args.streams.now.files)
-    g.F.Opens.knows g.W.Write.contents g.F.Writer.Write.contents c.run_call.result
-    c.args.streams.now.output c.run_call.new.streams.output c.run_call.new.made.items
-    (writer_state g.E.Write.contents c.args.streams.now.faults)
-    (writer_state g.E.Write.contents c.run_call.new.streams.faults))
-    (sym c.in-Ok.ensures.call.stream ∙ asks.stream) c.run_call.ensures.ends)
-
-pub returns-in-Ok-clause-table : goal.returns-in-Ok-clause-table
-returns-in-Ok-clause-table g c =
-    λ what asks.
-    inr (subst (λ (what : Stream). EndsAsTable what (g.F.Files.file c.args.streams.now.files)
-    g.W.Write.contents c.run_call.result c.args.streams.now.output c.run_call.new.streams.output
-    (writer_state g.E.Write.contents c.args.streams.now.faults)
-    (writer_state g.E.Write.contents c.run_call.new.streams.faults))
-    (sym c.in-Ok.ensures.call.stream ∙ asks.stream) c.run_call.ensures.table)
+pub returns-in-Ok-clause-asked : goal.returns-in-Ok-clause-asked
+returns-in-Ok-clause-asked g c = λ what asks.
+    let file = g.F.Files.file c.args.streams.now.files in
+    let before = writer_state g.E.Write.contents c.args.streams.now.faults in
+    let after = writer_state g.E.Write.contents c.run_call.new.streams.faults in
+    let is = sym c.in-Ok.ensures.call.stream ∙ asks.stream in
+    let ends = subst (λ (what : Stream). EndsAsAsked what file g.F.Opens.knows g.W.Write.contents
+    g.F.Writer.Write.contents c.run_call.result c.run_call.new.made.items
+    c.args.streams.now.output c.run_call.new.streams.output before after) is c.run_call.ensures.ends in
+    inr (record {
+      stream = λ alone sinks. ends_alone (known_by what.beside what.graph file) what g.F.Opens.knows
+          g.W.Write.contents g.F.Writer.Write.contents c.run_call.result c.args.streams.now.output
+          c.run_call.new.streams.output c.run_call.new.made.items before after (ends sinks) alone;
+      files = ends;
+      table = subst (λ (what : Stream). EndsAsTable what file g.W.Write.contents c.run_call.result
+          c.args.streams.now.output c.run_call.new.streams.output before after) is
+          c.run_call.ensures.table;
+    })
 
 pub returns-in-Ok-clause-answered : goal.returns-in-Ok-clause-answered
 returns-in-Ok-clause-answered g c = λ untaken. absurd (untaken c.in-Ok.ensures.call.taken)
@@ -63,18 +48,8 @@ returns-in-Err-clause-status g c =
     may-end-answered _ _ c.in-Err.none _ _ _ _ _ (λ failed. inr (inr (inr (inr failed))))
     c.in-Err.ensures.no_call c.answer.ensures.answer
 
-pub returns-in-Err-clause-stream : goal.returns-in-Err-clause-stream
-returns-in-Err-clause-stream g c =
-    λ what asks. inl (unbegun _ c.in-Err.none _ _ _ _ _ _ asks.taken c.in-Err.ensures.no_call
-    c.answer.ensures.answer)
-
-pub returns-in-Err-clause-files : goal.returns-in-Err-clause-files
-returns-in-Err-clause-files g c =
-    λ what asks. inl (unbegun _ c.in-Err.none _ _ _ _ _ _ asks.taken c.in-Err.ensures.no_call
-    c.answer.ensures.answer)
-
-pub returns-in-Err-clause-table : goal.returns-in-Err-clause-table
-returns-in-Err-clause-table g c =
+pub returns-in-Err-clause-asked : goal.returns-in-Err-clause-asked
+returns-in-Err-clause-asked g c =
     λ what asks. inl (unbegun _ c.in-Err.none _ _ _ _ _ _ asks.taken c.in-Err.ensures.no_call
     c.answer.ensures.answer)
 
