@@ -1,111 +1,112 @@
-use Rattle.std.proofs.Common.{◌≡◌, Some, refl, subst, ap, ◌∙◌}
-use Rattle.std.specs.Prelude.{IfSome, IfNone, Ok, Err}
+use Rattle.std.proofs.Common.{None, ◌≡◌, Some, refl, subst, ap, ◌∙◌}
+use Rattle.std.specs.Prelude.{Result, IfSome, IfNone, Ok, Err}
 use Rattle.turn_lock.specs.Seats.{seat_view}
 use Rattle.phase_core.specs.phase_history.declared.got.Got.TheVariants.{Value}
+use Rattle.phase_shared.specs.Phasers.{History, Outcome, SignalRefusal}
+use Rattle.phase_shared.specs.declared.rule.Terms.{Terms}
 use Rattle.phase_shared.specs.LockedPhasers.{locked_terms}
 use Rattle.phase_shared.specs.Regs.{RegState}
 use Rattle.phase_shared.specs.Views.{known_of}
 use Rattle.phase_shared.specs.Asked.{HasGone}
 use Rattle.phase_shared.specs.Servings.{ask_of, IsAsking, HasEnded}
-use Rattle.phase_shared.proofs.AskedOpening.{opened_ask, closed_ask, same_ask, gone_reg, gone_call, refused_reg, refused_gone}
+use Rattle.phase_shared.proofs.AskedOpening.{OpenedAsk, opened_ask, closed_ask, same_ask, gone_reg, gone_call, refused_reg, refused_gone}
+use Rattle.phase_shared.proofs.asked.Asked.serve.Given.{Over}
+use Rattle.phase_shared.proofs.asked.Asked.serve.Goals.{After-serve-seat}
 use Rattle.phase_shared.proofs.asked.Asked.serve.Goals as goal
 
 pub serve-seat-requires : goal.serve-seat-requires
 serve-seat-requires g c =
     let i = c.self.inside in
-    let phaser = c.args.phaser.now.locked in
-    let op = g.A.Accumulate.operation in
-    let allows = g.K.SignalRule.allows in
-    let o = opened_ask op allows phaser i.entry i.pending i.request i.seat c.self.invariant (ap (λ r. r.at) c.self.view_is ∙ c.requires.at) in
+    let o = opened_ask g.A.Accumulate.operation g.K.SignalRule.allows c.args.phaser.now.locked i.entry
+    i.pending i.request i.seat c.self.invariant (ap (λ r. r.at) c.self.view_is ∙ c.requires.at) in
     record {
       seat = o.here;
       call = record { place_is = refl; terms_is = refl; ask_is = refl };
       asks = o.asks;
     }
 
+-- the parts that it was taken apart into, and what the call of the seat told
+module _ (g : Over) (c : After-serve-seat g) where
+  abbrev named : Terms g.row.K.Denot
+  named = locked_terms c.args.phaser.now.locked
+
+  abbrev asked : History
+  asked = (known_of (seat_view c.self.inside.seat)).seen
+
+  there : OpenedAsk g.A.Accumulate.operation g.K.SignalRule.allows c.args.phaser.now.locked
+      c.self.inside.entry c.self.inside.pending c.self.inside.request c.self.inside.seat
+  there = opened_ask g.A.Accumulate.operation g.K.SignalRule.allows c.args.phaser.now.locked
+      c.self.inside.entry c.self.inside.pending c.self.inside.request c.self.inside.seat
+      c.self.invariant (ap (λ r. r.at) c.self.view_is ∙ c.requires.at)
+
+  -- it asks still
+  still : c.serve-seat.result.1 ≡ None
+      → IsAsking (ask_of c.self.inside.request) asked (seat_view c.serve-seat.result.0)
+  still is = subst (λ x. IfNone x (IsAsking (ask_of c.self.inside.request) asked
+      (seat_view c.serve-seat.result.0))) is c.serve-seat.ensures.asks
+
+  abbrev Ended : Result Outcome SignalRefusal → Type 0
+  Ended it = HasEnded g.A.Accumulate.operation named.limits (g.K.SignalRule.allows named.rule)
+      (ask_of c.self.inside.request) asked it (seat_view c.serve-seat.result.0)
+
+  -- or this came of it
+  came : (it : Result Outcome SignalRefusal) → c.serve-seat.result.1 ≡ Some it → Ended it
+  came it is = subst (λ x. IfSome x Ended) is c.serve-seat.ensures.ended
+
 -- it asks still
 pub invariant_of-asked : goal.invariant_of-asked
 invariant_of-asked g c =
+    let a = (goal.at.invariant_of-asked g c).After-serve-seat in
     let i = c.self.inside in
-    let phaser = c.args.phaser.now.locked in
-    let op = g.A.Accumulate.operation in
-    let allows = g.K.SignalRule.allows in
-    let o = opened_ask op allows phaser i.entry i.pending i.request i.seat c.self.invariant (ap (λ r. r.at) c.self.view_is ∙ c.requires.at) in
-    let s' = c.serve-seat.result.0 in
-    closed_ask op allows phaser i.entry i.pending i.request i.seat s' o c.serve-seat.ensures.seat
-    (subst (λ x. IfNone x (IsAsking (ask_of i.request) (known_of (seat_view i.seat)).seen (seat_view s'))) c.in_default.is c.serve-seat.ensures.asks)
+    closed_ask g.A.Accumulate.operation g.K.SignalRule.allows c.args.phaser.now.locked
+    i.entry i.pending i.request i.seat c.serve-seat.result.0 (there g a) c.serve-seat.ensures.seat
+    (still g a c.in_default.is)
 
 pub returns-in_default-clause-err : goal.returns-in_default-clause-err
 returns-in_default-clause-err g c =
+    let a = (goal.at.returns-in_default-clause-err g c).After-serve-seat in
     let i = c.self.inside in
-    let phaser = c.args.phaser.now.locked in
-    let op = g.A.Accumulate.operation in
-    let allows = g.K.SignalRule.allows in
-    let o = opened_ask op allows phaser i.entry i.pending i.request i.seat c.self.invariant (ap (λ r. r.at) c.self.view_is ∙ c.requires.at) in
-    let s' = c.serve-seat.result.0 in
-    same_ask op allows phaser i.entry i.pending i.request i.seat s' o c.serve-seat.ensures.seat
-    (subst (λ x. IfNone x (IsAsking (ask_of i.request) (known_of (seat_view i.seat)).seen (seat_view s'))) c.in_default.is c.serve-seat.ensures.asks)
+    same_ask g.A.Accumulate.operation g.K.SignalRule.allows c.args.phaser.now.locked
+    i.entry i.pending i.request i.seat c.serve-seat.result.0 (there g a) c.serve-seat.ensures.seat (still g a c.in_default.is)
     ∙ c.self.view_is
 
 -- its signal is refused
 pub rested-back-requires : goal.rested-back-requires
 rested-back-requires g c =
+    let a = (goal.at.rested-back-requires g c).After-serve-seat in
     let i = c.self.inside in
-    let phaser = c.args.phaser.now.locked in
-    let op = g.A.Accumulate.operation in
-    let allows = g.K.SignalRule.allows in
-    let o = opened_ask op allows phaser i.entry i.pending i.request i.seat c.self.invariant (ap (λ r. r.at) c.self.view_is ∙ c.requires.at) in
-    let s' = c.serve-seat.result.0 in
-    let terms = locked_terms phaser in
-    let came = subst (λ x. IfSome x (λ r. HasEnded op terms.limits (allows terms.rule) (ask_of i.request) (known_of (seat_view i.seat)).seen r (seat_view s')))
-    c.in-Some.is c.serve-seat.ensures.ended in
-    let it = subst (λ r. HasEnded op terms.limits (allows terms.rule) (ask_of i.request) (known_of (seat_view i.seat)).seen r (seat_view s')) c.in-Err.is came in
-    refused_reg op allows phaser i.entry i.pending i.request i.seat s' o c.serve-seat.ensures.seat c.in-Err.refusal it
+    let it = came g a _ (c.in-Some.is ∙ ap Some c.in-Err.is) in
+    refused_reg g.A.Accumulate.operation g.K.SignalRule.allows c.args.phaser.now.locked
+    i.entry i.pending i.request i.seat c.serve-seat.result.0 (there g a) c.serve-seat.ensures.seat c.in-Err.refusal it
 
 pub returns-in-Err-clause-ok : goal.returns-in-Err-clause-ok
 returns-in-Err-clause-ok g c =
+    let a = (goal.at.returns-in-Err-clause-ok g c).After-serve-seat in
     let i = c.self.inside in
-    let phaser = c.args.phaser.now.locked in
-    let op = g.A.Accumulate.operation in
-    let allows = g.K.SignalRule.allows in
-    let o = opened_ask op allows phaser i.entry i.pending i.request i.seat c.self.invariant (ap (λ r. r.at) c.self.view_is ∙ c.requires.at) in
-    let s' = c.serve-seat.result.0 in
-    let terms = locked_terms phaser in
-    let came = subst (λ x. IfSome x (λ r. HasEnded op terms.limits (allows terms.rule) (ask_of i.request) (known_of (seat_view i.seat)).seen r (seat_view s')))
-    c.in-Some.is c.serve-seat.ensures.ended in
-    let it = subst (λ r. HasEnded op terms.limits (allows terms.rule) (ask_of i.request) (known_of (seat_view i.seat)).seen r (seat_view s')) c.in-Err.is came in
-    subst (λ (self : RegState g.row.A.Denot g.row.K.Denot). HasGone op allows terms self c.rested-back.result (Err c.in-Err.refusal)) c.self.view_is
-    (rw c.rested-back.ensures (refused_gone op allows phaser i.entry i.pending i.request i.seat s' o c.serve-seat.ensures.seat c.in-Err.refusal it))
+    let it = came g a _ (c.in-Some.is ∙ ap Some c.in-Err.is) in
+    subst (λ (self : RegState g.row.A.Denot g.row.K.Denot).
+    HasGone g.A.Accumulate.operation g.K.SignalRule.allows (named g a) self c.rested-back.result (Err c.in-Err.refusal)) c.self.view_is
+    (rw c.rested-back.ensures (refused_gone g.A.Accumulate.operation g.K.SignalRule.allows c.args.phaser.now.locked
+    i.entry i.pending i.request i.seat c.serve-seat.result.0 (there g a) c.serve-seat.ensures.seat c.in-Err.refusal it))
 
 -- its next phase was made
 pub gone-reg-requires : goal.gone-reg-requires
 gone-reg-requires g c =
+    let a = (goal.at.gone-reg-requires g c).After-serve-seat in
     let i = c.self.inside in
-    let phaser = c.args.phaser.now.locked in
-    let op = g.A.Accumulate.operation in
-    let allows = g.K.SignalRule.allows in
-    let o = opened_ask op allows phaser i.entry i.pending i.request i.seat c.self.invariant (ap (λ r. r.at) c.self.view_is ∙ c.requires.at) in
-    let s' = c.serve-seat.result.0 in
-    let terms = locked_terms phaser in
-    let came = subst (λ x. IfSome x (λ r. HasEnded op terms.limits (allows terms.rule) (ask_of i.request) (known_of (seat_view i.seat)).seen r (seat_view s')))
-    c.in-Some.is c.serve-seat.ensures.ended in
-    let it = subst (λ r. HasEnded op terms.limits (allows terms.rule) (ask_of i.request) (known_of (seat_view i.seat)).seen r (seat_view s')) c.in-Ok.is came in
-    gone_reg op allows phaser i.entry i.pending i.request i.seat s' o c.serve-seat.ensures.seat c.in-Ok.outcome it
+    let it = came g a _ (c.in-Some.is ∙ ap Some c.in-Ok.is) in
+    gone_reg g.A.Accumulate.operation g.K.SignalRule.allows c.args.phaser.now.locked
+    i.entry i.pending i.request i.seat c.serve-seat.result.0 (there g a) c.serve-seat.ensures.seat c.in-Ok.outcome it
 
 pub returns-clause-ok : goal.returns-clause-ok
 returns-clause-ok g c =
+    let a = (goal.at.returns-clause-ok g c).After-serve-seat in
     let i = c.self.inside in
-    let phaser = c.args.phaser.now.locked in
-    let op = g.A.Accumulate.operation in
-    let allows = g.K.SignalRule.allows in
-    let o = opened_ask op allows phaser i.entry i.pending i.request i.seat c.self.invariant (ap (λ r. r.at) c.self.view_is ∙ c.requires.at) in
-    let s' = c.serve-seat.result.0 in
-    let terms = locked_terms phaser in
-    let came = subst (λ x. IfSome x (λ r. HasEnded op terms.limits (allows terms.rule) (ask_of i.request) (known_of (seat_view i.seat)).seen r (seat_view s')))
-    c.in-Some.is c.serve-seat.ensures.ended in
-    let it = subst (λ r. HasEnded op terms.limits (allows terms.rule) (ask_of i.request) (known_of (seat_view i.seat)).seen r (seat_view s')) c.in-Ok.is came in
+    let it = came g a _ (c.in-Some.is ∙ ap Some c.in-Ok.is) in
     let made = c.gone-reg.ensures in
     let next : c.next-next.result ≡ record { signalled = Some i.request.phase; got = Some (Value i.request.phase c.in-Ok.outcome) } =
     λ j. record { signalled = c.next-next.ensures.signalled j; got = c.next-next.ensures.got j } in
-    subst (λ (self : RegState g.row.A.Denot g.row.K.Denot). HasGone op allows terms self c.gone-reg.result (Ok c.next-next.result)) c.self.view_is
-    (rw (next, made.1) (gone_call op allows phaser i.entry i.pending i.request i.seat s' o c.serve-seat.ensures.seat c.in-Ok.outcome it made.0 made.2 made.3))
+    subst (λ (self : RegState g.row.A.Denot g.row.K.Denot).
+    HasGone g.A.Accumulate.operation g.K.SignalRule.allows (named g a) self c.gone-reg.result (Ok c.next-next.result)) c.self.view_is
+    (rw (next, made.1) (gone_call g.A.Accumulate.operation g.K.SignalRule.allows c.args.phaser.now.locked
+    i.entry i.pending i.request i.seat c.serve-seat.result.0 (there g a) c.serve-seat.ensures.seat c.in-Ok.outcome it made.0 made.2 made.3))
