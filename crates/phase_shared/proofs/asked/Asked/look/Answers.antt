@@ -57,26 +57,20 @@ module _ (g : Over) (c : After-look-seat g) where
 pub invariant_of-asked : goal.invariant_of-asked
 invariant_of-asked g c =
     let a = (goal.at.invariant_of-asked g c).After-look-seat in
-    let i = c.self.inside in
-    closed_ask g.A.Accumulate.operation g.K.SignalRule.allows c.args.phaser.now.locked
-    i.entry i.pending i.request i.seat c.look-seat.result.0 (there g a) c.look-seat.ensures.seat
+    closed_ask _ _ _ _ _ _ _ c.look-seat.result.0 (there g a) c.look-seat.ensures.seat
     (still g a c.in_default.is)
 
 pub returns-in_default-clause-err : goal.returns-in_default-clause-err
 returns-in_default-clause-err g c =
     let a = (goal.at.returns-in_default-clause-err g c).After-look-seat in
-    let i = c.self.inside in
-    same_ask g.A.Accumulate.operation g.K.SignalRule.allows c.args.phaser.now.locked
-    i.entry i.pending i.request i.seat c.look-seat.result.0 (there g a) c.look-seat.ensures.seat (still g a c.in_default.is)
+    same_ask _ _ _ _ _ _ _ c.look-seat.result.0 (there g a) c.look-seat.ensures.seat (still g a c.in_default.is)
     ∙ c.self.view_is
 
 -- its next phase was made
 pub gone-reg-requires : goal.gone-reg-requires
 gone-reg-requires g c =
     let a = (goal.at.gone-reg-requires g c).After-look-seat in
-    let i = c.self.inside in
-    gone_reg g.A.Accumulate.operation g.K.SignalRule.allows c.args.phaser.now.locked
-    i.entry i.pending i.request i.seat c.look-seat.result.0 (there g a) c.look-seat.ensures.seat c.in-Some.outcome
+    gone_reg _ _ _ _ _ _ _ c.look-seat.result.0 (there g a) c.look-seat.ensures.seat c.in-Some.outcome
     (came g a _ c.in-Some.is)
 
 pub returns-clause-ok : goal.returns-clause-ok
@@ -88,6 +82,5 @@ returns-clause-ok g c =
     λ j. record { signalled = c.next-next.ensures.signalled j; got = c.next-next.ensures.got j } in
     subst (λ (self : RegState g.row.A.Denot g.row.K.Denot).
     HasGone g.A.Accumulate.operation g.K.SignalRule.allows (named g a) self c.gone-reg.result (Ok c.next-next.result)) c.self.view_is
-    (rw (next, made.1) (gone_call g.A.Accumulate.operation g.K.SignalRule.allows c.args.phaser.now.locked
-    i.entry i.pending i.request i.seat c.look-seat.result.0 (there g a) c.look-seat.ensures.seat c.in-Some.outcome
+    (rw (next, made.1) (gone_call _ _ _ _ _ _ _ c.look-seat.result.0 (there g a) c.look-seat.ensures.seat c.in-Some.outcome
     (came g a _ c.in-Some.is) made.0 made.2 made.3))

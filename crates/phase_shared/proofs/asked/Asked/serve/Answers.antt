@@ -57,46 +57,36 @@ module _ (g : Over) (c : After-serve-seat g) where
 pub invariant_of-asked : goal.invariant_of-asked
 invariant_of-asked g c =
     let a = (goal.at.invariant_of-asked g c).After-serve-seat in
-    let i = c.self.inside in
-    closed_ask g.A.Accumulate.operation g.K.SignalRule.allows c.args.phaser.now.locked
-    i.entry i.pending i.request i.seat c.serve-seat.result.0 (there g a) c.serve-seat.ensures.seat
+    closed_ask _ _ _ _ _ _ _ c.serve-seat.result.0 (there g a) c.serve-seat.ensures.seat
     (still g a c.in_default.is)
 
 pub returns-in_default-clause-err : goal.returns-in_default-clause-err
 returns-in_default-clause-err g c =
     let a = (goal.at.returns-in_default-clause-err g c).After-serve-seat in
-    let i = c.self.inside in
-    same_ask g.A.Accumulate.operation g.K.SignalRule.allows c.args.phaser.now.locked
-    i.entry i.pending i.request i.seat c.serve-seat.result.0 (there g a) c.serve-seat.ensures.seat (still g a c.in_default.is)
+    same_ask _ _ _ _ _ _ _ c.serve-seat.result.0 (there g a) c.serve-seat.ensures.seat (still g a c.in_default.is)
     ∙ c.self.view_is
 
 -- its signal is refused
 pub rested-back-requires : goal.rested-back-requires
 rested-back-requires g c =
     let a = (goal.at.rested-back-requires g c).After-serve-seat in
-    let i = c.self.inside in
     let it = came g a _ (c.in-Some.is ∙ ap Some c.in-Err.is) in
-    refused_reg g.A.Accumulate.operation g.K.SignalRule.allows c.args.phaser.now.locked
-    i.entry i.pending i.request i.seat c.serve-seat.result.0 (there g a) c.serve-seat.ensures.seat c.in-Err.refusal it
+    refused_reg _ _ _ _ _ _ _ c.serve-seat.result.0 (there g a) c.serve-seat.ensures.seat c.in-Err.refusal it
 
 pub returns-in-Err-clause-ok : goal.returns-in-Err-clause-ok
 returns-in-Err-clause-ok g c =
     let a = (goal.at.returns-in-Err-clause-ok g c).After-serve-seat in
-    let i = c.self.inside in
     let it = came g a _ (c.in-Some.is ∙ ap Some c.in-Err.is) in
     subst (λ (self : RegState g.row.A.Denot g.row.K.Denot).
     HasGone g.A.Accumulate.operation g.K.SignalRule.allows (named g a) self c.rested-back.result (Err c.in-Err.refusal)) c.self.view_is
-    (rw c.rested-back.ensures (refused_gone g.A.Accumulate.operation g.K.SignalRule.allows c.args.phaser.now.locked
-    i.entry i.pending i.request i.seat c.serve-seat.result.0 (there g a) c.serve-seat.ensures.seat c.in-Err.refusal it))
+    (rw c.rested-back.ensures (refused_gone _ _ _ _ _ _ _ c.serve-seat.result.0 (there g a) c.serve-seat.ensures.seat c.in-Err.refusal it))
 
 -- its next phase was made
 pub gone-reg-requires : goal.gone-reg-requires
 gone-reg-requires g c =
     let a = (goal.at.gone-reg-requires g c).After-serve-seat in
-    let i = c.self.inside in
     let it = came g a _ (c.in-Some.is ∙ ap Some c.in-Ok.is) in
-    gone_reg g.A.Accumulate.operation g.K.SignalRule.allows c.args.phaser.now.locked
-    i.entry i.pending i.request i.seat c.serve-seat.result.0 (there g a) c.serve-seat.ensures.seat c.in-Ok.outcome it
+    gone_reg _ _ _ _ _ _ _ c.serve-seat.result.0 (there g a) c.serve-seat.ensures.seat c.in-Ok.outcome it
 
 pub returns-clause-ok : goal.returns-clause-ok
 returns-clause-ok g c =
@@ -108,5 +98,4 @@ returns-clause-ok g c =
     λ j. record { signalled = c.next-next.ensures.signalled j; got = c.next-next.ensures.got j } in
     subst (λ (self : RegState g.row.A.Denot g.row.K.Denot).
     HasGone g.A.Accumulate.operation g.K.SignalRule.allows (named g a) self c.gone-reg.result (Ok c.next-next.result)) c.self.view_is
-    (rw (next, made.1) (gone_call g.A.Accumulate.operation g.K.SignalRule.allows c.args.phaser.now.locked
-    i.entry i.pending i.request i.seat c.serve-seat.result.0 (there g a) c.serve-seat.ensures.seat c.in-Ok.outcome it made.0 made.2 made.3))
+    (rw (next, made.1) (gone_call _ _ _ _ _ _ _ c.serve-seat.result.0 (there g a) c.serve-seat.ensures.seat c.in-Ok.outcome it made.0 made.2 made.3))

@@ -57,46 +57,36 @@ module _ (g : Over) (c : After-take_back-seat g) where
 pub invariant_of-asked : goal.invariant_of-asked
 invariant_of-asked g c =
     let a = (goal.at.invariant_of-asked g c).After-take_back-seat in
-    let i = c.self.inside in
-    closed_ask g.A.Accumulate.operation g.K.SignalRule.allows c.args.phaser.now.locked
-    i.entry i.pending i.request i.seat c.take_back-seat.result.0 (there g a) c.take_back-seat.ensures.seat
+    closed_ask _ _ _ _ _ _ _ c.take_back-seat.result.0 (there g a) c.take_back-seat.ensures.seat
     (still g a c.in_default.is)
 
 pub returns-in_default-clause-err : goal.returns-in_default-clause-err
 returns-in_default-clause-err g c =
     let a = (goal.at.returns-in_default-clause-err g c).After-take_back-seat in
-    let i = c.self.inside in
-    same_ask g.A.Accumulate.operation g.K.SignalRule.allows c.args.phaser.now.locked
-    i.entry i.pending i.request i.seat c.take_back-seat.result.0 (there g a) c.take_back-seat.ensures.seat (still g a c.in_default.is)
+    same_ask _ _ _ _ _ _ _ c.take_back-seat.result.0 (there g a) c.take_back-seat.ensures.seat (still g a c.in_default.is)
     ∙ c.self.view_is
 
 -- its signal is refused
 pub rested-back-requires : goal.rested-back-requires
 rested-back-requires g c =
     let a = (goal.at.rested-back-requires g c).After-take_back-seat in
-    let i = c.self.inside in
     let it = came g a _ (c.in-Some.is ∙ ap Some c.in-Err.is) in
-    refused_reg g.A.Accumulate.operation g.K.SignalRule.allows c.args.phaser.now.locked
-    i.entry i.pending i.request i.seat c.take_back-seat.result.0 (there g a) c.take_back-seat.ensures.seat c.in-Err.refusal it
+    refused_reg _ _ _ _ _ _ _ c.take_back-seat.result.0 (there g a) c.take_back-seat.ensures.seat c.in-Err.refusal it
 
 pub returns-in-Err-clause-ok : goal.returns-in-Err-clause-ok
 returns-in-Err-clause-ok g c =
     let a = (goal.at.returns-in-Err-clause-ok g c).After-take_back-seat in
-    let i = c.self.inside in
     let it = came g a _ (c.in-Some.is ∙ ap Some c.in-Err.is) in
     subst (λ (self : RegState g.row.A.Denot g.row.K.Denot).
     HasTakenBack g.A.Accumulate.operation g.K.SignalRule.allows (named g a) self c.rested-back.result (Err c.in-Err.refusal)) c.self.view_is
-    (rw c.rested-back.ensures (refused_rests g.A.Accumulate.operation g.K.SignalRule.allows c.args.phaser.now.locked
-    i.entry i.pending i.request i.seat c.take_back-seat.result.0 (there g a) c.take_back-seat.ensures.seat c.in-Err.refusal it))
+    (rw c.rested-back.ensures (refused_rests _ _ _ _ _ _ _ c.take_back-seat.result.0 (there g a) c.take_back-seat.ensures.seat c.in-Err.refusal it))
 
 -- its signal alone is made
 pub between-signalled-requires : goal.between-signalled-requires
 between-signalled-requires g c =
     let a = (goal.at.between-signalled-requires g c).After-take_back-seat in
-    let i = c.self.inside in
     let it = came g a _ (c.in-Some.is ∙ ap Some (c.in-Ok.is ∙ ap Ok c.in_default-made.is)) in
-    back_reg g.A.Accumulate.operation g.K.SignalRule.allows c.args.phaser.now.locked
-    i.entry i.pending i.request i.seat c.take_back-seat.result.0 (there g a) c.take_back-seat.ensures.seat it
+    back_reg _ _ _ _ _ _ _ c.take_back-seat.result.0 (there g a) c.take_back-seat.ensures.seat it
 
 pub returns-in_default-made-clause-ok : goal.returns-in_default-made-clause-ok
 returns-in_default-made-clause-ok g c =
@@ -106,17 +96,14 @@ returns-in_default-made-clause-ok g c =
     let made = c.between-signalled.ensures in
     subst (λ (self : RegState g.row.A.Denot g.row.K.Denot).
     HasTakenBack g.A.Accumulate.operation g.K.SignalRule.allows (named g a) self c.between-signalled.result (Ok (i.request.phase, None))) c.self.view_is
-    (rw made.1 (back_gone g.A.Accumulate.operation g.K.SignalRule.allows c.args.phaser.now.locked
-    i.entry i.pending i.request i.seat c.take_back-seat.result.0 (there g a) c.take_back-seat.ensures.seat it made.0 made.2 made.3))
+    (rw made.1 (back_gone _ _ _ _ _ _ _ c.take_back-seat.result.0 (there g a) c.take_back-seat.ensures.seat it made.0 made.2 made.3))
 
 -- its next phase was made
 pub gone-reg-requires : goal.gone-reg-requires
 gone-reg-requires g c =
     let a = (goal.at.gone-reg-requires g c).After-take_back-seat in
-    let i = c.self.inside in
     let it = came g a _ (c.in-Some.is ∙ ap Some (c.in-Ok.is ∙ ap Ok c.in-Some-made.is)) in
-    gone_reg g.A.Accumulate.operation g.K.SignalRule.allows c.args.phaser.now.locked
-    i.entry i.pending i.request i.seat c.take_back-seat.result.0 (there g a) c.take_back-seat.ensures.seat c.in-Some-made.outcome it
+    gone_reg _ _ _ _ _ _ _ c.take_back-seat.result.0 (there g a) c.take_back-seat.ensures.seat c.in-Some-made.outcome it
 
 pub returns-clause-ok : goal.returns-clause-ok
 returns-clause-ok g c =
@@ -126,5 +113,4 @@ returns-clause-ok g c =
     let made = c.gone-reg.ensures in
     subst (λ (self : RegState g.row.A.Denot g.row.K.Denot).
     HasTakenBack g.A.Accumulate.operation g.K.SignalRule.allows (named g a) self c.gone-reg.result (Ok (i.request.phase, Some (Value i.request.phase c.in-Some-made.outcome)))) c.self.view_is
-    (rw made.1 (gone_back g.A.Accumulate.operation g.K.SignalRule.allows c.args.phaser.now.locked
-    i.entry i.pending i.request i.seat c.take_back-seat.result.0 (there g a) c.take_back-seat.ensures.seat c.in-Some-made.outcome it made.0 made.2 made.3))
+    (rw made.1 (gone_back _ _ _ _ _ _ _ c.take_back-seat.result.0 (there g a) c.take_back-seat.ensures.seat c.in-Some-made.outcome it made.0 made.2 made.3))
