@@ -1,14 +1,13 @@
 -- A stream whose values go to the output alone, by what holds of one whose values go to several
 -- writers.
-use Rattle.std.proofs.Common.{◌≡◌, ◌⊎◌, inl, inr, ◌+◌, ℕ, ℤ, zero, suc, Bool, true, false, List, [], ◌∷◌, Option, Some, None, length, slice_get, refl, sym, ap, subst, ◌∙◌, rules, arith}
+use Rattle.std.proofs.Common.{◌≡◌, inl, inr, ◌+◌, ℕ, ℤ, zero, suc, Bool, true, List, [], ◌∷◌, Option, Some, None, length, refl, sym, ap, subst, ◌∙◌, rules, arith}
 use Rattle.std.proofs.lemmas.Bool.{ltb-true}
-use Rattle.std.specs.Prelude.{◌||◌, is_some, string_bytes, ⊤}
+use Rattle.std.specs.Prelude.{is_some, string_bytes, ⊤}
 use Rattle.std.specs.List.{flat_map}
 use Rattle.std.specs.Io.KnownBytes.{Appends}
 use Rattle.graph_commands.specs.FileJobs.{Known}
 use Rattle.graph_commands.specs.declared.failure.Failure.{Failure}
 use Rattle.graph_commands.specs.declared.failure.Failure.TheVariants as failure
-use Rattle.graph_commands.specs.declared.fault.JobFault.{JobFault}
 use Rattle.graph_commands.specs.declared.fault.JobFault.TheVariants as fault
 use Rattle.graph_commands.specs.watched_io.States.{WriterState, writer_state}
 use Rattle.graph_commands.specs.watched_io.declared.status.Status.{Status}
@@ -19,9 +18,9 @@ use Rattle.stream_job.specs.SinkLines.{kept_by}
 use Rattle.stream_job.specs.graph_runs.Moments.{Moment}
 use Rattle.stream_job.specs.stream_lists.Jobs.{Job}
 use Rattle.stream_job.specs.stream_lists.Lists.{sinks_of}
-use Rattle.phase_stream.specs.Outputs.{HasSinks, IsUnbegunStream, LacksSink, StopBehind, StopKept, StopOf, StreamDoes, StreamEndsBy, StreamFailsBy, StreamStops, WriteKept, WriteParts, WriteWhole, bare_at, is_asked, only_of, output_task, task_to, writers_at}
+use Rattle.phase_stream.specs.Outputs.{HasSinks, IsUnbegunStream, LacksSink, StopBehind, StopKept, StopOf, StreamDoes, StreamEndsBy, StreamFailsBy, WriteParts, WriteWhole, bare_at, is_asked, only_of, output_task, task_to, writers_at}
 use Rattle.phase_stream.specs.Sessions.{HasFailed}
-use Rattle.phase_stream.specs.Streams.{AsksNone, AsksOne, IsFaultBehind, IsNoStream, IsStandstill, EndsInRecord, StopsBegun, StopsBehind, StopsKept, StopsOf, StreamEnds, StreamFails, Streams, WritesPart, WritesWhole}
+use Rattle.phase_stream.specs.Streams.{AsksNone, AsksOne, IsFaultBehind, IsNoStream, IsStandstill, EndsInRecord, StopsBehind, StopsKept, StopsOf, StreamEnds, StreamFails, Streams, WritesPart, WritesWhole}
 
 -- ---- what is written
 

@@ -1,10 +1,10 @@
 -- One column after another goes on.
-use Rattle.std.proofs.Common.{◌≡◌, ◌≢◌, ◌⊎◌, inl, inr, ◌<◌, ◌≤◌, ◌+◌, ◌-◌, cond, ℕ, ℤ, zero, suc, Bool, true, false, List, [], ◌∷◌, Some, length, get_or, set, slice_get, refl, sym, ap, subst, ◌∙◌, arith}
-use Rattle.std.proofs.lemmas.Bool.{cases_lt, ltb-false, ltb-true, lt-ltb}
+use Rattle.std.proofs.Common.{◌≡◌, ◌≢◌, ◌⊎◌, inl, inr, ◌<◌, ◌≤◌, ◌+◌, ◌-◌, cond, ℕ, ℤ, suc, Bool, true, false, List, [], ◌∷◌, Some, length, get_or, set, slice_get, refl, sym, ap, subst, ◌∙◌, arith}
+use Rattle.std.proofs.lemmas.Bool.{ltb-false, ltb-true}
 use Rattle.std.proofs.lemmas.List.{length-set}
 use Rattle.std.proofs.lemmas.Option.{same_Some, slice_get-get_or, slice_get_within}
 use Rattle.std.specs.Prelude.{drop, nat_lt}
-use Rattle.std.specs.List.{list_all, list_any}
+use Rattle.std.specs.List.{list_any}
 use Rattle.phase_stream.specs.Columns.{HasNoMore, HasPassedLine, has_value}
 use Rattle.phase_stream.specs.TableLines.{EachGoes, have_left}
 use Rattle.phase_stream.specs.declared.column.Column.{Column}

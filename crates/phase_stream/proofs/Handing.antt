@@ -17,7 +17,7 @@ use Rattle.stream_job.specs.graph_runs.Moments.{Moment}
 use Rattle.stream_job.specs.graph_runs.Turned.{with_at}
 use Rattle.stream_job.specs.stream_lists.Jobs.{Job}
 use Rattle.stream_job.specs.stream_lists.Lists.{sinks_of}
-use Rattle.phase_stream.specs.Sessions.{AllHanded, AreLeft, AreTargets, AreWritten, HandsOverAll, HandsPart, HasStopped, IsSameSession, Reaches, StandsBy, StandsPart, StandsStopped, WritesFirst, WritesLeft, WritesLeftPart, WritesPrefixTo, WritesSome, WritesTo, task_for, values_for}
+use Rattle.phase_stream.specs.Sessions.{AllHanded, AreLeft, AreTargets, AreWritten, HandsOverAll, HandsPart, HasStopped, IsSameSession, Reaches, StandsBy, StandsPart, StandsStopped, WritesFirst, WritesLeft, WritesLeftPart, WritesSome, WritesTo, task_for, values_for}
 use Rattle.phase_stream.specs.declared.session.Session.{Session}
 use Rattle.phase_stream.specs.declared.sink.Sink.{Sink}
 use Rattle.phase_stream.proofs.Standing.{came_same, sources_same, stopped_same}

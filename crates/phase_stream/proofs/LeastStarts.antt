@@ -1,12 +1,10 @@
 -- The phase at which a task begins at the earliest: one that joins now begins there or later, and
 -- each other one there.
-use Rattle.std.proofs.Common.{◌≡◌, ◌<◌, ◌≤◌, ◌+◌, ◌*◌, ◌&&◌, cond, ℕ, zero, suc, Bool, true, false, List, Option, Some, None, length, get_or, refl, sym, ap, subst, ◌∙◌, arith}
+use Rattle.std.proofs.Common.{◌≡◌, ◌<◌, ◌≤◌, ◌+◌, ◌*◌, ◌&&◌, ℕ, zero, suc, Bool, true, false, List, Option, Some, None, length, get_or, refl, sym, ap, subst, ◌∙◌, arith}
 use Rattle.std.specs.Prelude.{if◌then◌else◌, max, nat_le}
 use Rattle.stream_job.specs.graph_base.Graphs.{task_at}
 use Rattle.stream_job.specs.graph_base.TaskLines.{IsGraph, IsParent, IsTaskLine}
 use Rattle.stream_job.specs.graph_base.declared.line.Parent.{Parent}
-use Rattle.stream_job.specs.graph_runs.Beginnings.{opening}
-use Rattle.stream_job.specs.graph_runs.Reached.{HasBegun}
 use Rattle.stream_job.specs.stream_lists.Jobs.{Job, samples_at, start_at}
 use Rattle.stream_job.specs.stream_lists.Spans.{lengths_of, nowhere, offset_of, span_at, span_in, spans_of}
 use Rattle.stream_job.specs.stream_lists.declared.span.Span.{Span}

@@ -1,16 +1,16 @@
 -- The lines of a table are those that its cells say.
-use Rattle.std.proofs.Common.{◌≡◌, ◌<◌, ◌≤◌, ◌+◌, ◌-◌, ◌++◌, ◌==◌, ℕ, ℤ, zero, suc, Bool, List, [], ◌∷◌, Option, Some, None, length, get_or, map, refl, sym, ap, subst, ◌∙◌, arith, append_assoc}
+use Rattle.std.proofs.Common.{◌≡◌, ◌<◌, ◌≤◌, ◌+◌, ◌-◌, ◌++◌, ◌==◌, ℕ, ℤ, zero, suc, Bool, List, [], ◌∷◌, Option, Some, None, length, get_or, map, refl, sym, ap, ◌∙◌, arith, append_assoc}
 use Rattle.std.proofs.lemmas.List.{get_or-map, length-map}
 use Rattle.std.proofs.lemmas.List.Concat.{flat_map-append}
 use Rattle.std.proofs.lemmas.List.FromFn.{get_or-map-range_with_len, length-map-range_with_len}
 use Rattle.std.specs.Prelude.{codes, max}
 use Rattle.std.specs.List.{flat_map, fold, range_with_len}
 use mathlib.Core.List.{IsPrefix}
-use Rattle.graph_commands.specs.ColumnTexts.{SinkValues, cell, cell_at, columns_text, comma_before, end_at, end_from, row_text, rows_of, value_cell, value_from}
+use Rattle.graph_commands.specs.ColumnTexts.{SinkValues, cell, comma_before, end_at, end_from, row_text, rows_of, value_cell, value_from}
 use Rattle.graph_commands.proofs.Below.{range-parts, below-more}
 use Rattle.stream_job.specs.stream_lists.Jobs.{Job}
 use Rattle.stream_job.specs.stream_lists.Lists.{lines_of, numbers_of, sink_over, sinks_of}
-use Rattle.stream_job.specs.stream_lists.Spans.{greatest, schedule_of, span_in}
+use Rattle.stream_job.specs.stream_lists.Spans.{schedule_of, span_in}
 use Rattle.phase_stream.specs.Sessions.{sink_list}
 use Rattle.phase_stream.specs.TableLines.{View, cells_at, line_of, names_line, table_text}
 use Rattle.phase_stream.specs.Tables.{table_of}

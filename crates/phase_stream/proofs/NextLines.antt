@@ -1,7 +1,7 @@
 -- A line more of a table: what stands in it, and how the columns stand behind it.
-use Rattle.std.proofs.Common.{◌≡◌, ◌⊎◌, inl, inr, ◌<◌, ◌≤◌, ◌+◌, ◌-◌, ◌++◌, ◌||◌, cond, ℕ, ℤ, zero, suc, Bool, true, false, List, [], ◌∷◌, Option, Some, None, length, get_or, map, refl, sym, ap, subst, ◌∙◌, append-nil, append_assoc, arith}
+use Rattle.std.proofs.Common.{◌≡◌, ◌⊎◌, inl, inr, ◌<◌, ◌≤◌, ◌+◌, ◌-◌, ◌++◌, cond, ℕ, ℤ, zero, suc, Bool, true, false, List, [], ◌∷◌, Option, Some, None, length, get_or, map, refl, sym, ap, subst, ◌∙◌, append-nil, append_assoc, arith}
 use Rattle.std.proofs.KnownBytes.{Appends-trans}
-use Rattle.std.proofs.lemmas.Bool.{lt-ltb, ltb-false, ltb-true, and_parts}
+use Rattle.std.proofs.lemmas.Bool.{ltb-false, ltb-true, and_parts}
 use Rattle.std.proofs.lemmas.List.{get_or-map, length-map, same_lists}
 use Rattle.std.proofs.lemmas.List.FromFn.{get_or-map-range_with_len, length-map-range_with_len}
 use Rattle.std.proofs.lemmas.Option.{get_or_from_slice_get, same_Some, slice_get-get_or, slice_get_within}
@@ -11,12 +11,11 @@ use Rattle.std.specs.List.{list_all, list_any, range_with_len}
 use mathlib.Core.List.{IsPrefix}
 use Rattle.graph_commands.specs.ColumnTexts.{end_from, value_from}
 use Rattle.graph_commands.specs.watched_io.Prefix.{AppendsPrefix}
-use Rattle.stream_job.specs.graph_base.Graphs.{task_at}
 use Rattle.stream_job.specs.graph_runs.InTime.{BeginsInTime}
 use Rattle.stream_job.specs.graph_runs.Moments.{Moment, started}
 use Rattle.stream_job.specs.stream_lists.Jobs.{Job, with_samples}
 use Rattle.stream_job.specs.stream_lists.Lists.{sinks_of}
-use Rattle.phase_stream.specs.Columns.{ColumnBeginsAt, ColumnStands, HasNoMore, HasPassedLine, IsSameSink, has_value, is_known, least_start, next_cell}
+use Rattle.phase_stream.specs.Columns.{ColumnBeginsAt, ColumnStands, HasPassedLine, IsSameSink, has_value, is_known, least_start, next_cell}
 use Rattle.phase_stream.specs.Sessions.{sink_list}
 use Rattle.phase_stream.specs.TableLines.{EachGoes, HasLast, Shows, ShowsMore, View, cells_at, has_line, line_of, next_line, table_text}
 use Rattle.phase_stream.specs.declared.column.Column.{Column}

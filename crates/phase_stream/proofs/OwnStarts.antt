@@ -1,6 +1,6 @@
 -- The start of a sink that joins now moves that sink alone: the values of the phasers stay, and a
 -- sink whose own start stays has the same values.
-use Rattle.std.proofs.Common.{◌≡◌, ◌<◌, ◌≤◌, ◌++◌, ◌&&◌, ℕ, ℤ, Bool, true, false, List, [], ◌∷◌, Option, Some, None, length, get_or, map, refl, sym, ap, subst, ◌∙◌, arith}
+use Rattle.std.proofs.Common.{◌≡◌, ◌<◌, ◌≤◌, ◌++◌, ◌&&◌, ℕ, ℤ, List, [], ◌∷◌, Option, Some, None, length, get_or, map, refl, sym, ap, subst, ◌∙◌, arith}
 use Rattle.std.specs.Prelude.{if◌then◌else◌}
 use Rattle.std.specs.List.{range_with_len}
 use Rattle.stream_job.specs.graph_base.Graphs.{phaser_at, task_at}
@@ -9,7 +9,7 @@ use Rattle.stream_job.specs.graph_base.declared.line.Parent.{Parent}
 use Rattle.stream_job.specs.graph_runs.InTime.{BeginsInTime}
 use Rattle.stream_job.specs.graph_runs.Moments.{input_at}
 use Rattle.stream_job.specs.stream_lists.Jobs.{Job, index_in, samples_at, start_at, with_starts}
-use Rattle.stream_job.specs.stream_lists.Lists.{Contribution, contribution_at, contribution_by, contributions_on, list_over, number, numbers_of, output_list, phase_in, start_in, taken_by, taken_from, value_by}
+use Rattle.stream_job.specs.stream_lists.Lists.{contribution_at, contribution_by, contributions_on, list_over, number, numbers_of, output_list, phase_in, taken_by, taken_from, value_by}
 use Rattle.stream_job.specs.stream_lists.Spans.{lengths_of, nowhere, offset_of, schedule_of, signalled_by, span_at, span_in, spans_of}
 use Rattle.stream_job.specs.stream_lists.declared.span.Span.{Span}
 use Rattle.stream_job.proofs.stream_lists_lemmas.EachPhase.{signaller_stays}

@@ -1,9 +1,9 @@
 -- What stands in a column is right in every run whose samples go on so.
-use Rattle.std.proofs.Common.{◌≡◌, ◌⊎◌, inl, inr, ◌<◌, ◌≤◌, ◌+◌, ◌-◌, ◌++◌, ◌&&◌, cond, ℕ, ℤ, pos, zero, suc, Bool, true, false, List, [], ◌∷◌, Option, Some, None, length, get_or, map, take, refl, sym, ap, subst, ◌∙◌, arith}
-use Rattle.std.proofs.lemmas.Bool.{cases_lt, lt-ltb, ltb-false, ltb-true}
-use Rattle.std.proofs.lemmas.List.{get_or-map, get_or_append_left, length-append, length-map}
+use Rattle.std.proofs.Common.{◌≡◌, ◌⊎◌, inl, inr, ◌<◌, ◌≤◌, ◌+◌, ◌-◌, ◌++◌, cond, ℕ, ℤ, pos, zero, suc, Bool, true, false, List, [], ◌∷◌, Option, Some, None, length, get_or, take, refl, sym, ap, subst, ◌∙◌, arith}
+use Rattle.std.proofs.lemmas.Bool.{lt-ltb, ltb-false}
+use Rattle.std.proofs.lemmas.List.{get_or_append_left, length-append}
 use Rattle.std.proofs.lemmas.Option.{same_Some, slice_get-get_or, slice_get_past}
-use Rattle.std.specs.Prelude.{drop, if◌then◌else◌, max, nat_le, nat_lt, slice_get}
+use Rattle.std.specs.Prelude.{drop, nat_lt, slice_get}
 use Rattle.std.specs.Option.{option_map}
 use mathlib.Core.List.{IsPrefix}
 use Rattle.graph_commands.specs.ColumnTexts.{end_from, value_from}
@@ -27,7 +27,7 @@ use Rattle.stream_job.proofs.stream_lists_lemmas.Basics.{sink_kind}
 use Rattle.phase_stream.specs.Columns.{ColumnBeginsAt, ColumnStands, least_start}
 use Rattle.phase_stream.specs.Sessions.{sink_list}
 use Rattle.phase_stream.specs.declared.column.Column.{Column}
-use Rattle.phase_stream.proofs.LeastStarts.{BeginsFrom, begins_from}
+use Rattle.phase_stream.proofs.LeastStarts.{begins_from}
 
 -- ---- values from a start
 

@@ -1,6 +1,6 @@
 -- What was written of a table is right in every run whose samples go on so, and all of it once all
 -- sinks have left.
-use Rattle.std.proofs.Common.{◌≡◌, ◌≢◌, ◌<◌, ◌≤◌, ◌+◌, ◌-◌, ◌||◌, ◌&&◌, cond, ℕ, ℤ, zero, suc, Bool, true, false, List, [], ◌∷◌, Option, Some, None, length, get_or, map, refl, sym, ap, subst, ◌∙◌, arith}
+use Rattle.std.proofs.Common.{◌≡◌, ◌<◌, ◌≤◌, ◌+◌, ◌-◌, ◌||◌, ◌&&◌, ℕ, ℤ, zero, suc, Bool, true, false, List, [], ◌∷◌, Some, length, get_or, map, refl, sym, ap, subst, ◌∙◌, arith}
 use Rattle.std.proofs.lemmas.Bool.{lt-ltb}
 use Rattle.std.proofs.lemmas.List.{get_or-map, length-map}
 use Rattle.std.proofs.lemmas.Option.{same_Some, slice_get-get_or, slice_get_within, get_or_from_slice_get}
@@ -16,7 +16,7 @@ use Rattle.stream_job.specs.stream_lists.Jobs.{Job, with_samples}
 use Rattle.stream_job.specs.stream_lists.Lists.{is_sink_at, lines_of, sinks_of}
 use Rattle.stream_job.specs.stream_lists.Spans.{span_in}
 use Rattle.stream_job.proofs.GivenLines.{sink_there}
-use Rattle.phase_stream.specs.Columns.{ColumnStands, has_value, is_known}
+use Rattle.phase_stream.specs.Columns.{has_value, is_known}
 use Rattle.phase_stream.specs.Sessions.{sink_list}
 use Rattle.phase_stream.specs.TableLines.{HasLast, Shows, View, has_line, have_left, table_text}
 use Rattle.phase_stream.specs.Tables.{table_of}

@@ -1,5 +1,5 @@
 -- How a session ends, by the one that it began as.
-use Rattle.std.proofs.Common.{◌≡◌, ℕ, ℤ, Bool, List, [], Option, Some, length, append-nil, refl, sym, ap, subst, ◌∙◌, true}
+use Rattle.std.proofs.Common.{◌≡◌, ℕ, ℤ, Bool, List, [], Option, Some, length, append-nil, refl, sym, subst, ◌∙◌, true}
 use Rattle.std.specs.Prelude.{⊤}
 use Rattle.graph_commands.specs.FileJobs.{Known}
 use Rattle.graph_commands.specs.declared.failure.Failure.{Failure}

@@ -1,7 +1,6 @@
 -- Why a stream stopped whose sinks are the columns of a table, and how it goes on.
-use Rattle.std.proofs.Common.{◌≡◌, ◌<◌, ◌≤◌, ◌++◌, ℕ, ℤ, Bool, true, false, List, [], Option, Some, None, length, get_or, refl, sym, ap, subst, ◌∙◌, arith}
+use Rattle.std.proofs.Common.{◌≡◌, ℕ, ℤ, Bool, true, false, List, [], Option, Some, None, length, refl, sym, ap, subst, ◌∙◌, arith}
 use Rattle.std.specs.Io.KnownBytes.{Appends}
-use mathlib.Core.List.{IsPrefix}
 use Rattle.graph_commands.specs.FileJobs.{Known}
 use Rattle.graph_commands.specs.declared.failure.Failure.{Failure}
 use Rattle.graph_commands.specs.declared.failure.Failure.TheVariants as failure
@@ -11,14 +10,11 @@ use Rattle.graph_commands.specs.watched_io.declared.fault.IoFault.{IoFault}
 use Rattle.graph_commands.specs.watched_io.declared.fault.IoFault.TheVariants as io_fault
 use Rattle.stream_job.specs.Streams.{StreamState, ended_at}
 use Rattle.stream_job.specs.declared.stopped.Stopped.{Stopped}
-use Rattle.stream_job.specs.graph_base.Graphs.{task_at}
-use Rattle.stream_job.specs.graph_base.declared.line.Kind.TheVariants.{Source}
 use Rattle.stream_job.specs.graph_runs.Feeds.{IsFed}
-use Rattle.stream_job.specs.graph_runs.Moments.{Moment}
 use Rattle.stream_job.specs.stream_lists.Jobs.{Job, samples_in, with_samples}
 use Rattle.stream_job.proofs.graph_runs_lemmas.phase_history_lemmas.Streams.{IsPrefix-trans}
 use Rattle.phase_stream.specs.Outputs.{StopOf}
-use Rattle.phase_stream.specs.Sessions.{AreKeptRight, AreSources, AreTargets, HasFailed, Reaches, StandsBy, StandsFurther, StandsStopped, task_for}
+use Rattle.phase_stream.specs.Sessions.{AreKeptRight, AreSources, AreTargets, Reaches, StandsBy, StandsFurther, StandsStopped, task_for}
 use Rattle.phase_stream.specs.TableLines.{Shows, TableStands, TableStopped, by_number, goes_on, have_left, table_text}
 use Rattle.phase_stream.specs.Tables.{StopsAtTable, WritesTable, WritesTablePart, unknown}
 use Rattle.phase_stream.specs.declared.session.Session.{Session}

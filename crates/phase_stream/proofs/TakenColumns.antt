@@ -1,10 +1,9 @@
 -- A column that took over what its sink has stands as before, behind more values.
-use Rattle.std.proofs.Common.{◌≡◌, ◌<◌, ◌≤◌, ◌+◌, ◌-◌, ◌++◌, cond, ℕ, ℤ, zero, suc, Bool, true, false, List, [], ◌∷◌, Option, Some, None, length, min, refl, sym, ap, subst, ◌∙◌, arith}
+use Rattle.std.proofs.Common.{◌≡◌, ◌<◌, ◌≤◌, ◌+◌, ◌-◌, ◌++◌, ℕ, ℤ, zero, suc, Bool, true, false, List, [], ◌∷◌, Option, Some, None, length, min, refl, sym, ap, subst, ◌∙◌, arith}
 use Rattle.std.proofs.lemmas.List.{drop-append-le, length-append}
 use Rattle.std.specs.Prelude.{IfSome, drop}
-use Rattle.std.specs.Option.{option_map}
 use mathlib.Core.List.{IsPrefix}
-use Rattle.graph_commands.specs.ColumnTexts.{end_from, value_from}
+use Rattle.graph_commands.specs.ColumnTexts.{end_from}
 use Rattle.stream_job.specs.SinkLines.{kept_by, kept_on, sink_begins_at}
 use Rattle.stream_job.specs.Streams.{IsStreamAt, StreamState, ended_at}
 use Rattle.stream_job.specs.graph_base.Graphs.{task_at}

@@ -1,7 +1,6 @@
 -- A table that took over what a sink has shows the same lines.
-use Rattle.std.proofs.Common.{◌≡◌, ◌≢◌, ◌⊎◌, inl, inr, ◌<◌, ◌≤◌, ◌+◌, ◌-◌, ◌++◌, cond, eqb, ℕ, ℤ, zero, suc, Bool, true, false, List, [], ◌∷◌, Option, Some, None, length, get_or, map, set, refl, sym, ap, subst, ◌∙◌, append-nil, arith, not}
-use Rattle.std.proofs.lemmas.Bool.{eq-eqb, eqb-true, lt-ltb, ltb-false, ltb-true}
-use Rattle.std.proofs.lemmas.List.FromFn.{get_or-map-range_with_len, length-map-range_with_len}
+use Rattle.std.proofs.Common.{◌≡◌, ◌≢◌, ◌⊎◌, inl, inr, ◌<◌, ◌≤◌, ◌+◌, ◌-◌, ◌++◌, eqb, ℕ, ℤ, zero, suc, Bool, true, false, List, [], ◌∷◌, Some, None, length, get_or, map, set, refl, sym, ap, subst, ◌∙◌, append-nil, arith}
+use Rattle.std.proofs.lemmas.Bool.{eqb-true, lt-ltb, ltb-false, ltb-true}
 use Rattle.std.proofs.lemmas.List.{map_push}
 use Rattle.std.proofs.lemmas.Option.{same_Some}
 use Rattle.std.specs.Prelude.{drop, if◌then◌else◌, nat_lt, slice_get}
@@ -15,7 +14,7 @@ use Rattle.stream_job.specs.stream_lists.Lists.{is_sink_at, sinks_of}
 use Rattle.stream_job.proofs.graph_runs_lemmas.Turned.{at_other, at_same}
 use Rattle.stream_job.proofs.stream_lists_lemmas.Growing.{map-same}
 use Rattle.phase_stream.specs.Columns.{ColumnBeginsAt, ColumnStands, IsNewColumn, TakesOver, least_start}
-use Rattle.phase_stream.specs.TableLines.{AreNewColumns, HasLast, Shows, ShowsMore, View, by_number, cells_at, table_text}
+use Rattle.phase_stream.specs.TableLines.{AreNewColumns, HasLast, Shows, ShowsMore, View, by_number, table_text}
 use Rattle.phase_stream.specs.declared.column.Column.{Column}
 use Rattle.phase_stream.proofs.LineTexts.{same_text}
 use Rattle.phase_stream.proofs.RightTables.{column_there}

@@ -1,5 +1,5 @@
 -- Which sink goes to a writer.
-use Rattle.std.proofs.Common.{◌≡◌, inl, inr, ◌<◌, ◌≤◌, ◌+◌, ◌++◌, ℕ, ℤ, Bool, true, false, List, [], ◌∷◌, Option, Some, None, length, get_or, slice_get, zero, suc, refl, sym, ap, subst, ◌∙◌, rules, arith}
+use Rattle.std.proofs.Common.{◌≡◌, inl, inr, ◌<◌, ◌≤◌, ◌+◌, ◌++◌, ℕ, ℤ, List, [], ◌∷◌, Option, Some, None, length, get_or, slice_get, zero, suc, refl, sym, subst, ◌∙◌, rules, arith}
 use Rattle.std.proofs.lemmas.Bool.{cases_lt}
 use Rattle.std.proofs.lemmas.Option.{same_Some}
 use Rattle.stream_job.specs.Machines.{none_given}
@@ -8,7 +8,7 @@ use Rattle.stream_job.specs.Streams.{IsStreamAt, StreamState}
 use Rattle.stream_job.specs.graph_runs.Moments.{Moment}
 use Rattle.stream_job.specs.stream_lists.Jobs.{Job}
 use Rattle.stream_job.specs.stream_lists.Lists.{sinks_of}
-use Rattle.phase_stream.specs.Sessions.{AreLeft, AreTargets, IsSinkNumber, sink_for, task_for, values_for}
+use Rattle.phase_stream.specs.Sessions.{AreLeft, AreTargets, sink_for, task_for, values_for}
 use Rattle.phase_stream.specs.declared.sink.Sink.{Sink}
 
 -- the sink that stands in a place

@@ -1,14 +1,12 @@
 -- A table behind a turn: the run goes on, the table takes over what the sinks have, and lines are
 -- written; or a part of it was written.
-use Rattle.std.proofs.Common.{◌≡◌, ◌<◌, ◌≤◌, ◌++◌, ℕ, ℤ, Bool, true, false, List, [], ◌∷◌, Option, Some, None, Ok, length, get_or, map, slice_get, refl, sym, ap, subst, ◌∙◌, append-nil, append_assoc, arith}
+use Rattle.std.proofs.Common.{◌≡◌, ◌<◌, ℕ, ℤ, Bool, true, false, List, [], Option, Some, None, Ok, length, get_or, map, slice_get, refl, sym, ap, subst, ◌∙◌, append-nil}
 use Rattle.std.proofs.KnownBytes.{Appends-trans}
 use Rattle.std.proofs.lemmas.List.{get_or-map}
-use Rattle.std.proofs.lemmas.Option.{get_or_from_slice_get, slice_get-get_or, slice_get_within}
 use Rattle.std.specs.Io.KnownBytes.{Appends}
-use mathlib.Core.List.{IsPrefix}
 use Rattle.graph_commands.specs.FileJobs.{Known}
 use Rattle.graph_commands.specs.watched_io.Prefix.{AppendsPrefix}
-use Rattle.stream_job.specs.SinkLines.{kept_by, sink_begins_at}
+use Rattle.stream_job.specs.SinkLines.{kept_by}
 use Rattle.stream_job.specs.Streams.{IsStreamAt, StreamGoesOn, StreamState, after_sized, ended_at, has_ended}
 use Rattle.stream_job.specs.declared.stopped.Stopped.{Stopped}
 use Rattle.stream_job.specs.declared.stopped.Stopped.TheVariants as stopped
@@ -23,10 +21,10 @@ use Rattle.stream_job.specs.stream_lists.Ranges.{answer_of}
 use Rattle.stream_job.specs.stream_lists.Spans.{schedule_of}
 use Rattle.stream_job.proofs.graph_runs_lemmas.StartsAtEnd.{start_of_others}
 use Rattle.phase_stream.specs.Columns.{ColumnStands, HasNoMore, InRuns}
-use Rattle.phase_stream.specs.Sessions.{Forgets, HasStopped, StandsBy, sink_list}
+use Rattle.phase_stream.specs.Sessions.{Forgets, HasStopped, sink_list}
 use Rattle.phase_stream.specs.Streams.{GoesOnBehind}
 use Rattle.phase_stream.specs.TableLines.{EachGoes, ColumnsEndBy, Shows, ShowsMore, TableStands, TableStopped, View, WritesTableLines, WritesSomeLines, by_number, goes_on, has_line, have_left, table_text}
-use Rattle.phase_stream.specs.Tables.{WritesTable, WritesTablePart, table_of, unknown}
+use Rattle.phase_stream.specs.Tables.{WritesTable, WritesTablePart}
 use Rattle.phase_stream.specs.declared.column.Column.{Column}
 use Rattle.phase_stream.specs.declared.session.Session.{Session}
 use Rattle.phase_stream.specs.declared.table.Table.{Table}

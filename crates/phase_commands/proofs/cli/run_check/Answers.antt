@@ -1,4 +1,4 @@
-use Rattle.std.proofs.Common.{inl, inr, refl, option_map}
+use Rattle.std.proofs.Common.{inl, inr, refl}
 use Rattle.std.proofs.lemmas.Result.{IfErr-weaker}
 use Rattle.graph_commands.proofs.Counted.{known-same}
 use Rattle.graph_commands.proofs.Ends.{ends-by, ends-status, fails-place, fails-status, unread-place, unread-status}

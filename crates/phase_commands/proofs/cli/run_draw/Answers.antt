@@ -1,6 +1,5 @@
-use Rattle.std.proofs.Common.{inl, inr, refl, option_map}
+use Rattle.std.proofs.Common.{inl, inr, refl}
 use Rattle.std.proofs.lemmas.Result.{IfErr-weaker}
-use Rattle.graph_commands.proofs.Counted.{known-same}
 use Rattle.graph_commands.proofs.Ends.{ends-by, ends-status, fails-place, fails-status, undrawn-place, undrawn-status}
 use Rattle.phase_commands.specs.Ends.{MayEndAs}
 use Rattle.phase_words.specs.CommandLine.{draw}

@@ -1,5 +1,5 @@
 -- A parent more, or none.
-use Rattle.std.proofs.Common.{◌≡◌, ◌<◌, ◌≤◌, ◌+◌, ◌∙◌, ℕ, None, Some, length, refl, sym, ap, subst, arith}
+use Rattle.std.proofs.Common.{◌≡◌, ◌≤◌, ◌∙◌, ℕ, None, Some, length, sym, ap, subst, arith}
 use Rattle.stream_job.specs.graph_base.Graphs.{Graph, Task, task_at}
 use Rattle.stream_job.specs.graph_base.TaskLines.{IsGraph}
 use Rattle.phase_stream.specs.Columns.{least_start}

@@ -1,11 +1,10 @@
 -- What the words ask for is there, and nothing was written yet.
-use Rattle.std.proofs.Common.{◌≡◌, ◌+◌, ◌∙◌, ℕ, List, Option, [], inl, length, refl, sym, subst, ap}
+use Rattle.std.proofs.Common.{◌∙◌, ℕ, [], inl, length, refl, sym, subst, ap}
 use Rattle.std.proofs.lemmas.List.{length-map}
 use Rattle.std.specs.Io.KnownBytes.{Appends}
 use Rattle.graph_commands.proofs.Needed.{needed-graph}
 use Rattle.phase_words.specs.Outputs.{pair_as}
 use Rattle.phase_words.specs.StreamLine.{stream_asked}
-use Rattle.stream_job.specs.stream_lists.Jobs.{Job}
 use Rattle.phase_stream.specs.Outputs.{bare_at, task_to, writers_at}
 use Rattle.phase_stream.specs.Sessions.{AreTargets, task_for}
 use Rattle.phase_stream.proofs.Ending.{begun_does, begun_stops, none_bare, there_of, unmade_unbegun, writers_bare}

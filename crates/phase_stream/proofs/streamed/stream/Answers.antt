@@ -1,9 +1,7 @@
 -- A stream that did not begin, or went on.
-use Rattle.std.proofs.Common.{inl, inr, refl}
-use Rattle.graph_commands.proofs.Needed.{needed-graph}
+use Rattle.std.proofs.Common.{inl, refl}
 use Rattle.phase_words.specs.StreamLine.{stream_asked}
 use Rattle.phase_stream.proofs.Ending.{none_bare, unread_unbegun}
-use Rattle.phase_stream.proofs.Results.{with_err, with_ok}
 use Rattle.phase_stream.proofs.streamed.stream.Goals as goal
 
 pub returns-in-Err-clause-failed : goal.returns-in-Err-clause-failed

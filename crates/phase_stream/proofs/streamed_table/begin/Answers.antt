@@ -1,5 +1,5 @@
 -- The names were written, and the run goes on; or a part of them was.
-use Rattle.std.proofs.Common.{◌≡◌, ◌∙◌, List, Option, Err, inr, refl, sym, ap, subst}
+use Rattle.std.proofs.Common.{◌∙◌, Err, inr, refl, sym, ap, subst}
 use Rattle.std.specs.Io.KnownBytes.{Appends}
 use Rattle.graph_commands.specs.watched_io.Prefix.{AppendsPrefix}
 use Rattle.graph_commands.specs.watched_io.States.{writer_state}

@@ -1,14 +1,12 @@
 -- A turn more, and what stops it.
-use Rattle.std.proofs.Common.{◌≡◌, ◌∙◌, ℕ, List, Option, [], Err, false, true, length, refl, sym, ap, subst}
+use Rattle.std.proofs.Common.{◌∙◌, Err, false, true, refl, sym, ap, subst}
 use Rattle.graph_commands.specs.Failures.{HasPlace}
-use Rattle.graph_commands.specs.FileJobs.{Known}
 use Rattle.graph_commands.specs.declared.failure.Failure.TheVariants as failure
-use Rattle.graph_commands.specs.watched_io.States.{WriterState, writer_state}
-use Rattle.graph_commands.specs.watched_io.Watched.{inner_of}
+use Rattle.graph_commands.specs.watched_io.States.{writer_state}
 use Rattle.stream_job.specs.graph_base.Graphs.{IsPlace}
 use Rattle.stream_job.specs.stream_lists.Jobs.{Job}
-use Rattle.phase_stream.specs.Sessions.{IsKnownAs, IsSameSession, StandsStopped, task_for}
-use Rattle.phase_stream.specs.TableLines.{TableStands, TableStopped, goes_on}
+use Rattle.phase_stream.specs.Sessions.{StandsStopped}
+use Rattle.phase_stream.specs.TableLines.{goes_on}
 use Rattle.phase_stream.specs.Tables.{StopsAtTable, unknown}
 use Rattle.phase_stream.proofs.Refilling.{lacks_none}
 use Rattle.phase_stream.proofs.Standing.{same_session}

@@ -1,7 +1,5 @@
 -- What the sinks have is taken over, and its lines are written.
-use Rattle.std.proofs.Common.{◌≡◌, ◌∙◌, List, Option, true, length, map, refl, sym, ap, subst}
-use Rattle.graph_commands.specs.FileJobs.{Known}
-use Rattle.graph_commands.specs.watched_io.Watched.{inner_of}
+use Rattle.std.proofs.Common.{◌∙◌, true, refl, sym, ap}
 use Rattle.stream_job.specs.Streams.{ended_at}
 use Rattle.stream_job.specs.stream_lists.Lists.{sinks_of}
 use Rattle.phase_stream.specs.TableLines.{by_number, goes_on}

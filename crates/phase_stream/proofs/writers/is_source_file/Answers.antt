@@ -1,5 +1,5 @@
 -- The file of one source more is another, or it is this one.
-use Rattle.std.proofs.Common.{◌≡◌, ◌<◌, ◌≤◌, ◌∙◌, ℕ, List, Bool, true, false, sym, ap, arith}
+use Rattle.std.proofs.Common.{◌≡◌, ◌∙◌, ℕ, List, Bool, true, false, sym, ap, arith}
 use Rattle.std.specs.Str.{bytes_eq}
 use Rattle.phase_words.specs.StreamLine.{stream_asked}
 use Rattle.stream_job.specs.graph_base.Graphs.{file_at, sources_of}

@@ -1,9 +1,8 @@
 -- What its sink has, behind what it had.
-use Rattle.std.proofs.Common.{◌≡◌, ◌<◌, ◌++◌, ◌∙◌, ℕ, ℤ, List, Bool, true, false, length, get_or, refl, sym, ap, subst}
+use Rattle.std.proofs.Common.{◌≡◌, ◌<◌, ◌++◌, ◌∙◌, true, false, length, get_or, sym, ap, subst}
 use Rattle.stream_job.specs.SinkLines.{kept_by, sink_begins_at}
-use Rattle.stream_job.specs.Streams.{IsStreamAt, ended_at}
+use Rattle.stream_job.specs.Streams.{ended_at}
 use Rattle.stream_job.specs.graph_runs.InTime.{BeginsInTime}
-use Rattle.stream_job.specs.graph_runs.Moments.{Moment}
 use Rattle.stream_job.specs.stream_lists.Lists.{sinks_of}
 use Rattle.stream_job.proofs.GivenLines.{sink_there}
 use Rattle.phase_stream.specs.Columns.{InRuns, started_column}

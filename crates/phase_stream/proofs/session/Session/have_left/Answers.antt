@@ -1,5 +1,5 @@
 -- One more has left.
-use Rattle.std.proofs.Common.{◌≡◌, ◌<◌, ◌∙◌, ℕ, ℤ, List, Some, length, true, arith}
+use Rattle.std.proofs.Common.{◌≡◌, ◌∙◌, ℕ, ℤ, List, Some, true, arith}
 use Rattle.stream_job.specs.Gone.{has_gone}
 use Rattle.stream_job.specs.Streams.{IsStreamAt}
 use Rattle.stream_job.specs.graph_runs.Moments.{Moment}

@@ -1,7 +1,6 @@
 -- What was handed over and what is left is what the sink has kept.
-use Rattle.std.proofs.Common.{◌≡◌, ℕ, Some, None, slice_get, length, get_or, refl, sym, ap, subst, ◌∙◌, arith}
+use Rattle.std.proofs.Common.{◌≡◌, Some, None, slice_get, length, refl, sym, ap, ◌∙◌, arith}
 use Rattle.std.proofs.lemmas.Option.{same_Some, slice_get_read}
-use Rattle.stream_job.specs.stream_lists.Lists.{sinks_of}
 use Rattle.phase_stream.proofs.Targets.{left_of_sink, no_task_at_place, sink_at, task_at_place}
 use Rattle.phase_stream.proofs.Writing.{right_by}
 use Rattle.phase_stream.proofs.session.Session.is_right.Goals as goal

@@ -1,5 +1,5 @@
 -- One more.
-use Rattle.std.proofs.Common.{◌≡◌, ◌<◌, ℕ, ℤ, List, Some, length, arith}
+use Rattle.std.proofs.Common.{◌≡◌, ℕ, ℤ, List, Some, arith}
 use mathlib.Core.List.{IsPrefix}
 use Rattle.stream_job.specs.SinkLines.{kept_by}
 use Rattle.stream_job.specs.Streams.{IsStreamAt}

@@ -1,6 +1,6 @@
 -- What is left of a sink, or nothing.
-use Rattle.std.proofs.Common.{◌≡◌, ℕ, Some, None, slice_get, length, get_or, refl, sym, ap, subst, ◌∙◌, arith}
-use Rattle.std.proofs.lemmas.Option.{same_Some, slice_get_read}
+use Rattle.std.proofs.Common.{◌≡◌, Some, slice_get, length, refl, ap, ◌∙◌, arith}
+use Rattle.std.proofs.lemmas.Option.{slice_get_read}
 use Rattle.phase_stream.specs.Outputs.{writers_at}
 use Rattle.phase_stream.proofs.Handing.{writes_none}
 use Rattle.phase_stream.proofs.Results.{on_err, with_ok}

@@ -1,5 +1,5 @@
 -- A cell more was put.
-use Rattle.std.proofs.Common.{◌≡◌, ◌++◌, ◌==◌, None, Some, length, get_or, map, slice_get, refl, sym, ap, ◌∙◌, arith}
+use Rattle.std.proofs.Common.{◌≡◌, ◌++◌, ◌==◌, None, length, get_or, map, sym, ap, ◌∙◌, arith}
 use Rattle.std.proofs.lemmas.List.{get_or-map, length-map}
 use Rattle.graph_commands.specs.ColumnTexts.{comma_before, value_cell}
 use Rattle.phase_stream.specs.Columns.{next_cell}

@@ -1,12 +1,10 @@
 -- What one sink more has was taken over.
-use Rattle.std.proofs.Common.{◌≡◌, ◌≢◌, ◌<◌, ◌≤◌, ◌+◌, ◌++◌, ◌∙◌, ℕ, List, [], Some, length, get_or, map, set, slice_get, refl, sym, ap, subst, append-nil, arith}
+use Rattle.std.proofs.Common.{◌≡◌, ◌+◌, ◌∙◌, ℕ, Some, length, get_or, set, slice_get, refl, sym, ap, subst, arith}
 use Rattle.std.proofs.lemmas.List.{length-map}
 use Rattle.std.proofs.lemmas.Option.{slice_get_read}
 use Rattle.stream_job.specs.SinkLines.{kept_by}
 use Rattle.stream_job.specs.Streams.{ended_at}
 use Rattle.stream_job.specs.stream_lists.Lists.{sinks_of}
-use Rattle.phase_stream.specs.TableLines.{ShowsMore, by_number}
-use Rattle.phase_stream.specs.declared.column.Column.{Column}
 use Rattle.phase_stream.specs.Columns.{ColumnStands}
 use Rattle.phase_stream.proofs.NextLines.{shows_first}
 use Rattle.phase_stream.proofs.RightTables.{column_there}

@@ -1,6 +1,6 @@
 -- A line more is put, or written.
-use Rattle.std.proofs.Common.{◌≡◌, ◌++◌, ◌∙◌, ◌&&◌, ℕ, List, Option, [], true, refl, sym, ap, subst}
-use Rattle.std.proofs.KnownBytes.{Appends-nil, Appends-trans}
+use Rattle.std.proofs.Common.{◌++◌, ◌∙◌, true, sym, subst}
+use Rattle.std.proofs.KnownBytes.{Appends-trans}
 use Rattle.std.specs.Io.KnownBytes.{Appends}
 use Rattle.std.specs.List.{list_all, list_any}
 use Rattle.std.proofs.lemmas.Bool.{and_parts}
@@ -9,7 +9,7 @@ use Rattle.graph_commands.specs.watched_io.Watched.{inner_of}
 use Rattle.phase_stream.specs.Columns.{has_value, is_known}
 use Rattle.phase_stream.specs.TableLines.{ShowsMore, has_line}
 use Rattle.phase_stream.proofs.EachColumn.{fewer_lines, left_passed}
-use Rattle.phase_stream.proofs.NextLines.{line_on, none_behind, part_behind, sent_on, shows_first}
+use Rattle.phase_stream.proofs.NextLines.{line_on, none_behind, part_behind, sent_on}
 use Rattle.phase_stream.proofs.table.Table.write.Goals as goal
 
 pub returns-in_default-clause-err : goal.returns-in_default-clause-err
