@@ -4,7 +4,7 @@ use Rattle.std.specs.Prelude.{IfErr, OnOk, Result}
 use Rattle.std.specs.declared.option.Option.{Option}
 use Rattle.graph_commands.proofs.Places.{place-first_too_big}
 use Rattle.graph_commands.specs.Ends.{EndsBy, IsTold}
-use Rattle.graph_commands.specs.Failures.{FailsBy, HasPlace, IsUnanswered, IsUnasked, IsUndrawn, IsUnread, failure_status}
+use Rattle.graph_commands.specs.Failures.{FailsBy, HasPlace, IsUnanswered, IsUndrawn, IsUnread, failure_status}
 use Rattle.graph_commands.specs.FileJobs.{Known}
 use Rattle.graph_commands.specs.GraphRuns.{job_status}
 use Rattle.graph_commands.specs.declared.failure.Failure.{Failure}
@@ -67,26 +67,6 @@ unanswered-status known name asked (failure.NoSink job wanted) unanswered = inl 
 unanswered-status known name asked (failure.TooBig job place phase) unanswered = inr (inl refl)
 unanswered-status known name asked (failure.Stalled further) unanswered = absurd unanswered.1
 unanswered-status known name asked (failure.Io found) unanswered = inr (inr refl)
-
--- ---- causes
-
--- where no job was read that has what is asked for, there are no lists
-pub unasked-unanswered : (Stalls : Type 0) (known : Known) (name : List ℕ) (asked : Option (List ℕ))
-    (found : Failure) → IsUnasked known name asked found → IsUnanswered Stalls known name asked found
-unasked-unanswered Stalls known name asked (failure.Graph found text) unasked = unasked
-unasked-unanswered Stalls known name asked (failure.NoSink job wanted) unasked = unasked
-unasked-unanswered Stalls known name asked (failure.TooBig job place phase) unasked = absurd unasked
-unasked-unanswered Stalls known name asked (failure.Stalled further) unasked = absurd unasked
-unasked-unanswered Stalls known name asked (failure.Io found) unasked = absurd unasked
-
--- where no job was read, there is none that has what is asked for
-pub unread-unasked : (known : Known) (name : List ℕ) (asked : Option (List ℕ)) (found : Failure)
-    → IsUnread known name found → IsUnasked known name asked found
-unread-unasked known name asked (failure.Graph found text) unread = unread
-unread-unasked known name asked (failure.NoSink job wanted) unread = absurd unread
-unread-unasked known name asked (failure.TooBig job place phase) unread = absurd unread
-unread-unasked known name asked (failure.Stalled further) unread = absurd unread
-unread-unasked known name asked (failure.Io found) unread = absurd unread
 
 -- ---- places
 

@@ -1,22 +1,12 @@
 -- Texts that are put one behind the other.
-use Rattle.std.proofs.Common.{◌≡◌, ◌+◌, ℕ, List, [], ◌++◌, drop, refl, sym, take, ◌∙◌, ap, append_assoc, append-nil, arith, take-append-drop}
+use Rattle.std.proofs.Common.{◌≡◌, ◌+◌, ℕ, List, [], ◌++◌, drop, sym, take, ◌∙◌, ap, append_assoc, append-nil, arith, take-append-drop}
 use Rattle.std.proofs.lemmas.List.{drop-take, take-take}
 use Rattle.std.specs.Io.KnownBytes.{Appends}
-use Rattle.std.proofs.KnownBytes.{Appends-nil, Appends-trans}
+use Rattle.std.proofs.KnownBytes.{Appends-trans}
 use Rattle.std.specs.declared.option.Option.{Option}
 use Rattle.graph_show.specs.watched_io.Prefix.{AppendsPrefix}
 use Rattle.graph_show.proofs.watched_io_lemmas.Writing.{prefix_of_prefix}
 use Rattle.graph_commands.specs.Puts.{PutsBytes}
-
--- all the bytes wait
-pub Puts-kept : (old : Option (List ℕ)) (before bytes : List ℕ)
-    → PutsBytes old old before (before ++ bytes) bytes
-Puts-kept old before bytes = record { sent = []; whole = refl; appends = Appends-nil old }
-
--- what waited was written, and the bytes wait
-pub Puts-begun : (old new : Option (List ℕ)) (before bytes : List ℕ) → Appends old new before
-    → PutsBytes old new before bytes bytes
-Puts-begun old new before bytes p = record { sent = before; whole = refl; appends = p }
 
 -- all was written
 pub Puts-all : (old mid new : Option (List ℕ)) (before bytes : List ℕ) → Appends old mid before

@@ -15,7 +15,6 @@ pub mod Commas
 pub mod Digits
 mod Fields
 pub mod PlainLines
-mod Reading
 mod Shrinks
 pub mod Unique
 pub use Rattle.graph_base.proofs as graph_base_lemmas

@@ -10,10 +10,8 @@ use Rattle.graph_text.specs.Versions.{is_heading}
 use Rattle.graph_text.specs.declared.version.Version.{Version}
 use Rattle.graph_text.specs.declared.version.Version.TheVariants.{One, Two}
 use Rattle.graph_base.specs.Graphs.{Graph}
-use Rattle.graph_lang.specs.Reads.{version_of, emptied, without_heading, Steps, Reads, ReadsText, Tells, fault_at, line_outcome}
-use Rattle.graph_lang.specs.Reading.{TellsDecl, TellsFault, version_in, version_behind, version_at, line_read, ReadsOn}
-use Rattle.graph_lang.specs.Faults.{kind_of}
-use Rattle.graph_lang.specs.declared.fault.FaultKind.TheVariants.{Syntax}
+use Rattle.graph_lang.specs.Reads.{version_of, emptied, without_heading, Steps, Reads, ReadsText, Tells}
+use Rattle.graph_lang.specs.Reading.{TellsFault, version_in, version_behind, version_at, line_read, ReadsOn}
 use Rattle.graph_lang.specs.declared.fault.GraphFault.{GraphFault}
 use Rattle.graph_lang.specs.declared.fault.GraphRefusal.{GraphRefusal}
 use Rattle.graph_lang.specs.declared.fault.GraphRefusal.TheVariants as refusal
@@ -27,40 +25,6 @@ pub declares : (version : Version) (line : List ℕ) (words : List Word) (d : De
     → Declares version line d
 declares version line words d printable same spells =
     record { printable = printable; spells = rw same at spells }
-
--- a line whose words spell no declaration
-pub declares-none : (version : Version) (line : List ℕ) (words : List Word)
-    → words ≡ words_of_line line → ((d : Decl) → ¬ (Spells version words d))
-    → (d : Decl) → ¬ (Declares version line d)
-declares-none version line words same none d declared =
-    none d (rw same declared.spells)
-
--- a line with a byte of no word
-pub declares-unprintable : (version : Version) (line : List ℕ) → are_printable line ≡ false
-    → (d : Decl) → ¬ (Declares version line d)
-declares-unprintable version line e d declared =
-    let clash : true ≡ false = sym declared.printable ∙ e in absurd (cc)
-
--- a line outside the grammar
-pub step-syntax : (version : Version) (n : ℕ) (before : Graph) (line : List ℕ)
-    → is_ignored line ≡ false → ((d : Decl) → ¬ (Declares version line d))
-    → Steps version n before line (fault_at n Syntax)
-step-syntax version n before line going none = inr (inl (going, none, refl))
-
--- a line of the grammar
-pub step-declared : (version : Version) (n : ℕ) (before : Graph) (line : List ℕ) (d : Decl)
-    (outcome : Result Graph GraphFault) → is_ignored line ≡ false → Declares version line d
-    → outcome ≡ line_outcome n before d (kind_of before d) → Steps version n before line outcome
-step-declared version n before line d outcome going declared tells =
-    inr (inr (going, d, declared, tells))
-
--- a line of the grammar that stopped the reading
-pub fault-declared : (version : Version) (n : ℕ) (before : Graph) (line : List ℕ) (d : Decl)
-    (e : GraphRefusal) → is_ignored line ≡ false → Declares version line d
-    → TellsDecl n before d (Err e) → TellsFault version n before line e
-fault-declared version n before line d (refusal.Fault f) going declared tells =
-    step-declared version n before line d (Err f) going declared tells
-fault-declared version n before line d refusal.OutOfMemory going declared tells = tt
 
 -- ---- a line, where the version is known or not
 
@@ -161,20 +125,6 @@ known-version None line version going e = at (is_heading (words_of_line line)) e
         ≡ (if is_ignored line then None else if heading then Some Two else Some One))
     at true none = absurd (cc)
     at false e = let same : version ≡ One = cc in (sym same, refl, rw going e)
-
--- a line that is read in no version is the heading, where none is known above it
-pub heading-steps : (known : Option Version) (n : ℕ) (before : Graph) (line : List ℕ)
-    → is_ignored line ≡ false → None ≡ version_in known (words_of_line line)
-    → (Some Two ≡ version_behind known line)
-    × Steps (version_at known) n before (line_read known line) (Ok before)
-heading-steps (Some version) n before line going e = absurd (cc)
-heading-steps None n before line going e = at (is_heading (words_of_line line)) e
-  where
-    at : (heading : Bool) → None ≡ (if heading then None else Some One)
-        → (Some Two ≡ (if is_ignored line then None else if heading then Some Two else Some One))
-        × Steps One n before (if heading then [] else line) (Ok before)
-    at true e = (rw going refl, inl (refl, refl))
-    at false e = absurd (cc)
 
 -- ---- line after line
 

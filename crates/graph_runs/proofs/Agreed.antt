@@ -186,10 +186,6 @@ greatest-front [] a = omega arith
 greatest-front (n ∷ ns) a =
     let r : max a n ≤ fold max (max a n) ns = greatest-front ns (max a n) in omega arith
 
-greatest-mono : (ns : List ℕ) (a b : ℕ) → a ≤ b → fold max a ns ≤ fold max b ns
-greatest-mono [] a b le = le
-greatest-mono (n ∷ ns) a b le = greatest-mono ns (max a n) (max b n) (omega arith)
-
 pub end_within : (member : ℕ → Option Contribution) (ts : List ℕ) (t a : ℕ) → is_in t ts ≡ true
     → end_of_contribution (member t) ≤ fold max a (map (λ t. end_of_contribution (member t)) ts)
 end_within member [] t a e = absurd (cc)

@@ -3,7 +3,6 @@ use Rattle.std.proofs.Common.{◌≡◌, ℕ, ℤ, ◌<◌, Bool, true, List, So
 use Rattle.phase_history.specs.Histories.{History, has_dropped}
 use Rattle.stream_lists.specs.graph_base.TaskLines.{IsGraph}
 use Rattle.stream_lists.specs.Jobs.{Job, with_samples}
-use Rattle.graph_runs.specs.Moments.{Moment}
 use Rattle.graph_runs.specs.Feeds.{IsOpenAt}
 use Rattle.graph_runs.specs.TaskEnds.{FounderEnd}
 use Rattle.graph_runs.specs.RunEnds.{Ends, IsRegisteredOn}
@@ -72,12 +71,6 @@ stop_fed job samples ended ends is r = record {
     children = r.agree.children;
   };
 }
-
--- the moment of all
-pub moment_of : (job : Job) (samples : List (List ℤ)) (ended : ℕ → Bool) (ends : Ends)
-    → IsGraph job.graph → IsFedStop job samples ended ends → Moment
-moment_of job samples ended ends is r =
-    whole (with_samples samples job) ends is (stop_fed job samples ended ends is r)
 
 -- its sources are as open as they know
 pub open_at : (job : Job) (samples : List (List ℤ)) (ended : ℕ → Bool) (ends : Ends)

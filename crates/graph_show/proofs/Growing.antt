@@ -30,15 +30,6 @@ listed-more f front old new ns i within is more =
     ∙ sym (ap (λ xs. front ++ flat_map f xs) (take_more ns i 0 within)
     ∙ flat_map-push f front (take i ns) (get_or ns i 0)))
 
--- the next item of a list behind those before it
-pub items-more : {X : Type 0} (f : X → List ℕ) (front old new : List ℕ) (xs : List X) (i : ℕ)
-    (d : X) → i < length xs → old ≡ front ++ flat_map f (take i xs)
-    → new ≡ old ++ f (get_or xs i d) → new ≡ front ++ flat_map f (take (i + 1) xs)
-items-more f front old new xs i d within is more =
-    more ∙ (ap (λ text. text ++ f (get_or xs i d)) is
-    ∙ sym (ap (λ xs. front ++ flat_map f xs) (take_more xs i d within)
-    ∙ flat_map-push f front (take i xs) (get_or xs i d)))
-
 -- ---- one text behind another
 
 -- the second behind the first

@@ -18,11 +18,6 @@ use Rattle.graph_text.specs.WordReading.{word_at, after, begins, some_at, operat
 
 -- ---- words
 
-word_again : (test : Word → Bool) (w : Word) (ws : List Word) → test w ≡ true
-    → word_at test (w ∷ ws) ≡ Some (w, ws)
-unfolding word_at
-word_again test w ws pass = rw pass refl
-
 -- the first of these words, if there is one, does not pass
 abbrev Stops : (Word → Bool) → List Word → Type 0
 Stops test [] = Unit {0}

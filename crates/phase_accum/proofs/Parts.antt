@@ -99,11 +99,6 @@ one_send-same op x v w laws p q =
 
 -- ---- the sends that a task holds
 
--- a task that holds the unit, and no send
-pub StandsForSends-nil : {A : Type 0} (op : Operation A)
-    → StandsForSends op (parcel op.unit 0) []
-StandsForSends-nil op = record { part_is = IsPartOf-nil op; count_is = refl }
-
 -- a task that holds one send
 pub StandsForSends-one : {A : Type 0} (op : Operation A) (v : ℤ) → AccumulateLaws op
     → IsSend v → StandsForSends op (parcel (op.of v) 1) (v ∷ [])
@@ -143,8 +138,3 @@ MayJoin-held op held other xs ys p q few = record {
   second_part = q.part_is;
   few = rw (← p.count_is, ← q.count_is) few;
 }
-
--- what is held finishes as the value of the sends that it stands for
-pub finish-held : {A : Type 0} (op : Operation A) (held : Parcel A) (xs : List ℤ)
-    → AccumulateLaws op → StandsForSends op held xs → op.finish held.part ≡ op.value xs
-finish-held op held xs laws p = laws.finishes held.part xs p.part_is

@@ -23,7 +23,7 @@ use Rattle.phase_ring.specs.declared.board.Board.{Board}
 use Rattle.phase_ring.specs.declared.role.Role.{Role}
 use Rattle.phase_ring.specs.declared.role.Role.TheVariants.{Signaller, Waiter}
 use Rattle.phase_ring.specs.Rings.{Ring, standing, sents}
-use Rattle.phase_ring.specs.Standings.{count_of, counted, takes_part, phase_for}
+use Rattle.phase_ring.specs.Standings.{counted, takes_part, phase_for}
 use Rattle.phase_ring.specs.Boards.{IsRingAt}
 use Rattle.phase_core.specs.Slots.{KeptSlot}
 use Rattle.phase_core.specs.Admission.{refusal_of_add}
@@ -32,7 +32,7 @@ use Rattle.phase_core.proofs.LeastCounts.{signal_phases-few, wait_phases-few, si
 use Rattle.phase_core.proofs.Boarded.{length-none, waits-some}
 use Rattle.phase_core.proofs.RingSlots.{same_slots}
 use Rattle.phase_core.proofs.MemberSteps.{joins_stands}
-use Rattle.phase_core.proofs.MemberCounts.{phases_of, counts-push, count_of-few}
+use Rattle.phase_core.proofs.MemberCounts.{counts-push, count_of-few}
 
 -- ---- the refusal of a registration
 
@@ -44,24 +44,6 @@ refusal_of_parent : {A : Type 0} (op : Operation A) (core : CoreState A) (h : Hi
 refusal_of_parent op core h parent child mode stands =
     ap (λ ms. refusal_at (entry_of ms parent) register.NoTask (register_rows ms (greatest_used h) child mode)) (sym stands.members_are)
     ∙ ap (λ g. refusal_at (entry_of core.members parent) register.NoTask (register_rows core.members g child mode)) (sym stands.greatest_is)
-
--- where the parent is no member
-pub register_no_task : {A : Type 0} (op : Operation A) (core : CoreState A) (h : History) (parent child : ℕ) (mode : Mode)
-    → StandsFor op core h → entry_of core.members parent ≡ None
-    → register_refusal h parent child mode ≡ Some register.NoTask
-register_no_task op core h parent child mode stands gone =
-    refusal_of_parent op core h parent child mode stands
-    ∙ ap (λ o. refusal_at o register.NoTask (register_rows core.members core.greatest child mode)) gone
-
--- where its mode does not hold the child's
-pub register_not_allowed : {A : Type 0} (op : Operation A) (core : CoreState A) (h : History) (parent child : ℕ) (mode : Mode)
-    (e : Entry) → StandsFor op core h → entry_of core.members parent ≡ Some e → holds e.mode mode ≡ false
-    → register_refusal h parent child mode ≡ Some register.NotAllowed
-register_not_allowed op core h parent child mode e stands found held =
-    refusal_of_parent op core h parent child mode stands
-    ∙ ap (λ o. refusal_at o register.NoTask (register_rows core.members core.greatest child mode)) found
-    ∙ ap (λ b. first_row ((not b, register.NotAllowed) ∷ (leb child core.greatest, register.NotNew)
-    ∷ (leb MEMBERS_MAX (length core.members), register.TooManyTasks) ∷ [])) held
 
 -- the rows on the child's number and on the members are those of the registry
 rows_of_add : (ms : Members) (greatest : Option ℕ) (child : ℕ) → IsSome greatest
@@ -131,12 +113,6 @@ joined_stands op reg limits r new top h parent child mode e stands a kept =
 pub record Joined {A : Type 0} (op : Operation A) (reg : Roster) (b : Board A) (h : History) : Type 0 where
   pub stands : StandsFor op (core_of reg b) h
   pub holds : IsCore op reg b
-
--- the board has as many members at each phase as the members say
-pub tie : {A : Type 0} (op : Operation A) (ms : Members) (r : Ring A) (bound done top : ℕ) → IsBoarded op ms r bound done top
-    → (role : Role) (p : ℕ) → standing r role p ≡ count_of p (phases_of role ms)
-tie op ms r bound done top b Signaller p = b.signallers_are p
-tie op ms r bound done top b Waiter p = b.waiters_are p
 
 pub registers_core : {A : Type 0} (op : Operation A) (reg new_reg : Roster) (b new : Board A) (h : History) (parent child : ℕ) (mode : Mode) (e : Entry)
     → StandsFor op (core_of reg b) h → IsBoarded op reg.members b.ring b.limits.bound b.done b.top

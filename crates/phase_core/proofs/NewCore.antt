@@ -1,12 +1,11 @@
 -- A new core, and what the readers tell.
-use Rattle.std.proofs.Common.{◌≡◌, ℕ, [], ◌∷◌, Option, Some, None, unwrap_or, refl, sym, ◌∙◌, ap, arith, inl, inr}
-use Rattle.std.specs.Prelude.{IsSome}
+use Rattle.std.proofs.Common.{◌≡◌, ℕ, [], ◌∷◌, Some, unwrap_or, refl, sym, ◌∙◌, ap, arith, inl, inr}
 use Rattle.phase_registry.specs.phase_base.Limits.{AreLimits}
 use Rattle.phase_registry.specs.phase_base.Members.{member, signal_phases, least}
 use Rattle.phase_history.specs.phase_accum.Operations.{Operation}
 use Rattle.phase_history.specs.declared.event.Event.TheVariants.{Made}
 use Rattle.phase_history.specs.Histories.{History, founder, members_of, done_of}
-use Rattle.phase_registry.specs.Rosters.{Roster, roster, next_after}
+use Rattle.phase_registry.specs.Rosters.{Roster, roster}
 use Rattle.phase_ring.specs.declared.board.Board.{Board}
 use Rattle.phase_ring.specs.declared.role.Role.{Role}
 use Rattle.phase_ring.specs.declared.role.Role.TheVariants.{Signaller, Waiter}
@@ -62,7 +61,3 @@ pub done_of_boarded : {A : Type 0} (op : Operation A) (reg : Roster) (b : Board 
     → IsBoarded op reg.members b.ring b.limits.bound b.done b.top → b.done ≡ done_of h
 done_of_boarded op reg b h stands boarded =
     sym (done_is op reg.members b.ring b.limits.bound b.done b.top boarded) ∙ done_of_core op reg b h stands
-
-pub next_after-used : (greatest : Option ℕ) → IsSome greatest → next_after greatest ≡ next_after (Some (unwrap_or greatest 0))
-next_after-used None used = absurd (cc)
-next_after-used (Some n) used = refl

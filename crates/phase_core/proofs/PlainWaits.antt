@@ -139,15 +139,6 @@ done_of_plain op r limits base xs h plain stands =
     sym (ap (λ ms. unwrap_or (least (signal_phases ms)) (top_of h)) (sym stands.members_are)
     ∙ ap (λ l. unwrap_or (least l) (top_of h)) plain.alone)
 
-pub absent_refused : {A : Type 0} (op : Operation A) (r : Roster) (limits : Limits) (base : ℕ)
-    (xs : List ℤ) (h : History) (task n : ℕ)
-    → StandsFor op (plain_core op r limits base xs) h → entry_of r.members task ≡ None
-    → wait_refusal limits h task n ≡ Some wait.NoTask
-absent_refused op r limits base xs h task n stands none =
-    let rows = wait_rows_at limits (done_of h) (is_some (least (signal_phases (members_of h)))) n in
-    ap (λ ms. refusal_at (entry_of ms task) wait.NoTask rows) (sym stands.members_are)
-    ∙ ap (λ o. refusal_at o wait.NoTask rows) none
-
 pub refused_as : {A : Type 0} (op : Operation A) (r : Roster) (limits : Limits) (base : ℕ)
     (xs : List ℤ) (h : History) (task n : ℕ) (e : Entry) (o : Option WaitRefusal)
     → IsPlain op r limits base xs → StandsFor op (plain_core op r limits base xs) h

@@ -74,15 +74,11 @@ late_merge b n slot single =
           ≡ option_map refusal_of (cond f (Some merge.PhaseFull) None)) [ true ↦ refl | false ↦ refl ]
     ]
 
--- ---- the refusal of a signal
-
 -- ---- the reply
 
 pub reply_refused : (limits : Limits) (h : History) (task : ℕ) (lists : List (List ℤ)) (single : Option Single) (r : SignalRefusal)
     → signal_refusal limits h task lists single ≡ Some r → signal_reply limits h task lists single ≡ Err r
 reply_refused limits h task lists single r refused = ap (λ o. refused_or o (signal_phase h task)) refused
-
--- ---- what a signal knows once its first rows are passed
 
 -- ---- one phase
 

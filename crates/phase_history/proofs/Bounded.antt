@@ -1,5 +1,5 @@
 -- How far the signallers are ahead of the waiters, and how far a task's signals are ahead of its waits.
-use Rattle.std.proofs.Common.{◌≡◌, ℕ, ◌+◌, ◌-◌, ◌<◌, ◌≤◌, Bool, true, false, not, ◌&&◌, eqb, leb, List, [], ◌∷◌, ◌++◌, Option, Some, None, ℤ, length, max, unwrap_or, refl, sym, ap, subst, ◌∙◌, arith}
+use Rattle.std.proofs.Common.{◌≡◌, ℕ, ◌+◌, ◌-◌, ◌<◌, ◌≤◌, Bool, true, false, not, ◌&&◌, eqb, leb, List, [], ◌∷◌, Option, Some, None, ℤ, length, max, unwrap_or, refl, sym, ap, subst, ◌∙◌, arith}
 use Rattle.std.proofs.lemmas.Bool.{leb-false, eqb-false}
 use Rattle.phase_accum.specs.phase_base.Limits.{Limits}
 use Rattle.phase_accum.specs.phase_base.Modes.{mode_signals, mode_waits}
@@ -18,14 +18,6 @@ use Rattle.phase_history.proofs.Each.{Each, Each-from, Each-push, Each-filter, E
 use Rattle.phase_history.proofs.MemberLemmas.{Each-entry, Each-changed, holds_signals, holds_waits}
 use Rattle.phase_history.proofs.Refused.{Passes, passes_from, registers_from, waits_from}
 use Rattle.phase_history.proofs.Steps.{StandsWell, sound_of, done_low, member_entry_is}
-
-Each-append_left : {X : Type 0} (P : X → Type 0) (xs ys : List X) → Each P (xs ++ ys) → Each P xs
-Each-append_left P [] ys each = tt
-Each-append_left P (x ∷ xs) ys each = (each.0, Each-append_left P xs ys each.1)
-
-Each-append_right : {X : Type 0} (P : X → Type 0) (xs ys : List X) → Each P (xs ++ ys) → Each P ys
-Each-append_right P [] ys each = each
-Each-append_right P (x ∷ xs) ys each = Each-append_right P xs ys each.1
 
 -- ---- the bound
 

@@ -1,5 +1,5 @@
 -- The replies of a session are replies of scripts: their phases and values are within the limits.
-use Rattle.std.proofs.Common.{◌≡◌, ℕ, ◌+◌, ◌-◌, ◌<◌, ◌≤◌, true, false, drop, List, [], ◌∷◌, Option, Some, None, Result, Ok, Err, ℤ, leb, length, refl, ap, subst, arith}
+use Rattle.std.proofs.Common.{◌≡◌, ℕ, ◌+◌, ◌-◌, ◌<◌, ◌≤◌, true, false, drop, List, [], ◌∷◌, Option, Some, None, Result, Ok, Err, ℤ, leb, refl, ap, subst, arith}
 use Rattle.std.proofs.lemmas.Bool.{leb-false}
 use Rattle.phase_core.specs.phase_base.Limits.{Limits, AreLimits}
 use Rattle.phase_core.specs.phase_base.declared.entry.Entry.{Entry}
@@ -34,12 +34,10 @@ use Rattle.phase_core.proofs.phase_history_lemmas.LawProofs.{answers_law}
 use Rattle.phase_core.proofs.phase_history_lemmas.Refused.{Passes, passes_from}
 use Rattle.phase_core.proofs.phase_history_lemmas.Steps.{done_below_top, sound_of, member_entry_is}
 use Rattle.phase_core.proofs.phase_history_lemmas.Tops.{top_within}
-use Rattle.phase_script.specs.Commands.{WholeCommand, Make, Add, Now, Send, Signal, Block, Wait, Take, Drop, IsCommand, spelling, command_of}
-use Rattle.std.specs.Prelude.{IfSome}
+use Rattle.phase_script.specs.Commands.{WholeCommand, Make, Add, Now, Send, Signal, Block, Wait, Take, Drop, IsCommand}
 use Rattle.std.specs.List.{All}
 use Rattle.std.proofs.lemmas.List.{length-take}
 use Rattle.std.proofs.lemmas.List.Elements.{All-take, All-drop}
-use Rattle.phase_script.proofs.Grammar.{found_at}
 use Rattle.phase_core.specs.phase_history.declared.got.GotBlock.{GotBlock}
 use Rattle.phase_core.specs.phase_history.declared.got.GotBlock.TheVariants as block
 use Rattle.phase_core.specs.phase_history.Phases.{stream_of}
@@ -48,13 +46,12 @@ use Rattle.phase_core.specs.phase_base.declared.operation.Op.TheVariants.{Sum, P
 use Rattle.phase_script.specs.declared.refusal.Refusal.{Refusal}
 use Rattle.phase_script.specs.ReplyLines.{WholeReply, IsReply}
 use Rattle.phase_script.specs.Numbers.{most}
-use Rattle.phase_script.proofs.ReplyLines.{reply_short}
 use Rattle.phase_replay.specs.declared.script_phaser.ScriptPhaser.{ScriptPhaser}
 use Rattle.phase_replay.specs.declared.any_phaser.AnyPhaser.{AnyPhaser}
 use Rattle.phase_replay.specs.declared.any_phaser.AnyPhaser.TheVariants as phaser
 use Rattle.phase_core.specs.Blocks.{one_each}
 use Rattle.phase_core.proofs.phase_history_lemmas.Standstill.{limits_of}
-use Rattle.phase_replay.specs.Scripts.{ScriptState, NoPhaser, OnePhaser, Held, held_by, done_unless, script_reply, taken_reply, refused_or_reply, block_refusal, value_reply, phaser_reply, command_reply, reply_of_line, reply_line_of}
+use Rattle.phase_replay.specs.Scripts.{ScriptState, NoPhaser, OnePhaser, Held, held_by, done_unless, script_reply, taken_reply, refused_or_reply, block_refusal, value_reply, phaser_reply, command_reply}
 use Rattle.phase_replay.specs.Session.{ScriptPhaserStandsFor, AnyStandsFor, MaybeStandsFor}
 
 -- ---- replies without a phase
@@ -266,14 +263,3 @@ state_is_reply None NoPhaser (Drop task) stands fits = tt
 state_is_reply None (OnePhaser operation limits h held) command stands fits = absurd stands
 state_is_reply (Some p) NoPhaser command stands fits = absurd stands
 state_is_reply (Some p) (OnePhaser operation limits h held) command stands fits = any_is_reply p operation limits h held command stands fits
-
-line_is_reply : (p : Option AnyPhaser) (state : ScriptState) (line : List ℕ) (o : Option WholeCommand) → MaybeStandsFor p state
-    → IfSome o (λ c. IsCommand c × (line ≡ spelling c)) → IsReply (reply_of_line state o)
-line_is_reply p state line None stands fits = tt
-line_is_reply p state line (Some command) stands fits = state_is_reply p state command stands fits.0
-
--- the reply line to a script line has at most 363 bytes
-pub short_reply : (p : Option AnyPhaser) (state : ScriptState) (line : List ℕ) → MaybeStandsFor p state
-    → length (reply_line_of state line) ≤ 363
-unfolding reply_line_of
-short_reply p state line stands = reply_short _ (line_is_reply p state line (command_of line) stands (found_at line (command_of line) refl))

@@ -187,11 +187,3 @@ searches-stop script line end number used session searches less first here =
       refused = here;
       number_is = ap (λ n. n + 1) (sym searches.count);
     }
-
--- no line is left
-pub searches-end : (script : List ℕ) (end number : ℕ) (session : SessionState)
-    → Searches script end number session → (end < length script → ⊥)
-    → AreLinesTaken start (lines_of script)
-searches-end script end number session searches none =
-    subst (λ (text : List ℕ). AreLinesTaken start (lines_of text))
-    (take_all end script (omega (arith, none))) searches.taken

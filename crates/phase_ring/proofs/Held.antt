@@ -61,25 +61,6 @@ IsRing-released op slots capacity slot r held =
       held = All-append (IsHeld op) (drop 1 slots) (slot ∷ []) (All-drop (IsHeld op) 1 slots r.held) (All-replicate (IsHeld op) 1 slot held);
     }
 
-pub IsRing-fresh : {A : Type 0} (op : Operation A) (n : ℕ) (slot : Slot A) → 0 < n
-    → IsHeld op slot → IsRing op (replicate n slot) n
-IsRing-fresh op n slot some held =
-    let is : length (replicate n slot) ≡ n = length-replicate n slot in
-    record {
-      some = omega arith;
-      full = omega arith;
-      held = All-replicate (IsHeld op) n slot held;
-    }
-
--- one more empty slot
-pub replicate-push : {X : Type 0} (n : ℕ) (x : X) (xs : List X) (capacity : ℕ) → xs ≡ replicate n x → n < capacity
-    → keep_last capacity (xs ++ x ∷ []) ≡ replicate (n + 1) x
-replicate-push {X} n x xs capacity is room =
-    let n_is : length (replicate n x) ≡ n = length-replicate n x in
-    let l : length (xs ++ x ∷ []) ≡ n + 1 = length-append xs (x ∷ []) ∙ ap (λ ys. length ys + 1) is ∙ ap (λ m. m + 1) n_is in
-    let none : length (xs ++ x ∷ []) - capacity ≡ 0 = omega arith in
-    ap (λ m. drop m (xs ++ x ∷ [])) none ∙ ap (λ ys. ys ++ x ∷ []) is ∙ replicate-append-replicate n 1 x
-
 -- ---- a buffer that is filled
 
 -- where there is room, none goes

@@ -36,13 +36,6 @@ unfolding ints_of
 left_behind None = refl
 left_behind (Some text) = refl
 
-put-nothing : (o : Option (List ℤ)) → o ≡ put_before [] o
-put-nothing None = refl
-put-nothing (Some others) = refl
-
-pub left_start : (text : List ℕ) → ints_of (words_of text) ≡ put_before [] (left_of (Some text))
-left_start text = put-nothing (ints_of (words_of text))
-
 put-one : (values : List ℤ) (v : ℤ) (o : Option (List ℤ))
     → put_before values (option_and_then (λ others. Some (v ∷ others)) o) ≡ put_before (values ++ v ∷ []) o
 put-one values v None = refl

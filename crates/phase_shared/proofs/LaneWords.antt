@@ -1,10 +1,10 @@
 -- What is said of the words beside a phaser's lock: the board, and the lanes of other tasks while one is written.
-use Rattle.std.proofs.Common.{◌≡◌, ◌≢◌, ℕ, ℤ, pos, negsuc, ◌+◌, ◌*◌, ◌/◌, ◌%◌, ◌<◌, Bool, true, false, cond, eqb, List, [], ◌∷◌, length, set, slice_index, refl, sym, ap, subst, ◌∙◌, arith}
-use Rattle.std.proofs.lemmas.Bool.{eq-eqb, eqb-true, ne_eqb}
+use Rattle.std.proofs.Common.{◌≡◌, ◌≢◌, ℕ, ℤ, ◌+◌, ◌*◌, ◌%◌, ◌<◌, Bool, true, false, cond, eqb, List, [], length, set, slice_index, refl, sym, ap, subst, ◌∙◌, arith}
+use Rattle.std.proofs.lemmas.Bool.{eq-eqb, ne_eqb}
 use Rattle.std.proofs.lemmas.List.{get_or-set_same, get_or-set_other}
 use Rattle.phase_core.specs.phase_accum.declared.outcome.Outcome.{Outcome}
 use Rattle.phase_core.specs.phase_accum.declared.outcome.Outcome.TheVariants.{Value, Empty, TooBig}
-use Rattle.phase_shared.specs.Lanes.{lanes_most, word_for, number_of, no_send, sends_of, outcome_of, board, phase_place, send_place, owner_place, posted, send_word, owner_word, KindIs, NumberIs, with_number}
+use Rattle.phase_shared.specs.Lanes.{lanes_most, number_of, outcome_of, board, phase_place, send_place, owner_place, posted, send_word, owner_word, KindIs, NumberIs, with_number}
 
 -- ---- what two words say
 
@@ -173,34 +173,3 @@ even_is n = eq-eqb ((n * 2) % 2) 0 (omega arith)
 
 odd_is : (n : ℕ) → eqb ((n * 2 + 1) % 2) 0 ≡ false
 odd_is n = ne_eqb ((n * 2 + 1) % 2) 0 (λ e. let o : (n * 2 + 1) % 2 ≡ 1 = omega arith in omega arith)
-
-even_half : (n : ℕ) → n * 2 / 2 ≡ n
-even_half n = omega arith
-
-odd_half : (n : ℕ) → (n * 2 + 1) / 2 ≡ n
-odd_half n = omega arith
-
--- a number's word says the number
-pub number_of_word : (v : ℤ) → number_of (word_for v) ≡ v
-number_of_word (pos n) = ap (λ b. cond b (pos (n * 2 / 2)) (negsuc (n * 2 / 2))) (even_is n) ∙ ap (λ (m : ℕ). pos m) (even_half n)
-number_of_word (negsuc n) = ap (λ b. cond b (pos ((n * 2 + 1) / 2)) (negsuc ((n * 2 + 1) / 2))) (odd_is n) ∙ ap (λ (m : ℕ). negsuc m) (odd_half n)
-
--- and a word is that of its number
-pub word_of_number : (n : ℕ) → word_for (number_of n) ≡ n
-word_of_number n = elim (eqb (n % 2) 0) as (λ b. (eqb (n % 2) 0 ≡ b) → word_for (cond b (pos (n / 2)) (negsuc (n / 2))) ≡ n) [
-  | true ↦ λ t. let even : n % 2 ≡ 0 = eqb-true (n % 2) 0 t in omega arith
-  | false ↦ λ f. let odd : n % 2 ≢ 0 = (λ (z : n % 2 ≡ 0). no_both (eqb (n % 2) 0) (eq-eqb (n % 2) 0 z) f) in omega arith
-] refl
-  where
-    no_both : (b : Bool) → b ≡ true → b ≡ false → ⊥
-    no_both b e f = cc
-
--- the word that says that nothing is sent
-pub sends_none : sends_of no_send ≡ []
-sends_none = ap (λ b. cond b [] (number_of no_send ∷ [])) (eq-eqb no_send no_send refl)
-
--- every other number is sent by its word
-pub sends_one : (v : ℤ) → v ≢ number_of no_send → sends_of (word_for v) ≡ v ∷ []
-sends_one v ne =
-    ap (λ b. cond b [] (number_of (word_for v) ∷ [])) (ne_eqb (word_for v) no_send (λ same. ne (sym (number_of_word v) ∙ ap (λ (n : ℕ). number_of n) same)))
-    ∙ ap (λ (w : ℤ). w ∷ []) (number_of_word v)

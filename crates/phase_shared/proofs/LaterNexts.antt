@@ -7,29 +7,12 @@ use Rattle.phase_core.specs.phase_history.declared.refusal.SignalRefusal.TheVari
 use Rattle.phase_core.proofs.phase_history_lemmas.OthersEvents.{OthersCame-trans}
 use Rattle.phase_shared.specs.declared.next.Next.{Next}
 use Rattle.phase_shared.specs.declared.rule.Terms.{Terms}
-use Rattle.phase_shared.specs.declared.seats.request.Request.{Request}
 use Rattle.phase_shared.specs.Calls.{IsCall, Signals, Waits}
 use Rattle.phase_shared.specs.Entries.{entry_after_next}
 use Rattle.phase_shared.specs.Nexts.{GoesOrRefuses, MadeWhere, RefusesNext}
 use Rattle.phase_shared.specs.Regs.{RegState}
 use Rattle.phase_shared.specs.Rule.{Allows}
-use Rattle.phase_shared.specs.Servings.{IsRequestOf}
 use Rattle.phase_shared.proofs.Later.{HasWaited, signals_later}
-
--- what is asked for stays
-pub still_asked : {A K : Type 0} (op : Operation A) (r : Request) (old now : RegState A K) → HasWaited old now → IsRequestOf op r old → IsRequestOf op r now
-still_asked op r old now i q = record {
-  task = q.task ∙ sym i.number;
-  signal_at = ap (λ (e : Entry). e.signal_phase) i.entry ∙ q.signal_at;
-  wait_at = ap (λ (e : Entry). e.wait_phase) i.entry ∙ q.wait_at;
-  holds = rw i.held q.holds;
-}
-
--- and the mode does
-pub still_both : {A K : Type 0} (old now : RegState A K) → HasWaited old now → (mode_signals old.entry.mode ≡ true) × (mode_waits old.entry.mode ≡ true)
-    → (mode_signals now.entry.mode ≡ true) × (mode_waits now.entry.mode ≡ true)
-still_both old now i both =
-    (ap (λ (e : Entry). mode_signals e.mode) i.entry ∙ both.0, ap (λ (e : Entry). mode_waits e.mode) i.entry ∙ both.1)
 
 -- a call that is made, told of in another way
 made_as : {X : Type 0} (can can' : Bool) (call call' : X → Type 0) (nothing nothing' : Type 0) (answer : Option X) → can ≡ true → can' ≡ true

@@ -1,20 +1,14 @@
 -- A turn that looks for a lane stays as it is.
-use Rattle.std.proofs.Common.{◌≡◌, ℕ, refl, ap, subst, sym, ◌∙◌}
+use Rattle.std.proofs.Common.{◌≡◌, ℕ, refl, subst, sym, ◌∙◌}
 use Rattle.turn_lock.specs.declared.seat.Turn.{Turn}
 use Rattle.turn_lock.specs.Seats.{turn_number, turn_view, turn_value, turn_told}
 use Rattle.phase_shared.specs.declared.seats.view.View.{View}
 use Rattle.phase_shared.specs.Lodgings.{IsSameTurn, KnowsOfTurn}
-use Rattle.phase_shared.specs.Views.{Unknown, Free}
-use Rattle.phase_shared.specs.WordTells.{KnowsNoLane, with_lane}
+use Rattle.phase_shared.specs.WordTells.{KnowsNoLane}
 use Rattle.phase_shared.specs.Phasers.{Operation, CoreState}
 use Rattle.phase_shared.specs.Rule.{Allows, HasOneHistory}
 use Rattle.phase_shared.specs.Steps.{GivesNoAnswer}
 use Rattle.phase_shared.specs.declared.rule.Terms.{Terms}
-
--- it knows as much once it has looked at a lane
-pub looked_back : (lane : _) (v u w : View) → KnowsNoLane v → u ≡ with_lane (Free lane) v → w ≡ with_lane Unknown u → w ≡ v
-looked_back lane v u w n is is' =
-    is' ∙ ap (with_lane Unknown) (is ∙ ap (with_lane (Free lane)) n.is) ∙ sym n.is
 
 pub still_none : (v w : View) → w ≡ v → KnowsNoLane v → KnowsNoLane w
 still_none v w same n = subst (λ (u : View). KnowsNoLane u) (sym same) n

@@ -2,7 +2,7 @@
 use Rattle.std.proofs.Common.{◌≡◌, ◌≢◌, ◌⊎◌, inl, inr, ◌<◌, ◌≤◌, ◌+◌, ◌-◌, cond, ℕ, ℤ, suc, Bool, true, false, List, [], ◌∷◌, Some, length, get_or, set, slice_get, refl, sym, ap, subst, ◌∙◌, arith}
 use Rattle.std.proofs.lemmas.Bool.{ltb-false, ltb-true}
 use Rattle.std.proofs.lemmas.List.{length-set}
-use Rattle.std.proofs.lemmas.Option.{same_Some, slice_get-get_or, slice_get_within}
+use Rattle.std.proofs.lemmas.Option.{slice_get-get_or, slice_get_within}
 use Rattle.std.specs.Prelude.{drop, nat_lt}
 use Rattle.std.specs.List.{list_any}
 use Rattle.phase_stream.specs.Columns.{HasNoMore, HasPassedLine, has_value}
@@ -19,14 +19,6 @@ pub record GoesBelow (Goes : Column → Column → Type 0) (n : ℕ) (old new : 
         → slice_get new k ≡ Some after → Goes before after
     pub above : (k : ℕ) (before after : Column) → n ≤ k → slice_get old k ≡ Some before
         → slice_get new k ≡ Some after → after ≡ before
-
-pub goes_none : (Goes : Column → Column → Type 0) (columns : List Column)
-    → GoesBelow Goes 0 columns columns
-goes_none Goes columns = record {
-  many = refl;
-  below = λ k before after lt was is. absurd (omega (arith, lt));
-  above = λ k before after le was is. same_Some after before (sym is ∙ was);
-}
 
 pub goes_more : (Goes : Column → Column → Type 0) (n : ℕ) (old mid : List Column) (now new : Column)
     → GoesBelow Goes n old mid → slice_get mid n ≡ Some now → Goes now new

@@ -1,14 +1,12 @@
 -- One file after another that is made for a sink.
-use Rattle.std.proofs.Common.{◌≡◌, ◌⊎◌, ◌<◌, ◌≤◌, ◌+◌, ◌++◌, inl, inr, ℕ, zero, suc, Bool, true, false, List, [], ◌∷◌, Option, Some, length, slice_get, refl, sym, ap, subst, ◌∙◌, arith}
+use Rattle.std.proofs.Common.{◌≡◌, ◌⊎◌, ◌<◌, ◌≤◌, ◌+◌, ◌++◌, inl, inr, ℕ, zero, suc, Bool, true, false, List, [], ◌∷◌, Some, length, slice_get, refl, sym, ap, subst, ◌∙◌, arith}
 use Rattle.std.specs.Prelude.{◌||◌}
-use Rattle.std.specs.Io.KnownBytes.{Keeps}
 use Rattle.std.specs.List.{list_any, range_with_len}
 use Rattle.std.proofs.lemmas.Bool.{cases_lt}
 use Rattle.std.proofs.lemmas.Option.{same_Some}
-use Rattle.graph_commands.specs.watched_io.declared.watched.Watched.{Watched}
 use Rattle.phase_words.specs.Outputs.{Pair}
 use Rattle.stream_job.specs.graph_base.Graphs.{Graph}
-use Rattle.phase_stream.specs.Outputs.{AreNoSources, AreBare, bare_file, is_source_file}
+use Rattle.phase_stream.specs.Outputs.{AreNoSources, is_source_file}
 
 -- ---- apart from the files of sources
 
@@ -16,10 +14,6 @@ use Rattle.phase_stream.specs.Outputs.{AreNoSources, AreBare, bare_file, is_sour
 abbrev pub AreFirstApart : Bool → List ℕ → Graph → List Pair → ℕ → Type 0
 AreFirstApart is_beside name graph files n = (k : ℕ) (file : Pair) → k < n
     → slice_get files k ≡ Some file → is_source_file is_beside name graph file.1 ≡ false
-
-pub apart_none : (is_beside : Bool) (name : List ℕ) (graph : Graph) (files : List Pair)
-    → AreFirstApart is_beside name graph files 0
-apart_none is_beside name graph files k file lt there = absurd (omega (arith, lt))
 
 pub apart_more : (is_beside : Bool) (name : List ℕ) (graph : Graph) (files : List Pair) (n : ℕ)
     (one : Pair) → AreFirstApart is_beside name graph files n → slice_get files n ≡ Some one
@@ -46,18 +40,6 @@ pub apart_all : (is_beside : Bool) (name : List ℕ) (graph : Graph) (files : Li
 apart_all is_beside name graph files n all first k file there =
     let within = got_within files k file there in
     first k file (omega (arith, within, all)) there
-
--- ---- the files that were made
-
-pub bare_more : {V : Type 0} (knows : Bool) (of_file : V → Option (List ℕ)) (made : List (Watched V))
-    (one : Watched V) → AreBare knows of_file made → Keeps (bare_file knows) (of_file one.inner)
-    → AreBare knows of_file (made ++ one ∷ [])
-bare_more knows of_file [] one bare keeps zero writer there =
-    subst (λ w. Keeps (bare_file knows) (of_file w.inner)) (same_Some one writer there) keeps
-bare_more knows of_file [] one bare keeps (suc k) writer there = absurd (cc)
-bare_more knows of_file (x ∷ xs) one bare keeps zero writer there = bare zero writer there
-bare_more knows of_file (x ∷ xs) one bare keeps (suc k) writer there =
-    bare_more knows of_file xs one (λ j w at. bare (suc j) w at) keeps k writer there
 
 -- ---- the files of sources
 

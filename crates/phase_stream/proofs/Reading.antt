@@ -12,9 +12,8 @@ use Rattle.sample_pieces.specs.declared.reader.SampleReader.{SampleReader}
 use Rattle.sample_pieces.specs.graph_lang.Samples.{AreRecordsOfValues, IsBadSample}
 use Rattle.stream_job.specs.phase_accum.Sends.{AreSends}
 use Rattle.stream_job.proofs.stream_lists_lemmas.phase_accum_lemmas.Parts.{AreSends-append_right}
-use Rattle.phase_stream.specs.Sources.{BeginsSo, PieceGives, HasBadFrom, HasComeOf, HasFront, IsBehind, IsFront, IsKeptOf, IsOpenFile, IsTextOfFile, Lacks}
+use Rattle.phase_stream.specs.Sources.{BeginsSo, PieceGives, HasBadFrom, HasComeOf, HasFront, IsBehind, IsFront, IsKeptOf, IsOpenFile, IsTextOfFile}
 use Rattle.phase_stream.specs.declared.record_text.RecordText.{RecordText}
-use Rattle.phase_stream.specs.declared.source.Lack.{Lack}
 use Rattle.phase_stream.specs.declared.source.OpenFile.{OpenFile}
 use Rattle.phase_stream.specs.declared.source.TheConstants.{PIECE}
 use Rattle.phase_stream.specs.declared.source.Piece.{Piece}
@@ -189,26 +188,6 @@ piece_got remaining known values room bytes old new piece looked law apart is ta
 
 -- ---- the end of a file
 
-pub last_none : {R : Type 0} (remaining : R → Option (List ℕ)) (known : Option (List ℕ))
-    (values room : List ℤ) (file : OpenFile R) (piece : Piece)
-    → (is : IsBehind remaining known values [] file) → IsAtEnd (remaining (inner_of file.input))
-    → AreRecordsOfValues is.text values → piece.count ≡ 0 → piece.is_last ≡ true
-    → PieceGives remaining known values room piece file
-last_none remaining known values room file piece is end are none last = record {
-  few = omega (arith, none);
-  small = omega (arith, none);
-  last = λ e. omega (arith, none);
-  come = subst (λ b. HasComeOf b known (values ++ take piece.count room)) (sym last) record {
-    text = is.text;
-    bytes = subst (HasBytes known) (append-nil is.text)
-        (front_whole known (remaining (inner_of file.input)) (is.text ++ []) is.consumed end);
-    samples = subst (AreRecordsOfValues is.text)
-        (sym (ap (λ n. values ++ take n room) none ∙ append-nil values)) are;
-  };
-  sends = subst (λ n. AreSends (take n room)) (sym none) tt;
-  goes_on = λ e. absurd (cc (e, last));
-}
-
 pub last_one : {R : Type 0} (remaining : R → Option (List ℕ)) (known : Option (List ℕ))
     (values room : List ℤ) (v : ℤ) (file : OpenFile R) (piece : Piece)
     → (is : IsBehind remaining known values [] file) → IsAtEnd (remaining (inner_of file.input))
@@ -229,30 +208,6 @@ last_one remaining known values room v file piece is end are there one few last 
       (AreSends-append_right values (v ∷ []) are.sends);
   goes_on = λ e. absurd (cc (e, last));
 }
-
--- the last record is none
-pub last_bad : {R : Type 0} (remaining : R → Option (List ℕ)) (known : Option (List ℕ))
-    (values : List ℤ) (file : OpenFile R) (is : IsBehind remaining known values [] file)
-    → IsBadSample is.text (length values + 1) → HasBadFrom known (file.count + 1)
-last_bad remaining known values file is bad = record {
-  text = is.text;
-  front = less_front known (remaining (inner_of file.input)) is.text [] is.consumed;
-  bad = subst (λ n. IsBadSample is.text (n + 1)) (sym is.counted) bad;
-}
-
--- and it is told
-pub lacks_bad : {R : Type 0} (remaining : R → Option (List ℕ)) (known : Option (List ℕ))
-    (name : List ℕ) (values : List ℤ) (file : OpenFile R) (lack : Lack)
-    → (is : IsBehind remaining known values [] file)
-    → IsBadSample is.text (length values + 1)
-    → (HasBadFrom known (file.count + 1) → IfSome file.text (IsTextOfFile known)
-    → Lacks known name file.count lack)
-    → Lacks known name (length values) lack
-lacks_bad remaining known name values file lack is bad lacks =
-    subst (λ n. Lacks known name n lack) is.counted
-    (lacks (last_bad remaining known values file is bad)
-    (kept_of_file known is.text file.text
-    (less_front known (remaining (inner_of file.input)) is.text [] is.consumed) is.kept))
 
 -- a value that was put in the first place
 pub first_set : (room : List ℤ) (v : ℤ) → 1 ≤ length room → take 1 (set room 0 v) ≡ v ∷ []

@@ -224,12 +224,6 @@ pub record AreNewBefore (job : Job) (n : ℕ) (columns : List Column) : Type 0 w
   pub each : (k : ℕ) (column : Column) → slice_get columns k ≡ Some column
       → IsNewColumn job column.task column
 
-pub new_none : (job : Job) → AreNewBefore job 0 []
-new_none job = record {
-  tasks = refl;
-  each = λ k column got. absurd (let wrong : None ≡ Some column = got in cc);
-}
-
 pushed : (columns : List Column) (new column : Column) (k : ℕ)
     → slice_get (columns ++ new ∷ []) k ≡ Some column
     → (slice_get columns k ≡ Some column) ⊎ (column ≡ new)
@@ -259,13 +253,6 @@ pub new_same : (job : Job) (n : ℕ) (columns : List Column) → AreNewBefore jo
     → is_sink_at job n ≡ false → AreNewBefore job (n + 1) columns
 new_same job n columns before none = record {
   tasks = before.tasks ∙ sym (sinks_no job n none);
-  each = before.each;
-}
-
-pub new_all : (job : Job) (n : ℕ) (columns : List Column) → AreNewBefore job n columns
-    → n ≡ length job.graph.tasks → AreNewColumns job columns
-new_all job n columns before all = record {
-  tasks = before.tasks ∙ ap (sinks_before job) all;
   each = before.each;
 }
 

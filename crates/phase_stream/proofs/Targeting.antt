@@ -1,5 +1,5 @@
 -- One sink after another that goes to a file.
-use Rattle.std.proofs.Common.{◌≡◌, ◌≢◌, ◌⊎◌, inl, inr, ◌<◌, ◌≤◌, ◌+◌, ◌++◌, ℕ, zero, suc, Bool, true, false, List, [], ◌∷◌, Option, Some, None, length, map, get_or, slice_get, refl, sym, ap, subst, ◌∙◌, arith}
+use Rattle.std.proofs.Common.{◌≡◌, ◌⊎◌, inl, inr, ◌<◌, ◌≤◌, ◌+◌, ◌++◌, ℕ, zero, suc, Bool, true, false, List, [], ◌∷◌, Option, Some, None, length, map, get_or, slice_get, refl, sym, ap, subst, ◌∙◌, arith}
 use Rattle.std.specs.Prelude.{is_some, nat_lt}
 use Rattle.std.proofs.lemmas.Bool.{cases_lt, ltb-false, ltb-true}
 use Rattle.std.proofs.lemmas.List.{length_push}
@@ -9,10 +9,8 @@ use Rattle.phase_words.specs.Outputs.{Pair, pair_as}
 use Rattle.phase_words.specs.declared.call.SinkFile.{SinkFile}
 use Rattle.phase_words.specs.StreamLine.{Stream}
 use Rattle.stream_job.specs.stream_lists.Jobs.{Job}
-use Rattle.stream_job.specs.stream_lists.Lists.{sinks_of}
-use Rattle.phase_stream.specs.Outputs.{AreTargetsOf, IsOutputTarget, LacksSink, is_asked, only_of, output_task, task_to}
+use Rattle.phase_stream.specs.Outputs.{AreTargetsOf, IsOutputTarget, LacksSink, is_asked, task_to}
 use Rattle.phase_stream.specs.Sessions.{AreTargets, IsSinkNumber, sink_for, task_for}
-use Rattle.phase_stream.specs.Streams.{AsksNone, AsksOne}
 use Rattle.phase_stream.specs.declared.sink.Sink.{Sink}
 use Rattle.phase_stream.proofs.Targets.{beyond}
 
@@ -23,67 +21,6 @@ pub record AreFirst (job : Job) (what : Stream) (n : ℕ) (targets : List (Optio
   pub numbers : AreTargets job targets
   pub sinks : (k : ℕ) → k < n + 1 → is_asked what.sink what.files k ≡ true
       → is_some (task_to job what.sink what.files k) ≡ true
-
--- ---- the output
-
--- others alone are named
-pub output_none : (job : Job) (what : Stream) → is_some what.sink ≡ false → what.files ≢ []
-    → IsOutputTarget job what None
-output_none job what none some = by what.sink what.files refl refl
-  where
-    by : (sink : Option (List ℕ)) (files : List Pair) → what.sink ≡ sink → what.files ≡ files
-        → IsOutputTarget job what None
-    by (Some name) files e f = absurd (let bad : true ≡ false = ap is_some (sym e) ∙ none in cc)
-    by None [] e f = absurd (some f)
-    by None (file ∷ files) e f = record {
-      task = rw (e, f) refl;
-      number = λ sink is. absurd (cc);
-      there = λ asked. absurd (let bad : false ≡ true = rw (e, f) at asked in cc);
-    }
-
-asks_task : (job : Job) (asked : Option (List ℕ)) (files : List Pair) (t : ℕ)
-    → (asked ≡ None → files ≡ []) → AsksOne job asked t → output_task job asked files ≡ Some t
-asks_task job None files t bare asks =
-    ap (output_task job None) (bare refl) ∙ ap only_of asks
-asks_task job (Some name) files t bare asks = asks
-
--- the one of a name, or the only one
-pub output_one : (job : Job) (what : Stream) (sink : Sink) → (what.sink ≡ None → what.files ≡ [])
-    → AsksOne job what.sink sink.task → IsSinkNumber job sink.task sink.number
-    → IsOutputTarget job what (Some sink)
-output_one job what sink bare asks number =
-    let task = asks_task job what.sink what.files sink.task bare asks in
-    record {
-      task = sym task;
-      number = λ other is.
-          subst (λ (s : Sink). IsSinkNumber job s.task s.number) (same_Some sink other is) number;
-      there = λ asked. ap is_some task;
-    }
-
-lacks_task : (job : Job) (asked : Option (List ℕ)) (files : List Pair)
-    → (asked ≡ None → files ≡ []) → AsksNone job asked → output_task job asked files ≡ None
-lacks_task job None files bare none =
-    ap (output_task job None) (bare refl) ∙ by (sinks_of job) none
-  where
-    by : (ts : List ℕ) → ((t : ℕ) → ts ≡ t ∷ [] → ⊥) → only_of ts ≡ None
-    by [] never = refl
-    by (t ∷ []) never = absurd (never t refl)
-    by (t ∷ u ∷ ts) never = refl
-lacks_task job (Some name) files bare none = none
-
-asked_output : (asked : Option (List ℕ)) (files : List Pair) → (asked ≡ None → files ≡ [])
-    → is_asked asked files 0 ≡ true
-asked_output None files bare = ap (λ files. is_asked None files 0) (bare refl)
-asked_output (Some name) files bare = refl
-
--- or there is none
-pub output_lacks : (job : Job) (what : Stream) → (what.sink ≡ None → what.files ≡ [])
-    → AsksNone job what.sink → LacksSink job what.sink what.files
-output_lacks job what bare none = record {
-  number = 0;
-  asked = asked_output what.sink what.files bare;
-  none = lacks_task job what.sink what.files bare none;
-}
 
 -- ---- one file more
 

@@ -4,7 +4,7 @@ use Rattle.clap.specs.Words.{HasKind, IsAmong, Kinds, Text, kind_of}
 use Rattle.clap.specs.declared.error.Error.{Error}
 use Rattle.clap.specs.declared.error.kind.ErrorKind.{ErrorKind}
 use Rattle.clap.specs.declared.error.kind.ErrorKind.TheVariants as kind
-use Rattle.phase_words.specs.CommandLine.{AreTaken, AskHelp, AskVersion, ExplainsNone, HasRefusal, HasShown, IsNoCall, IsShown, kinds_of}
+use Rattle.phase_words.specs.CommandLine.{AreTaken, ExplainsNone, HasRefusal, HasShown, IsNoCall, IsShown, kinds_of}
 use Rattle.phase_words.specs.ClapErrors.{IsToldBy}
 use Rattle.phase_words.specs.declared.call.NoCall.{NoCall}
 use Rattle.phase_words.specs.declared.call.NoCall.TheVariants as no_call
@@ -41,12 +41,6 @@ shown-some kinds has taken = none-among kinds has.kind has.among taken
 pub refusal-some : (kinds : Kinds) → HasRefusal kinds → kinds ≡ [] → ⊥
 refusal-some kinds has taken = none-among kinds has.kind has.among taken
 
-pub shown-not-taken : (words : List Text) → HasShown (kinds_of words) → AreTaken words → ⊥
-shown-not-taken words has taken = shown-some (kinds_of words) has taken
-
-pub refusal-not-taken : (words : List Text) → HasRefusal (kinds_of words) → AreTaken words → ⊥
-refusal-not-taken words has taken = refusal-some (kinds_of words) has taken
-
 -- kinds of which one alone is shown have no refusal
 pub refusal-none-shown : (kinds : Kinds) (one : ErrorKind) → IsShown one → HasRefusal kinds → kinds ≡ one ∷ [] → ⊥
 refusal-none-shown kinds one shown has alone = elim (subst (λ (kinds : Kinds). IsAmong has.kind kinds) alone has.among) [
@@ -54,21 +48,9 @@ refusal-none-shown kinds one shown has alone = elim (subst (λ (kinds : Kinds). 
   | inr none ↦ none
 ]
 
-pub refusal-not-help : (words : List Text) → HasRefusal (kinds_of words) → AskHelp words → ⊥
-refusal-not-help words has help = refusal-none-shown (kinds_of words) kind.DisplayHelp (inl refl) has help
-
-pub refusal-not-version : (words : List Text) → HasRefusal (kinds_of words) → AskVersion words → ⊥
-refusal-not-version words has version = refusal-none-shown (kinds_of words) kind.DisplayVersion (inr refl) has version
-
 -- and words of one kind of answer are not taken
 pub one-some : (kinds : Kinds) (one : ErrorKind) → kinds ≡ one ∷ [] → kinds ≡ [] → ⊥
 one-some kinds one alone taken = some-not-empty one [] (sym alone ∙ taken)
-
-pub asked-help-not-taken : (words : List Text) → AskHelp words → AreTaken words → ⊥
-asked-help-not-taken words help taken = one-some (kinds_of words) kind.DisplayHelp help taken
-
-pub asked-version-not-taken : (words : List Text) → AskVersion words → AreTaken words → ⊥
-asked-version-not-taken words version taken = one-some (kinds_of words) kind.DisplayVersion version taken
 
 -- words are taken or not
 pub none-or-some : (kinds : Kinds) → (kinds ≡ []) ⊎ (kinds ≡ [] → ⊥)

@@ -1,44 +1,17 @@
 -- The lists of the phasers, one after the other.
 use Rattle.std.proofs.Common.{◌≡◌, ℕ, ◌+◌, List, [], ◌∷◌, ◌++◌, ℤ, length, map, Some, None, refl, sym, ap, ◌∙◌, zero-add}
-use Rattle.std.specs.Prelude.{Vec, Option, get_or}
+use Rattle.std.specs.Prelude.{Option, get_or}
 use Rattle.std.specs.Option.{option_map}
-use Rattle.std.specs.Global.{Global}
 use Rattle.std.specs.List.{range_with_len, find}
-use Rattle.std.proofs.lemmas.List.{map_push}
 use Rattle.std.proofs.lemmas.List.FromFn.{map-range_with_len_more}
 use Rattle.stream_lists.specs.graph_base.Graphs.{phaser_at}
 use Rattle.stream_lists.specs.Jobs.{Job}
 use Rattle.stream_lists.specs.Spans.{lengths_of, schedule_of}
-use Rattle.stream_lists.specs.Lists.{Contribution, contributions_on, value_by, list_over, number, number_in, phase_in, numbers_up_to}
-use Rattle.stream_lists.specs.Ranges.{Where, output_fault_of, phase_fault_of, is_fault, first_some, fault_over, fault_on}
+use Rattle.stream_lists.specs.Lists.{Contribution, contributions_on, value_by, list_over, number, number_in, phase_in}
+use Rattle.stream_lists.specs.Ranges.{Where, output_fault_of, phase_fault_of, is_fault, first_some, fault_over}
 use Rattle.stream_lists.specs.phase_accum.declared.outcome.Outcome.{Outcome}
 use Rattle.stream_lists.specs.graph_base.declared.place.Place.TheVariants as place
-use Rattle.stream_lists.specs.JobFields.{items_of}
-use Rattle.stream_lists.proofs.Firsts.{fold-range_more, first-append_some, first-append_none}
-
--- the lists with one more
-pub items-push : (job : Job) (lists : List (Vec ℤ Global)) (above : List (List ℤ))
-    (list : Vec ℤ Global) (p : ℕ)
-    → above ≡ items_of lists → items_of lists ≡ numbers_up_to job (schedule_of job) p
-    → list.items ≡ map number (list_over job (schedule_of job) above p)
-    → items_of (lists ++ list ∷ []) ≡ numbers_up_to job (schedule_of job) (p + 1)
-items-push job lists above list p same is list_is =
-    map_push (λ v. v.items) lists list
-    ∙ (ap (λ v. items_of lists ++ v ∷ [])
-    (list_is ∙ ap (λ a. map number (list_over job (schedule_of job) a p))
-    (same ∙ is))
-    ∙ (ap (λ ls. ls ++ map number
-    (list_over job (schedule_of job)
-    (numbers_up_to job (schedule_of job) p) p) ∷ []) is
-    ∙ sym (fold-range_more (λ a q. a ++ map number
-    (list_over job (schedule_of job) a q) ∷ []) [] p)))
-
--- the fault that was looked for is the phaser's
-pub fault-is : (job : Job) (lists : List (Vec ℤ Global)) (above : List (List ℤ)) (p : ℕ) (found : _)
-    → above ≡ items_of lists → items_of lists ≡ numbers_up_to job (schedule_of job) p
-    → fault_over job (schedule_of job) above p ≡ found → fault_on job p ≡ found
-fault-is job lists above p found same is e =
-    ap (λ a. fault_over job (schedule_of job) a p) (sym (same ∙ is)) ∙ e
+use Rattle.stream_lists.proofs.Firsts.{first-append_some, first-append_none}
 
 -- the members' outputs are looked at before the phases
 pub fault-member : (job : Job) (above : List (List ℤ)) (p : ℕ) (w : Where)

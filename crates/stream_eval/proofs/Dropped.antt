@@ -1,5 +1,5 @@
 -- Lists that are gone through, and dropped where they are no more read.
-use Rattle.std.proofs.Common.{◌≡◌, ◌⊎◌, inl, inr, ℕ, zero, suc, ◌+◌, ◌<◌, ◌≤◌, List, [], ◌∷◌, ℤ, length, get_or, Bool, true, false, ◌++◌, take, drop, refl, sym, ap, subst, ◌∙◌, arith, drop_of_length-le}
+use Rattle.std.proofs.Common.{◌≡◌, ◌⊎◌, inl, inr, ℕ, zero, suc, ◌+◌, ◌<◌, ◌≤◌, List, [], ◌∷◌, ℤ, length, get_or, true, false, ◌++◌, take, drop, refl, sym, ap, subst, ◌∙◌, arith, drop_of_length-le}
 use Rattle.std.specs.Prelude.{Vec, set, if◌then◌else◌}
 use Rattle.std.specs.Global.{Global}
 use Rattle.std.specs.List.{All}
@@ -17,16 +17,6 @@ pub record GoneThrough (job : Job) (p : ℕ) (old lists : List (Vec ℤ Global))
   pub rest : (k : ℕ) → q ≤ k → get_or (items_of lists) k [] ≡ get_or (items_of old) k []
   pub sends : All (λ list. AreSends list.items) lists
   pub long : length lists ≡ length old
-
--- none is
-pub gone-none : (job : Job) (p : ℕ) (old : List (Vec ℤ Global))
-    → All (λ list. AreSends list.items) old → GoneThrough job p old old 0
-gone-none job p old sends = record {
-  done = λ k lt. absurd (omega arith);
-  rest = λ k le. refl;
-  sends = sends;
-  long = refl;
-}
 
 -- ---- one more
 
@@ -92,26 +82,6 @@ past : (xs : List (List ℤ)) (k : ℕ) → length xs ≤ k → get_or xs k [] �
 past [] k le = refl
 past (x ∷ xs) zero le = absurd (omega (arith, le))
 past (x ∷ xs) (suc k) le = past xs k (omega (arith, le))
-
-pub gone-all : (job : Job) (p : ℕ) (old lists : List (Vec ℤ Global)) (q : ℕ)
-    → GoneThrough job p old lists q → length old ≤ q
-    → (k : ℕ) → get_or (items_of lists) k [] ≡ list_kept job p (items_of old) k
-gone-all job p old lists q gone end k = by (cases_lt k q)
-  where
-    none : q ≤ k → get_or (items_of old) k [] ≡ []
-    none above =
-        let count = length-map old (λ list. list.items) in
-        past (items_of old) k (omega (arith, count, end, above))
-
-    unkept : (b : Bool) → get_or (items_of old) k [] ≡ []
-        → (if b then get_or (items_of old) k [] else []) ≡ []
-    unkept true e = e
-    unkept false e = refl
-
-    by : (k < q) ⊎ (q ≤ k) → get_or (items_of lists) k [] ≡ list_kept job p (items_of old) k
-    by (inl below) = gone.done k below
-    by (inr above) = gone.rest k above
-        ∙ (none above ∙ sym (unkept (is_read_from job p k) (none above)))
 
 -- ---- a list that was lent whole is written back whole
 

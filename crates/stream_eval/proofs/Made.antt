@@ -1,18 +1,15 @@
 -- A list that is made value by value, each of which is checked.
 use Rattle.std.proofs.Common.{◌≡◌, ℕ, zero, suc, ◌+◌, ◌<◌, ◌≤◌, List, [], ◌∷◌, ◌++◌, length, get_or, take, drop, ℤ, pos, Some, None, Ok, Err, refl, sym, ap, subst, ◌∙◌, arith}
-use Rattle.std.specs.Prelude.{unsigned_abs}
 use Rattle.std.specs.List.{position_from}
 use Rattle.std.proofs.lemmas.List.{take_more, take_all}
 use Rattle.std.proofs.Math.ListN.{drop_of_length-le}
-use Rattle.stream_lists.specs.stream_filters.Range.{ranged, lowest}
+use Rattle.stream_lists.specs.stream_filters.Range.{ranged}
 use Rattle.stream_lists.specs.stream_filters.declared.fault.TooBigValue.{TooBigValue}
-use Rattle.stream_lists.specs.phase_accum.Sends.{IsSend, AreSends, value_max}
+use Rattle.stream_lists.specs.phase_accum.Sends.{IsSend, AreSends}
 use Rattle.stream_lists.proofs.phase_accum_lemmas.Parts.{AreSends-append}
 use Rattle.stream_lists.specs.Ranges.{is_out_of_range}
 use Rattle.stream_lists.proofs.InRange.{IsSend-in_range}
 use Rattle.stream_lists.proofs.stream_filters_lemmas.Made.{position-pass, position-here, ranged-ok, ranged-err}
-
--- ---- the first place at which a test passes
 
 -- ---- values that can be sent
 
@@ -22,15 +19,6 @@ AreSends-at [] n d all lt = absurd (omega arith)
 AreSends-at (x ∷ xs) zero d all lt = all.0
 AreSends-at (x ∷ xs) (suc n) d all lt = AreSends-at xs n d all.1 (omega arith)
 
--- what can be sent is not the lowest number
-pub send-lowest : (z : ℤ) → IsSend z → z ≡ lowest → ⊥
-send-lowest z is e =
-    let small : unsigned_abs z ≤ value_max = is.small in
-    let same : unsigned_abs z ≡ 9223372036854775808 = ap unsigned_abs e in
-    omega arith
-
--- ---- the range check
-
 -- ---- the first values of a list
 
 -- these are the first n values of the whole list, and they are in range
@@ -39,9 +27,6 @@ pub record MadeInRange (whole list : List ℤ) (n : ℕ) : Type 0 where
   pub sends : AreSends list
   pub none_yet : position_from is_out_of_range 0 whole
       ≡ position_from is_out_of_range n (drop n whole)
-
-pub MadeInRange-none : (whole : List ℤ) → MadeInRange whole [] 0
-MadeInRange-none whole = record { list_is = refl; sends = tt; none_yet = refl }
 
 -- one more value is in range
 pub MadeInRange-more : (whole list : List ℤ) (n : ℕ) (y : ℤ)

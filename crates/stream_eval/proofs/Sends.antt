@@ -21,9 +21,6 @@ front o vs i = (o, take i vs)
 
 -- ---- one more value of a list
 
-slice_get-nil : (k : ℕ) → slice_get {X = ℤ} [] k ≡ None
-slice_get-nil k = refl
-
 slice_get-take_other : (vs : List ℤ) (i k : ℕ) → (k ≡ i → ⊥) → slice_get (take (suc i) vs) k
     ≡ slice_get (take i vs) k
 slice_get-take_other [] zero k ne = refl

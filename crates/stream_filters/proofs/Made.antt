@@ -47,9 +47,6 @@ by_fits false z e = absurd (let wrong : false ≡ true = e in cc)
 pub ranged-fits : (z : ℤ) → not (is_out_of_range z) ≡ true → ranged z ≡ Ok z
 ranged-fits z e = by_fits (nat_le (unsigned_abs z) 9223372036854775807) z e
 
-pub MadeSoFar-none : (whole : List ℤ) → MadeSoFar whole [] 0
-MadeSoFar-none whole = record { list_is = refl; none_yet = refl }
-
 -- one more value is in range
 pub MadeSoFar-more : (whole list : List ℤ) (n : ℕ) (y : ℤ)
     → MadeSoFar whole list n → n < length whole → ranged (get_or whole n (pos 0)) ≡ Ok y

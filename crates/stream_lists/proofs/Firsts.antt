@@ -1,5 +1,5 @@
 -- The first of a list of options, from the front on.
-use Rattle.std.proofs.Common.{◌≡◌, ℕ, zero, suc, ◌+◌, ◌-◌, ◌<◌, ◌≤◌, List, [], ◌∷◌, ◌++◌, length, map, Some, None, Bool, true, false, refl, sym, ap, ◌∙◌, arith, zero-add}
+use Rattle.std.proofs.Common.{◌≡◌, ℕ, zero, suc, ◌+◌, ◌-◌, ◌<◌, List, [], ◌∷◌, ◌++◌, length, map, Some, None, Bool, true, false, refl, sym, ap, ◌∙◌, arith, zero-add}
 use Rattle.std.specs.Prelude.{Option, if◌then◌else◌}
 use Rattle.std.specs.List.{range_with_len, fold, filter_map, cons_option, find, list_any, filter, position_from}
 use Rattle.std.proofs.lemmas.List.Elements.{filter_map-append, filter-append}
@@ -7,11 +7,6 @@ use Rattle.std.proofs.lemmas.List.{append-nil}
 use Rattle.std.proofs.lemmas.List.Sums.{fold-append}
 use Rattle.std.proofs.lemmas.List.FromFn.{map-range_with_len_more}
 use Rattle.stream_lists.specs.Ranges.{first_some}
-
--- the first of the last m of f, from place i on, is the whole's first
-pub FirstFrom : {A : Type 0} → (ℕ → Option A) → ℕ → ℕ → Type 0
-FirstFrom f n i = first_some (map f (range_with_len 0 n))
-    ≡ first_some (map f (range_with_len i (n - i)))
 
 -- one number more, and the rest
 pub range_next : (i n : ℕ) → i < n → range_with_len i (n - i)
@@ -30,10 +25,6 @@ first-pass f n i lt e = rw (range_next i n lt, e) refl
 pub first-here : {A : Type 0} (f : ℕ → Option A) (n i : ℕ) (a : A) → i < n → f i ≡ Some a
     → first_some (map f (range_with_len i (n - i))) ≡ Some a
 first-here f n i a lt e = rw (range_next i n lt, e) refl
-
-pub first-end : {A : Type 0} (f : ℕ → Option A) (n i : ℕ) → n ≤ i
-    → first_some (map f (range_with_len i (n - i))) ≡ None
-first-end f n i le = let none : n - i ≡ 0 = omega arith in rw none refl
 
 -- the numbers below n + 1
 pub range_more : (a n : ℕ) → range_with_len a (n + 1) ≡ range_with_len a n ++ (a + n) ∷ []
@@ -101,9 +92,6 @@ find-pass t m i lt e = rw (range_next i m lt, e) refl
 pub find-here : (t : ℕ → Bool) (m i : ℕ) → i < m → t i ≡ true → find t (range_with_len i (m - i))
     ≡ Some i
 find-here t m i lt e = rw (range_next i m lt, e) refl
-
-pub find-end : (t : ℕ → Bool) (m i : ℕ) → m ≤ i → find t (range_with_len i (m - i)) ≡ None
-find-end t m i le = let none : m - i ≡ 0 = omega arith in rw none refl
 
 pub any-pass : (t : ℕ → Bool) (m i : ℕ) → i < m → t i ≡ false
     → list_any t (range_with_len i (m - i)) ≡ list_any t (range_with_len (i + 1) (m - (i + 1)))

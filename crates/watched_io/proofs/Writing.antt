@@ -1,8 +1,8 @@
 -- What a writer got on the way.
-use Rattle.std.proofs.Common.{◌≡◌, ℕ, ◌+◌, ◌-◌, ◌≤◌, List, [], ◌++◌, length, take, drop, refl, sym, ◌∙◌, ap, subst, arith, append_assoc, length-drop, take-append-drop}
+use Rattle.std.proofs.Common.{◌≡◌, ℕ, ◌+◌, ◌-◌, ◌≤◌, List, [], ◌++◌, length, take, drop, sym, ◌∙◌, ap, subst, arith, append_assoc, length-drop, take-append-drop}
 use Rattle.std.proofs.lemmas.List.{take_rest, length-take}
 use Rattle.std.specs.Io.KnownBytes.{Appends, Keeps}
-use Rattle.std.proofs.KnownBytes.{Appends-nil, Appends-trans, Appends-kept}
+use Rattle.std.proofs.KnownBytes.{Appends-trans, Appends-kept}
 use Rattle.std.specs.declared.option.Option.{Option}
 use Rattle.watched_io.specs.Prefix.{AppendsPrefix}
 use Rattle.std.proofs.Math.Seq.{take-add}
@@ -29,10 +29,6 @@ written_within i n bs h k = omega (arith, length-drop i bs, length-take (length 
 -- a prefix of a prefix is one
 pub prefix_of_prefix : (old new : Option (List ℕ)) (bs rest owed : List ℕ) → owed ≡ bs ++ rest → AppendsPrefix old new bs → AppendsPrefix old new owed
 prefix_of_prefix old new bs rest owed e p = (p.0, p.1 ++ rest, e ∙ ap (λ l. l ++ rest) p.2 ∙ append_assoc p.0 p.1 rest, p.3)
-
--- nothing is a prefix
-pub prefix_none : (old new : Option (List ℕ)) (bs : List ℕ) → Keeps old new → AppendsPrefix old new bs
-prefix_none old new bs p = ([], bs, refl, Appends-kept old old new [] (Appends-nil old) p)
 
 -- one text was written, and of the next a prefix
 pub prefix_after : (old mid new : Option (List ℕ)) (before bytes : List ℕ) → Appends old mid before

@@ -113,18 +113,6 @@ in_both a b n p =
     let y = bit_at-lt b n in
     (omega arith, omega arith)
 
--- where no number is in common, nothing is
-pub apart_is : (a b : ℕ) → a < 2 ^ 64
-    → ((n : ℕ) → n < 64 → bit_at a n ≡ 1 → bit_at b n ≡ 1 → ⊥) → bit_and a b ≡ 0
-apart_is a b fits none =
-    elim (cases_eq (bit_and a b) 0) [
-      | inl is ↦ is
-      | inr other ↦ absurd (
-          let low = lowest (bit_and a b) (omega arith) (omega (arith, and_le_l a b)) in
-          let set = in_both a b _ low.1 in
-          none _ low.0 set.0 set.1)
-    ]
-
 -- ---- the numbers from some on
 
 -- the mask of the numbers from k on
