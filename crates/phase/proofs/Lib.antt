@@ -1,1 +1,3 @@
 mod Words
+mod Asking
+mod Answered

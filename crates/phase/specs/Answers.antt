@@ -11,8 +11,8 @@ use Rattle.phase_commands.specs.phase_words.Answers.{AnswerEnds, IsUnbegun, MayE
 use Rattle.phase_commands.specs.phase_words.CommandLine.{Asked, AskReplay, Asks, kinds_of}
 use Rattle.phase_commands.specs.phase_words.RunLine.{AsksRun, AsksWorkers, Run, run_kinds_of, workers_kinds_of}
 use Rattle.phase_commands.specs.phase_words.StreamLine.{AsksStream, Stream, stream_kinds_of}
-use Rattle.phase_run.specs.phase_eval.Ends.{EndsAsEval, MayEndAsEval}
-use Rattle.phase_run.specs.Ends.{AskNoCounts, EndsAsRun, MayEndAsRun}
+use Rattle.phase_eval.specs.Ends.{EndsAsEval, MayEndAsEval}
+use Rattle.phase.specs.Ends.{AskNoCounts, EndsAsRun, MayEndAsRun}
 use Rattle.phase_stream.specs.Ends.{EndsAsStreamed, MayEndAsStream}
 use Rattle.phase.specs.Ways.{run, way_of}
 

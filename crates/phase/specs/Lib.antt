@@ -1,3 +1,5 @@
 pub mod Answers
 pub mod Standing
 pub mod Ways
+pub mod Ends
+pub mod Runs

@@ -4,10 +4,11 @@ ghost use Rattle.clap.specs.Words.{Text};
 ghost use Rattle.phase.specs.Answers.{AsksNoCounts, EvalAnswers, OthersAnswer, RunAnswers, StreamAnswers};
 ghost use Rattle.phase.specs.Standing.{own_texts};
 ghost use Rattle.phase.specs.Ways.{by_workers, others, run, stream, way_of};
-ghost use Rattle.phase_run.specs.Ends.{AskNoCounts};
+ghost use Rattle.phase.specs.Ends.{AskNoCounts};
 ghost use Rattle.phase_commands.specs.phase_words.Answers.{IsAnswer, OfStreams, Wrote};
 ghost use Rattle.phase_commands.specs.phase_words.CommandLine.{texts};
 
+use crate::run::run_graph;
 use crate::way::{Own, Way, help_word, way_of};
 use phase_commands::graph_commands::{LooksBeside, Refuses};
 use phase_commands::phase_replay::Watched;
@@ -82,9 +83,9 @@ fn run_own<H: Threads + Wait + Clock + Sync, W: Write, E: Write, F: Opens + Refu
         → streams.new.faults ≡ streams.old.faults }
 {
     match own {
-        Own::Behind(words) => phase_run::run_cli(rt, alloc, words, streams),
+        Own::Behind(words) => run_graph(rt, alloc, words, streams),
         Own::Help => match help_word(alloc) {
-            Ok(words) => phase_run::run_cli(rt, alloc, words.as_slice(), streams),
+            Ok(words) => run_graph(rt, alloc, words.as_slice(), streams),
             Err(_) => out_of_memory(streams),
         },
     }
@@ -101,7 +102,7 @@ fn eval_own<H: Threads + Sync, W: Write, E: Write, F: Opens + Refuses + LooksBes
         W.contents result) streams.old streams.new }
     ensures quiet { result ≡ Status.Done → streams.new.faults ≡ streams.old.faults }
 {
-    phase_run::phase_eval::run_cli(rt, alloc, words, streams)
+    phase_eval::run_cli(rt, alloc, words, streams)
 }
 
 /// Streams a graph by the words of `stream`.

@@ -6,6 +6,7 @@
 
 mod cli;
 mod laws;
+mod run;
 mod way;
 
 use cli::run_cli;

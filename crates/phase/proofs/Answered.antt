@@ -2,7 +2,7 @@
 use Rattle.std.proofs.Common.{◌≡◌, ◌≤◌, ℕ, ℤ, List, Ok, Some, map, get_or, subst, ◌∙◌, rules}
 use Rattle.std.proofs.lemmas.List.Elements.{All-map}
 use Rattle.std.specs.List.{All}
-use Rattle.phase_run.specs.Runs.{BeginInTime}
+use Rattle.phase.specs.Runs.{BeginInTime}
 use Rattle.stream_workers.specs.graph_commands.stream_lists.graph_base.Graphs.{task_at}
 use Rattle.stream_workers.specs.graph_commands.stream_lists.Jobs.{Job, with_starts}
 use Rattle.stream_workers.specs.graph_commands.stream_lists.Lists.{lines_of, start_in}

@@ -1,13 +1,13 @@
 //! A run of the program over any outputs and files.
 ghost use Rattle.std.specs.Prelude.{◌≡◌, false};
-ghost use Rattle.phase_run.specs.Ends.{AskNoCounts, EndsAsRun, MayEndAsRun, TellsCounts};
+ghost use Rattle.phase.specs.Ends.{AskNoCounts, EndsAsRun, MayEndAsRun, TellsCounts};
 ghost use Rattle.phase_eval.specs.phase_words.Answers.{AnswerEnds, MayEnd, Wrote, WroteIfBegun};
 ghost use Rattle.phase_eval.specs.phase_words.CommandLine.{texts};
 ghost use Rattle.phase_eval.specs.phase_words.RunLine.{AreRunTaken, AsksRun, Run, run_kinds_of, run_of};
 ghost use Rattle.stream_workers.specs.graph_commands.Explained.{AreFurtherLines};
 ghost use Rattle.stream_workers.specs.graph_commands.watched_io.States.{writer_state};
 
-use crate::graph_run::run;
+use crate::run::graph_run::run;
 use phase_eval::phase_words::{RunCall, answer, read_run_words};
 use std::alloc::Global;
 use std::io::Write;
@@ -26,7 +26,7 @@ use stream_workers::graph_commands::{LooksBeside, Refuses, look_by, report, tell
 /// A refusal's text goes to the fault stream, and so does a fault's line, and what each task did
 /// where the words ask for that, behind all values. Where that stream fails too, the status stands
 /// alone. A run waits, and it is not promised that it comes back.
-pub fn run_cli<
+pub fn run_graph<
     H: Threads + Wait + Clock + Sync,
     W: Write,
     E: Write,

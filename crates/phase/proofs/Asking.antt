@@ -1,6 +1,6 @@
 -- Which statuses may come of a run.
 use Rattle.std.proofs.Common.{◌≡◌, ◌≢◌, ◌⊎◌, inl, inr, ℕ, List, refl}
-use Rattle.phase_run.specs.Ends.{MayEndAsRun}
+use Rattle.phase.specs.Ends.{MayEndAsRun}
 use Rattle.phase_eval.proofs.phase_words_lemmas.Answering.{stalled-taken}
 use Rattle.phase_eval.specs.phase_words.Answers.{MayEnd}
 use Rattle.phase_eval.specs.phase_words.RunLine.{AreRunTaken, run_kinds_of}

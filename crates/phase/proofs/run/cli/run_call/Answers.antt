@@ -3,10 +3,10 @@ use Rattle.stream_workers.proofs.graph_commands_lemmas.Counted.{known-same}
 use Rattle.stream_workers.proofs.graph_commands_lemmas.Ends.{failure-not-done, fails-place, unanswered-place}
 use Rattle.phase_eval.specs.phase_words.RunLine.{run_of}
 use Rattle.stream_workers.specs.graph_commands.Folders.{known_by}
-use Rattle.phase_run.specs.Ends.{MayEndAsRun}
-use Rattle.phase_run.specs.Runs.{Stalls}
-use Rattle.phase_run.proofs.Asking.{failure-ends}
-use Rattle.phase_run.proofs.cli.run_call.Goals as goal
+use Rattle.phase.specs.Ends.{MayEndAsRun}
+use Rattle.phase.specs.Runs.{Stalls}
+use Rattle.phase.proofs.Asking.{failure-ends}
+use Rattle.phase.proofs.run.cli.run_call.Goals as goal
 
 -- its failure has the place that it tells of
 pub report-requires : goal.report-requires

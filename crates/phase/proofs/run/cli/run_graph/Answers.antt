@@ -2,8 +2,8 @@ use Rattle.std.proofs.Common.{inl, inr, refl, sym, subst, ◌∙◌}
 use Rattle.phase_eval.proofs.phase_words_lemmas.Answering.{may-end-answered, may-end-taken, refused-silent, unbegun}
 use Rattle.phase_eval.specs.phase_words.RunLine.{Run}
 use Rattle.stream_workers.specs.graph_commands.watched_io.States.{writer_state}
-use Rattle.phase_run.specs.Ends.{EndsAsRun}
-use Rattle.phase_run.proofs.cli.run_cli.Goals as goal
+use Rattle.phase.specs.Ends.{EndsAsRun}
+use Rattle.phase.proofs.run.cli.run_graph.Goals as goal
 
 -- ---- a run of a graph was asked for
 

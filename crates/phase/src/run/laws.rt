@@ -1,6 +1,6 @@
 //! Which statuses come of which words. The contract of the function is the law.
 ghost use Rattle.std.specs.Prelude.{◌≡◌, ◌≢◌, ℕ, List};
-ghost use Rattle.phase_run.specs.Ends.{MayEndAsRun};
+ghost use Rattle.phase.specs.Ends.{MayEndAsRun};
 ghost use Rattle.phase_eval.specs.phase_words.Answers.{MayEnd};
 ghost use Rattle.phase_eval.specs.phase_words.RunLine.{AreRunTaken, run_kinds_of};
 

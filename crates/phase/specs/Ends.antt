@@ -1,6 +1,6 @@
 -- How a run of the program may end, by what its words ask for.
 use Rattle.std.specs.Prelude.{◌≡◌, ◌⊎◌, ℕ, Bool, true, false, List, Option}
-use Rattle.phase_run.specs.Runs.{RunEnds}
+use Rattle.phase.specs.Runs.{RunEnds}
 use Rattle.phase_eval.specs.phase_words.RunLine.{AreRunTaken, Run, run_in}
 use Rattle.stream_workers.specs.graph_commands.Explained.{AreFurtherLines}
 use Rattle.stream_workers.specs.graph_commands.FileJobs.{Known}

@@ -3,11 +3,11 @@ ghost use Rattle.std.specs.Prelude.{◌≡◌, ℕ, List, Option, OnOk, IfOk, If
 ghost use Rattle.stream_workers.specs.graph_commands.Explained.{AreFurtherLines};
 ghost use Rattle.stream_workers.specs.graph_commands.FileJobs.{IsJobOf, Known};
 ghost use Rattle.stream_workers.specs.graph_commands.GraphRuns.{AsksSink};
-ghost use Rattle.phase_run.specs.Runs.{RunFails, Runs};
+ghost use Rattle.phase.specs.Runs.{RunFails, Runs};
 ghost use Rattle.phase_eval.specs.phase_words.RunLine.{run_of};
 ghost use Rattle.stream_workers.specs.graph_commands.watched_io.States.{writer_state};
 
-use crate::counts::Counts;
+use crate::run::counts::Counts;
 use phase_eval::ByThreads;
 use phase_eval::phase_words::{Explain, RunCall};
 use std::alloc::Global;

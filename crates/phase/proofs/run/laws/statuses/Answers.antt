@@ -1,5 +1,5 @@
-use Rattle.phase_run.proofs.Asking.{stalled-are-taken, taken-not-refused}
-use Rattle.phase_run.proofs.laws.statuses.Goals as goal
+use Rattle.phase.proofs.Asking.{stalled-are-taken, taken-not-refused}
+use Rattle.phase.proofs.run.laws.statuses.Goals as goal
 
 pub returns-clause-taken : goal.returns-clause-taken
 returns-clause-taken c = taken-not-refused

@@ -6,8 +6,8 @@ use Rattle.stream_workers.specs.graph_commands.stream_lists.Jobs.{Job, with_star
 use Rattle.stream_workers.specs.graph_commands.stream_lists.Lists.{lines_of, start_in}
 use Rattle.stream_workers.specs.stream_eval.Results.{sink_values}
 use Rattle.stream_workers.proofs.stream_eval_lemmas.stream_lists_lemmas.Basics.{answer_fits}
-use Rattle.phase_run.proofs.Answered.{answer-lines, told-in_time}
-use Rattle.phase_run.proofs.graph_run.run_asked.Goals as goal
+use Rattle.phase.proofs.Answered.{answer-lines, told-in_time}
+use Rattle.phase.proofs.run.graph_run.run_asked.Goals as goal
 
 -- the lines are those of the job's sinks, which stand where they stood
 pub write_sinks-requires-clause-lines : goal.write_sinks-requires-clause-lines
