@@ -96,26 +96,11 @@ macro_rules! each_turn {
 macro_rules! each_ask {
     ($member:expr, $one:ident => $call:expr) => {
         match $member {
-            AnyMember::Sum($one) => match $call {
-                Ok(asked) => Ok(AnyAsked::Sum(asked)),
-                Err(back) => Err(AnyMember::Sum(back)),
-            },
-            AnyMember::Product($one) => match $call {
-                Ok(asked) => Ok(AnyAsked::Product(asked)),
-                Err(back) => Err(AnyMember::Product(back)),
-            },
-            AnyMember::Least($one) => match $call {
-                Ok(asked) => Ok(AnyAsked::Least(asked)),
-                Err(back) => Err(AnyMember::Least(back)),
-            },
-            AnyMember::Greatest($one) => match $call {
-                Ok(asked) => Ok(AnyAsked::Greatest(asked)),
-                Err(back) => Err(AnyMember::Greatest(back)),
-            },
-            AnyMember::Any($one) => match $call {
-                Ok(asked) => Ok(AnyAsked::Any(asked)),
-                Err(back) => Err(AnyMember::Any(back)),
-            },
+            AnyMember::Sum($one) => $call.map(AnyAsked::Sum).map_err(AnyMember::Sum),
+            AnyMember::Product($one) => $call.map(AnyAsked::Product).map_err(AnyMember::Product),
+            AnyMember::Least($one) => $call.map(AnyAsked::Least).map_err(AnyMember::Least),
+            AnyMember::Greatest($one) => $call.map(AnyAsked::Greatest).map_err(AnyMember::Greatest),
+            AnyMember::Any($one) => $call.map(AnyAsked::Any).map_err(AnyMember::Any),
         }
     };
 }
