@@ -1,6 +1,6 @@
 //! What a task holds of a phaser.
 ghost use Rattle.std.specs.Prelude.{◌≡◌, ◌≢◌, ◌↔◌, [], ◌∷◌, length, Err, IfOk, IsOk, OnErr, OnOk};
-ghost use Rattle.stream_tasks.specs.Holds.{HoldGoesOn, HasSendPlaces, MemberHasSignalled, WaitGave, HasSeenOthers, IsAtMost, HoldLeaves};
+ghost use Rattle.stream_tasks.specs.Holds.{HoldGoesOn, HasSendPlaces, MemberHasSignalled, WaitGave, HasSeenOthers, IsAsItWas, IsAtMost, HoldLeaves};
 ghost use Rattle.graph_runs.specs.phase_base.declared.operation.Op.{Op};
 ghost use Rattle.stream_members.specs.AnyMembers.{room_for};
 ghost use Rattle.stream_tasks.specs.Registering.{AddsTo, AddsNowTo};
@@ -35,6 +35,14 @@ impl<'a> Hold<'a> {
     pub fn room(&self) -> u64 {
         match self {
             Hold::On(member) => member.room(),
+            Hold::Gone => 0,
+        }
+    }
+
+    /// How many values a wait would get, as far as is known without a turn. It is a hint.
+    pub fn ready(&self) -> u64 {
+        match self {
+            Hold::On(member) => member.ready(),
             Hold::Gone => 0,
         }
     }
@@ -86,6 +94,7 @@ impl<'a> Hold<'a> {
     pub fn get(&mut self, out: &mut [Outcome]) -> Result<Given, Held>
         ensures call { HoldGoesOn (WaitGave result out.new) self.old self.new }
         ensures few { IfOk result (IsAtMost (length out.old)) }
+        ensures busy { result ≡ Err Held.Busy → HoldGoesOn IsAsItWas self.old self.new }
         ensures out { length out.new ≡ length out.old }
     {
         laws::others_come();
