@@ -1,5 +1,5 @@
 -- Where a joiner stands that has taken a share of each of its inputs: it owes them in turn.
-use Rattle.std.proofs.Common.{◌≡◌, ◌≢◌, ℕ, suc, ◌+◌, ◌-◌, ◌*◌, ◌/◌, ◌%◌, ◌<◌, ◌≤◌, ℤ, pos, cond, List, [], ◌∷◌, ◌++◌, length, map, get_or, drop, refl, sym, ap, subst, ◌∙◌, arith}
+use Rattle.std.proofs.Common.{◌≡◌, ◌≢◌, ℕ, suc, ◌+◌, ◌-◌, ◌*◌, ◌/◌, ◌%◌, ◌<◌, ◌≤◌, ℤ, pos, cond, List, [], ◌∷◌, ◌++◌, length, map, get_or, drop, refl, sym, ap, subst, ◌∙◌, arith, inr}
 use Rattle.std.specs.Prelude.{Ok, Result}
 use Rattle.std.specs.List.{range_with_len}
 use Rattle.std.proofs.lemmas.List.{drop-append-le, get_or-append-add, get_or-append_right, get_or-drop, length-append, length-drop, length-map}
@@ -14,7 +14,8 @@ use Rattle.stream_eval.specs.stream_lists.Jobs.{Job}
 use Rattle.stream_eval.specs.stream_lists.Lists.{entry, in_turn, number, turn_at}
 use Rattle.stream_eval.specs.stream_lists.Ranges.{is_out_of_range}
 use Rattle.stream_eval.specs.stream_lists.Spans.{puts_on, signalled_by, turns_below}
-use Rattle.graph_runs.specs.Moments.{Moment, input_at, made_now, taken_now}
+use Rattle.graph_runs.specs.Moments.{Moment, TaskRan, input_at, made_now, taken_now}
+use Rattle.graph_runs.specs.Moves.{IsStaying}
 use Rattle.graph_runs.specs.Nexts.{exchanges, signals, waits_first}
 use Rattle.graph_runs.specs.Places.{after_steps}
 use Rattle.graph_runs.specs.TaskPlaces.{OwesUpTo, StandsUpTo, TaskPlace, lacking, nothing, values}

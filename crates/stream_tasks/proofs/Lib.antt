@@ -4,11 +4,14 @@ pub mod Keeping
 mod Shares
 mod DealWaits
 mod JoinSteps
+mod JoinMoments
+mod JoinBlocks
 mod Dealing
 mod Turning
 mod Waiting
 mod DealStates
 mod JoinStates
+mod JoinShares
 mod EndingLemmas
 mod Gone
 mod ChildHolds
