@@ -2,10 +2,7 @@
 use Rattle.std.proofs.Common.{◌≡◌, ◌≢◌, ℕ, ◌+◌, ◌*◌, ◌<◌, ◌≤◌, ◌⊎◌, inl, inr, ℤ, false, List, [], ◌∷◌, ◌++◌, Option, Some, None, length, map, get_or, refl, sym, ap, subst, ◌∙◌, arith, All}
 use Rattle.std.specs.Global.{Global}
 use Rattle.std.specs.Prelude.{Bool, Vec, drop, slice_get, take}
-use Rattle.std.specs.List.{range_with_len}
 use Rattle.std.proofs.lemmas.Bool.{cases_lt}
-use Rattle.std.proofs.lemmas.List.{get_or-drop, get_or-take, length-drop, length-take-le}
-use Rattle.std.proofs.lemmas.Nat.{mul-le}
 use Rattle.std.proofs.lemmas.Option.{same_Some, slice_get_within}
 use Rattle.graph_runs.specs.phase_accum.declared.outcome.Outcome.{Outcome}
 use Rattle.graph_runs.specs.phase_history.Histories.{History}
@@ -40,38 +37,9 @@ use Rattle.stream_tasks.proofs.Holding.{sees_own}
 use Rattle.stream_tasks.proofs.JoinBlocks.{shares_stand}
 use Rattle.stream_tasks.proofs.JoinMoments.{GetsShares, GoesOnBy, MayGetShares, nothing_came, shares_known, shares_own, shares_part, wait_came}
 use Rattle.stream_tasks.proofs.JoinStates.{join_owes, join_undealt}
+use Rattle.stream_tasks.proofs.JoinTurns.{share_all, share_long}
 use Rattle.stream_tasks.proofs.Turning.{goes}
 use Rattle.stream_tasks.proofs.Waiting.{answered_on, input_on}
-
--- ---- shares
-
--- a share lies within all of them
-pub share_within : (n k each : ℕ) → k < n → k * each + each ≤ n * each
-share_within n k each lt =
-    let most : (k + 1) * each ≤ n * each = mul-le (k + 1) each n each (omega arith) (omega arith) in
-    grind (arith, most)
-
-pub share_long : (n k each : ℕ) (outcomes : List Outcome) → k < n
-    → n * each ≤ length outcomes → length (share_at each k outcomes) ≡ each
-share_long n k each outcomes lt room =
-    let rest = length-drop (k * each) outcomes in
-    length-take-le each (drop (k * each) outcomes)
-    (omega (arith, rest, share_within n k each lt, room))
-
--- what holds of all holds of those of a share
-share_all : (P : Outcome → Type 0) (n k each : ℕ) (outcomes : List Outcome) → k < n
-    → n * each ≤ length outcomes → All P (take (n * each) outcomes)
-    → All P (share_at each k outcomes)
-share_all P n k each outcomes lt room all = λ i d less.
-    (let few : i < each = omega (arith, less, share_long n k each outcomes lt room) in
-    let within : k * each + i < n * each = omega (arith, share_within n k each lt, few) in
-    let long : length (take (n * each) outcomes) ≡ n * each =
-    length-take-le (n * each) outcomes room in
-    subst P
-    (get_or-take (n * each) outcomes (k * each + i) d within
-    ∙ sym (get_or-take each (drop (k * each) outcomes) i d few
-    ∙ get_or-drop (k * each) outcomes i d))
-    (all (k * each + i) d (omega (arith, within, long))))
 
 -- ---- the moment after
 

@@ -1,9 +1,11 @@
+mod SameMembers
 mod Holding
 mod Taking
 pub mod Keeping
 mod Shares
 mod DealWaits
 mod JoinSteps
+mod JoinTurns
 mod JoinMoments
 mod JoinBlocks
 mod Dealing

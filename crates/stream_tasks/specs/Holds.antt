@@ -35,11 +35,6 @@ pub record HasSeenOthers (old new : AnyMember) : Type 0 where
   pub same : IsSameRegistration old new
   pub others : OthersCame ((member_in old).number ∷ []) (member_in old).seen (member_in new).seen
 
--- it is as it was
-pub record IsAsItWas (old new : AnyMember) : Type 0 where
-  pub op : member_op new ≡ member_op old
-  pub same : member_in new ≡ member_in old
-
 -- it has seen others' events up to this history, and then its own event
 pub record HasMade (event : ℕ → Event) (old new : AnyMember) (before : History) : Type 0 where
   pub same : IsSameRegistration old new

@@ -1,6 +1,6 @@
 //! What a task holds of a phaser.
 ghost use Rattle.std.specs.Prelude.{◌≡◌, ◌≢◌, ◌↔◌, [], ◌∷◌, length, Err, IfOk, IsOk, OnErr, OnOk};
-ghost use Rattle.stream_tasks.specs.Holds.{HoldGoesOn, HasSendPlaces, MemberHasSignalled, WaitGave, HasSeenOthers, IsAsItWas, IsAtMost, HoldLeaves};
+ghost use Rattle.stream_tasks.specs.Holds.{HoldGoesOn, HasSendPlaces, MemberHasSignalled, WaitGave, HasSeenOthers, IsAtMost, HoldLeaves};
 ghost use Rattle.graph_runs.specs.phase_base.declared.operation.Op.{Op};
 ghost use Rattle.stream_members.specs.AnyMembers.{room_for};
 ghost use Rattle.stream_tasks.specs.Registering.{AddsTo, AddsNowTo};
@@ -94,7 +94,7 @@ impl<'a> Hold<'a> {
     pub fn get(&mut self, out: &mut [Outcome]) -> Result<Given, Held>
         ensures call { HoldGoesOn (WaitGave result out.new) self.old self.new }
         ensures few { IfOk result (IsAtMost (length out.old)) }
-        ensures busy { result ≡ Err Held.Busy → HoldGoesOn IsAsItWas self.old self.new }
+        ensures busy { result ≡ Err Held.Busy → self.new ≡ self.old }
         ensures out { length out.new ≡ length out.old }
     {
         laws::others_come();

@@ -57,11 +57,10 @@ impl<'a> TaskState<'a> {
         if !take_each(&mut self.holds, &mut self.outcomes, inputs, each) {
             return self.meet(Went::Stuck);
         }
-        let got = &self.outcomes[..steps];
-        if !all_fit(got) {
+        if !all_fit(&self.outcomes[..steps]) {
             return self.meet(Went::TooBig);
         }
-        keep_in_turn(&mut self.made, got, inputs, each);
+        keep_in_turn(&mut self.made, &self.outcomes, inputs, each);
         self.begun = begun;
         self.entered = false;
         self.telling = 1;
@@ -75,7 +74,7 @@ impl<'a> TaskState<'a> {
     {
         let inputs = &job.graph().task(self.number).inputs;
         let k = self.telling;
-        self.telling = if k < inputs.len() - 1 { k + 1 } else { 0 };
+        self.telling = if k < inputs.len().saturating_sub(1) { k + 1 } else { 0 };
         match inputs.get(k) {
             Some(p) => Went::Moved(*p),
             None => Went::Ready,
@@ -145,19 +144,19 @@ fn take_all(hold: &mut Hold<'_>, places: &mut [Outcome]) -> bool
     false
 }
 
-/// Keeps the numbers of these outcomes, which are shares of so many, one behind the other: the
-/// first of each share, then the second of each, and so on. There is room for them.
+/// Keeps the numbers of the first of these outcomes, so many shares of so many, one behind the
+/// other: the first of each share, then the second of each, and so on. There is room for them.
 fn keep_in_turn(made: &mut Vec<i64>, outcomes: &[Outcome], inputs: usize, each: usize)
     requires none { made.old.items ≡ [] }
     requires inputs { 1 ≤ inputs }
-    requires shares { length outcomes.now ≡ inputs * each }
-    requires room { length outcomes.now ≤ vec_capacity made.old }
+    requires shares { inputs * each ≤ length outcomes.now }
+    requires room { inputs * each ≤ vec_capacity made.old }
     ensures kept { made.new.items ≡ in_turn (shares_in inputs each outcomes.now) (inputs * each) }
     ensures room { vec_capacity made.new ≡ vec_capacity made.old }
 {
     let mut k = 0;
     let mut i = 0;
-    for _ in 0..outcomes.len() {
+    for _ in 0..inputs * each {
         made.push_reserved(number_taken(outcomes[k * each + i]));
         k += 1;
         if k == inputs {
