@@ -182,16 +182,16 @@ module _ (job : Job) (m after : Moment) (t each : ℕ) (outcomes : ℕ → List 
   inputs k lt =
       let q = input_at (task_at job.graph t) k in
       let g = gets.inputs k lt in
-      let was : OnInput job m t k q g.0 = rw g.1.0 at (may.part.ran.inputs k lt) in
-      rw (gets.numbers q t, g.1.0) (record {
+      let was : OnInput job m t k q g.0 = rw g.1 at (may.part.ran.inputs k lt) in
+      rw (gets.numbers q t, g.1) (record {
         start = was.start;
-        start_is = g.1.1.start was.start was.start_is;
+        start_is = g.2.start was.start was.start_is;
         waits = was.waits;
         at = was.at ∙ sym (gets.offset t);
         taken = gets.taken k lt ∙ ap (λ l. l ++ map number (outcomes k)) was.taken
-            ∙ sym (ap (λ l. map number l) g.1.1.received
+            ∙ sym (ap (λ l. map number l) g.2.received
             ∙ map-append number (received_by (value_at job q) (m.history q) g.0) (outcomes k));
-        left = left q g.0 g.1.0;
+        left = left q g.0 g.1;
       })
 
   -- its parent's part, where it has one

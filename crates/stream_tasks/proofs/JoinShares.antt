@@ -38,6 +38,7 @@ use Rattle.stream_tasks.proofs.JoinBlocks.{shares_stand}
 use Rattle.stream_tasks.proofs.JoinMoments.{GetsShares, GoesOnBy, MayGetShares, nothing_came, shares_known, shares_own, shares_part, wait_came}
 use Rattle.stream_tasks.proofs.JoinStates.{join_owes, join_undealt}
 use Rattle.stream_tasks.proofs.JoinTurns.{share_all, share_long}
+use Rattle.stream_tasks.proofs.Keeping.{places_stay}
 use Rattle.stream_tasks.proofs.Turning.{goes}
 use Rattle.stream_tasks.proofs.Waiting.{answered_on, input_on}
 
@@ -163,12 +164,12 @@ module _ (job : Job) (spots : ℕ → Spot) (m : Moment) (s : TaskState) (each :
   goes_by k lt =
       let both = share_on k lt in
       let q = input_at task k in
-      let number = (member_in both.0).number in
+      let mine = (member_in both.0).number in
       let os = share_at each k outcomes in
-      let was : OnInput job m t k q number = rw both.1.4.numbered at (at.part.ran.inputs k lt) in
-      subst (λ h. GoesOnBy job m t q number (m.history q) h os)
+      let was : OnInput job m t k q mine = rw both.1.4.numbered at (at.part.ran.inputs k lt) in
+      subst (λ h. GoesOnBy job m t q mine (m.history q) h os)
       (sym (history_in k lt ∙ both.1.3.made.seen))
-      (wait_came job m t q number os both.1.3.before was.start was.start_is (sees k lt)
+      (wait_came job m t q mine os both.1.3.before was.start was.start_is (sees k lt)
       (answered_on job spots m t q os both.0 both.1.0 both.1.4 both.1.3)
       (share_all (λ outcome. is_too_big outcome ≡ false) n k each outcomes lt room fit))
 
@@ -401,10 +402,56 @@ task_shares job spots s each begun telling entered made outcomes holds join met 
           task.whole;
       stands = λ again.
           let m = (task.stands met).0 in
-          let room = omega (arith, shares.room, task.whole.places.outcomes, many) in (
+          let room : length (task_at job.graph s.number).inputs * each ≤ length outcomes.items =
+          omega (arith, shares.room, task.whole.places.outcomes, many) in (
             after_shares job s.number each holds.items outcomes.items m,
             state_shares job spots m s each holds.items outcomes.items task.whole
                 (task.stands met).1 join going none shares room given fit begun telling entered made
                 outcomes holds more then refl,
           );
     }
+
+-- a joiner that tells of a wait
+pub task_tells : (job : Job) (spots : ℕ → Spot) (s : TaskState) (telling : ℕ)
+    → IsTask job spots s → IsTask job spots (record s { telling = telling })
+task_tells job spots s telling task = record {
+  whole = record {
+    graph = task.whole.graph;
+    there = task.whole.there;
+    samples = task.whole.samples;
+    numbers = task.whole.numbers;
+    holds = task.whole.holds;
+    children = task.whole.children;
+    staying = task.whole.staying;
+    room = task.whole.room;
+    places = places_stay job s (record s { telling = telling }) refl refl refl refl refl refl refl
+        task.whole.places;
+    makers = task.whole.makers;
+    others = task.whole.others;
+    splitters = task.whole.splitters;
+    dealers = task.whole.dealers;
+  };
+  stands = λ met.
+      let m = (task.stands met).0 in
+      let at = (task.stands met).1 in (
+        m,
+        record {
+          part = at.part;
+          own = at.own;
+          knows = at.knows;
+          place = at.place;
+          deals = at.deals;
+          start = at.start;
+          holds = at.holds;
+          filter = at.filter;
+          lines = at.lines;
+          given = at.given;
+          at_end = λ over. let end = at.at_end over in record {
+            ended = end.ended;
+            nothing_owed = end.nothing_owed;
+            nothing_dealt = end.nothing_dealt;
+            children = end.children;
+          };
+        },
+      );
+}

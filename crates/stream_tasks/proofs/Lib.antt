@@ -1,3 +1,4 @@
+mod Allowing
 mod SameMembers
 mod Holding
 mod Taking

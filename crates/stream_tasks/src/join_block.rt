@@ -9,6 +9,7 @@ ghost use Rattle.stream_tasks.specs.Holds.{HoldGoesOn, MemberHasWaited};
 ghost use Rattle.stream_tasks.specs.Joiners.{HaveGiven, MayTakeShares, shares_in};
 ghost use Rattle.stream_tasks.specs.Tasks.{IsTask, IsWhole, KeepsTask};
 
+use crate::blocks::until_allows;
 use crate::gate::Gate;
 use crate::held::Held;
 use crate::hold::{Given, Hold};
@@ -35,11 +36,9 @@ impl<'a> TaskState<'a> {
         }
         let inputs = inputs_of(job, self.number);
         let (k, _) = output_of(job, self.number, 0);
-        let mut steps = self.own.min(self.holds[k].room());
-        if let Some(until) = until_of(job, self.number) {
-            steps = steps.min(until.saturating_sub(self.begun));
-        }
-        (steps / inputs as u64).min(least_ready(&self.holds, inputs)) as usize
+        let room = self.own.min(self.holds[k].room());
+        let steps = until_allows(until_of(job, self.number), self.begun, room);
+        least_ready(&self.holds, inputs).min(steps / inputs as u64) as usize
     }
 
     /// Takes so many values from each input of a joiner, which are there, and owes them in turn.
