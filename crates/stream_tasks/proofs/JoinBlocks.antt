@@ -31,22 +31,13 @@ use Rattle.graph_runs.proofs.stream_lists_lemmas.Growing.{map-same}
 use Rattle.stream_tasks.specs.Tasks.{owed_by}
 use Rattle.stream_tasks.proofs.JoinMoments.{GetsShares, MayGetShares, ends, made_begins, shares_part, shares_ran, staying_after, taken_before}
 use Rattle.stream_tasks.proofs.JoinSteps.{keeps_staying, length-oks, oks}
+use Rattle.stream_tasks.proofs.JoinTurns.{same_entries}
 
 -- the numbers of the shares
 abbrev pub lists_of : ℕ → (ℕ → List Outcome) → List (List ℤ)
 lists_of inputs outcomes = map (λ k. map number (outcomes k)) (range_with_len 0 inputs)
 
 -- ---- lists
-
-same_entries : (xs ys : List ℤ) → length xs ≡ length ys
-    → ((i : ℕ) → i < length xs → get_or xs i (pos 0) ≡ get_or ys i (pos 0)) → xs ≡ ys
-same_entries [] [] long same = refl
-same_entries [] (y ∷ ys) long same = absurd (omega arith)
-same_entries (x ∷ xs) [] long same = absurd (omega arith)
-same_entries (x ∷ xs) (y ∷ ys) long same =
-    ap (λ z. z ∷ xs) (same 0 (omega arith))
-    ∙ ap (λ l. y ∷ l)
-    (same_entries xs ys (omega (arith, long)) (λ i lt. same (suc i) (omega (arith, lt))))
 
 map-map : {X Y Z : Type 0} (g : Y → Z) (f : X → Y) (xs : List X)
     → map g (map f xs) ≡ map (λ x. g (f x)) xs
@@ -168,7 +159,7 @@ module _ (job : Job) (m after : Moment) (t each most : ℕ) (outcomes : ℕ → 
       is ∙ ap (in_turn all) gets.begun in
       let long : length (drop b (made_now job after t 0)) ≡ length made =
       length-drop b (made_now job after t 0) ∙ omega (arith, made_after, made_long) in
-      same_entries (drop b (made_now job after t 0)) made long
+      same_entries (pos 0) (drop b (made_now job after t 0)) made long
       (λ i lt.
       (let few : i < steps = omega (arith, lt, long, made_long) in
       let whole : b + i < b + steps = omega (arith, few) in

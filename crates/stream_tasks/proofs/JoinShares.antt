@@ -38,7 +38,6 @@ use Rattle.stream_tasks.proofs.JoinBlocks.{shares_stand}
 use Rattle.stream_tasks.proofs.JoinMoments.{GetsShares, GoesOnBy, MayGetShares, nothing_came, shares_known, shares_own, shares_part, wait_came}
 use Rattle.stream_tasks.proofs.JoinStates.{join_owes, join_undealt}
 use Rattle.stream_tasks.proofs.JoinTurns.{share_all, share_long}
-use Rattle.stream_tasks.proofs.Keeping.{places_stay}
 use Rattle.stream_tasks.proofs.Turning.{goes}
 use Rattle.stream_tasks.proofs.Waiting.{answered_on, input_on}
 
@@ -410,48 +409,3 @@ task_shares job spots s each begun telling entered made outcomes holds join met 
                 outcomes holds more then refl,
           );
     }
-
--- a joiner that tells of a wait
-pub task_tells : (job : Job) (spots : ℕ → Spot) (s : TaskState) (telling : ℕ)
-    → IsTask job spots s → IsTask job spots (record s { telling = telling })
-task_tells job spots s telling task = record {
-  whole = record {
-    graph = task.whole.graph;
-    there = task.whole.there;
-    samples = task.whole.samples;
-    numbers = task.whole.numbers;
-    holds = task.whole.holds;
-    children = task.whole.children;
-    staying = task.whole.staying;
-    room = task.whole.room;
-    places = places_stay job s (record s { telling = telling }) refl refl refl refl refl refl refl
-        task.whole.places;
-    makers = task.whole.makers;
-    others = task.whole.others;
-    splitters = task.whole.splitters;
-    dealers = task.whole.dealers;
-  };
-  stands = λ met.
-      let m = (task.stands met).0 in
-      let at = (task.stands met).1 in (
-        m,
-        record {
-          part = at.part;
-          own = at.own;
-          knows = at.knows;
-          place = at.place;
-          deals = at.deals;
-          start = at.start;
-          holds = at.holds;
-          filter = at.filter;
-          lines = at.lines;
-          given = at.given;
-          at_end = λ over. let end = at.at_end over in record {
-            ended = end.ended;
-            nothing_owed = end.nothing_owed;
-            nothing_dealt = end.nothing_dealt;
-            children = end.children;
-          };
-        },
-      );
-}

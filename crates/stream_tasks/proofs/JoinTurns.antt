@@ -1,11 +1,14 @@
 -- Shares of what a joiner got, one behind the other, and their values in turn.
-use Rattle.std.proofs.Common.{◌≡◌, ℕ, ◌+◌, ◌*◌, ◌/◌, ◌%◌, ◌<◌, ◌≤◌, ◌⊎◌, inl, inr, pos, List, [], length, map, get_or, drop, sym, ap, subst, ◌∙◌, arith, All}
+use Rattle.std.proofs.Common.{◌≡◌, ℕ, ◌+◌, ◌*◌, ◌/◌, ◌%◌, ◌<◌, ◌≤◌, ◌⊎◌, inl, inr, pos, suc, List, [], ◌∷◌, length, refl, map, get_or, drop, sym, ap, subst, ◌∙◌, arith, All}
 use Rattle.std.specs.Prelude.{take}
 use Rattle.std.proofs.lemmas.Bool.{cases_lt}
-use Rattle.std.proofs.lemmas.List.{get_or-drop, get_or-map, get_or-take, length-drop, length-take-le}
+use Rattle.std.proofs.lemmas.List.{drop-take, drop_at, get_or-drop, get_or-map, get_or-take, length-drop, length-take-le}
 use Rattle.std.proofs.lemmas.List.FromFn.{get_or-map-range_with_len, length-map-range_with_len}
 use Rattle.std.proofs.lemmas.Nat.{div-mul-add, mod-mul-add, mul-le}
+use Rattle.std.proofs.lemmas.Slice.{take-put_mid}
+use borrow.Rule.Slice.PartMut.{put_mid}
 use Rattle.graph_runs.specs.phase_accum.declared.outcome.Outcome.{Outcome}
+use Rattle.graph_runs.specs.phase_accum.declared.outcome.Outcome.TheVariants.{Empty}
 use Rattle.stream_eval.specs.stream_lists.Lists.{entry, number, turn_at}
 use Rattle.stream_tasks.specs.Joiners.{share_at, shares_in}
 
@@ -39,6 +42,55 @@ share_all P n k each outcomes lt room all = λ i d less.
     ∙ sym (get_or-take each (drop (k * each) outcomes) i d few
     ∙ get_or-drop (k * each) outcomes i d))
     (all (k * each + i) d (omega (arith, within, long))))
+
+-- lists with the same entries are the same
+pub same_entries : {X : Type 0} (d : X) (xs ys : List X) → length xs ≡ length ys
+    → ((i : ℕ) → i < length xs → get_or xs i d ≡ get_or ys i d) → xs ≡ ys
+same_entries d [] [] long same = refl
+same_entries d [] (y ∷ ys) long same = absurd (omega arith)
+same_entries d (x ∷ xs) [] long same = absurd (omega arith)
+same_entries d (x ∷ xs) (y ∷ ys) long same =
+    ap (λ z. z ∷ xs) (same 0 (omega arith))
+    ∙ ap (λ l. y ∷ l)
+    (same_entries d xs ys (omega (arith, long)) (λ i lt. same (suc i) (omega (arith, lt))))
+
+-- an entry of a share
+share_entry : (n k each i : ℕ) (outcomes : List Outcome) → k < n → n * each ≤ length outcomes
+    → i < each
+    → get_or (share_at each k outcomes) i Empty
+    ≡ get_or (take (n * each) outcomes) (k * each + i) Empty
+share_entry n k each i outcomes lt room few =
+    let within : k * each + i < n * each = omega (arith, share_within n k each lt, few) in
+    get_or-take each (drop (k * each) outcomes) i Empty few
+    ∙ get_or-drop (k * each) outcomes i Empty
+    ∙ sym (get_or-take (n * each) outcomes (k * each + i) Empty within)
+
+-- the shares before this one stay where the outcomes before it do
+pub share_stays : (n k each : ℕ) (old new : List Outcome) → k < n → n * each ≤ length old
+    → n * each ≤ length new → take (n * each) new ≡ take (n * each) old
+    → share_at each k new ≡ share_at each k old
+share_stays n k each old new lt room fits same =
+    let long = share_long n k each new lt fits in
+    same_entries Empty (share_at each k new) (share_at each k old)
+    (long ∙ sym (share_long n k each old lt room))
+    (λ i less.
+    (let few : i < each = omega (arith, less, long) in
+    share_entry n k each i new lt fits few
+    ∙ ap (λ l. get_or l (k * each + i) Empty) same
+    ∙ sym (share_entry n k each i old lt room few)))
+
+-- and this one is what was written in its place
+pub share_put : (k each part : ℕ) (old share : List Outcome) → length share ≡ each
+    → k * each ≤ length old → share_at each k (put_mid (k * each) part old share) ≡ share
+share_put k each part old share long room =
+    sym (drop-take (k * each) each (put_mid (k * each) part old share))
+    ∙ ap (λ l. drop (k * each) l)
+    (take-put_mid (k * each) part old share (k * each + each) (omega (arith, long)) room)
+    ∙ drop_at (take (k * each) old) share (k * each) (length-take-le (k * each) old room)
+
+-- the next share begins where this one ends
+pub next_share : (k each : ℕ) → (k + 1) * each ≡ k * each + each
+next_share k each = grind (arith)
 
 -- ---- values in turn
 

@@ -1,5 +1,4 @@
 mod Allowing
-mod SameMembers
 mod Holding
 mod Taking
 pub mod Keeping

@@ -1,5 +1,5 @@
 //! What a joiner takes by blocks: a share of each input by one wait, all in one turn.
-ghost use Rattle.std.specs.Prelude.{◌≡◌, ◌*◌, ◌≤◌, [], length, true, vec_capacity};
+ghost use Rattle.std.specs.Prelude.{◌≡◌, ◌*◌, ◌<◌, ◌≤◌, ℕ, [], length, true, vec_capacity};
 ghost use Rattle.graph_runs.specs.graph_base.Graphs.{task_at};
 ghost use Rattle.graph_runs.specs.graph_base.declared.line.Kind.TheVariants as kind;
 ghost use Rattle.stream_eval.specs.stream_lists.Lists.{in_turn};
