@@ -54,7 +54,7 @@ pub struct TaskState<'a> {
     pub over: bool,
     /// Whether a worker has entered its next step.
     pub entered: bool,
-    /// The next input whose wait is to be told, of a joiner that has taken a block: 0 where each is.
+    /// The next input whose wait is to be told, of a joiner that has taken a block, or 0.
     pub telling: usize,
     /// Whether it met a value that is out of range, or came to what cannot be: it makes no further
     /// event.
