@@ -42,7 +42,7 @@ impl<'a> Hold<'a> {
     /// How many values a wait would get, as far as is known without a turn. It is a hint.
     pub fn ready(&self) -> u64 {
         match self {
-            Hold::On(member) => member.room(),
+            Hold::On(member) => member.ready(),
             Hold::Gone => 0,
         }
     }
