@@ -4,9 +4,8 @@ ghost use Rattle.graph_runs.specs.graph_base.Graphs.{task_at};
 ghost use Rattle.graph_runs.specs.graph_base.declared.line.Kind.TheVariants as kind;
 ghost use Rattle.stream_eval.specs.stream_lists.Lists.{in_turn};
 ghost use Rattle.stream_members.specs.Members.{Spot};
-ghost use Rattle.stream_tasks.specs.Children.{MayStep};
 ghost use Rattle.stream_tasks.specs.Holds.{HoldGoesOn, MemberHasWaited};
-ghost use Rattle.stream_tasks.specs.Joiners.{HaveGiven, MayTakeShares, shares_in};
+ghost use Rattle.stream_tasks.specs.Joiners.{HaveGiven, MayTakeNext, MayTakeShares, shares_in};
 ghost use Rattle.stream_tasks.specs.Tasks.{IsTask, IsWhole, KeepsTask};
 
 use crate::blocks::until_allows;
@@ -43,8 +42,8 @@ impl<'a> TaskState<'a> {
 
     /// Takes so many values from each input of a joiner, which are there, and owes them in turn.
     pub fn take_shares(&mut self, job: &Job, each: usize) -> Went
-        requires step { MayStep job.now self.old }
-        requires kind { (task_at job.now.graph self.old.number).kind ≡ kind.Join }
+        requires next { MayTakeNext job.now self.old }
+        requires none { self.old.made.items ≡ [] }
         requires shares { MayTakeShares job.now self.old each }
         ensures { KeepsTask job.now self.old self.new }
     {

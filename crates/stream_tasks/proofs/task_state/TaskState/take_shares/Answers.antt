@@ -18,7 +18,7 @@ pub take_each-requires-clause-holds : goal.take_each-requires-clause-holds
 take_each-requires-clause-holds c =
     let s = c.args.self.now in
     let job = c.args.job.now in
-    let whole = c.requires.step.task.whole in
+    let whole = c.requires.next.task.whole in
     omega (
       arith,
       whole.holds,
@@ -31,7 +31,7 @@ returns-then-not-take_each c = λ spots task.
     let s = c.args.self.now in
     c.meet-then-not-take_each.ensures.keeps c.args.job.now spots
     (whole_shares c.args.job.now s s.begun s.telling s.entered s.made c.take_each.new.outcomes
-    c.take_each.new.holds c.requires.kind task.whole.places.few_made refl
+    c.take_each.new.holds c.requires.next.kind task.whole.places.few_made refl
     c.take_each.ensures.places c.take_each.ensures.holds task.whole)
 
 pub returns-then-not-all_fit : goal.returns-then-not-all_fit
@@ -39,7 +39,7 @@ returns-then-not-all_fit c = λ spots task.
     let s = c.args.self.now in
     c.meet-then-not-all_fit.ensures.keeps c.args.job.now spots
     (whole_shares c.args.job.now s s.begun s.telling s.entered s.made c.take_each.new.outcomes
-    c.take_each.new.holds c.requires.kind task.whole.places.few_made refl
+    c.take_each.new.holds c.requires.next.kind task.whole.places.few_made refl
     c.take_each.ensures.places c.take_each.ensures.holds task.whole)
 
 pub returns : goal.returns
@@ -71,6 +71,6 @@ returns c = λ spots task.
       c.requires.shares.room,
     ) in
     task_shares job spots s each c.in-Some.begun 1 false c.keep_in_turn.new.made c.take_each.new.outcomes
-    c.take_each.new.holds c.requires.kind c.requires.step.met c.requires.step.over c.requires.step.owed.1
+    c.take_each.new.holds c.requires.next.kind c.requires.next.met c.requires.next.over c.requires.none
     c.requires.shares (sum ∙ ap (λ n. s.begun + n * each) same) kept few c.keep_in_turn.ensures.room
     c.take_each.ensures.places c.take_each.ensures.holds given fit task
