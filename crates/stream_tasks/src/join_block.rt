@@ -72,7 +72,11 @@ impl<'a> TaskState<'a> {
     {
         let inputs = &job.graph().task(self.number).inputs;
         let k = self.telling;
-        self.telling = if k < inputs.len().saturating_sub(1) { k + 1 } else { 0 };
+        self.telling = if k < inputs.len().saturating_sub(1) {
+            k + 1
+        } else {
+            0
+        };
         match inputs.get(k) {
             Some(p) => Went::Moved(*p),
             None => Went::Ready,
