@@ -30,7 +30,8 @@ use Rattle.graph_runs.proofs.Tasks.{now_at}
 use Rattle.graph_runs.proofs.stream_lists_lemmas.Growing.{map-same}
 use Rattle.stream_tasks.specs.Tasks.{owed_by}
 use Rattle.stream_tasks.proofs.JoinMoments.{GetsShares, MayGetShares, ends, made_begins, shares_part, shares_ran, staying_after, taken_before}
-use Rattle.stream_tasks.proofs.JoinSteps.{keeps_staying, length-oks, oks}
+use Rattle.graph_runs.proofs.FollowsPlace.{keeps_staying}
+use Rattle.stream_tasks.proofs.JoinSteps.{length-oks, oks}
 use Rattle.stream_tasks.proofs.JoinTurns.{same_entries}
 
 -- the numbers of the shares
