@@ -2,7 +2,7 @@
 tables here and of rules."""
 import project
 from stored_runs import Has, OneOf, Run, helps, marks, stored_runs, tables
-from value_runs import MOST, banks, long_filters, long_lists, long_texts, numbers, ways_of_values
+from value_runs import MOST, banks, joiners, long_filters, long_lists, long_texts, numbers, ways_of_values
 
 # ---- checks, evaluations and drawings of graphs
 
@@ -622,7 +622,7 @@ def all_runs():
                 yield Run(f"{name}: {words}", words + " --sink out", files, None, *wanted)
             streamed = wanted[0], lines, wanted[2]
             yield Run(f"{name}: stream", "stream g --sink out", files, None, *streamed)
-    for name, files, *end in banks():
+    for name, files, *end in (*banks(), *joiners()):
         for words in "eval g", *(f"run g --workers {workers}" for workers in (1, 2, 4, 16)):
             yield Run(f"{name}: {words}", words, files, None, *end)
     for name, text, *end in long_texts():

@@ -102,6 +102,43 @@ def banks():
         yield f"a bank with bounds {bounds}, {zeros} zeros{until}", files, 0, whole, ""
 
 
+def joiners():
+    """Joiners of two, three and eight lists that come as fast as they are taken, within bounds of
+    which some allow no block: to their ends, or where one of the lists is shorter, `until` cuts, or
+    one has a phase out of range."""
+    for inputs in 2, 3, 8:
+        for bound, behind in (1, 1), (2, 2), (3, 3), (64, 64), (64, 3), (3, 64), (200, 200):
+            lists = [[1000 * k + n for n in range(150)] for k in range(inputs)]
+            of = f"of {inputs}, bounds {bound} and {behind}"
+            yield joined(f"a joiner {of}", lists, bound, behind)
+            for cut in 1, inputs * 64 + 1, inputs * 149 - 1:
+                yield joined(f"a joiner {of} until {cut}", lists, bound, behind, cut)
+            for k in {0, inputs // 2, inputs - 1}:
+                fewer = [list[:70] if i == k else list for i, list in enumerate(lists)]
+                yield joined(f"a joiner {of} whose input {k} ends first", fewer, bound, behind)
+                for step in 0, 67:
+                    big = [list[:step] + [MOST] + list[step:] if i == k else list for i, list in enumerate(lists)]
+                    name, files, *_ = joined(f"a joiner {of} with too much at {step} of input {k}", big, bound, behind)
+                    more = f"source more s{k}.csv -> I{k}\njoin j"
+                    files["g"] = files["g"].replace("join j", more)
+                    yield name, files, 3, "", f"phase: too big at I{k} {step}\n"
+
+
+def joined(name, lists, bound, behind, until=None):
+    """A graph with a joiner of these lists, and what comes of it."""
+    graph = "".join(f"phaser I{k} sum {bound}\n" for k in range(len(lists)))
+    graph += f"phaser J sum {behind}\n"
+    graph += "".join(f"source s{k} s{k}.csv -> I{k}\n" for k in range(len(lists)))
+    graph += f"join j {' '.join(f'I{k}' for k in range(len(lists)))} -> J"
+    graph += ("" if until is None else f" until {until}") + "\nsink out J\n"
+    length = min(len(values) * len(lists) + k for k, values in enumerate(lists))
+    length = length if until is None else min(length, until)
+    in_turn = [lists[n % len(lists)][n // len(lists)] for n in range(length)]
+    files = {f"s{k}.csv": "".join(f"{value}\n" for value in values) for k, values in enumerate(lists)}
+    whole = f"out {length}\n" + "".join(f"{value}\n" for value in in_turn)
+    return name, {"g": graph, **files}, 0, whole, ""
+
+
 def filtered(taps, shift, values):
     """What a filter makes of a list."""
     return [

@@ -113,6 +113,13 @@ impl<'a> AnyMember<'a> {
         each!(self, one => one.room())
     }
 
+    /// Returns how many phases from its wait phase on are complete, as far as the turns that have
+    /// ended tell, and none where nobody is left to signal. It takes no turn. It is a hint for how
+    /// much to get, and no contract speaks of it.
+    pub fn ready(&self) -> u64 {
+        each!(self, one => one.ready())
+    }
+
     /// Signals its phase with this value as its one send, and a single or none, and answers that
     /// phase. A refused value is not held. It takes no memory.
     pub fn try_put(&mut self, value: i64, single: Option<Single>) -> Result<u64, PutRefusal>

@@ -88,6 +88,18 @@ impl<'a, A: Accumulate> Member<'a, A> {
         self.reg.room(self.phaser)
     }
 
+    /// Returns how many phases from its wait phase on are complete, as far as the turns that have
+    /// ended tell, and none where nobody is left to signal. It takes no turn. It is a hint for how
+    /// much to get, and no contract speaks of it.
+    pub fn ready(&self) -> u64 {
+        let (done, _) = self.phaser.told();
+        if done == u64::MAX {
+            return 0;
+        }
+        let (_, wait_phase) = self.reg.phase();
+        done.saturating_sub(wait_phase)
+    }
+
     /// Signals as many phases in a row as there are values, its own first, with one send each and a
     /// single for all of them or none, and answers the first phase. A refused signal signals
     /// nothing, and none of the values is held. It takes no memory: the places have the sends

@@ -63,10 +63,10 @@ join_has_none job t c u is kind there has same =
     ∙ ap has_children kind in cc
 
 -- numbers as values in range
-abbrev oks : List ℤ → List (Result ℤ TooBigValue)
+abbrev pub oks : List ℤ → List (Result ℤ TooBigValue)
 oks vs = map (λ v. Ok v) vs
 
-length-oks : (vs : List ℤ) → length (oks vs) ≡ length vs
+pub length-oks : (vs : List ℤ) → length (oks vs) ≡ length vs
 length-oks [] = refl
 length-oks (v ∷ vs) = ap suc (length-oks vs)
 

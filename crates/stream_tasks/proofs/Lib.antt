@@ -1,14 +1,19 @@
+mod Allowing
 mod Holding
 mod Taking
 pub mod Keeping
 mod Shares
 mod DealWaits
 mod JoinSteps
+mod JoinTurns
+mod JoinMoments
+mod JoinBlocks
 mod Dealing
 mod Turning
 mod Waiting
 mod DealStates
 mod JoinStates
+mod JoinShares
 mod EndingLemmas
 mod Gone
 mod ChildHolds

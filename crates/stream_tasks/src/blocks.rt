@@ -182,7 +182,7 @@ impl<'a> TaskState<'a> {
 }
 
 /// So many steps, of which `until` allows some after those that were begun.
-fn until_allows(until: Option<u64>, begun: u64, steps: u64) -> u64
+pub fn until_allows(until: Option<u64>, begun: u64, steps: u64) -> u64
     ensures { result ≡ until_allows until begun steps }
 {
     match until {

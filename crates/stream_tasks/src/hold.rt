@@ -39,6 +39,14 @@ impl<'a> Hold<'a> {
         }
     }
 
+    /// How many values a wait would get, as far as is known without a turn. It is a hint.
+    pub fn ready(&self) -> u64 {
+        match self {
+            Hold::On(member) => member.ready(),
+            Hold::Gone => 0,
+        }
+    }
+
     /// The mode and the phases of the registration, until it leaves.
     pub fn entry(&self) -> Option<Entry>
         ensures { result ≡ entry_held self.now }
@@ -86,6 +94,7 @@ impl<'a> Hold<'a> {
     pub fn get(&mut self, out: &mut [Outcome]) -> Result<Given, Held>
         ensures call { HoldGoesOn (WaitGave result out.new) self.old self.new }
         ensures few { IfOk result (IsAtMost (length out.old)) }
+        ensures busy { result ≡ Err Held.Busy → self.new ≡ self.old }
         ensures out { length out.new ≡ length out.old }
     {
         laws::others_come();

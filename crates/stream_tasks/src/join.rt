@@ -1,4 +1,4 @@
-//! What a joiner takes one by one, and puts by blocks.
+//! What a joiner takes one by one where it takes no block, and puts by blocks.
 ghost use Rattle.std.specs.Prelude.{◌≡◌, ◌≢◌, ◌<◌, ℕ, [], false, true, length};
 ghost use Rattle.graph_runs.specs.Nexts.{is_cut};
 ghost use Rattle.graph_runs.specs.graph_base.Graphs.{task_at};
@@ -34,8 +34,9 @@ impl<'a> TaskState<'a> {
         self.put_made(job)
     }
 
-    /// Whether it is a joiner that takes one value more before it puts those that it has: there is
-    /// room on its output, as far as is known without a turn, and nobody looks at steps.
+    /// Whether it is a joiner that takes one value more before it puts those that it has: its next
+    /// step is not its first input's, where a block may begin, there is room on its output, as far
+    /// as is known without a turn, and nobody looks at steps.
     fn takes_more<G: Gate>(&self, job: &Job, gate: &G) -> bool
         requires { IsWhole job.now self.now }
         ensures kind { result ≡ true → (task_at job.now.graph self.now.number).kind ≡ kind.Join }
@@ -47,18 +48,24 @@ impl<'a> TaskState<'a> {
         if count >= self.own || kind_of(job, self.number) != Kind::Join || !gate.is_open() {
             return false;
         }
+        if first_input_of(job, self.number, self.begun) == 0 {
+            return false;
+        }
         let (k, _) = output_of(job, self.number, 0);
         count < self.holds[k].room() && !is_cut(until_of(job, self.number), self.begun)
     }
 
-    /// Begins steps of a joiner.
+    /// Begins steps of a joiner: a block, where each input has a share of it, and else one.
     pub fn begin_join<G: Gate>(&mut self, job: &Job, gate: &G) -> Went
         requires step { MayStep job.now self.old }
         requires kind { (task_at job.now.graph self.old.number).kind ≡ kind.Join }
         ensures { KeepsTask job.now self.old self.new }
     {
         enter(gate, &mut self.entered, self.number, self.begun);
-        self.take_next(job)
+        match self.ready_share(job, gate) {
+            0 => self.take_next(job),
+            each => self.take_shares(job, each),
+        }
     }
 
     /// Takes the value of the next step of a joiner. Where none is there, and it has taken others,

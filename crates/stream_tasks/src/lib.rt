@@ -38,6 +38,7 @@ mod gate;
 mod held;
 mod hold;
 mod join;
+mod join_block;
 mod opening;
 mod run;
 mod seed;

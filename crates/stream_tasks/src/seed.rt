@@ -77,6 +77,7 @@ impl<'a> Seed<'a> {
                 lefts,
                 over: false,
                 entered: false,
+                telling: 0,
                 met: false,
                 children,
                 child_holds,

@@ -93,7 +93,8 @@ impl<'a, J: Run> Task<'a, J> {
         self.state.begun.saturating_mul(taps.saturating_add(16))
     }
 
-    /// Makes its next event, where it can: one call at most.
+    /// Makes its next event, where it can: one call at most. But a joiner may wait on each of its
+    /// inputs in one turn, for values that are there, and tells of these waits by one turn each.
     ///
     /// Where a child comes it registers the child on the phasers of its line, one after the other,
     /// and then answers `Registered` until `deliver` has given the child. It takes memory for a

@@ -54,6 +54,8 @@ pub struct TaskState<'a> {
     pub over: bool,
     /// Whether a worker has entered its next step.
     pub entered: bool,
+    /// The next input whose wait is to be told, of a joiner that has taken a block, or 0.
+    pub telling: usize,
     /// Whether it met a value that is out of range, or came to what cannot be: it makes no further
     /// event.
     pub met: bool,
@@ -121,6 +123,7 @@ impl<'a> TaskState<'a> {
             lefts,
             over: _,
             entered: _,
+            telling: _,
             met: _,
             children,
             child_holds,

@@ -41,6 +41,9 @@ impl<'a> TaskState<'a> {
         requires children { HasNoneDue job.now self.old }
         ensures { KeepsTask job.now self.old self.new }
     {
+        if self.telling > 0 {
+            return self.tell(job);
+        }
         if self.over {
             return self.leave_next(job);
         }

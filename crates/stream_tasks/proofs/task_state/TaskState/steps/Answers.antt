@@ -5,15 +5,10 @@ use Rattle.graph_runs.specs.Moments.{AtMost}
 use Rattle.graph_runs.specs.Nexts.{is_cut}
 use Rattle.graph_runs.specs.graph_base.Graphs.{task_at}
 use Rattle.graph_runs.specs.NextBlocks.{until_allows}
+use Rattle.stream_tasks.proofs.Allowing.{within}
 use Rattle.stream_tasks.proofs.task_state.TaskState.steps.Goals as goal
 
 -- a step is left where `until` is not reached
-within : (until : Option ℕ) (begun wanted steps : ℕ) → steps ≤ until_allows until begun wanted
-    → 1 ≤ steps → AtMost (begun + steps) until
-within None begun wanted steps few some = tt
-within (Some until) begun wanted steps few some =
-    let least : steps ≤ min wanted (until - begun) = few in omega arith
-
 left_some : (until : Option ℕ) (begun wanted : ℕ) → AtMost begun until
     → is_cut until begun ≡ false → 1 ≤ wanted → 1 ≤ until_allows until begun wanted
 left_some None begun wanted high uncut some = some
