@@ -63,8 +63,8 @@ use Rattle.stream_job.proofs.Waits.{GotAll, block_turn}
 -- a task that goes by steps is of no other kind
 pub apart_kind : (kind other : Kind) → goes_by_steps kind ≡ true → goes_by_steps other ≡ false
     → kind ≢ other
-apart_kind kind other by_steps no same =
-    (let wrong : true ≡ false = sym by_steps ∙ ap goes_by_steps same ∙ no in cc)
+apart_kind kind other by_steps not same =
+    (let wrong : true ≡ false = sym by_steps ∙ ap goes_by_steps same ∙ not in cc)
 
 -- it owes nothing once it has signalled
 pub nothing_after : (task : Task) (j : ℕ) (xs : List ℤ) → goes_by_steps task.kind ≡ true

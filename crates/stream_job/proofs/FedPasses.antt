@@ -91,7 +91,7 @@ pub record KeepsMeanwhile (old : StreamState) (s : List (List ℤ)) (given : ℕ
   pub reached : IsReachable (with_samples s old.job) m
   pub lines : KeepsLines (with_samples s old.job) given m old.machine.lines.items
   pub kept : AreKept old.job s m old.inputs
-  pub open : IsOpenAt (with_samples s old.job) (ended_at old) m
+  pub opens : IsOpenAt (with_samples s old.job) (ended_at old) m
   pub none : HasAnsweredNone (with_samples s old.job) m
 
 -- a source that has not ended is left by no event but as the law says
@@ -125,8 +125,8 @@ keeps_after old s given m t event is law part keeps =
             ∙ starts_stay job m event (no_child event part.of_step);
       };
       kept = kept_after old.job s m (makes event) old.inputs reached.ran keeps.kept;
-      open = law m event keeps.reached made.next
-          (no_leave job (ended_at old) m event part.of_step) keeps.open;
+      opens = law m event keeps.reached made.next
+          (no_leave job (ended_at old) m event part.of_step) keeps.opens;
       none = subst (λ a. HasAnsweredNone job (after_answer job a m)) answer
           (turn_answers_none part.steps part.most job m t part.sized is keeps.reached keeps.none
           part.good);
@@ -181,7 +181,7 @@ stepped_to old new s m given t moved law met steps lines at =
       reached = at.machine.reached;
       lines = with_samples_lines s old.job given m old.machine.lines.items at.lines;
       kept = at.kept;
-      open = at.stays_open;
+      opens = at.stays_open;
       none = at.none;
     } in
     let keeps = turns.keeps in
@@ -195,7 +195,7 @@ stepped_to old new s m given t moved law met steps lines at =
         lines = without_samples_lines s old.job given steps.after new.lines.items
             (subst (λ l. KeepsLines job given steps.after l.items) (sym lines) keeps.lines);
         kept = keeps.kept;
-        stays_open = keeps.open;
+        stays_open = keeps.opens;
         none = keeps.none;
         faults = λ there more is goes ready.
             absurd (let wrong : None ≡ Some there = sym met ∙ is in cc);
