@@ -40,7 +40,7 @@ use Rattle.graph_runs.proofs.SizedTurns.{turn_reached}
 use Rattle.graph_runs.proofs.Stepping.{signal_follows}
 use Rattle.graph_runs.proofs.Tasks.{first_looks}
 use Rattle.stream_job.specs.Machines.{HasCores, IsMachineAt, UsesFew, is_over}
-use Rattle.stream_job.specs.Passing.{HasStepped, IsPartOfStep, MayStepFrom, goes_by_steps}
+use Rattle.stream_job.specs.Passing.{HasMadeSteps, IsPartOfStep, MayStepFrom, goes_by_steps}
 use Rattle.stream_job.specs.Places.{IsTaskAt, MaySignal, StateHasTaken, owed_in, place_in_state}
 use Rattle.stream_job.specs.declared.machine.Machine.{Machine}
 use Rattle.stream_job.specs.declared.task_state.TaskState.{TaskState}
@@ -518,7 +518,7 @@ owes_send {most} job m t j x at stands owes =
 
 -- nothing was done
 pub none_stepped : (job : Job) (t : ℕ) (m : Moment) (new : Machine) → IsMachineAt job m new
-    → HasStepped job t m new false
+    → HasMadeSteps job t m new false
 none_stepped job t m new at = record {
   events = [];
   after = m;

@@ -18,7 +18,7 @@ use Rattle.graph_runs.proofs.AnsweredInTurn.{turn_answers_none}
 use Rattle.graph_runs.proofs.SizedTurns.{turn_reached}
 use Rattle.graph_runs.proofs.Whose.{task_of}
 use Rattle.stream_job.specs.Machines.{IsMachineAt, IsSome, KeepsLines, kept_behind}
-use Rattle.stream_job.specs.Passing.{HasStepped, IsPartOfStep, LeadTo, Steps, is_of_step}
+use Rattle.stream_job.specs.Passing.{HasMadeSteps, IsPartOfStep, LeadTo, MakesSteps, is_of_step}
 use Rattle.stream_job.specs.Rounds.{of_moved}
 use Rattle.stream_job.specs.SinkLines.{sink_begins_at}
 use Rattle.stream_job.specs.Streams.{AreKept, IsStreamAt, MayTurn, SizedTurn, StreamMoves, StreamState, after_sized, ended_at, is_event, moves_in}
@@ -172,7 +172,7 @@ turned old s given m after t (event ∷ them) is law lead keeps =
 
 pub stepped_to : (old : StreamState) (new : Machine) (s : List (List ℤ)) (m : Moment)
     (given : ℕ → List ℤ) (t : ℕ) (moved : Bool) → OpensAlways old s → old.met ≡ None
-    → HasStepped (with_samples s old.job) t m new moved → new.lines ≡ old.machine.lines
+    → HasMadeSteps (with_samples s old.job) t m new moved → new.lines ≡ old.machine.lines
     → IsStreamAt old s m given → GoesTo (of_moved moved) old (with_machine old new) s m given
 stepped_to old new s m given t moved law met steps lines at =
     let job = with_samples s old.job in
@@ -212,14 +212,14 @@ stepped_to old new s m given t moved law met steps lines at =
 
 -- a machine that some stood at stands at some moment after them
 pub some_after : (job : Job) (old new : Machine) (t : ℕ) (moved : Bool)
-    → Steps job old new t moved → IsSome job old → IsSome job new
+    → MakesSteps job old new t moved → IsSome job old → IsSome job new
 some_after job old new t moved steps some =
     let it = steps some.0 some.1.0 some.1.1 in (some.0, (it.after, it.stands))
 
 -- and those of the next
 pub steps_on : (job : Job) (old between new : Machine) (t : ℕ) (a b moved : Bool)
-    → Steps job old between t a → Steps job between new t b
-    → (moved ≡ true → (a ≡ true) ⊎ (b ≡ true)) → Steps job old new t moved
+    → MakesSteps job old between t a → MakesSteps job between new t b
+    → (moved ≡ true → (a ≡ true) ⊎ (b ≡ true)) → MakesSteps job old new t moved
 steps_on job old between new t a b moved first then either = λ s m at.
     let one = first s m at in
     let two = then s one.after one.stands in

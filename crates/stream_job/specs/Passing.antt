@@ -47,7 +47,8 @@ LeadTo job t m (event ∷ events) after =
     IsPartOfStep job m t event × LeadTo job t (after_turn job event m) events after
 
 -- the machine stands at a moment to which such events of task t led, where so it is said by some
-pub record HasStepped (job : Job) (t : ℕ) (m : Moment) (new : Machine) (moved : Bool) : Type 0 where
+pub record HasMadeSteps (job : Job) (t : ℕ) (m : Moment) (new : Machine) (moved : Bool)
+    : Type 0 where
   pub events : List TaskEvent
   pub after : Moment
   pub lead : LeadTo job t m events after
@@ -55,9 +56,9 @@ pub record HasStepped (job : Job) (t : ℕ) (m : Moment) (new : Machine) (moved 
   pub stands : IsMachineAt job after new
 
 -- whatever samples came, and whatever moment it stood at
-abbrev pub Steps : Job → Machine → Machine → ℕ → Bool → Type 0
-Steps job old new t moved = (s : List (List ℤ)) (m : Moment)
-    → IsMachineAt (with_samples s job) m old → HasStepped (with_samples s job) t m new moved
+abbrev pub MakesSteps : Job → Machine → Machine → ℕ → Bool → Type 0
+MakesSteps job old new t moved = (s : List (List ℤ)) (m : Moment)
+    → IsMachineAt (with_samples s job) m old → HasMadeSteps (with_samples s job) t m new moved
 
 -- task t, which goes by steps, is live, has left no phaser, owes nothing, has no child that is due,
 -- and may make a step, which waits on input k

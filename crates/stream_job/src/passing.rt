@@ -4,7 +4,7 @@ ghost use Rattle.graph_runs.specs.Moments.{Moment};
 ghost use Rattle.graph_runs.specs.Nexts.{is_live};
 ghost use Rattle.stream_eval.specs.stream_lists.Jobs.{with_samples};
 ghost use Rattle.stream_job.specs.Buffers.{HasPlaces};
-ghost use Rattle.stream_job.specs.Passing.{MayStepFrom, Steps, goes_by_steps};
+ghost use Rattle.stream_job.specs.Passing.{MayStepFrom, MakesSteps, goes_by_steps};
 ghost use Rattle.stream_job.specs.Plans.{IsPlan};
 ghost use Rattle.graph_lang.specs.graph_base.Graphs.{task_at};
 
@@ -28,7 +28,7 @@ impl Machine {
         requires task { t < length job.now.graph.tasks }
         requires plan { IsPlan job.now plan.now }
         requires places { HasPlaces job.now buffers.old }
-        ensures steps { Steps job.now self.old self.new t result }
+        ensures steps { MakesSteps job.now self.old self.new t result }
         ensures lines { self.new.lines ≡ self.old.lines }
         ensures places { buffers.new ≡ buffers.old }
     {
@@ -49,7 +49,7 @@ impl Machine {
         requires task { t < length job.now.graph.tasks }
         requires plan { IsPlan job.now plan.now }
         requires places { HasPlaces job.now buffers.old }
-        ensures steps { Steps job.now self.old self.new t result }
+        ensures steps { MakesSteps job.now self.old self.new t result }
         ensures lines { self.new.lines ≡ self.old.lines }
         ensures places { buffers.new ≡ buffers.old }
     {
@@ -108,7 +108,7 @@ impl Machine {
         requires live { (s : List (List ℤ)) (m : Moment)
             → IsMachineAt (with_samples s job.now) m self.old → is_live job.now m t ≡ true }
         requires places { HasPlaces job.now buffers.old }
-        ensures steps { Steps job.now self.old self.new t false }
+        ensures steps { MakesSteps job.now self.old self.new t false }
         ensures lines { self.new.lines ≡ self.old.lines }
         ensures places { buffers.new ≡ buffers.old }
     {
