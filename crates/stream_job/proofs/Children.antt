@@ -435,7 +435,7 @@ child_turn {steps} job old new t c p n a mode state numbers next found phaser in
           subst (λ x. KeepsLines job given (after_answer job x m) new.lines.items)
           (sym (answer m at)) record {
             values = begun.values given ∙ kept.values
-                ∙ lines_stay job m old t event next.sized at (answer m at)
+                ∙ lines_stay job m t event next.sized at.graph at.reached (answer m at)
                 (child_quiet job event c (it m at).of_child);
             starts = begun.starts kept.starts
                 ∙ map_same (begins_with job m c (done_of (m.history p)))

@@ -88,7 +88,7 @@ zero_first task b k kind is not first = first ∙ by kind is not
     by Sink e never = rw e refl
 
 -- the place of a state that took these
-taken_place : (most : ℕ) (job : Job) (after : Moment) (t : ℕ) (outcomes : List Outcome) (taken : List ℤ)
+pub taken_place : (most : ℕ) (job : Job) (after : Moment) (t : ℕ) (outcomes : List Outcome) (taken : List ℤ)
     (old new : TaskState) → StateHasTaken (task_at job.graph t) (map number outcomes) old new
     → HasFilter (task_at job.graph t) old.filter taken
     → StandsUpTo most job after t (record (place_in_state old) {
@@ -116,7 +116,7 @@ taken_place most job after t outcomes taken old new took has stands =
     })) (sym took.numbers) stands)))
 
 -- the place of a task after the first wait of its next steps
-first_stands : {allowed most : ℕ} (job : Job) (m : Moment) (t k p n : ℕ) (outcomes : List Outcome)
+pub first_stands : {allowed most : ℕ} (job : Job) (m : Moment) (t k p n : ℕ) (outcomes : List Outcome)
     (at : TaskPlace) → MaySize job.graph t allowed most → t < length job.graph.tasks → IsGraph job.graph → IsReachable job m
     → HasRun job (after_turn job (first_wait t k p n outcomes) m)
     → turn_up_to allowed most job m t ≡ makes (first_wait t k p n outcomes) → StandsUpTo most job m t at
@@ -143,7 +143,7 @@ first_answer job old m t k n p steps phase count outcomes state asks at all =
     ∙ ap (λ l. makes (first_wait t k p n l)) all.are
 
 -- a state that owes nothing
-nothing_owed : (owed : Owed) (items : List (Result ℤ TooBigValue))
+pub nothing_owed : (owed : Owed) (items : List (Result ℤ TooBigValue))
     → owed_in owed items ≡ places.nothing → (owed ≡ code.Nothing) × (items ≡ [])
 nothing_owed code.Nothing [] e = (refl, refl)
 nothing_owed (code.Value i w) [] e = absurd (cc)
@@ -254,7 +254,7 @@ first_turn {allowed} job old new t k n p steps phase count outcomes state took s
         lines_keep job m old t k p n state.sink outcomes asks.next.sized at none (answer m at)
         (zero_first (task_at job.graph t) (m.begun t) k Sink kind (λ e. absurd (cc)) (first m at))
         ((at.tasks t state asks.found).sink kind)
-    sink_lines m at none false e = lines_stay job m old t event asks.next.sized at (answer m at) e
+    sink_lines m at none false e = lines_stay job m t event asks.next.sized at.graph at.reached (answer m at) e
 
     cores_now : (m : Moment) → IsMachineAt job m old
         → HasCores job (after_turn job event m).history new.cores.items

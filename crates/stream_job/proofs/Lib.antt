@@ -9,6 +9,7 @@ pub mod Mosts
 pub mod OpeningPhasers
 pub mod OpeningTasks
 pub mod Awaiting
+pub mod BareSteps
 pub mod Begins
 pub mod Begun
 pub mod ChildLists
@@ -48,6 +49,7 @@ pub mod StreamLines
 pub mod GivenLines
 pub mod Feeding
 pub mod FedMachines
+pub mod FedPasses
 pub mod FedStreams
 pub mod OwnSteps
 pub mod BareLists

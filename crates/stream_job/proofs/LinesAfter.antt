@@ -50,7 +50,7 @@ pub quiet_lines : {steps most : ℕ} (job : Job) (given : ℕ → List ℤ) (m :
 quiet_lines job given m old new t event sized at answer none quiet lines kept =
     subst (λ a. KeepsLines job given (after_answer job a m) new.lines.items) (sym answer) record {
       values = ap (λ l. map (kept_behind given) l.items) lines ∙ kept.values
-          ∙ lines_stay job m old t event sized at answer quiet;
+          ∙ lines_stay job m t event sized at.graph at.reached answer quiet;
       starts = ap (λ l. map (λ line. line.start) l.items) lines ∙ kept.starts
           ∙ starts_stay job m event none;
     }

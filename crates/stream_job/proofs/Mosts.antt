@@ -16,7 +16,7 @@ use Rattle.stream_job.specs.declared.task_state.TaskState.{TaskState}
 
 -- ---- one element of a list is set
 
-set_same : {X : Type 0} (xs : List X) (i : ℕ) (x : X) → i < length xs
+pub set_same : {X : Type 0} (xs : List X) (i : ℕ) (x : X) → i < length xs
     → slice_get (set xs i x) i ≡ Some x
 set_same xs i x lt =
     let long = length-set xs i x in

@@ -44,7 +44,7 @@ next_for job m t nothing = at_boundary job m t (first_due job m t)
 next_for job m t (values j vs) = signals j
 next_for job m t (exchange x) = exchanges
 
-owing_next : (most : ℕ) (job : Job) (m : Moment) (t : ℕ) (owed : places.Owed) → is_live job m t ≡ true
+pub owing_next : (most : ℕ) (job : Job) (m : Moment) (t : ℕ) (owed : places.Owed) → is_live job m t ≡ true
     → OwesUpTo most job m t owed → next_of job m t ≡ next_for job m t owed
 owing_next most job m t nothing live owes =
     ap (λ b. cond b (of_live job m t (first_owed job m t)) is_not_live) live

@@ -14,6 +14,7 @@ use Rattle.phase_any.specs.phase_history.Phases.{received_by}
 use Rattle.graph_runs.proofs.phase_history_lemmas.LawProofs.{above_law}
 use Rattle.graph_runs.proofs.phase_history_lemmas.Refused.{registers_from}
 use Rattle.graph_lang.specs.graph_base.TaskLines.{IsGraph}
+use Rattle.graph_runs.specs.Reached.{IsReachable}
 use Rattle.graph_lang.specs.graph_base.Graphs.{is_sink, task_at, phaser_at}
 use Rattle.stream_eval.specs.stream_lists.Jobs.{Job}
 use Rattle.stream_eval.specs.stream_lists.Lists.{is_sink_at, number, sinks_of}
@@ -308,19 +309,20 @@ abbrev pub NoSinkWaits : Job → TaskEvent → Type 0
 NoSinkWaits job (first_wait t k p n outcomes) = is_sink_at job t ≡ false
 NoSinkWaits job event = Unit {0}
 
-pub lines_stay : {steps most : ℕ} (job : Job) (m : Moment) (machine : Machine) (t : ℕ)
-    (event : TaskEvent) → MaySize job.graph t steps most → IsMachineAt job m machine → turn_up_to steps most job m t ≡ makes event → NoSinkWaits job event
+pub lines_stay : {steps most : ℕ} (job : Job) (m : Moment) (t : ℕ) (event : TaskEvent)
+    → MaySize job.graph t steps most → IsGraph job.graph → IsReachable job m
+    → turn_up_to steps most job m t ≡ makes event → NoSinkWaits job event
     → map {B = ℕ × List ℤ} (λ u. (u, kept_by job m u)) (sinks_of job)
     ≡ map {B = ℕ × List ℤ} (λ u. (u, kept_by job (after_turn job event m) u)) (sinks_of job)
-lines_stay {steps} {most} job m machine t event sized at answer no_sink =
+lines_stay {steps} {most} job m t event sized is reached answer no_sink =
     map_found (is_sink_at job) (λ u. (u, kept_by job m u))
     (λ u. (u, kept_by job (after_turn job event m) u)) 0 (length job.graph.tasks)
-    (λ u lt sink. ap (λ l. (u, l)) (kept_other job m event u at.reached.ran next (omega arith)
+    (λ u lt sink. ap (λ l. (u, l)) (kept_other job m event u reached.ran next (omega arith)
     (quiet event next no_sink u sink)))
   where
     next : IsNext job m event
     next =
-        turn_makes_next steps most job m t event sized at.graph at.reached.ran (λ c due. at.reached.to_come) answer
+        turn_makes_next steps most job m t event sized is reached.ran (λ c due. reached.to_come) answer
 
     quiet : (event : TaskEvent) → IsNext job m event → NoSinkWaits job event → (u : ℕ)
         → is_sink_at job u ≡ true → DoesNotWait u event

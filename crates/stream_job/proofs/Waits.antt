@@ -91,7 +91,7 @@ blocks event refusals.SignalFirst never = absurd (never refl)
 blocks event refusals.NotYet never = refl
 
 -- the answer to a wait for a block
-abbrev block_turn : Job → Moment → ℕ → ℕ → ℕ → ℕ → ℕ → Answer
+abbrev pub block_turn : Job → Moment → ℕ → ℕ → ℕ → ℕ → ℕ → Answer
 block_turn job m t k p n steps =
     block_answer (λ phase count. first_wait t k p n
     (slice_range (stream_of (value_at job p) (m.history p)) phase (phase + count)))

@@ -6,6 +6,7 @@ pub mod InRange
 pub mod Stepping
 pub mod Machines
 pub mod Parking
+pub mod Passing
 pub mod Places
 pub mod Plans
 pub mod Rounds

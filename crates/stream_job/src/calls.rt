@@ -1,6 +1,6 @@
 //! The calls of a task on its phasers.
 ghost use Rattle.std.specs.Prelude.{◌≡◌, ◌≢◌, ◌<◌, ◌≤◌, ◌+◌, ℕ, [], ◌∷◌, length, map, take, slice_range, Some, None, Ok, IfOk, IfErr, OnOk, OnErr};
-ghost use Rattle.phase_any.specs.phase_accum.Sends.{AreSends, IsSend};
+ghost use Rattle.phase_any.specs.phase_accum.Sends.{AreSends};
 ghost use Rattle.phase_any.specs.phase_accum.Values.{value_by};
 ghost use Rattle.phase_any.specs.phase_history.declared.event.Event.TheVariants.{Dropped, Registered, RegisteredNow};
 ghost use Rattle.phase_any.specs.phase_history.Histories.{History, done_of};
@@ -57,32 +57,6 @@ impl Machine {
         ensures lines { self.new.lines ≡ self.old.lines }
     {
         self.cores[p].wait(number)
-    }
-
-    /// Signals `x` on phaser `p`.
-    pub fn signal_on(
-        &mut self,
-        job: &Job,
-        p: usize,
-        number: u64,
-        x: i64,
-    ) -> Result<u64, SignalRefusal>
-        requires cores { HasSomeCores job.now self.old.cores.items }
-        requires phaser { p < length job.now.graph.phasers }
-        requires send { IsSend x }
-        ensures reply { (h : ℕ → History)
-            → HasCores job.now h self.old.cores.items
-            → signal_reply (limits_at job.now p) (h p) number ((x ∷ []) ∷ [])
-            (phaser_at job.now.graph p).single ≡ result }
-        ensures cores { (h : ℕ → History)
-            → HasCores job.now h self.old.cores.items
-            → HasCores job.now (with_at p (after_signal result number ((x ∷ []) ∷ [])
-            (phaser_at job.now.graph p).single (h p)) h) self.new.cores.items }
-        ensures tasks { self.new.tasks ≡ self.old.tasks }
-        ensures lines { self.new.lines ≡ self.old.lines }
-    {
-        let single = job.graph().phaser(p).single;
-        self.cores[p].signal_one(number, x, single)
     }
 
     /// Signals these values on phaser `p`, one a phase.

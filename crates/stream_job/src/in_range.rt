@@ -80,7 +80,7 @@ impl Machine {
             unreachable!()
         };
         match value {
-            Ok(x) => self.signal_value(job, t, output, x).went(),
+            Ok(x) => self.signal_value(job, buffers, t, output, x).went(),
             Err(_) => Went::Before {
                 place: Place::Task(t),
                 phase: begun - 1,

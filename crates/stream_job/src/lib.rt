@@ -21,6 +21,7 @@ mod opened_cores;
 mod opened_tasks;
 mod opening;
 mod parked;
+mod passing;
 mod plan;
 mod plan_blocks;
 mod roots;

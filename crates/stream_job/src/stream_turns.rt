@@ -195,13 +195,29 @@ impl Stream {
         ensures err { OnErr result (StreamMoves 0 self.old self.new) }
         ensures met { self.new.met ≡ None }
     {
+        let passed = self.pass_on(t);
         for made in 0..TURNS {
             let most = self.own_steps(t);
             let Went::On = self.turn(t, most)? else {
-                return Ok(made > 0);
+                return Ok(passed || made > 0);
             };
         }
         Ok(true)
+    }
+
+    /// Lets a splitter or a joiner make steps one after the other, and returns whether it made an
+    /// event. Another task does nothing.
+    fn pass_on(&mut self, t: usize) -> bool
+        requires met { self.old.met ≡ None }
+        requires task { t < length self.old.job.graph.tasks }
+        ensures moves { StreamMoves (of_moved result) self.old self.new }
+        ensures met { self.new.met ≡ None }
+    {
+        feeds::feeds_go_on();
+        let (plan, buffers) = (&self.plan, &mut self.buffers);
+        let moved = self.machine.pass_on(&self.job, plan, buffers, t);
+        self.plan.pass(&self.job, &self.machine.tasks, t);
+        moved
     }
 
     /// Gives a turn by its line to each task that does not rest, until one moves. Where none does,

@@ -150,7 +150,7 @@ impl Machine {
             unreachable!()
         };
         match value {
-            Ok(x) => self.signal_value(job, t, output, x),
+            Ok(x) => self.signal_value(job, buffers, t, output, x),
             Err(_) => Made::OutOfRange { step: begun - 1 },
         }
     }
@@ -184,19 +184,29 @@ impl Machine {
     }
 
     /// A task that is no filter signals this value, which is in range, on this output.
-    pub fn signal_value(&mut self, job: &Job, t: usize, output: usize, x: i64) -> Made
+    pub fn signal_value(
+        &mut self,
+        job: &Job,
+        buffers: &mut Buffers,
+        t: usize,
+        output: usize,
+        x: i64,
+    ) -> Made
         requires next { MayDo job.now self.old t (turns.signals output) }
+        requires places { HasPlaces job.now buffers.old }
         requires kind { (task_at job.now.graph t).kind ≢ filters }
         requires value { (s : List (List ℤ)) (steps : ℕ) (m : Moment)
             → IsNextIn steps (with_samples s job.now) self.old t (turns.signals output)
             → IsMachineAt (with_samples s job.now) m self.old
             → map ranged (values_up_to (most_in self.old t) (with_samples s job.now) m t output)
             ≡ Ok x ∷ [] }
-        ensures { HasDone job.now self.old self.new t (turns.signals output) result }
+        ensures made { HasDone job.now self.old self.new t (turns.signals output) result }
+        ensures places { buffers.new ≡ buffers.old }
     {
         let (k, phaser) = output_of(job, t, output);
         let number = self.tasks[t].numbers[k];
-        let Ok(_) = self.signal_on(job, phaser, number, x) else {
+        let parcels = &mut buffers.parcels;
+        let Ok(_) = self.signal_values_on(job, phaser, number, &[x], parcels) else {
             return Made::Blocked { phaser };
         };
         self.tasks[t].owed = owed_after_signal(job, t, output, x);

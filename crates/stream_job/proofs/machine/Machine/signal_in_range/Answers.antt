@@ -147,7 +147,7 @@ returns-in-Ok-clause-went c = λ s steps good.
     (sym c.is_empty.ensures ∙ c.if-not-is_empty.false) in
     subst (HasGone steps job c.args.self.now c.signal_value.new.self c.args.t) (sym c.went.ensures)
     (had_gone job c.args.self.now c.signal_value.new.self c.args.t c.signal_value.result next.sized
-    next.some (c.signal_value.ensures s steps next)
+    next.some (c.signal_value.ensures.made s steps next)
     (λ m at. value_none job c.args.self.now m c.args.t c.args.output c.index-state.result.now
     c.in-Ok.x next at
     (owes_this job c.args.self.now m c.args.t c.args.output c.in-Value.output

@@ -1,6 +1,6 @@
 -- The value is signalled as the number that stands at the registration of the output.
 use Rattle.std.proofs.Common.{◌≡◌, ◌<◌, ◌*◌, [], ◌∷◌, length, get_or, refl, sym, ap, subst, ◌∙◌, arith, to_z-of_z}
-use Rattle.phase_any.specs.phase_accum.Sends.{IsSend}
+use Rattle.phase_any.specs.phase_accum.Sends.{AreSends}
 use Rattle.graph_runs.specs.Nexts.{signals}
 use Rattle.graph_runs.specs.TaskEvents.{signal}
 use Rattle.stream_eval.specs.stream_lists.Jobs.{with_samples}
@@ -43,22 +43,34 @@ bounds-deref-k c =
     c.args.output c.index.result.now next next.some.1 found).place in
     omega (arith, c.output_of-k.ensures.registration, ap length c.deref.ensures)
 
-pub signal_on-requires-clause-send : goal.signal_on-requires-clause-send
-signal_on-requires-clause-send c =
+pub signal_values_on-requires-clause-sends : goal.signal_values_on-requires-clause-sends
+signal_values_on-requires-clause-sends c =
     let s = c.requires.next.0 in
     let next = c.requires.next.2 in
     let job = with_samples s c.args.job.now in
-    subst IsSend (sym (to_z-of_z c.ranges.x))
+    subst (λ v. AreSends (v ∷ [])) (sym (to_z-of_z c.ranges.x))
     (values_sent job c.args.self.now c.args.t c.args.output (c.args.x ∷ [])
-    next (λ m at. c.requires.value s c.requires.next.1 m next at)).0
+    next (λ m at. c.requires.value s c.requires.next.1 m next at))
 
-pub returns-in_default : goal.returns-in_default
-returns-in_default c = λ s steps next.
+pub signal_values_on-requires-clause-room : goal.signal_values_on-requires-clause-room
+signal_values_on-requires-clause-room c =
+    let s = c.requires.next.0 in
+    let next = c.requires.next.2 in
+    let job = with_samples s c.args.job.now in
+    let found = state_read next (λ e. (cc)) c.index.ensures in
+    let there = (signals_at job c.args.self.now next.some.0 c.args.t c.args.output
+    c.index.result.now next next.some.1 found).there in
+    let room = c.requires.places c.args.t there in
+    let same : c.buffers.inside.parcels ≡ c.args.buffers.now = c.buffers.view_is in
+    omega arith
+
+pub returns-in_default-clause-made : goal.returns-in_default-clause-made
+returns-in_default-clause-made c = λ s steps next.
     let job = with_samples s c.args.job.now in
     let found = state_read next (λ e. (cc)) c.index.ensures in
     let number = get_or c.deref.result.now c.output_of-k.result.0 0 in
     let p = c.output_of-k.result.1 in
-    refused_turn job c.args.self.now c.signal_on.new.self c.args.t number p
+    refused_turn job c.args.self.now c.signal_values_on.new.self c.args.t number p
     (c.args.x ∷ []) (signals c.args.output) (signal c.args.t c.args.output p number (c.args.x ∷ []))
     c.in_default.field-0 next (sym c.output_of-k.ensures.phaser)
     (signals_so job c.args.self.now c.args.t c.args.output number p (c.args.x ∷ [])
@@ -69,10 +81,10 @@ returns-in_default c = λ s steps next.
     (λ m at. (simp (to_z-of_z, c.ranges.x) at c.in_default.ensures.reply) m.history
     (bare_cores s at.cores))
     (λ m at. full_cores s (c.in_default.ensures.cores m.history (bare_cores s at.cores)))
-    c.signal_on.ensures.tasks c.signal_on.ensures.lines
+    c.signal_values_on.ensures.others.0 c.signal_values_on.ensures.others.1
 
-pub returns : goal.returns
-returns c = λ s steps next.
+pub returns-clause-made : goal.returns-clause-made
+returns-clause-made c = λ s steps next.
     let job = with_samples s c.args.job.now in
     let lt = state_there next (λ e. (cc)) in
     let found = state_read next (λ e. (cc)) c.index.ensures in
@@ -90,9 +102,9 @@ returns c = λ s steps next.
     (λ m at. full_cores s ((simp (to_z-of_z, c.ranges.x) at c.in-Ok.ensures.cores) m.history
     (bare_cores s at.cores)))
     (set_read (λ s. with_owing s c.owed_after_signal.result s.made) c.args.self.now.tasks.items
-    c.signal_on.new.self.tasks.items c.args.t c.index.result.now c.index_mut.result.now
-    (ap (λ v. v.items) c.signal_on.ensures.tasks) lt c.index.ensures c.index_mut.ensures.value)
-    c.signal_on.ensures.lines
+    c.signal_values_on.new.self.tasks.items c.args.t c.index.result.now c.index_mut.result.now
+    (ap (λ v. v.items) c.signal_values_on.ensures.others.0) lt c.index.ensures c.index_mut.ensures.value)
+    c.signal_values_on.ensures.others.1
     (record {
       owes = ap (owed_in c.owed_after_signal.result) none
           ∙ (simp (to_z-of_z, c.ranges.x) at c.owed_after_signal.ensures);
@@ -101,7 +113,7 @@ returns c = λ s steps next.
       made_none = λ other. none;
     })
 
-pub signal_on-requires-clause-cores : goal.signal_on-requires-clause-cores
-signal_on-requires-clause-cores c =
+pub signal_values_on-requires-clause-cores : goal.signal_values_on-requires-clause-cores
+signal_values_on-requires-clause-cores c =
     let next = c.requires.next.2 in
     (next.some.0.history, bare_cores c.requires.next.0 next.some.1.cores)

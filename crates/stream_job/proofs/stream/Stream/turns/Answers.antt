@@ -1,16 +1,23 @@
 -- One more turn makes one more event.
-use Rattle.std.proofs.Common.{◌+◌, arith, subst}
+use Rattle.std.proofs.Common.{◌+◌, ◌||◌, arith, subst, true}
 use Rattle.std.specs.Prelude.{nat_lt}
 use Rattle.stream_job.specs.Rounds.{of_moved, of_went}
 use Rattle.stream_job.specs.Streams.{StreamMoves}
-use Rattle.stream_job.proofs.FedLooks.{moved_few}
+use Rattle.stream_job.proofs.FedLooks.{moved_either, moved_few}
 use Rattle.stream_job.proofs.FedTurns.{moves_less, moves_on}
 use Rattle.stream_job.proofs.Setting.{err_of}
 use Rattle.stream_job.proofs.stream.Stream.turns.Goals as goal
 
+pub loop-made-init : goal.loop-made-init
+loop-made-init c = (
+  moves_less (of_moved c.pass_on-passed.result) (of_moved c.pass_on-passed.result + 0)
+      c.args.self.now c.pass_on-passed.new.self (omega arith) c.pass_on-passed.ensures.moves,
+  c.pass_on-passed.ensures.met,
+)
+
 pub returns-in_err-turn-clause-err : goal.returns-in_err-turn-clause-err
 returns-in_err-turn-clause-err c =
-    let n = c.loop-made.made in
+    let n = of_moved c.pass_on-passed.result + c.loop-made.made in
     err_of c.from_residual.result
     (moves_less (n + 0) 0 c.args.self.now c.turn.new.self (omega arith)
     (moves_on n 0 c.args.self.now c.loop-made.self c.turn.new.self c.loop-made.invariant.0
@@ -18,18 +25,22 @@ returns-in_err-turn-clause-err c =
 
 pub returns-in_default-clause-moves : goal.returns-in_default-clause-moves
 returns-in_default-clause-moves c =
-    let n = c.loop-made.made in
-    let few = moved_few n in
-    moves_less (n + of_went c.in_ok-turn.field-0) (of_moved (nat_lt 0 n)) c.args.self.now
-    c.turn.new.self (omega arith)
+    let passed = c.pass_on-passed.result in
+    let made = c.loop-made.made in
+    let n = of_moved passed + made in
+    let few = moved_few made in
+    let both = moved_either passed (nat_lt 0 made) in
+    moves_less (n + of_went c.in_ok-turn.field-0) (of_moved (passed || nat_lt 0 made))
+    c.args.self.now c.turn.new.self (omega arith)
     (moves_on n (of_went c.in_ok-turn.field-0) c.args.self.now c.loop-made.self c.turn.new.self
     c.loop-made.invariant.0 c.in_ok-turn.ensures.moves)
 
 pub loop-made-preserved : goal.loop-made-preserved
 loop-made-preserved c =
-    let n = c.loop-made.made in (
-      moves_on n 1 c.args.self.now c.loop-made.self c.turn.new.self c.loop-made.invariant.0
+    let n = of_moved c.pass_on-passed.result + c.loop-made.made in (
+      subst (λ k. StreamMoves k c.args.self.now c.turn.new.self) (omega arith)
+          (moves_on n 1 c.args.self.now c.loop-made.self c.turn.new.self c.loop-made.invariant.0
           (subst (λ w. StreamMoves (of_went w) c.loop-made.self c.turn.new.self) c.in-On.is
-          c.in_ok-turn.ensures.moves),
+          c.in_ok-turn.ensures.moves)),
       c.turn.ensures.met,
     )
