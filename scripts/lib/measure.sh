@@ -41,3 +41,23 @@ chain() {
         print "sink out X" filters
     }'
 }
+
+# bank BRANCHES BOUND: a source of samples.csv and one of zeros.csv, and so many branches, of which
+# each deals what a filter of 32 taps makes, joins a half with zeros and filters that again; their
+# answers are added up on one phaser. All phasers have this bound.
+bank() {
+    awk -v branches="$1" -v bound="$2" 'BEGIN {
+        for (j = 0; j < 32; j++) taps = taps " " (j % 2 == 0 ? 1000 + j : j - 900)
+        count = split("A B C D", names, " ")
+        print "phaser X sum " bound "\nphaser Z sum " bound
+        for (i = 1; i <= count; i++)
+            for (k = 0; k < branches; k++) print "phaser " names[i] k " sum " bound
+        print "phaser Y sum " bound "\nsource s samples.csv -> X\nsource z zeros.csv -> Z"
+        for (k = 0; k < branches; k++) {
+            print "fir f" k " X -> A" k " shift 12 taps" taps
+            print "split d" k " A" k " -> B" k " C" k "\njoin j" k " B" k " Z -> D" k
+            print "fir g" k " D" k " -> Y shift 12 taps" taps
+        }
+        print "sink out Y"
+    }'
+}

@@ -15,6 +15,9 @@ OPERATIONS = {
 }
 ENDED = "ended"
 
+# Why a source stands still whose samples have all gone, and may have others behind them.
+HUNGRY = ("hungry", None)
+
 
 class Phaser:
     def __init__(self, operation, bound, single):
@@ -57,6 +60,7 @@ class Task:
     def __init__(self, words, folder):
         self.kind, self.name = words[0], words[1]
         self.at, self.parent, self.until, self.start = 0, None, None, None
+        self.is_open = False
         words = [word for word in words if not word.startswith("block=")]
         if "until" in words:
             self.until = int(words.pop(words.index("until") + 1))
@@ -139,8 +143,11 @@ class Task:
 
     def step(self, phasers):
         if self.kind == "source":
-            if self.steps == len(self.samples):
-                return ENDED
+            while self.steps == len(self.samples):
+                if not self.is_open:
+                    return ENDED
+                self.stuck = HUNGRY
+                yield False
             yield from self.put(phasers[self.outputs[0]], self.samples[self.steps])
             return None
         turn = self.steps % len(self.inputs) if self.kind == "join" else 0
@@ -184,12 +191,22 @@ class Graph:
         for task in self.tasks:
             if task.parent is None:
                 self.begin(task, None)
+        return self.goes_on()
+
+    def goes_on(self):
+        """Moves the tasks while one can, and tells whether they came to their end."""
         while self.running:
             moved = [(run, next(run, ENDED)) for run in list(self.running)]
             self.running = [run for run in self.running if (run, ENDED) not in moved]
             if self.running and not any(made for _, made in moved):
                 return False
         return True
+
+    def is_live(self, task):
+        return any(
+            task.name in phaser.waited or task.name in phaser.signalled
+            for phaser in self.phasers.values()
+        )
 
 
 def why(task, names, phaser, call):
@@ -225,14 +242,7 @@ def stalls(file):
             sorted_members = sorted(members.items(), key=lambda member: order[member[0]])
             members.clear()
             members.update(sorted_members)
-    live = [
-        task
-        for task in graph.tasks
-        if any(
-            task.name in phaser.waited or task.name in phaser.signalled
-            for phaser in graph.phasers.values()
-        )
-    ]
+    live = [task for task in graph.tasks if graph.is_live(task)]
     lines = [why(task.name, names, task.stuck[1], task.stuck[0]) for task in live]
     full = list(dict.fromkeys(id(task.stuck[1]) for task in live if task.stuck[0] == "signals"))
     for phaser in full:

@@ -139,6 +139,120 @@ def joined(name, lists, bound, behind, until=None):
     return name, {"g": graph, **files}, 0, whole, ""
 
 
+def phasers(names, bound, operation="sum"):
+    return "".join(f"phaser {name} {operation} {bound}\n" for name in names.split())
+
+
+DEALS = "source s s.csv -> X\nsplit d X -> A B\n"
+
+
+def two_branches(bound):
+    return phasers("X A B S", bound) + DEALS + "join j A B -> S\n"
+
+
+def dealers(bound):
+    """Graphs whose phasers of this bound stand between splitters, joiners and peers, each with a
+    name and a sink: some come to an end, and some stand still. The source `s` reads s.csv, and
+    another, which stands before it, z.csv."""
+    deals, two = DEALS, two_branches(bound)
+    yield "two branches", two + "sink out S\n", "out"
+    yield (
+        "three branches", phasers("X A B C S", bound)
+        + "source s s.csv -> X\nsplit d X -> A B C\njoin j A B C -> S\nsink out S\n", "out",
+    )
+    yield (
+        "a filter on a branch", phasers("X A B F S", bound)
+        + deals + "fir f A -> F shift 0 taps 1 2\njoin j F B -> S\nsink out S\n", "out",
+    )
+    yield (
+        "a branch that is dealt again", phasers("X A B C D E S", bound)
+        + deals + "split e A -> C D\njoin k C D -> E\njoin j E B -> S\nsink out S\n", "out",
+    )
+    yield (
+        "branches that are added up", phasers("X A B S", bound)
+        + deals + "fir f A -> S shift 0 taps 1\nfir g B -> S shift 0 taps 3 1\nsink out S\n", "out",
+    )
+    yield (
+        "a joiner of the whole and of a branch", phasers("X A B S", bound)
+        + deals + "join j X A -> S\nsink out S\n", "out",
+    )
+    yield (
+        "a joiner of samples and what a filter makes", phasers("X Y S", bound)
+        + "source s s.csv -> X\nfir f X -> Y shift 0 taps 1 1\njoin j X Y -> S\nsink out S\n", "out",
+    )
+    yield (
+        "a joiner with few others", phasers("X Z S", bound)
+        + "source z z.csv -> Z\nsource s s.csv -> X\njoin j X Z -> S\nsink out S\n", "out",
+    )
+    for single in "", " single neg":
+        peers = phasers("X A B", bound) + f"phaser E sum {bound}{single}\n" + phasers("P Q S", bound)
+        yield (
+            f"peers{single}", peers + deals + "peer p A <-> E -> P mul 2\n"
+            "peer q B <-> E -> Q mul -1\njoin j P Q -> S\nsink out S\n", "out",
+        )
+    yield "branches with any", two.replace("sum", "any") + "sink out S\n", "out"
+    yield (
+        "another source takes over, with any", two.replace("sum", "any").replace(
+            deals, "source z z.csv -> X until 20\nsource s s.csv -> X by z at 20\nsplit d X -> A B\n"
+        ) + "sink out S\n", "out",
+    )
+    for most in 0, 1, 64, 65:
+        until = f" until {most}"
+        yield f"a splitter{until}", two.replace("A B\nj", f"A B{until}\nj") + "sink out S\n", "out"
+        yield f"a joiner{until}", two[:-1] + f"{until}\nsink out S\n", "out"
+        yield f"a sink{until}", f"{two}sink out S{until}\n", "out"
+        peer = phasers("X E Y A B S", bound) + (
+            f"source s s.csv -> X\npeer p X <-> E -> Y mul 3{until}\nsplit d Y -> A B\njoin j A B -> S\n"
+        )
+        yield f"a peer{until}", peer + "sink out S\n", "out"
+    children = phasers("X Y A B S", bound) + (
+        "source s s.csv -> X\nfir f X -> Y shift 0 taps 1\nsplit d Y -> A B\njoin j A B -> S\n"
+        "sink out S\nfir g X -> Y shift 0 taps 2 1 by f at 20\nsink late S by out at 33\n"
+    )
+    for sink in "out", "late":
+        yield f"children, to sink {sink}", children, sink
+
+
+def too_big(bound, step):
+    """Graphs whose phasers of this bound stand between splitters, joiners and peers, and in which
+    one value, at this step, is out of range: with the files, what the sink has, and the place."""
+    a, zeros = range(1, 201), 200 * [0]
+    big = [MOST if n == step else 0 for n in range(200)]
+    texts = {
+        name: "".join(f"{value}\n" for value in values)
+        for name, values in (("a.csv", a), ("b.csv", big), ("z.csv", zeros))
+    }
+    both = "source a a.csv -> X\nsource b b.csv -> X\n"
+    behind = "split d Y -> A B\njoin j A B -> S\nsink out S\n"
+    yield (
+        "before a splitter", phasers("X A B S", bound) + both + behind.replace("Y", "X"), texts,
+        a[:step], f"X {step}",
+    )
+    yield (
+        "before a joiner's second input", phasers("Z X S", bound)
+        + f"source z z.csv -> Z\n{both}join j Z X -> S\nsink out S\n", texts,
+        [value for n in a[:step] for value in (0, n)] + [0], f"X {step}",
+    )
+    yield (
+        "behind a splitter, of another source", phasers("X A B S", bound)
+        + "source a a.csv -> X\nsource b b.csv -> B\n" + behind.replace("Y", "X"), texts,
+        a[: 2 * step + 1], f"B {step}",
+    )
+    # Of each x the peer makes 2 * x + x.
+    large = {**texts, "b.csv": "".join(f"{2 ** 62 if n == step else n}\n" for n in range(200))}
+    yield (
+        "what a peer makes", phasers("X", bound) + f"phaser E sum {bound} single neg\n"
+        + phasers("Y A B S", bound) + f"source b b.csv -> X\npeer p X <-> E -> Y mul 2\n{behind}",
+        large, [3 * n for n in range(step)], f"p {step}",
+    )
+    yield (
+        "what peers exchange", phasers("X W E Y V S", bound) + (
+            "source a a.csv -> X\nsource b b.csv -> W\npeer p X <-> E -> Y mul 0\n"
+            "peer q W <-> E -> V mul 0\njoin j Y V -> S\nsink out S\n"
+        ), texts, [-n for n in a[:step] for _ in range(2)], f"E {step}",
+    )
+
+
 def filtered(taps, shift, values):
     """What a filter makes of a list."""
     return [

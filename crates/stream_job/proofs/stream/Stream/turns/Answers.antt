@@ -1,9 +1,9 @@
 -- One more turn makes one more event.
-use Rattle.std.proofs.Common.{◌+◌, ◌||◌, arith, subst, true}
+use Rattle.std.proofs.Common.{◌+◌, arith, subst}
 use Rattle.std.specs.Prelude.{nat_lt}
 use Rattle.stream_job.specs.Rounds.{of_moved, of_went}
 use Rattle.stream_job.specs.Streams.{StreamMoves}
-use Rattle.stream_job.proofs.FedLooks.{moved_either, moved_few}
+use Rattle.stream_job.proofs.FedLooks.{moved_few}
 use Rattle.stream_job.proofs.FedTurns.{moves_less, moves_on}
 use Rattle.stream_job.proofs.Setting.{err_of}
 use Rattle.stream_job.proofs.stream.Stream.turns.Goals as goal
@@ -23,17 +23,24 @@ returns-in_err-turn-clause-err c =
     (moves_on n 0 c.args.self.now c.loop-made.self c.turn.new.self c.loop-made.invariant.0
     c.in_err-turn.ensures.err))
 
-pub returns-in_default-clause-moves : goal.returns-in_default-clause-moves
-returns-in_default-clause-moves c =
-    let passed = c.pass_on-passed.result in
+pub returns-then-passed-clause-moves : goal.returns-then-passed-clause-moves
+returns-then-passed-clause-moves c =
+    let n = of_moved c.pass_on-passed.result + c.loop-made.made in
+    let k = of_went c.in_ok-turn.field-0 in
+    moves_less (n + k) (of_moved c.pass_on-passed.result) c.args.self.now c.turn.new.self
+    (omega arith)
+    (moves_on n k c.args.self.now c.loop-made.self c.turn.new.self c.loop-made.invariant.0
+    c.in_ok-turn.ensures.moves)
+
+pub returns-else-passed-clause-moves : goal.returns-else-passed-clause-moves
+returns-else-passed-clause-moves c =
     let made = c.loop-made.made in
-    let n = of_moved passed + made in
+    let n = of_moved c.pass_on-passed.result + made in
+    let k = of_went c.in_ok-turn.field-0 in
     let few = moved_few made in
-    let both = moved_either passed (nat_lt 0 made) in
-    moves_less (n + of_went c.in_ok-turn.field-0) (of_moved (passed || nat_lt 0 made))
-    c.args.self.now c.turn.new.self (omega arith)
-    (moves_on n (of_went c.in_ok-turn.field-0) c.args.self.now c.loop-made.self c.turn.new.self
-    c.loop-made.invariant.0 c.in_ok-turn.ensures.moves)
+    moves_less (n + k) (of_moved (nat_lt 0 made)) c.args.self.now c.turn.new.self (omega arith)
+    (moves_on n k c.args.self.now c.loop-made.self c.turn.new.self c.loop-made.invariant.0
+    c.in_ok-turn.ensures.moves)
 
 pub loop-made-preserved : goal.loop-made-preserved
 loop-made-preserved c =
