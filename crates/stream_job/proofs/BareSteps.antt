@@ -1,6 +1,6 @@
 -- One step of a splitter or a joiner at a moment, apart from the cores of the phasers.
 use Rattle.std.proofs.Common.{◌≡◌, ◌≢◌, ℕ, ℤ, List, ◌+◌, ◌<◌, ◌≤◌, ◌&&◌, Bool, true, false, not, cond, [], ◌∷◌, Some, None, length, get_or, slice_get, set, map, take, refl, sym, ap, subst, ◌∙◌, arith}
-use Rattle.std.specs.Prelude.{Ok, nat_le, nat_lt, slice_range, unwrap_or}
+use Rattle.std.specs.Prelude.{Ok, nat_lt, slice_range, unwrap_or}
 use Rattle.std.specs.List.{position_from}
 use Rattle.std.proofs.lemmas.Bool.{lt-leb}
 use Rattle.std.proofs.lemmas.List.{length-set}
@@ -55,7 +55,7 @@ use Rattle.stream_job.proofs.NextSteps.{next_for, owing_next}
 use Rattle.stream_job.proofs.Numbering.{few_after}
 use Rattle.stream_job.proofs.Reading.{live_by}
 use Rattle.stream_job.proofs.SentValues.{all_in_range, sends_all}
-use Rattle.stream_job.proofs.SignalCalls.{goes_on, ok_is, refusal_of, renumbered, reply_of}
+use Rattle.stream_job.proofs.SignalCalls.{goes_on, ok_is, renumbered, reply_of}
 use Rattle.stream_job.proofs.Waits.{GotAll, block_turn}
 
 -- ---- kinds

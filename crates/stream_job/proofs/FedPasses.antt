@@ -1,15 +1,14 @@
 -- What a stream stands for after steps of a splitter or a joiner.
-use Rattle.std.proofs.Common.{◌≡◌, ℕ, ℤ, List, suc, ◌+◌, ◌≤◌, [], ◌∷◌, ◌++◌, Bool, true, false, None, Some, length, map, refl, sym, ap, subst, ◌∙◌, ◌⊎◌, inl, inr, arith}
+use Rattle.std.proofs.Common.{◌≡◌, ℕ, ℤ, List, ◌≤◌, [], ◌∷◌, ◌++◌, Bool, true, false, None, Some, length, refl, sym, ap, subst, ◌∙◌, ◌⊎◌, inl, inr, arith}
 use Rattle.std.specs.List.{All}
 use Rattle.std.proofs.lemmas.List.{length-append}
 use Rattle.std.proofs.lemmas.List.Elements.{All-cons, All-nil}
 use Rattle.graph_lang.specs.graph_base.TaskLines.{IsGraph}
 use Rattle.stream_eval.specs.stream_lists.Jobs.{Job, with_samples}
-use Rattle.stream_eval.specs.stream_lists.Lists.{is_sink_at, sinks_of}
-use Rattle.stream_eval.specs.declared.whole.Lines.{Lines}
+use Rattle.stream_eval.specs.stream_lists.Lists.{is_sink_at}
 use Rattle.graph_runs.specs.Answers.{after_answer, makes, turn_up_to}
 use Rattle.graph_runs.specs.Feeds.{IsOpenAt, NotStarved}
-use Rattle.graph_runs.specs.Moments.{Moment, HasAnsweredNone, HasRun}
+use Rattle.graph_runs.specs.Moments.{Moment, HasAnsweredNone}
 use Rattle.graph_runs.specs.Reached.{IsReachable}
 use Rattle.graph_runs.specs.TaskEvents as events
 use Rattle.graph_runs.specs.TaskEvents.{IsNext, TaskEvent, after_turn}
@@ -17,12 +16,10 @@ use Rattle.graph_runs.specs.TaskPlaces.{child_of}
 use Rattle.graph_runs.proofs.AnsweredInTurn.{turn_answers_none}
 use Rattle.graph_runs.proofs.SizedTurns.{turn_reached}
 use Rattle.graph_runs.proofs.Whose.{task_of}
-use Rattle.stream_job.specs.Machines.{IsMachineAt, IsSome, KeepsLines, kept_behind}
+use Rattle.stream_job.specs.Machines.{IsSome, KeepsLines}
 use Rattle.stream_job.specs.Passing.{HasMadeSteps, IsPartOfStep, LeadTo, MakesSteps, is_of_step}
 use Rattle.stream_job.specs.Rounds.{of_moved}
-use Rattle.stream_job.specs.SinkLines.{sink_begins_at}
-use Rattle.stream_job.specs.Streams.{AreKept, IsStreamAt, MayTurn, SizedTurn, StreamMoves, StreamState, after_sized, ended_at, is_event, moves_in}
-use Rattle.stream_job.specs.declared.input.Input.{Input}
+use Rattle.stream_job.specs.Streams.{AreKept, IsStreamAt, MayTurn, SizedTurn, StreamState, after_sized, ended_at, is_event, moves_in}
 use Rattle.stream_job.specs.declared.machine.Machine.{Machine}
 use Rattle.stream_job.proofs.FedTurns.{kept_after}
 use Rattle.stream_job.proofs.FedWent.{GoesTo, with_machine}

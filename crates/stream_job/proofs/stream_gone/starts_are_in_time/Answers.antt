@@ -1,5 +1,5 @@
 -- Its samples go on, and it is registered or the run is over.
-use Rattle.std.proofs.Common.{◌≡◌, ◌<◌, ◌&&◌, ℕ, ℤ, Bool, true, false, not, List, Option, Some, None, is_some, length, refl}
+use Rattle.std.proofs.Common.{◌≡◌, ℕ, ℤ, true, not, List, Option, Some, None, is_some, refl}
 use Rattle.std.proofs.lemmas.Bool.{and_parts}
 use Rattle.stream_eval.specs.stream_lists.Jobs.{with_samples}
 use Rattle.graph_runs.specs.Moments.{HasRun, Moment}

@@ -1,6 +1,6 @@
 -- A step's wait is as the number that stands at the registration of its input, and what it got is
 -- signalled.
-use Rattle.std.proofs.Common.{◌≡◌, ◌≢◌, ℕ, ℤ, List, ◌+◌, ◌<◌, ◌≤◌, ◌∷◌, None, Some, length, get_or, map, set, take, refl, sym, ap, subst, ◌∙◌, arith}
+use Rattle.std.proofs.Common.{◌≡◌, ◌≢◌, ℕ, ℤ, List, ◌<◌, ◌∷◌, None, length, get_or, map, set, refl, sym, ap, subst, ◌∙◌, arith}
 use Rattle.std.specs.Prelude.{Ok}
 use Rattle.std.specs.List.{position_from}
 use Rattle.phase_any.specs.phase_core.Blocks.{after_in_range}

@@ -1,5 +1,5 @@
 -- By the state that was read.
-use Rattle.std.proofs.Common.{◌≡◌, List, Some, slice_get, true, sym, ap, subst, ◌∙◌, arith}
+use Rattle.std.proofs.Common.{◌≡◌, Some, slice_get, sym, ap, subst, ◌∙◌, arith}
 use Rattle.std.proofs.lemmas.Option.{same_Some}
 use Rattle.stream_eval.specs.stream_lists.Jobs.{with_samples}
 use Rattle.graph_lang.specs.graph_base.Graphs.{task_at}
