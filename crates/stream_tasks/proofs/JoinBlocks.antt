@@ -1,19 +1,17 @@
 -- Where a joiner stands that has taken a share of each of its inputs: it owes them in turn.
-use Rattle.std.proofs.Common.{◌≡◌, ◌≢◌, ℕ, suc, ◌+◌, ◌-◌, ◌*◌, ◌/◌, ◌%◌, ◌<◌, ◌≤◌, false, ℤ, pos, cond, List, [], ◌∷◌, ◌++◌, length, map, get_or, drop, refl, sym, ap, subst, ◌∙◌, arith, inr}
-use Rattle.std.specs.Prelude.{Ok, Result}
+use Rattle.std.proofs.Common.{◌≡◌, ℕ, ◌+◌, ◌-◌, ◌*◌, ◌/◌, ◌%◌, ◌<◌, ◌≤◌, false, ℤ, pos, cond, List, [], ◌∷◌, ◌++◌, length, map, get_or, drop, refl, sym, ap, subst, ◌∙◌, arith, inr}
+use Rattle.std.specs.Prelude.{Ok}
 use Rattle.std.specs.List.{range_with_len}
-use Rattle.std.proofs.lemmas.List.{drop-append-le, get_or-append-add, get_or-append_right, get_or-drop, length-append, length-drop, length-map}
-use Rattle.std.proofs.lemmas.List.FromFn.{get_or-map-range_with_len, length-map-range_with_len, length-range_with_len}
+use Rattle.std.proofs.lemmas.List.{get_or-append-add, get_or-drop, length-drop, length-map}
+use Rattle.std.proofs.lemmas.List.FromFn.{get_or-map-range_with_len, length-map-range_with_len}
 use Rattle.std.proofs.lemmas.Nat.{mod_below, div-add-mod', div-mul-add, mod-mul-add}
 use Rattle.stream_eval.specs.stream_filters.Range.{ranged}
-use Rattle.stream_eval.specs.stream_filters.declared.fault.TooBigValue.{TooBigValue}
 use Rattle.graph_runs.specs.phase_accum.declared.outcome.Outcome.{Outcome}
 use Rattle.graph_runs.specs.graph_base.Graphs.{Task, task_at}
-use Rattle.graph_runs.specs.graph_base.declared.line.Kind.TheVariants.{Join}
 use Rattle.stream_eval.specs.stream_lists.Jobs.{Job}
 use Rattle.stream_eval.specs.stream_lists.Lists.{entry, in_turn, number, turn_at}
 use Rattle.stream_eval.specs.stream_lists.Ranges.{is_out_of_range}
-use Rattle.stream_eval.specs.stream_lists.Spans.{puts_on, signalled_by, turns_below}
+use Rattle.stream_eval.specs.stream_lists.Spans.{puts_on, signalled_by}
 use Rattle.graph_runs.specs.Moments.{Moment, TaskRan, input_at, made_now, taken_now}
 use Rattle.graph_runs.specs.Moves.{IsStaying}
 use Rattle.graph_runs.specs.Nexts.{exchanges, signals, waits_first}
@@ -24,12 +22,11 @@ use Rattle.graph_runs.proofs.Boundaries.{all_put, made_many}
 use Rattle.graph_runs.proofs.FirstWaits.{in_range_is}
 use Rattle.graph_runs.proofs.Following.{Lacks, stays_at}
 use Rattle.graph_runs.proofs.Lacking.{first_is, lacks_here, next_all}
-use Rattle.graph_runs.proofs.Entries.{IsPrefix-refl}
 use Rattle.graph_runs.proofs.Ranged.{taken_ranged}
 use Rattle.graph_runs.proofs.Tasks.{now_at}
 use Rattle.graph_runs.proofs.stream_lists_lemmas.Growing.{map-same}
 use Rattle.stream_tasks.specs.Tasks.{owed_by}
-use Rattle.stream_tasks.proofs.JoinMoments.{GetsShares, MayGetShares, ends, made_begins, shares_part, shares_ran, staying_after, taken_before}
+use Rattle.stream_tasks.proofs.JoinMoments.{GetsShares, MayGetShares, ends, shares_ran, staying_after, taken_before}
 use Rattle.graph_runs.proofs.FollowsPlace.{keeps_staying}
 use Rattle.stream_tasks.proofs.JoinSteps.{length-oks, oks}
 use Rattle.stream_tasks.proofs.JoinTurns.{same_entries}

@@ -1,9 +1,8 @@
 -- What the waits of a joiner for a share of each of its inputs leave of a moment.
-use Rattle.std.proofs.Common.{◌≡◌, ◌≢◌, ℕ, ◌+◌, ◌-◌, ◌*◌, ◌/◌, ◌%◌, ◌<◌, ◌≤◌, true, false, ℤ, List, [], ◌∷◌, ◌++◌, Option, Some, None, length, map, refl, sym, ap, subst, ◌∙◌, arith, inl, inr, All}
+use Rattle.std.proofs.Common.{◌≡◌, ◌≢◌, ℕ, ◌+◌, ◌-◌, ◌*◌, ◌/◌, ◌%◌, ◌<◌, ◌≤◌, true, false, ℤ, List, [], ◌∷◌, ◌++◌, Option, Some, None, length, map, refl, sym, ap, subst, ◌∙◌, arith, All}
 use mathlib.Core.List.{IsPrefix}
 use Rattle.std.proofs.lemmas.List.{append-nil, length-append, length-map, map-append}
 use Rattle.std.proofs.lemmas.Nat.{mod_below, div-add-mod', div-mul-add}
-use Rattle.std.proofs.lemmas.Option.{same_Some}
 use Rattle.graph_runs.specs.phase_base.declared.entry.Entry.{Entry}
 use Rattle.graph_runs.specs.phase_accum.declared.outcome.Outcome.{Outcome}
 use Rattle.graph_runs.specs.phase_history.declared.event.Event.TheVariants.{Waited}
@@ -19,17 +18,16 @@ use Rattle.stream_eval.specs.stream_lists.Jobs.{Job, index_in}
 use Rattle.stream_eval.specs.stream_lists.Lists.{number}
 use Rattle.stream_eval.specs.stream_lists.Ranges.{is_too_big}
 use Rattle.stream_eval.specs.stream_lists.Spans.{signalled_by, takes_from, turns_below}
-use Rattle.graph_runs.specs.Moments.{AtMost, HasEnded, HasTaken, IsChild, IsRegistered, Joined, Moment, OnInput, OnLine, OnOutput, OnPhaser, TakenOn, TaskRan, BeginsBy, input_at, limits_at, made_now, one, value_at}
+use Rattle.graph_runs.specs.Moments.{AtMost, HasEnded, HasTaken, IsRegistered, Joined, Moment, OnInput, OnLine, OnOutput, OnPhaser, TakenOn, TaskRan, BeginsBy, input_at, limits_at, made_now, one, value_at}
 use Rattle.graph_runs.specs.Moves.{IsStaying}
 use Rattle.graph_runs.specs.Parts.{HasPart, IsAnsweredBy, SeesOwn}
 use Rattle.graph_runs.specs.Places.{KnowsOthers}
 use Rattle.graph_runs.specs.TaskEnds.{HasOwnCalls}
 use Rattle.graph_runs.proofs.Framed.{part_came, silent_stays}
 use Rattle.graph_runs.proofs.OwnCalls.{AreOwn, BeginsAsBefore, own_came, own_got, own_later, own_on}
-use Rattle.graph_runs.proofs.OwnEvents.{begins}
+use Rattle.graph_runs.proofs.OwnEvents.{begins, made_more}
 use Rattle.graph_runs.proofs.Whole.{parent_of}
 use Rattle.graph_runs.proofs.phase_history_lemmas.Used.{start_of-longer}
-use Rattle.stream_tasks.proofs.DealWaits.{made_more}
 use Rattle.stream_tasks.proofs.JoinSteps.{join_ends, join_has_none}
 
 -- ---- one phaser

@@ -1,7 +1,7 @@
 -- The state of a joiner that has taken a share of each of its inputs.
-use Rattle.std.proofs.Common.{◌≡◌, ◌≢◌, ℕ, ◌+◌, ◌*◌, ◌%◌, ◌<◌, ◌≤◌, ◌⊎◌, inl, inr, ℤ, false, List, [], ◌∷◌, ◌++◌, Option, Some, None, length, map, get_or, refl, sym, ap, subst, ◌∙◌, arith, All}
+use Rattle.std.proofs.Common.{◌≡◌, ℕ, ◌+◌, ◌*◌, ◌%◌, ◌<◌, ◌≤◌, ◌⊎◌, inl, inr, ℤ, false, List, [], ◌++◌, Option, Some, None, length, map, get_or, refl, sym, ap, subst, ◌∙◌, arith, All}
 use Rattle.std.specs.Global.{Global}
-use Rattle.std.specs.Prelude.{Bool, Vec, drop, slice_get, take}
+use Rattle.std.specs.Prelude.{Bool, Vec, take}
 use Rattle.std.proofs.lemmas.Bool.{cases_lt}
 use Rattle.std.proofs.lemmas.Option.{same_Some, slice_get_within}
 use Rattle.graph_runs.specs.phase_accum.declared.outcome.Outcome.{Outcome}
@@ -15,7 +15,7 @@ use Rattle.stream_eval.specs.stream_lists.Ranges.{is_too_big}
 use Rattle.graph_runs.specs.Moments.{AtMost, Moment, OnInput, OnLine, first_input, input_at, limits_at}
 use Rattle.graph_runs.specs.Moves.{IsStaying}
 use Rattle.graph_runs.specs.Nexts.{registrations_at}
-use Rattle.graph_runs.specs.Parts.{IsAnsweredBy, SeesOwn}
+use Rattle.graph_runs.specs.Parts.{SeesOwn}
 use Rattle.graph_runs.specs.TaskPlaces.{StandsUpTo, registration_at}
 use Rattle.graph_runs.specs.Turned.{with_at}
 use Rattle.graph_runs.specs.declared.owed.Owed.TheVariants.{Nothing}
@@ -25,7 +25,6 @@ use Rattle.graph_runs.proofs.Turned.{at_other, at_same}
 use Rattle.graph_runs.proofs.stream_lists_lemmas.Ordered.{place-at, place_of_input}
 use Rattle.stream_members.specs.Members.{Spot}
 use Rattle.stream_members.specs.AnyMembers.{member_in}
-use Rattle.stream_members.specs.declared.any_left.AnyLeft.{AnyLeft}
 use Rattle.stream_members.specs.declared.any_member.AnyMember.{AnyMember}
 use Rattle.stream_tasks.specs.Holds.{MemberHasWaited, wait_event}
 use Rattle.stream_tasks.specs.Joiners.{HaveGiven, MayTakeShares, share_at, shares_in}
