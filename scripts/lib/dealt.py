@@ -17,7 +17,7 @@ def lines_of(values):
 
 
 class Model:
-    """The graph `g` of a folder, moved event by event as its source `s` gets samples, and a sink."""
+    """The graph `g` of a folder, moved event by event as its source `s` is fed; and one sink."""
 
     def __init__(self, room, sink):
         self.graph = simulation.Graph(room.path("g"), True, {})
