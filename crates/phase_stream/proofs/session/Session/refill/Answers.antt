@@ -31,7 +31,8 @@ known g c held is =
     c.args.self.now.stream.job.graph c.args.k c.file-name.ensures.file c.graph-2.ensures
 
 -- what it gave
-gives : (g : Over) (c : In-Ok g) (held : Known) (old now : Option (List ℕ))
+gives : (g : Over) (c : In-Ok g) (held : Known)
+    (old now : ℕ → Option (List ℕ))
     (st : StandsBy g.R.Read.remaining held old now c.args.self.now)
     → slice_get c.args.self.now.sources.items c.args.k ≡ Some c.in-Some.source.now
     → g.F.Files.file c.args.files.now c.file-name.result.now
@@ -44,18 +45,19 @@ gives g c held old now st here file =
     (st.sources c.args.k c.in-Some.source.now here).1
 
 -- and what of that was fed
-fed : (g : Over) (c : After-feed g) (held : Known) (old now : Option (List ℕ))
+fed : (g : Over) (c : After-feed g) (held : Known)
+    (old now : ℕ → Option (List ℕ))
     (st : StandsBy g.R.Read.remaining held old now c.args.self.now)
     → slice_get c.args.self.now.sources.items c.args.k ≡ Some c.in-Some.source.now
     → GivesSource g.R.Read.remaining (held (file_at c.args.self.now.stream.job.graph c.args.k))
     (get_or st.samples c.args.k []) c.read.new.room.values c.in-Ok.piece c.read.new.self
     → Fed g.R.Read.remaining held old now c.args.self.now c.feed.new.self c.args.k c.feed.result
     c.read.new.self c.in-Some.source.now c.read.new.room.values c.in-Ok.piece st
-fed g c held old now st here gives =
+fed g c held old now st here gave =
     let within = within_so c.sources.result c.args.k c.graph.result.now c.args.self.now.stream.job.graph
     c.sources.ensures.count c.graph.ensures c.if-k-sources.false in
     fed_of g.R.Read.remaining held old now c.args.self.now c.feed.new.self c.args.k c.feed.result
-    c.read.new.self c.in-Some.source.now c.read.new.room.values c.in-Ok.piece st here within gives
+    c.read.new.self c.in-Some.source.now c.read.new.room.values c.in-Ok.piece st here within gave
     c.read.ensures.task (c.feed.ensures.took st.samples st.moment st.given st.reaches.at)
     (c.feed.ensures.fed st.samples st.moment st.given st.reaches.at) c.feed.ensures.others
     c.feed.ensures.ended
