@@ -7,6 +7,8 @@ use Rattle.graph_base.specs.declared.line.Kind.TheVariants.{Source, Fir, Split, 
 use Rattle.graph_base.specs.declared.line.Parent.{Parent}
 use Rattle.graph_base.specs.declared.line.PhaserLine.{PhaserLine}
 use Rattle.graph_base.specs.declared.place.Place.{Place}
+use Rattle.stream_filters.specs.Filter.{no_form}
+use Rattle.stream_filters.specs.declared.form.Form.{Form}
 use Rattle.graph_base.specs.declared.place.Place.TheVariants as place
 
 -- the line of a task, with its lists as lists
@@ -18,7 +20,7 @@ pub record Task : Type 0 where
   pub parent : Option Parent
   pub until : Option ℕ
   pub taps : List ℤ
-  pub shift : ℕ
+  pub form : Form
   pub mul : ℤ
   pub block : ℕ
   pub joins_now : Bool
@@ -49,7 +51,7 @@ no_task = record {
   parent = None;
   until = None;
   taps = [];
-  shift = 0;
+  form = no_form;
   mul = pos 0;
   block = 1;
   joins_now = false;

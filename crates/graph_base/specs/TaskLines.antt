@@ -4,7 +4,8 @@ use Rattle.std.specs.List.{All, Contains}
 use Rattle.phase_accum.specs.phase_base.Limits.{IsBound}
 use Rattle.phase_accum.specs.phase_base.Lists.{is_distinct}
 use Rattle.phase_accum.specs.Singles.{CanBeNamed}
-use Rattle.stream_filters.specs.Filter.{AreTaps}
+use Rattle.stream_filters.specs.Filter.{AreTaps, no_form}
+use Rattle.stream_filters.specs.declared.form.Form.{Form}
 use Rattle.phase_accum.specs.phase_base.Words.{Word, is_name, is_file}
 use Rattle.graph_base.specs.Graphs.{Task, Graph, IsPlace, task_at, phaser_at, name_at, sources_of}
 use Rattle.graph_base.specs.Names.{place_of}
@@ -29,10 +30,10 @@ abbrev pub IsExchangeBelow : Kind → List ℕ → Type 0
 IsExchangeBelow Peer inputs = get_or inputs 0 0 < get_or inputs 1 0
 IsExchangeBelow kind inputs = Unit {0}
 
--- a filter has taps and a shift that a filter may have; no other kind has any
-abbrev pub HasTaps : Kind → List ℤ → ℕ → Type 0
-HasTaps Fir taps shift = AreTaps taps shift
-HasTaps kind taps shift = (taps ≡ []) × (shift ≡ 0)
+-- a filter has taps and a form that a filter may have; no other kind has any
+abbrev pub HasTaps : Kind → List ℤ → Form → Type 0
+HasTaps Fir taps form = AreTaps taps form
+HasTaps kind taps form = (taps ≡ []) × (form ≡ no_form)
 
 -- a peer has a factor within its limit, and no other kind has one
 abbrev pub HasFactor : Kind → ℤ → Type 0
@@ -98,7 +99,7 @@ pub record IsTaskLine (graph : Graph) (t : ℕ) (task : Task) : Type 0 where
   -- no output has a single
   pub plain : All (λ y. (phaser_at graph y).single ≡ None) task.outputs
   -- the numbers of its kind
-  pub taps : HasTaps task.kind task.taps task.shift
+  pub taps : HasTaps task.kind task.taps task.form
   pub factor : HasFactor task.kind task.mul
   pub until : IfSome task.until (λ steps. steps ≤ STEPS_MAX)
   pub parent : IfSome task.parent (λ parent. IsParent graph t task parent)

@@ -1,6 +1,7 @@
 //! What a line of a graph's text declares.
 
 use phase_accum::{Op, Single};
+use stream_filters::Form;
 
 /// What a task does.
 #[derive(Clone, Copy, Debug, PartialEq, Eq)]
@@ -58,8 +59,8 @@ pub struct TaskLine {
     pub until: Option<u64>,
     /// The taps of a filter.
     pub taps: Vec<i64>,
-    /// The shift of a filter, in bits.
-    pub shift: u32,
+    /// The form of a filter: its shift, what it adds, and its delay.
+    pub form: Form,
     /// The factor of a peer, of a magnitude of at most `FACTOR_MAX`.
     pub mul: i64,
     /// The most steps that it makes in a block, 1 where the line names none.

@@ -11,14 +11,14 @@ use Rattle.std.proofs.lemmas.Slice.Eq.{bytes_eq-Decides}
 use Rattle.graph_text.specs.phase_base.Words.{Word}
 use Rattle.graph_text.specs.phase_base.declared.limits.TheConstants.{BOUND_MAX}
 use Rattle.graph_text.specs.phase_base.Numbers.{is_nat, nat_value, int_value}
-use Rattle.graph_text.specs.Decls.{task, BodyWords, source, fir, split, join, peer, sink, ByWords, EndWords, IsBody, IsBy, AreEnds, MayHaveBy, may_have_parent, may_join_now, may_have_blocks}
+use Rattle.graph_text.specs.Decls.{task, BodyWords, source, fir, delay, split, join, peer, sink, ByWords, EndWords, IsBody, IsBy, AreEnds, MayHaveBy, may_have_parent, may_join_now, may_have_blocks}
 use Rattle.graph_text.specs.declared.version.Version.{Version}
-use Rattle.graph_text.specs.declared.version.Version.TheVariants.{One, Two}
-use Rattle.graph_base.specs.stream_filters.declared.fir.TheConstants.{TAPS_MAX, TAP_MAX, SHIFT_MAX}
+use Rattle.graph_text.specs.declared.version.Version.TheVariants.{Three}
+use Rattle.graph_base.specs.stream_filters.declared.fir.TheConstants.{DELAY_MAX, PLUS_MAX, TAPS_MAX, TAP_MAX, SHIFT_MAX}
 use Rattle.graph_base.specs.Graphs.{Graph, Task, Named, IsPlace, task_at, phaser_at}
 use Rattle.graph_base.specs.Names.{place_of, phaser_number, task_number, phaser_named, task_named}
-use Rattle.graph_lang.specs.WordValues.{or_zero, phaser_numbers, parent_of, task_line, kind_of_body, inputs_of, outputs_of, taps_of, shift_of, factor_of, block_of, joins_now}
-use Rattle.graph_lang.specs.Faults.{kind_of, is_body_within, are_ends_within, is_count_within, is_tap_within, phasers_of, are_distinct, is_phaser, is_parent_known, is_in_order, is_exchange_below, may_be_parent, is_number_in, holds_for, is_plain, is_held, is_bound_within, is_within_bound, is_block_within}
+use Rattle.graph_lang.specs.WordValues.{or_zero, phaser_numbers, parent_of, task_line, kind_of_body, inputs_of, outputs_of, taps_of, plus_of, form_of, factor_of, block_of, joins_now}
+use Rattle.graph_lang.specs.Faults.{kind_of, is_body_within, are_ends_within, is_count_within, is_tap_within, is_plus_within, phasers_of, are_distinct, is_phaser, is_parent_known, is_in_order, is_exchange_below, may_be_parent, is_number_in, holds_for, is_plain, is_held, is_bound_within, is_within_bound, is_block_within}
 use Rattle.graph_base.specs.TaskLines.{IsGraph, IsTaskLine, IsParent, AreNames, HasEnds, HasTaps, HasFactor, IsExchangeBelow, has_children, has_blocks, AreAmong}
 use Rattle.graph_text.specs.phase_base.Lists.{is_distinct}
 use Rattle.graph_base.specs.declared.limits.TheConstants.{TASKS_MAX, ENDS_MAX, STEPS_MAX, FACTOR_MAX}
@@ -218,7 +218,8 @@ count-ends : (before : List Named) (body : BodyWords) → is_body_within body �
     → HasEnds (kind_of_body body) (length (phaser_numbers before (inputs_of body)))
     (length (phaser_numbers before (outputs_of body)))
 count-ends names (source file output) e = (refl, refl)
-count-ends names (fir input output shift taps) e = (refl, refl)
+count-ends names (fir input output shift plus taps) e = (refl, refl)
+count-ends names (delay input output steps) e = (refl, refl)
 count-ends names (split input outputs) e =
     let within = and_parts (nat_le 2 (length outputs)) (nat_le (length outputs) ENDS_MAX) e in
     let same = length-map outputs (number_in names) in (
@@ -245,25 +246,40 @@ exchange-below kind.Join inputs e = tt
 exchange-below kind.Peer inputs e = ltb-true (get_or inputs 0 0) (get_or inputs 1 0) e
 exchange-below kind.Sink inputs e = tt
 
-has-taps : (body : BodyWords) → IsBody body → is_body_within body ≡ true
-    → HasTaps (kind_of_body body) (taps_of body) (shift_of body)
+has-taps : (body : BodyWords) → IsBody Three body → is_body_within body ≡ true
+    → HasTaps (kind_of_body body) (taps_of body) (form_of body)
 has-taps (source file output) is e = (refl, refl)
-has-taps (fir input output shift taps) is e =
-    let counts = and_parts (nat_le (nat_value shift) SHIFT_MAX && nat_le (length taps) TAPS_MAX)
-    (list_all is_tap_within taps) e in
-    let limits = and_parts (nat_le (nat_value shift) SHIFT_MAX) (nat_le (length taps) TAPS_MAX)
-    counts.0 in
+has-taps (fir input output shift plus taps) is e =
+    let each = both (nat_le (nat_value shift) SHIFT_MAX && is_plus_within plus
+    && nat_le (length taps) TAPS_MAX) (list_all is_tap_within taps) e in
+    let counts = both (nat_le (nat_value shift) SHIFT_MAX && is_plus_within plus)
+    (nat_le (length taps) TAPS_MAX) each.0 in
+    let limits = both (nat_le (nat_value shift) SHIFT_MAX) (is_plus_within plus) counts.0 in
     let same = length-map taps int_value in
-    let some = is.3.0 in
-    let few = leb-true (length taps) TAPS_MAX limits.1 in
+    let some = is.4.0 in
+    let few = leb-true (length taps) TAPS_MAX counts.1 in
     record {
       some = omega (arith, same, some);
       few = omega (arith, same, few);
       small = All-map (λ tap. unsigned_abs tap ≤ 2147483647) int_value taps
           (each-passed is_tap_within (λ tap. unsigned_abs (int_value tap) ≤ 2147483647)
-          (λ tap. leb-true (unsigned_abs (int_value tap)) TAP_MAX) taps counts.1);
+          (λ tap. leb-true (unsigned_abs (int_value tap)) TAP_MAX) taps each.1);
       shift_small = leb-true (nat_value shift) SHIFT_MAX limits.0;
+      plus_small = leb-true (unsigned_abs (plus_of plus)) PLUS_MAX limits.1;
+      delay_small = omega arith;
     }
+has-taps (delay input output steps) is e = record {
+  some = omega arith;
+  few = omega arith;
+  small = one-small;
+  shift_small = omega arith;
+  plus_small = omega arith;
+  delay_small = leb-true (nat_value steps) DELAY_MAX e;
+}
+  where
+    one-small : All (λ tap. unsigned_abs tap ≤ 2147483647) (pos 1 ∷ [])
+    one-small = All-cons (λ tap. unsigned_abs tap ≤ 2147483647) (pos 1) [] (omega arith)
+        (All-nil (λ tap. unsigned_abs tap ≤ 2147483647))
 has-taps (split input outputs) is e = (refl, refl)
 has-taps (join inputs output) is e = (refl, refl)
 has-taps (peer input exchange output factor) is e = (refl, refl)
@@ -272,7 +288,8 @@ has-taps (sink input) is e = (refl, refl)
 has-factor : (body : BodyWords) → is_body_within body ≡ true
     → HasFactor (kind_of_body body) (factor_of body)
 has-factor (source file output) e = refl
-has-factor (fir input output shift taps) e = refl
+has-factor (fir input output shift plus taps) e = refl
+has-factor (delay input output steps) e = refl
 has-factor (split input outputs) e = refl
 has-factor (join inputs output) e = refl
 has-factor (peer input exchange output factor) e =
@@ -288,7 +305,8 @@ has-until (Some steps) e = leb-true (nat_value steps) STEPS_MAX e
 
 parents-are : (body : BodyWords) → may_have_parent body ≡ has_children (kind_of_body body)
 parents-are (source file output) = refl
-parents-are (fir input output shift taps) = refl
+parents-are (fir input output shift plus taps) = refl
+parents-are (delay input output steps) = refl
 parents-are (split input outputs) = refl
 parents-are (join inputs output) = refl
 parents-are (peer input exchange output factor) = refl
@@ -328,14 +346,14 @@ new-parent before are child (Some by) known at may holds allowed =
 
 blocks-are : (version : Version) (body : BodyWords) → may_have_blocks version body ≡ true
     → has_blocks (kind_of_body body) ≡ true
-blocks-are One body may = let clash : false ≡ true = may in absurd (cc)
-blocks-are Two (source file output) may = refl
-blocks-are Two (fir input output shift taps) may = refl
-blocks-are Two (split input outputs) may = let clash : false ≡ true = may in absurd (cc)
-blocks-are Two (join inputs output) may = let clash : false ≡ true = may in absurd (cc)
-blocks-are Two (peer input exchange output factor) may =
+blocks-are version (source file output) may = refl
+blocks-are version (fir input output shift plus taps) may = refl
+blocks-are version (delay input output steps) may = refl
+blocks-are version (split input outputs) may = let clash : false ≡ true = may in absurd (cc)
+blocks-are version (join inputs output) may = let clash : false ≡ true = may in absurd (cc)
+blocks-are version (peer input exchange output factor) may =
     let clash : false ≡ true = may in absurd (cc)
-blocks-are Two (sink input) may = refl
+blocks-are version (sink input) may = refl
 
 -- a block has a step
 block-some : (block : Option Word) → option_map_or is_bound_within block true ≡ true
@@ -357,14 +375,15 @@ block-kind version body (Some steps) is none =
 
 joins-are : (version : Version) (body : BodyWords) → may_join_now version body ≡ true
     → kind_of_body body ≡ kind.Sink
-joins-are One body may = let clash : false ≡ true = may in absurd (cc)
-joins-are Two (source file output) may = let clash : false ≡ true = may in absurd (cc)
-joins-are Two (fir input output shift taps) may = let clash : false ≡ true = may in absurd (cc)
-joins-are Two (split input outputs) may = let clash : false ≡ true = may in absurd (cc)
-joins-are Two (join inputs output) may = let clash : false ≡ true = may in absurd (cc)
-joins-are Two (peer input exchange output factor) may =
+joins-are version (source file output) may = let clash : false ≡ true = may in absurd (cc)
+joins-are version (fir input output shift plus taps) may =
     let clash : false ≡ true = may in absurd (cc)
-joins-are Two (sink input) may = refl
+joins-are version (delay input output steps) may = let clash : false ≡ true = may in absurd (cc)
+joins-are version (split input outputs) may = let clash : false ≡ true = may in absurd (cc)
+joins-are version (join inputs output) may = let clash : false ≡ true = may in absurd (cc)
+joins-are version (peer input exchange output factor) may =
+    let clash : false ≡ true = may in absurd (cc)
+joins-are version (sink input) may = refl
 
 -- a task that joins now is a sink, and has a parent
 may-join : (names : List Named) (version : Version) (body : BodyWords) (by : Option ByWords)
@@ -396,7 +415,7 @@ numbered before n body ends =
     })
 
 pub IsTaskLine-new : (version : Version) (before : Graph) (n : ℕ) (name : Word) (body : BodyWords)
-    (ends : EndWords) → IsGraph before → IsBody body → AreEnds version body ends
+    (ends : EndWords) → IsGraph before → IsBody Three body → AreEnds version body ends
     → IsSound before name body ends
     → IsTaskLine before (length before.tasks) (task_line before.names n body ends)
 IsTaskLine-new version before n name body ends is is_body are_ends sound =

@@ -1,17 +1,19 @@
 -- Lines that are read, one after another.
-use Rattle.std.proofs.Common.{ℕ, ◌≡◌, ◌<◌, ◌≤◌, ◌+◌, List, ◌∷◌, Bor, length, map, drop, get_or, refl, ap, sym, ◌∙◌, Result, Ok, Err, Bool, true, false, Option, Some, None, if◌then◌else◌, [], inl, inr, subst}
+use Rattle.std.proofs.Common.{ℕ, ◌≡◌, ◌<◌, ◌≤◌, ◌+◌, List, ◌∷◌, Bor, length, map, drop, get_or, refl, ap, sym, ◌∙◌, Result, Ok, Err, Bool, true, false, Option, Some, None, is_some, if◌then◌else◌, [], inl, inr, subst}
 use Rattle.std.proofs.lemmas.List.{drop_all}
 use Rattle.graph_text.specs.phase_base.Words.{Word}
 use Rattle.graph_text.specs.Texts.{words_of_line, are_printable, is_ignored}
 use Rattle.graph_text.specs.phase_base.Lists.{without_cr}
 use Rattle.graph_text.specs.Plain.{plain}
 use Rattle.graph_text.specs.Decls.{Decl, Declares, Spells}
-use Rattle.graph_text.specs.Versions.{is_heading}
+use Rattle.graph_text.specs.Versions.{heading_of}
 use Rattle.graph_text.specs.declared.version.Version.{Version}
-use Rattle.graph_text.specs.declared.version.Version.TheVariants.{One, Two}
+use Rattle.graph_text.specs.declared.version.Version.TheVariants.{One}
 use Rattle.graph_base.specs.Graphs.{Graph}
-use Rattle.graph_lang.specs.Reads.{version_of, emptied, without_heading, Steps, Reads, ReadsText, Tells}
-use Rattle.graph_lang.specs.Reading.{TellsFault, version_in, version_behind, version_at, line_read, ReadsOn}
+use Rattle.graph_lang.specs.Reads.{or_one, version_of, emptied, without_heading, Steps, Reads, ReadsText, Tells, fault_at, line_outcome}
+use Rattle.graph_lang.specs.Reading.{TellsDecl, TellsFault, version_in, version_behind, version_at, line_read, ReadsOn}
+use Rattle.graph_lang.specs.Faults.{kind_of}
+use Rattle.graph_lang.specs.declared.fault.FaultKind.TheVariants.{Syntax}
 use Rattle.graph_lang.specs.declared.fault.GraphFault.{GraphFault}
 use Rattle.graph_lang.specs.declared.fault.GraphRefusal.{GraphRefusal}
 use Rattle.graph_lang.specs.declared.fault.GraphRefusal.TheVariants as refusal
@@ -46,41 +48,39 @@ emptied-ignored false line e = e
 -- what a line comes to by itself, it comes to as the first of those that are left
 first-step : (n : ℕ) (before : Graph) (line : List ℕ) (lines : List (List ℕ))
     (outcome : Result Graph GraphFault) → Steps One n before (emptied line) outcome
-    → (ignored heading : Bool) → is_ignored line ≡ ignored → is_heading (words_of_line line) ≡ heading
-    → Steps (if ignored then version_of lines else if heading then Two else One) n before
+    → (ignored : Bool) (heading : Option Version) → is_ignored line ≡ ignored
+    → heading_of (words_of_line line) ≡ heading
+    → Steps (if ignored then version_of lines else or_one heading) n before
     (if ignored then line else emptied line) outcome
 first-step n before line lines outcome step true heading e h =
     step-ignored One (version_of lines) n before (emptied line) line outcome
-    (emptied-ignored (is_heading (words_of_line line)) line e) e step
-first-step n before line lines outcome step false true e h =
-    let gone : emptied line ≡ [] = ap (λ b. if b then [] else line) h in
+    (emptied-ignored (is_some (heading_of (words_of_line line))) line e) e step
+first-step n before line lines outcome step false (Some version) e h =
+    let gone : emptied line ≡ [] = ap (λ o. if is_some o then [] else line) h in
     let none : is_ignored (emptied line) ≡ true = ap is_ignored gone in
-    step-ignored One Two n before (emptied line) (emptied line) outcome none none step
-first-step n before line lines outcome step false false e h = step
+    step-ignored One version n before (emptied line) (emptied line) outcome none none step
+first-step n before line lines outcome step false None e h = step
 
 -- a line that was read, and those after it
 more-lines : (n : ℕ) (before after : Graph) (line : List ℕ) (lines : List (List ℕ))
-    (outcome : Result Graph GraphFault) (ignored heading : Bool)
-    → Steps (if ignored then version_of lines else if heading then Two else One) n before
+    (outcome : Result Graph GraphFault) (ignored : Bool) (version : Version)
+    → Steps (if ignored then version_of lines else version) n before
     (if ignored then line else emptied line) (Ok after)
-    → ReadsOn (if ignored then None else if heading then Some Two else Some One) (n + 1) after lines
-    outcome
-    → Reads (if ignored then version_of lines else if heading then Two else One) n before
+    → ReadsOn (if ignored then None else Some version) (n + 1) after lines outcome
+    → Reads (if ignored then version_of lines else version) n before
     (if ignored then line ∷ without_heading lines else emptied line ∷ lines) outcome
-more-lines n before after line lines outcome true heading step rest = inr (after, step, rest)
-more-lines n before after line lines outcome false true step rest = inr (after, step, rest)
-more-lines n before after line lines outcome false false step rest = inr (after, step, rest)
+more-lines n before after line lines outcome true version step rest = inr (after, step, rest)
+more-lines n before after line lines outcome false version step rest = inr (after, step, rest)
 
 -- a line that stopped the reading
 fault-line : (n : ℕ) (before : Graph) (line : List ℕ) (lines : List (List ℕ)) (f : GraphFault)
-    (ignored heading : Bool)
-    → Steps (if ignored then version_of lines else if heading then Two else One) n before
+    (ignored : Bool) (version : Version)
+    → Steps (if ignored then version_of lines else version) n before
     (if ignored then line else emptied line) (Err f)
-    → Reads (if ignored then version_of lines else if heading then Two else One) n before
+    → Reads (if ignored then version_of lines else version) n before
     (if ignored then line ∷ without_heading lines else emptied line ∷ lines) (Err f)
-fault-line n before line lines f true heading step = inl (f, step, refl)
-fault-line n before line lines f false true step = inl (f, step, refl)
-fault-line n before line lines f false false step = inl (f, step, refl)
+fault-line n before line lines f true version step = inl (f, step, refl)
+fault-line n before line lines f false version step = inl (f, step, refl)
 
 reads-more : (known : Option Version) (n : ℕ) (before after : Graph) (line : List ℕ)
     (lines : List (List ℕ)) (outcome : Result Graph GraphFault)
@@ -90,8 +90,8 @@ reads-more : (known : Option Version) (n : ℕ) (before after : Graph) (line : L
 reads-more (Some version) n before after line lines outcome step rest = inr (after, step, rest)
 reads-more None n before after line lines outcome step rest =
     let ignored = is_ignored line in
-    let heading = is_heading (words_of_line line) in
-    more-lines n before after line lines outcome ignored heading
+    let heading = heading_of (words_of_line line) in
+    more-lines n before after line lines outcome ignored (or_one heading)
     (first-step n before line lines (Ok after) step ignored heading refl refl) rest
 
 reads-fault : (known : Option Version) (n : ℕ) (before : Graph) (line : List ℕ)
@@ -101,8 +101,8 @@ reads-fault : (known : Option Version) (n : ℕ) (before : Graph) (line : List �
 reads-fault (Some version) n before line lines f step = inl (f, step, refl)
 reads-fault None n before line lines f step =
     let ignored = is_ignored line in
-    let heading = is_heading (words_of_line line) in
-    fault-line n before line lines f ignored heading
+    let heading = heading_of (words_of_line line) in
+    fault-line n before line lines f ignored (or_one heading)
     (first-step n before line lines (Err f) step ignored heading refl refl)
 
 reads-end : (known : Option Version) (n : ℕ) (before : Graph)
@@ -117,14 +117,27 @@ pub known-version : (known : Option Version) (line : List ℕ) (version : Versio
     × (Some version ≡ version_behind known line)
 known-version (Some other) line version going e =
     let same : version ≡ other = cc in (sym same, refl, e)
-known-version None line version going e = at (is_heading (words_of_line line)) e
+known-version None line version going e = at (heading_of (words_of_line line)) e
   where
-    at : (heading : Bool) → Some version ≡ (if heading then None else Some One)
-        → (One ≡ version) × ((if heading then [] else line) ≡ line)
-        × (Some version
-        ≡ (if is_ignored line then None else if heading then Some Two else Some One))
-    at true none = absurd (cc)
-    at false e = let same : version ≡ One = cc in (sym same, refl, rw going e)
+    at : (heading : Option Version) → Some version ≡ (if is_some heading then None else Some One)
+        → (One ≡ version) × ((if is_some heading then [] else line) ≡ line)
+        × (Some version ≡ (if is_ignored line then None else Some (or_one heading)))
+    at (Some other) none = absurd (cc)
+    at None e = let same : version ≡ One = cc in (sym same, refl, rw going e)
+
+-- a line that is read in no version is the heading, where none is known above it
+pub heading-steps : (known : Option Version) (n : ℕ) (before : Graph) (line : List ℕ)
+    → is_ignored line ≡ false → None ≡ version_in known (words_of_line line)
+    → (heading_of (words_of_line line) ≡ version_behind known line)
+    × Steps (version_at known) n before (line_read known line) (Ok before)
+heading-steps (Some version) n before line going e = absurd (cc)
+heading-steps None n before line going e = at (heading_of (words_of_line line)) e
+  where
+    at : (heading : Option Version) → None ≡ (if is_some heading then None else Some One)
+        → (heading ≡ (if is_ignored line then None else Some (or_one heading)))
+        × Steps One n before (if is_some heading then [] else line) (Ok before)
+    at (Some version) e = (rw going refl, inl (refl, refl))
+    at None e = absurd (cc)
 
 -- ---- line after line
 

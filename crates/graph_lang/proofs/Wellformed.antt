@@ -12,8 +12,10 @@ use Rattle.graph_base.specs.phase_accum.Singles.{CanBeNamed}
 use Rattle.graph_text.specs.phase_base.Words.{Word, is_name, is_file}
 use Rattle.graph_text.specs.phase_base.Numbers.{nat_value, int_value}
 use Rattle.graph_text.specs.phase_base.declared.operation.Op.{Op}
-use Rattle.graph_text.specs.Decls.{Decl, phaser, task, FunctionWords, neg, abs, halve, clamp, BodyWords, source, fir, split, join, peer, sink, EndWords, IsBody, IsWellFormed}
+use Rattle.graph_text.specs.Decls.{Decl, phaser, task, FunctionWords, neg, abs, halve, clamp, BodyWords, source, fir, delay, split, join, peer, sink, EndWords, IsBody, IsWellFormed, IsWellFormedBy}
 use Rattle.graph_text.specs.declared.version.Version.{Version}
+use Rattle.graph_text.specs.declared.version.Version.TheVariants.{Three}
+use Rattle.graph_text.proofs.Spelled.{well_formed_later}
 use Rattle.graph_base.specs.Graphs.{Graph, no_graph, no_task, no_phaser, Task, IsPlace, is_same_place, task_at, sources_among, is_source}
 use Rattle.graph_base.specs.Names.{place_of}
 use Rattle.graph_lang.specs.WordValues.{phaser_line, single_of, task_line, kind_of_body, files_in}
@@ -223,17 +225,19 @@ sources-more lines line = sum_by_push (λ line. cond (is_source line.kind) 1 0) 
 files-more : (body : BodyWords)
     → length (files_in body) ≡ cond (is_source (kind_of_body body)) 1 0
 files-more (source file output) = refl
-files-more (fir input output shift taps) = refl
+files-more (fir input output shift plus taps) = refl
+files-more (delay input output steps) = refl
 files-more (split input outputs) = refl
 files-more (join inputs output) = refl
 files-more (peer input exchange output factor) = refl
 files-more (sink input) = refl
 
 -- the file of a source is one of the grammar
-files-are : (body : BodyWords) → IsBody body → All (λ file. is_file file ≡ true) (files_in body)
+files-are : (body : BodyWords) → IsBody Three body → All (λ file. is_file file ≡ true) (files_in body)
 files-are (source file output) is =
     All-cons (λ file. is_file file ≡ true) file [] is.0 (All-nil (λ file. is_file file ≡ true))
-files-are (fir input output shift taps) is = All-nil (λ file. is_file file ≡ true)
+files-are (fir input output shift plus taps) is = All-nil (λ file. is_file file ≡ true)
+files-are (delay input output steps) is = All-nil (λ file. is_file file ≡ true)
 files-are (split input outputs) is = All-nil (λ file. is_file file ≡ true)
 files-are (join inputs output) is = All-nil (λ file. is_file file ≡ true)
 files-are (peer input exchange output factor) is = All-nil (λ file. is_file file ≡ true)
@@ -268,11 +272,10 @@ lines-more before after line more counted above lines =
           (λ t less. rw (old t less) (above t less)) u below t less);
     }
 
-task-keeps : (version : Version) (before : Graph) (n : ℕ) (name : Word) (body : BodyWords)
-    (ends : EndWords) → IsWellFormed version (task name body ends) → IsSound before name body ends
-    → 1 ≤ n → AreAbove n before → IsGraph before
-    → IsGraph (with_declared before n (task name body ends))
-task-keeps version before n name body ends formed sound counted above is =
+task-keeps : (before : Graph) (n : ℕ) (name : Word) (body : BodyWords) (ends : EndWords)
+    → IsWellFormedBy is_name Three (task name body ends) → IsSound before name body ends → 1 ≤ n → AreAbove n before
+    → IsGraph before → IsGraph (with_declared before n (task name body ends))
+task-keeps before n name body ends formed sound counted above is =
     let line = task_line before.names n body ends in
     let after = with_declared before n (task name body ends) in
     let long = length_push before.tasks line in
@@ -282,7 +285,7 @@ task-keeps version before n name body ends formed sound counted above is =
       phaser = λ p below. refl;
       task = λ t below. get_or_append_left before.tasks (line ∷ []) no_task t below;
     } in
-    let new = IsTaskLine-new version before n name body ends is formed.1 formed.2 sound in
+    let new = IsTaskLine-new Three before n name body ends is formed.1 formed.2 sound in
     record {
       few_phasers = is.few_phasers;
       few_tasks = omega (arith, long, few);
@@ -304,14 +307,14 @@ task-keeps version before n name body ends formed sound counted above is =
     }
 
 -- a line without fault keeps it
-pub line-keeps : (version : Version) (before : Graph) (n : ℕ) (d : Decl) → IsWellFormed version d
+pub line-keeps : (before : Graph) (n : ℕ) (d : Decl) → IsWellFormedBy is_name Three d
     → kind_of before d ≡ None → 1 ≤ n → AreAbove n before → IsGraph before
     → IsGraph (with_declared before n d)
-line-keeps version before n (phaser name operation bound function) formed e counted above is =
+line-keeps before n (phaser name operation bound function) formed e counted above is =
     phaser-keeps before n name operation bound function formed.0
     (phaser-sound before name operation bound function e) is
-line-keeps version before n (task name body ends) formed e counted above is =
-    task-keeps version before n name body ends formed (task-sound before name body ends e) counted
+line-keeps before n (task name body ends) formed e counted above is =
+    task-keeps before n name body ends formed (task-sound before name body ends e) counted
     above is
 
 line-above : (before : Graph) (n : ℕ) (d : Decl) → AreAbove n before
@@ -341,7 +344,7 @@ told-keeps version before after n d None e formed is line_outcome =
     subst (IsBefore (n + 1)) (sym one) (record {
       counted = omega arith;
       above = line-above before n d is.above;
-      is = line-keeps version before n d formed e is.counted is.above is.is;
+      is = line-keeps before n d (well_formed_later version d formed) e is.counted is.above is.is;
     })
 
 step-keeps : (version : Version) (n : ℕ) (before : Graph) (line : List ℕ) (after : Graph)

@@ -5,6 +5,7 @@ use Rattle.graph_base.specs.phase_accum.declared.single.Single.TheVariants.{Clam
 use Rattle.graph_text.specs.Texts.{is_ignored}
 use Rattle.graph_text.specs.Decls.{Decl, phaser, task, clamp, source, sink, Declares}
 use Rattle.graph_text.specs.WordReading.{decl_at, task_words_at, body_at, word_at}
+use Rattle.graph_text.specs.Versions.{may_declare}
 use Rattle.graph_text.specs.declared.version.Version.{Version}
 use Rattle.graph_text.specs.declared.version.Version.TheVariants.{One, Two}
 use Rattle.graph_text.proofs.Spelled.{line_again}
@@ -288,10 +289,10 @@ x_of_two = phaser (codes "X") Sum (codes "2") None
 
 -- the words of the heading declare nothing
 heading_none : (version : Version) (d : Decl) → ¬ (Declares version (codes "graph 2") d)
-unfolding decl_at task_words_at body_at word_at
+unfolding decl_by task_words_at body_at word_at
 heading_none version d declares =
     let spelled = ap (decl_at version) declares.spells.spelled in
-    let read = line_again version d declares.spells.well_formed in
+    let read = line_again (may_declare version) version d declares.spells.well_formed in
     let clash : None ≡ Some d = spelled ∙ read in absurd (cc)
 
 heading_below : ReadsText (codes "phaser X sum 2" ∷ codes "graph 2" ∷ [])

@@ -9,10 +9,10 @@ use Rattle.graph_text.specs.phase_base.declared.limits.TheConstants.{BOUND_MAX}
 use Rattle.graph_base.specs.phase_accum.Sends.{value_max}
 use Rattle.graph_text.specs.phase_base.Words.{Word}
 use Rattle.graph_text.specs.phase_base.Numbers.{nat_value, int_value}
-use Rattle.graph_text.specs.Decls.{Decl, phaser, task, FunctionWords, neg, abs, halve, clamp, ByWords, EndWords, BodyWords, source, fir, split, join, peer, sink}
+use Rattle.graph_text.specs.Decls.{Decl, phaser, task, FunctionWords, neg, abs, halve, clamp, ByWords, EndWords, BodyWords, source, fir, delay, split, join, peer, sink}
 use Rattle.graph_base.specs.Graphs.{Graph, Task, Named, task_at, phaser_at}
 use Rattle.graph_base.specs.Names.{place_of, phaser_named, task_named}
-use Rattle.graph_lang.specs.WordValues.{inputs_of, outputs_of, task_line}
+use Rattle.graph_lang.specs.WordValues.{inputs_of, outputs_of, plus_of, task_line}
 use Rattle.graph_base.specs.TaskLines.{has_children}
 use Rattle.graph_base.specs.declared.limits.TheConstants.{PHASERS_MAX, TASKS_MAX, ENDS_MAX, STEPS_MAX, FACTOR_MAX}
 use Rattle.graph_base.specs.declared.line.Kind.{Kind}
@@ -20,7 +20,7 @@ use Rattle.graph_base.specs.declared.line.Kind.TheVariants as kind
 use Rattle.graph_base.specs.declared.line.Parent.{Parent}
 use Rattle.graph_lang.specs.declared.fault.FaultKind.{FaultKind}
 use Rattle.graph_lang.specs.declared.fault.FaultKind.TheVariants.{Limit, Twice, Unknown, OutBeforeIn, BadParent, NotHeld, OverBound}
-use Rattle.graph_base.specs.stream_filters.declared.fir.TheConstants.{TAPS_MAX, TAP_MAX, SHIFT_MAX}
+use Rattle.graph_base.specs.stream_filters.declared.fir.TheConstants.{DELAY_MAX, PLUS_MAX, TAPS_MAX, TAP_MAX, SHIFT_MAX}
 
 -- ---- limits
 
@@ -45,6 +45,10 @@ is_phaser_within bound single =
 abbrev pub is_tap_within : Word → Bool
 is_tap_within tap = nat_le (unsigned_abs (int_value tap)) TAP_MAX
 
+-- whether what a filter adds is within its limit
+abbrev pub is_plus_within : Option Word → Bool
+is_plus_within plus = nat_le (unsigned_abs (plus_of plus)) PLUS_MAX
+
 -- how many outputs a splitter, or inputs a joiner, may have
 abbrev pub is_number_of_ends : ℕ → Bool
 is_number_of_ends n = nat_le 2 n && nat_le n ENDS_MAX
@@ -52,9 +56,10 @@ is_number_of_ends n = nat_le 2 n && nat_le n ENDS_MAX
 -- whether the numbers of a task's words are within their limits
 abbrev pub is_body_within : BodyWords → Bool
 is_body_within (source file output) = true
-is_body_within (fir input output shift taps) =
-    nat_le (nat_value shift) SHIFT_MAX && nat_le (length taps) TAPS_MAX
+is_body_within (fir input output shift plus taps) =
+    nat_le (nat_value shift) SHIFT_MAX && is_plus_within plus && nat_le (length taps) TAPS_MAX
     && list_all is_tap_within taps
+is_body_within (delay input output steps) = nat_le (nat_value steps) DELAY_MAX
 is_body_within (split input outputs) = is_number_of_ends (length outputs)
 is_body_within (join inputs output) = is_number_of_ends (length inputs)
 is_body_within (peer input exchange output factor) =

@@ -1,21 +1,21 @@
 -- What the code keeps while it reads a graph: the numbers of a line, and what a line comes to.
-use Rattle.std.specs.Prelude.{◌≡◌, option_map, ℕ, not, List, [], ◌∷◌, Option, Some, None, Result, Ok, Err, if◌then◌else◌}
+use Rattle.std.specs.Prelude.{◌≡◌, option_map, ℕ, not, List, [], ◌∷◌, Option, Some, None, is_some, Result, Ok, Err, if◌then◌else◌}
 use Rattle.graph_text.specs.phase_base.Numbers.{nat_value}
 use Rattle.graph_text.specs.Decls.{BodyWords, EndWords, Decl}
 use Rattle.graph_text.specs.Texts.{words_of_line, is_ignored}
-use Rattle.graph_text.specs.Versions.{is_heading}
+use Rattle.graph_text.specs.Versions.{heading_of}
 use Rattle.graph_text.specs.declared.version.Version.{Version}
-use Rattle.graph_text.specs.declared.version.Version.TheVariants.{One, Two}
+use Rattle.graph_text.specs.declared.version.Version.TheVariants.{One}
 use Rattle.graph_text.specs.phase_base.Words.{Word}
 use Rattle.graph_text.specs.phase_base.Lists.{first_row}
 use Rattle.graph_base.specs.Graphs.{Graph, Task}
-use Rattle.graph_lang.specs.WordValues.{taps_of, shift_of, factor_of, block_of}
+use Rattle.graph_lang.specs.WordValues.{taps_of, form_of, factor_of, block_of}
 use Rattle.graph_lang.specs.declared.within.Numbers.{Numbers}
 use Rattle.graph_lang.specs.declared.within.EndNumbers.{EndNumbers}
 use Rattle.graph_lang.specs.Faults.{is_in_order, may_be_parent, is_held, is_block_within, kind_of}
 use Rattle.graph_lang.specs.declared.fault.FaultKind.{FaultKind}
 use Rattle.graph_lang.specs.declared.fault.FaultKind.TheVariants.{OutBeforeIn, BadParent, NotHeld, OverBound}
-use Rattle.graph_lang.specs.Reads.{version_of, emptied, without_heading, line_outcome, Steps, Reads}
+use Rattle.graph_lang.specs.Reads.{or_one, version_of, emptied, without_heading, line_outcome, Steps, Reads}
 use Rattle.graph_lang.specs.declared.fault.GraphFault.{GraphFault}
 use Rattle.graph_lang.specs.declared.fault.GraphRefusal.{GraphRefusal}
 use Rattle.graph_lang.specs.declared.fault.GraphRefusal.TheVariants as refusal
@@ -23,7 +23,7 @@ use Rattle.graph_lang.specs.declared.fault.GraphRefusal.TheVariants as refusal
 -- the numbers are those that the words of a task write
 pub record AreNumbersOf (numbers : Numbers) (body : BodyWords) : Type 0 where
   pub taps : numbers.taps.items ≡ taps_of body
-  pub shift : numbers.shift ≡ shift_of body
+  pub form : numbers.form ≡ form_of body
   pub factor : numbers.factor ≡ factor_of body
 
 -- the numbers that the words behind a task's phasers write
@@ -60,13 +60,13 @@ TellsFault version n before line refusal.OutOfMemory = Unit {0}
 abbrev pub version_behind : Option Version → List ℕ → Option Version
 version_behind (Some version) line = Some version
 version_behind None line =
-    if is_ignored line then None else if is_heading (words_of_line line) then Some Two else Some One
+    if is_ignored line then None else Some (or_one (heading_of (words_of_line line)))
 
 -- the version in which a line of these words is read, where this one is known above it; none of a
 -- heading
 abbrev pub version_in : Option Version → List Word → Option Version
 version_in (Some version) words = Some version
-version_in None words = if is_heading words then None else Some One
+version_in None words = if is_some (heading_of words) then None else Some One
 
 -- the version in which a line is read, where this one is known above it
 abbrev pub version_at : Option Version → Version

@@ -1,10 +1,10 @@
 -- What a text declares, line by line in the version that its heading tells, and which fault is its
 -- first.
-use Rattle.std.specs.Prelude.{if◌then◌else◌, ℕ, ◌≡◌, ◌+◌, true, false, List, [], ◌∷◌, ◌++◌, length, Option, Some, None, Result, Ok, Err, ◌⊎◌}
+use Rattle.std.specs.Prelude.{if◌then◌else◌, ℕ, ◌≡◌, ◌+◌, true, false, List, [], ◌∷◌, ◌++◌, length, Option, Some, None, is_some, Result, Ok, Err, ◌⊎◌}
 use Rattle.graph_text.specs.Texts.{words_of_line, is_ignored}
-use Rattle.graph_text.specs.Versions.{is_heading}
+use Rattle.graph_text.specs.Versions.{heading_of}
 use Rattle.graph_text.specs.declared.version.Version.{Version}
-use Rattle.graph_text.specs.declared.version.Version.TheVariants.{One, Two}
+use Rattle.graph_text.specs.declared.version.Version.TheVariants.{One}
 use Rattle.graph_text.specs.Decls.{Decl, phaser, task, Declares}
 use Rattle.graph_base.specs.Graphs.{Graph, no_graph}
 use Rattle.graph_lang.specs.WordValues.{phaser_line, task_line, files_in}
@@ -18,16 +18,22 @@ use Rattle.graph_base.specs.declared.place.Place.TheVariants as place
 
 -- ---- the version
 
--- the version of a text: the second where the first of its lines that is not ignored is the heading
+-- the version that a heading tells, or the first where there is none
+abbrev pub or_one : Option Version → Version
+or_one None = One
+or_one (Some version) = version
+
+-- the version of a text, which the first of its lines that is not ignored tells where it is a
+-- heading
 abbrev pub version_of : List (List ℕ) → Version
 version_of [] = One
 version_of (line ∷ lines) =
     if is_ignored line then version_of lines
-    else if is_heading (words_of_line line) then Two else One
+    else or_one (heading_of (words_of_line line))
 
 -- an empty line, which is ignored, in the place of a heading
 abbrev pub emptied : List ℕ → List ℕ
-emptied line = if is_heading (words_of_line line) then [] else line
+emptied line = if is_some (heading_of (words_of_line line)) then [] else line
 
 -- the lines of a text, with an empty one in the place of its heading
 abbrev pub without_heading : List (List ℕ) → List (List ℕ)

@@ -4,7 +4,7 @@ use Rattle.graph_base.specs.phase_accum.declared.single.Single.{Single}
 use Rattle.graph_base.specs.phase_accum.declared.single.Single.TheVariants.{Neg, Abs, Halve, Clamp}
 use Rattle.graph_text.specs.phase_base.Words.{Word}
 use Rattle.graph_text.specs.phase_base.Numbers.{nat_value, int_value}
-use Rattle.graph_text.specs.Decls.{FunctionWords, neg, abs, halve, clamp, ByWords, EndWords, BodyWords, source, fir, split, join, peer, sink}
+use Rattle.graph_text.specs.Decls.{FunctionWords, neg, abs, halve, clamp, ByWords, EndWords, BodyWords, source, fir, delay, split, join, peer, sink}
 use Rattle.graph_base.specs.Graphs.{Task, Named}
 use Rattle.graph_base.specs.Names.{phaser_named, task_named}
 use Rattle.graph_text.specs.phase_base.declared.operation.Op.{Op}
@@ -12,6 +12,8 @@ use Rattle.graph_base.specs.declared.line.Kind.{Kind}
 use Rattle.graph_base.specs.declared.line.Kind.TheVariants as kind
 use Rattle.graph_base.specs.declared.line.Parent.{Parent}
 use Rattle.graph_base.specs.declared.line.PhaserLine.{PhaserLine}
+use Rattle.graph_base.specs.stream_filters.Filter.{no_form}
+use Rattle.graph_base.specs.stream_filters.declared.form.Form.{Form}
 
 -- the number that is there, or 0
 abbrev pub or_zero : Option ℕ → ℕ
@@ -37,10 +39,11 @@ phaser_line operation bound single = record {
 
 -- ---- a task
 
--- what the task of a line does
+-- what the task of a line does: a delay is a filter
 abbrev pub kind_of_body : BodyWords → Kind
 kind_of_body (source file output) = kind.Source
-kind_of_body (fir input output shift taps) = kind.Fir
+kind_of_body (fir input output shift plus taps) = kind.Fir
+kind_of_body (delay input output steps) = kind.Fir
 kind_of_body (split input outputs) = kind.Split
 kind_of_body (join inputs output) = kind.Join
 kind_of_body (peer input exchange output factor) = kind.Peer
@@ -49,7 +52,8 @@ kind_of_body (sink input) = kind.Sink
 -- the phasers that the task waits for; of a peer X and then E
 abbrev pub inputs_of : BodyWords → List Word
 inputs_of (source file output) = []
-inputs_of (fir input output shift taps) = input ∷ []
+inputs_of (fir input output shift plus taps) = input ∷ []
+inputs_of (delay input output steps) = input ∷ []
 inputs_of (split input outputs) = input ∷ []
 inputs_of (join inputs output) = inputs
 inputs_of (peer input exchange output factor) = input ∷ exchange ∷ []
@@ -58,21 +62,30 @@ inputs_of (sink input) = input ∷ []
 -- the phasers that the task signals; of a peer Y alone
 abbrev pub outputs_of : BodyWords → List Word
 outputs_of (source file output) = output ∷ []
-outputs_of (fir input output shift taps) = output ∷ []
+outputs_of (fir input output shift plus taps) = output ∷ []
+outputs_of (delay input output steps) = output ∷ []
 outputs_of (split input outputs) = outputs
 outputs_of (join inputs output) = output ∷ []
 outputs_of (peer input exchange output factor) = output ∷ []
 outputs_of (sink input) = []
 
--- the taps of a filter, and none of another task
+-- the taps of a filter, of a delay the one that copies, and none of another task
 abbrev pub taps_of : BodyWords → List ℤ
-taps_of (fir input output shift taps) = map int_value taps
+taps_of (fir input output shift plus taps) = map int_value taps
+taps_of (delay input output steps) = pos 1 ∷ []
 taps_of body = []
 
--- the shift of a filter, or 0
-abbrev pub shift_of : BodyWords → ℕ
-shift_of (fir input output shift taps) = nat_value shift
-shift_of body = 0
+-- what the word writes that says what is added, or 0
+abbrev pub plus_of : Option Word → ℤ
+plus_of None = pos 0
+plus_of (Some plus) = int_value plus
+
+-- the form of a filter or a delay, and none of another task
+abbrev pub form_of : BodyWords → Form
+form_of (fir input output shift plus taps) =
+    record { shift = nat_value shift; plus = plus_of plus; delay = 0 }
+form_of (delay input output steps) = record no_form { delay = nat_value steps }
+form_of body = no_form
 
 -- the factor of a peer, or 0
 abbrev pub factor_of : BodyWords → ℤ
@@ -115,7 +128,7 @@ task_line names n body ends = record {
   parent = option_map (parent_of names) ends.by;
   until = option_map nat_value ends.until;
   taps = taps_of body;
-  shift = shift_of body;
+  form = form_of body;
   mul = factor_of body;
   block = block_of ends.block;
   joins_now = joins_now ends.by;

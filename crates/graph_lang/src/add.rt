@@ -6,6 +6,7 @@ ghost use Rattle.graph_text.specs.phase_base.Numbers.{is_nat};
 ghost use Rattle.graph_text.specs.phase_base.Words.{is_name, is_file};
 ghost use Rattle.graph_text.specs.Decls.{IsBody, IsBy};
 ghost use Rattle.graph_text.specs.Lines.{body_of, ends_of, by_of, word_of};
+ghost use Rattle.graph_text.specs.declared.version.Version.TheVariants.{Three};
 ghost use Rattle.graph_base.specs.GraphFields.{task_of};
 ghost use Rattle.graph_base.specs.Names.{files_of, place_of};
 ghost use Rattle.graph_lang.specs.WordValues.{files_in, task_line, inputs_of, outputs_of};
@@ -23,7 +24,7 @@ use std::alloc::{AllocError, Global};
 
 /// Adds the file of a task, where it is a source.
 fn add_file(alloc: Global, files: &mut Vec<String>, body: Body<'_, '_>) -> Result<(), AllocError>
-    requires { IsBody (body_of body) }
+    requires { IsBody Three (body_of body) }
     ensures { OnOk result (files_of files.new.items
         ≡ files_of files.old.items ++ files_in (body_of body.entry)) }
 {
@@ -66,7 +67,7 @@ impl Draft {
         numbers: Numbers,
         steps: EndNumbers,
     ) -> Result<Option<TaskLine>, AllocError>
-        requires body { IsBody (body_of words.body) }
+        requires body { IsBody Three (body_of words.body) }
         requires inputs { IsTrue (list_all is_name (inputs_of (body_of words.body))) }
         requires outputs { IsTrue (list_all is_name (outputs_of (body_of words.body))) }
         requires by { IfSome (by_of words.ends.by) IsBy }
@@ -96,7 +97,7 @@ impl Draft {
             parent,
             until: steps.until,
             taps: numbers.taps,
-            shift: numbers.shift,
+            form: numbers.form,
             mul: numbers.factor,
             block: steps.block,
             joins_now: joins_now(words.ends.by),
@@ -112,7 +113,7 @@ impl Draft {
         line: TaskLine,
     ) -> Result<(), AllocError>
         requires name { IsTrue (is_name name.now) }
-        requires body { IsBody (body_of body) }
+        requires body { IsBody Three (body_of body) }
         requires new { place_of self.old.names name.now ≡ None }
         ensures { OnOk result (self.new ≡ record self.old {
           names = self.old.names ++ (name.now, Place.Task (length self.old.tasks)) ∷ [];

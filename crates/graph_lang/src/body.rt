@@ -21,7 +21,7 @@ pub(crate) fn kind_of(body: Body<'_, '_>) -> Kind
 {
     match body {
         Body::Source(..) => Kind::Source,
-        Body::Fir(..) => Kind::Fir,
+        Body::Fir(..) | Body::Delay(..) => Kind::Fir,
         Body::Split(..) => Kind::Split,
         Body::Join(..) => Kind::Join,
         Body::Peer(..) => Kind::Peer,
@@ -38,7 +38,7 @@ pub(crate) fn input_words<'a>(
 {
     match body {
         Body::Source(..) => Ok(Vec::new(alloc)),
-        Body::Fir(input, ..) => Vec::from_slice(alloc, &[input]),
+        Body::Fir(input, ..) | Body::Delay(input, ..) => Vec::from_slice(alloc, &[input]),
         Body::Split(input, _) => Vec::from_slice(alloc, &[input]),
         Body::Join(inputs, _) => Vec::from_slice(alloc, inputs),
         Body::Peer(input, exchange, ..) => Vec::from_slice(alloc, &[input, exchange]),
@@ -55,7 +55,9 @@ pub(crate) fn output_words<'a>(
 {
     match body {
         Body::Source(_, output) => Vec::from_slice(alloc, &[output]),
-        Body::Fir(_, output, ..) => Vec::from_slice(alloc, &[output]),
+        Body::Fir(_, output, ..) | Body::Delay(_, output, _) => {
+            Vec::from_slice(alloc, &[output])
+        }
         Body::Split(_, outputs) => Vec::from_slice(alloc, outputs),
         Body::Join(_, output) => Vec::from_slice(alloc, &[output]),
         Body::Peer(_, _, output, _) => Vec::from_slice(alloc, &[output]),

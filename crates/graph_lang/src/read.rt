@@ -1,10 +1,11 @@
 //! Reading the lines of a graph's text.
 ghost use Rattle.std.specs.Prelude.{◌≡◌, IfOk, IfErr, IfSome, OnOk, Ok, Err, Some, None, is_some, not, false};
-ghost use Rattle.graph_text.specs.Decls.{IsWellFormed};
+ghost use Rattle.graph_text.specs.Decls.{IsWellFormedBy};
+ghost use Rattle.graph_text.specs.phase_base.Words.{is_name};
 ghost use Rattle.graph_text.specs.Lines.{decl_of, single_of, body_of, ends_of};
 ghost use Rattle.graph_text.specs.Plain.{plain};
 ghost use Rattle.graph_text.specs.Texts.{lines_of, words_of_line, is_ignored};
-ghost use Rattle.graph_text.specs.declared.version.Version.TheVariants.{Two};
+ghost use Rattle.graph_text.specs.declared.version.Version.TheVariants.{Three};
 ghost use Rattle.graph_text.specs.declared.line.Line.TheVariants as line;
 ghost use Rattle.graph_lang.specs.WordValues.{phaser_line};
 ghost use Rattle.graph_lang.specs.Faults.{kind_of, is_past_limit};
@@ -18,7 +19,7 @@ use crate::fault::{FaultKind, GraphRefusal, fault};
 use crate::within::{EndNumbers, Numbers, numbers_of, phaser_line, steps_of};
 use graph_base::{Graph, PHASERS_MAX, PhaserLine, TASKS_MAX};
 use graph_text::{
-    Line, PhaserWords, TaskWords, Version, are_printable, begins_comment, is_heading, line_at,
+    Line, PhaserWords, TaskWords, Version, are_printable, begins_comment, heading_of, line_at,
     lines_of, name_text, without_cr, words_of,
 };
 use std::alloc::{AllocError, Global};
@@ -26,7 +27,7 @@ use std::alloc::{AllocError, Global};
 impl Draft {
     /// The line of a phaser, or the first kind of fault of its words.
     fn phaser_line(&self, words: PhaserWords<'_>) -> Result<PhaserLine, FaultKind>
-        requires { IsWellFormed Two (decl_of (line.Phaser words)) }
+        requires { IsWellFormedBy is_name Three (decl_of (line.Phaser words)) }
         ensures ok { IfOk result (λ found. found ≡ phaser_line words.entry.operation
             words.entry.bound.now (single_of words.entry.single)) }
         ensures none { IfOk result (λ found.
@@ -52,7 +53,7 @@ impl Draft {
         alloc: Global,
         words: TaskWords<'_, '_>,
     ) -> Result<Option<(Numbers, EndNumbers)>, AllocError>
-        requires { IsWellFormed Two (decl_of (line.Task words)) }
+        requires { IsWellFormedBy is_name Three (decl_of (line.Task words)) }
         ensures within { IfOk result (λ found. is_some found
             ≡ not (is_past_limit self.now (decl_of (line.Task words.entry)))) }
         ensures numbers { IfOk result (λ found. IfSome found (λ both.
@@ -79,7 +80,7 @@ impl Draft {
         number: u64,
         words: PhaserWords<'_>,
     ) -> Result<(), GraphRefusal>
-        requires { IsWellFormed Two (decl_of (line.Phaser words)) }
+        requires { IsWellFormedBy is_name Three (decl_of (line.Phaser words)) }
         ensures ok { OnOk result
             (TellsDecl number self.old (decl_of (line.Phaser words.entry)) (Ok self.new)) }
         ensures fault { IfErr result (λ e.
@@ -101,7 +102,7 @@ impl Draft {
         number: u64,
         words: TaskWords<'_, '_>,
     ) -> Result<(), GraphRefusal>
-        requires { IsWellFormed Two (decl_of (line.Task words)) }
+        requires { IsWellFormedBy is_name Three (decl_of (line.Task words)) }
         ensures ok { OnOk result
             (TellsDecl number self.old (decl_of (line.Task words.entry)) (Ok self.new)) }
         ensures fault { IfErr result (λ e.
@@ -131,7 +132,7 @@ impl Draft {
         number: u64,
         line: Line<'_, '_>,
     ) -> Result<(), GraphRefusal>
-        requires { IsWellFormed Two (decl_of line) }
+        requires { IsWellFormedBy is_name Three (decl_of line) }
         ensures ok { OnOk result (TellsDecl number self.old (decl_of line.entry) (Ok self.new)) }
         ensures fault { IfErr result (λ e. TellsDecl number self.old (decl_of line.entry) (Err e)) }
     {
@@ -184,7 +185,7 @@ impl Draft {
             return Ok(known);
         }
         let Some(version) = version_in(known, &words) else {
-            return Ok(Some(Version::Two));
+            return Ok(heading_of(&words));
         };
         self.read_words(alloc, number, line, &words, version)?;
         Ok(Some(version))
@@ -192,13 +193,13 @@ impl Draft {
 }
 
 /// The version in which a line of these words is read, where this one is known from the lines
-/// above; none of the heading, which tells it.
+/// above; none of a heading, which tells it.
 fn version_in(known: Option<Version>, words: &[&[u8]]) -> Option<Version>
     ensures { result ≡ version_in known (plain words.now) }
 {
     match known {
         Some(version) => Some(version),
-        None if is_heading(words) => None,
+        None if heading_of(words).is_some() => None,
         None => Some(Version::One),
     }
 }

@@ -1,18 +1,21 @@
 //! The numbers of a line, where they are within their limits.
-ghost use Rattle.std.specs.Prelude.{◌≡◌, ◌&&◌, [], IsTrue, IfSome, IfOk, length, map, if◌then◌else◌, Some, None, is_some, option_map, true, nat_le, unsigned_abs, pos};
+ghost use Rattle.std.specs.Prelude.{◌≡◌, ◌&&◌, [], ◌∷◌, IsTrue, IfSome, IfOk, length, map, if◌then◌else◌, Some, None, is_some, option_map, true, nat_le, unsigned_abs, pos};
 ghost use Rattle.std.specs.Option.{option_map_or};
 ghost use Rattle.std.specs.Int.Signed.{le_z};
 ghost use Rattle.std.specs.List.{list_all};
 ghost use Rattle.graph_text.specs.Plain.{plain};
 ghost use Rattle.graph_text.specs.phase_base.Numbers.{is_nat, is_int, nat_value, int_value};
 ghost use Rattle.graph_text.specs.Decls.{IsFunction, IsBody, AreEnds, IsBy, may_have_parent};
+ghost use Rattle.graph_text.specs.declared.version.Version.TheVariants.{Three};
+ghost use Rattle.graph_base.specs.stream_filters.Filter.{no_form};
+ghost use Rattle.graph_base.specs.stream_filters.declared.fir.TheConstants.{DELAY_MAX};
 ghost use Rattle.graph_text.specs.Lines.{single_of as function_words, function_of, body_of, ends_of, by_of, word_of};
-ghost use Rattle.graph_lang.specs.WordValues.{single_of, phaser_line, taps_of, shift_of, factor_of, block_of};
+ghost use Rattle.graph_lang.specs.WordValues.{single_of, phaser_line, taps_of, plus_of, form_of, factor_of, block_of};
 ghost use Rattle.graph_lang.specs.Reading.{AreNumbersOf, steps_in};
-ghost use Rattle.graph_lang.specs.Faults.{is_function_within, is_bound_within, is_body_within, is_tap_within, is_number_of_ends, is_count_within, are_ends_within, is_phaser_within};
+ghost use Rattle.graph_lang.specs.Faults.{is_function_within, is_bound_within, is_body_within, is_tap_within, is_plus_within, is_number_of_ends, is_count_within, are_ends_within, is_phaser_within};
 
 use graph_base::phase_accum::{MAGNITUDE_MAX, Single};
-use graph_base::stream_filters::{SHIFT_MAX, TAP_MAX, TAPS_MAX};
+use graph_base::stream_filters::{DELAY_MAX, Form, PLUS_MAX, SHIFT_MAX, TAP_MAX, TAPS_MAX};
 use graph_base::{ENDS_MAX, FACTOR_MAX, PhaserLine, STEPS_MAX};
 use graph_text::phase_base::BOUND_MAX;
 use graph_text::{Body, Ends, Function, PhaserWords, int_within, nat_within};
@@ -80,11 +83,11 @@ pub(crate) fn phaser_line(words: PhaserWords<'_>) -> Option<PhaserLine>
 
 // ---- tasks
 
-/// The numbers of what a task does: the taps and the shift of a filter, and the factor of a peer.
+/// The numbers of what a task does: the taps and the form of a filter, and the factor of a peer.
 #[derive(Drop)]
 pub(crate) struct Numbers {
     pub(crate) taps: Vec<i64>,
-    pub(crate) shift: u32,
+    pub(crate) form: Form,
     pub(crate) factor: i64,
 }
 
@@ -132,6 +135,39 @@ fn shift_of(word: &[u8]) -> Option<u32>
     Some(nat_within(word, SHIFT_MAX as u64)? as u32)
 }
 
+/// What the word writes that says what a filter adds, or 0 where there is none, where it is within
+/// its limit.
+fn plus_of(word: Option<&[u8]>) -> Option<i64>
+    requires { IfSome (word_of word) (λ word. IsTrue (is_int word)) }
+    ensures { result ≡ (if is_plus_within (word_of word.entry) then Some (plus_of (word_of word.entry))
+        else None) }
+{
+    match word {
+        None => Some(0),
+        Some(plus) => int_within(plus, PLUS_MAX),
+    }
+}
+
+/// The form that a filter's words write, where each number is within its limit.
+fn form_of(shift: &[u8], plus: Option<&[u8]>) -> Option<Form>
+    requires shift { IsTrue (is_nat shift.now) }
+    requires plus { IfSome (word_of plus) (λ word. IsTrue (is_int word)) }
+    ensures { result
+        ≡ (if nat_le (nat_value shift.now) SHIFT_MAX && is_plus_within (word_of plus.entry)
+        then Some (record {
+          shift = nat_value shift.now;
+          plus = plus_of (word_of plus.entry);
+          delay = 0;
+        })
+        else None) }
+{
+    Some(Form {
+        shift: shift_of(shift)?,
+        plus: plus_of(plus)?,
+        delay: 0,
+    })
+}
+
 /// The factor that a word writes, where it is within its limit.
 fn factor_of(word: &[u8]) -> Option<i64>
     requires { IsTrue (is_int word.now) }
@@ -152,18 +188,24 @@ fn is_number_of_ends(count: usize) -> bool
 fn filter_numbers(
     alloc: Global,
     shift: &[u8],
+    plus: Option<&[u8]>,
     taps: &[&[u8]],
 ) -> Result<Option<Numbers>, AllocError>
     requires shift { IsTrue (is_nat shift.now) }
+    requires plus { IfSome (word_of plus) (λ word. IsTrue (is_int word)) }
     requires taps { IsTrue (list_all is_int (plain taps.now)) }
     ensures within { IfOk result (λ found. is_some found
-        ≡ (nat_le (nat_value shift.now) SHIFT_MAX && nat_le (length taps.now) TAPS_MAX
-        && list_all is_tap_within (plain taps.now))) }
+        ≡ (nat_le (nat_value shift.now) SHIFT_MAX && is_plus_within (word_of plus.entry)
+        && nat_le (length taps.now) TAPS_MAX && list_all is_tap_within (plain taps.now))) }
     ensures numbers { IfOk result (λ found. IfSome found (λ numbers.
         (numbers.taps.items ≡ map int_value (plain taps.now))
-        × (numbers.shift ≡ nat_value shift.now) × (numbers.factor ≡ pos 0))) }
+        × (numbers.form ≡ record {
+          shift = nat_value shift.now;
+          plus = plus_of (word_of plus.entry);
+          delay = 0;
+        }) × (numbers.factor ≡ pos 0))) }
 {
-    let Some(shift) = shift_of(shift) else {
+    let Some(form) = form_of(shift, plus) else {
         return Ok(None);
     };
     if taps.len() > TAPS_MAX {
@@ -173,32 +215,58 @@ fn filter_numbers(
         None => Ok(None),
         Some(taps) => Ok(Some(Numbers {
             taps,
-            shift,
+            form,
             factor: 0,
         })),
     }
 }
 
+/// The numbers of a delay, where the number of steps is within its limit.
+fn delay_numbers(alloc: Global, steps: &[u8]) -> Result<Option<Numbers>, AllocError>
+    requires { IsTrue (is_nat steps.now) }
+    ensures within { IfOk result (λ found.
+        is_some found ≡ nat_le (nat_value steps.now) DELAY_MAX) }
+    ensures numbers { IfOk result (λ found. IfSome found (λ numbers.
+        (numbers.taps.items ≡ pos 1 ∷ [])
+        × (numbers.form ≡ record no_form { delay = nat_value steps.now })
+        × (numbers.factor ≡ pos 0))) }
+{
+    let Some(steps) = nat_within(steps, DELAY_MAX as u64) else {
+        return Ok(None);
+    };
+    let form = Form {
+        shift: 0,
+        plus: 0,
+        delay: steps as usize,
+    };
+    Ok(Some(Numbers {
+        taps: Vec::from_slice(alloc, &[1])?,
+        form,
+        factor: 0,
+    }))
+}
+
 /// The numbers of a task that is no filter, and a peer's factor or 0.
 fn numbers_with(alloc: Global, factor: i64) -> Numbers
-    ensures { (result.taps.items ≡ []) × (result.shift ≡ 0) × (result.factor ≡ factor) }
+    ensures { (result.taps.items ≡ []) × (result.form ≡ no_form) × (result.factor ≡ factor) }
 {
     Numbers {
         taps: Vec::new(alloc),
-        shift: 0,
+        form: Form::by_shift(0),
         factor,
     }
 }
 
 /// The numbers of what a task does, where each, and how many ends it has, is within its limits.
 pub(crate) fn numbers_of(alloc: Global, body: Body<'_, '_>) -> Result<Option<Numbers>, AllocError>
-    requires { IsBody (body_of body) }
+    requires { IsBody Three (body_of body) }
     ensures within { IfOk result (λ found. is_some found ≡ is_body_within (body_of body.entry)) }
     ensures numbers { IfOk result (λ found. IfSome found (λ numbers.
         AreNumbersOf numbers (body_of body.entry))) }
 {
     let factor = match body {
-        Body::Fir(_, _, shift, taps) => return filter_numbers(alloc, shift, taps),
+        Body::Fir(_, _, shift, plus, taps) => return filter_numbers(alloc, shift, plus, taps),
+        Body::Delay(_, _, steps) => return delay_numbers(alloc, steps),
         Body::Split(_, outputs) if !is_number_of_ends(outputs.len()) => None,
         Body::Join(inputs, _) if !is_number_of_ends(inputs.len()) => None,
         Body::Peer(_, _, _, factor) => factor_of(factor),

@@ -18,7 +18,7 @@ use Rattle.graph_runs.proofs.Boundaries.{made_many}
 -- what a filter that owed nothing owes after it got these numbers
 pub record OwesBlock (job : Job) (m after : Moment) (t : ℕ) (xs : List ℤ) : Type 0 where
   pub values : drop (length (after.put t 0)) (made_now job after t 0)
-      ≡ outputs_of_block (task_at job.graph t).taps (task_at job.graph t).shift (m.taken t 0) xs
+      ≡ outputs_of_block (task_at job.graph t).taps (task_at job.graph t).form (m.taken t 0) xs
   pub many : length (made_now job after t 0) ≡ length (after.put t 0) + length xs
 
 pub fir_owes_block : (job : Job) (m after : Moment) (t : ℕ) (xs : List ℤ)
@@ -36,19 +36,19 @@ fir_owes_block job m after t xs is there e ran now w steps whole =
     let now_is : get_or (taken_now after task t) 0 [] ≡ m.taken t 0 ++ xs =
     now_at after task t 0 (omega arith) ∙ w.taken in
     let was : get_or (taken_now m task t) 0 [] ≡ m.taken t 0 = now_at m task t 0 (omega arith) in
-    let made : made_now job after t 0 ≡ outputs task.taps task.shift (m.taken t 0 ++ xs) =
+    let made : made_now job after t 0 ≡ outputs task.taps task.form (m.taken t 0 ++ xs) =
     (let a : made_now job after t 0
-    ≡ outputs task.taps task.shift (get_or (taken_now after task t) 0 []) = rw e refl in
-    a ∙ ap (λ l. outputs task.taps task.shift l) now_is) in
-    let before : made_now job m t 0 ≡ outputs task.taps task.shift (m.taken t 0) =
+    ≡ outputs task.taps task.form (get_or (taken_now after task t) 0 []) = rw e refl in
+    a ∙ ap (λ l. outputs task.taps task.form l) now_is) in
+    let before : made_now job m t 0 ≡ outputs task.taps task.form (m.taken t 0) =
     (let a : made_now job m t 0
-    ≡ outputs task.taps task.shift (get_or (taken_now m task t) 0 []) = rw e refl in
-    a ∙ ap (λ l. outputs task.taps task.shift l) was) in
-    let put : after.put t 0 ≡ outputs task.taps task.shift (m.taken t 0) =
+    ≡ outputs task.taps task.form (get_or (taken_now m task t) 0 []) = rw e refl in
+    a ∙ ap (λ l. outputs task.taps task.form l) was) in
+    let put : after.put t 0 ≡ outputs task.taps task.form (m.taken t 0) =
     w.put 0 ∙ whole ∙ before in
-    let block = outputs_of_block task.taps task.shift (m.taken t 0) xs in
+    let block = outputs_of_block task.taps task.form (m.taken t 0) xs in
     let both : made_now job after t 0 ≡ after.put t 0 ++ block =
-    made ∙ outputs-block task.taps task.shift (m.taken t 0) xs ∙ ap (λ l. l ++ block) (sym put) in
+    made ∙ outputs-block task.taps task.form (m.taken t 0) xs ∙ ap (λ l. l ++ block) (sym put) in
     let all : length (made_now job after t 0) ≡ puts_on task (after.begun t) 0 =
     made_many job after t 0 is now there (omega arith) in
     let first : length (made_now job m t 0) ≡ puts_on task (m.begun t) 0 =

@@ -171,10 +171,10 @@ fir_owes : {most : ℕ} (job : Job) (m after : Moment) (t k : ℕ) (xs : List �
     → FirstWait most job m after t k xs → (task_at job.graph t).kind ≡ Fir
     → LeavesOwed most job after t
     (values 0 (map ranged (outputs_of_block (task_at job.graph t).taps
-    (task_at job.graph t).shift (m.taken t 0) xs)))
+    (task_at job.graph t).form (m.taken t 0) xs)))
 fir_owes {most} job m after t k xs w e =
     let task = task_at job.graph t in
-    let vs = outputs_of_block task.taps task.shift (m.taken t 0) xs in
+    let vs = outputs_of_block task.taps task.form (m.taken t 0) xs in
     let rs = map ranged vs in
     let ends : (length task.inputs ≡ 1) × (length task.outputs ≡ 1) =
     rw e at (w.is.tasks t w.there).ends in
@@ -453,7 +453,7 @@ wait_leaves {most} job m after t k xs w = by (task_at job.graph t).kind refl
     by Fir e =
         let left : owed_after_wait (task_at job.graph t) (m.begun t) (m.taken t 0) xs
         ≡ values 0 (map ranged (outputs_of_block (task_at job.graph t).taps
-        (task_at job.graph t).shift (m.taken t 0) xs)) = rw e refl in
+        (task_at job.graph t).form (m.taken t 0) xs)) = rw e refl in
         subst Left (sym left) (fir_owes job m after t k xs w e)
     by Split e =
         single Split e (λ one. one) (λ x v.

@@ -6,7 +6,7 @@ use mathlib.Core.List.{IsPrefix}
 use Rattle.std.proofs.lemmas.List.FromFn.{length-map-range_with_len, get_or-map-range_with_len}
 use Rattle.std.proofs.lemmas.Bool.{le-leb}
 use Rattle.std.proofs.lemmas.Nat.{mod_below}
-use Rattle.phase_history.proofs.Streams.{IsPrefix-trans}
+use Rattle.stream_lists.specs.stream_filters.declared.form.Form.{Form}
 use Rattle.stream_lists.specs.stream_filters.Filter.{outputs, output_at, output_after}
 use Rattle.stream_lists.specs.graph_base.declared.line.Kind.{Kind}
 use Rattle.stream_lists.specs.graph_base.declared.line.Kind.TheVariants.{Source, Fir, Split, Join, Peer, Sink}
@@ -40,12 +40,12 @@ ranges_begin f g a b le same =
 
 -- ---- kind by kind
 
-fir_begins : (taps : List ℤ) (shift : ℕ) (xs ys : List ℤ) → IsPrefix xs ys
-    → IsPrefix (outputs taps shift xs) (outputs taps shift ys)
-fir_begins taps shift xs ys a =
-    ranges_begin (output_at taps shift xs) (output_at taps shift ys) (length xs) (length ys)
+fir_begins : (taps : List ℤ) (form : Form) (xs ys : List ℤ) → IsPrefix xs ys
+    → IsPrefix (outputs taps form xs) (outputs taps form ys)
+fir_begins taps form xs ys a =
+    ranges_begin (output_at taps form xs) (output_at taps form ys) (length xs) (length ys)
     (prefix_length xs ys a)
-    (λ i lt. ap (λ l. output_after taps shift l) (take_of_prefix (suc i) xs ys a (omega arith)))
+    (λ i lt. ap (λ l. output_after taps form l) (take_of_prefix (suc i) xs ys a (omega arith)))
 
 every_begins : (m j : ℕ) (xs ys : List ℤ) → j < m → IsPrefix xs ys
     → IsPrefix (every m j xs) (every m j ys)
@@ -118,9 +118,9 @@ outputs_begin samples task now all b steps j put ends lt le long_now long_all ea
         after (take b samples) (take steps samples) (rw e refl) (rw e refl)
         (take_prefix b steps samples le)
     by Fir i e at =
-        after (outputs task.taps task.shift (get_or now 0 []))
-        (outputs task.taps task.shift (get_or all 0 [])) (rw e refl) (rw e refl)
-        (fir_begins task.taps task.shift (get_or now 0 []) (get_or all 0 [])
+        after (outputs task.taps task.form (get_or now 0 []))
+        (outputs task.taps task.form (get_or all 0 [])) (rw e refl) (rw e refl)
+        (fir_begins task.taps task.form (get_or now 0 []) (get_or all 0 [])
         (one (λ s. (let no : Fir ≡ Source = sym e ∙ s in cc)) (rw e tt)))
     by Split i e at =
         let few : j < length task.outputs = rw e at lt in

@@ -23,6 +23,6 @@ output_there job t j is there few =
 
 -- a filter that got one value owes its answer on its output
 pub filter_owes : (task : Task) (begun : ℕ) (taken : List ℤ) (x : ℤ) (answer : Result ℤ TooBigValue)
-    → task.kind ≡ Fir → answer ≡ ranged (output_after task.taps task.shift (taken ++ x ∷ []))
+    → task.kind ≡ Fir → answer ≡ ranged (output_after task.taps task.form (taken ++ x ∷ []))
     → turns.values 0 (answer ∷ []) ≡ turns.owed_after_wait task begun taken (x ∷ [])
 filter_owes task begun taken x answer kind is = rw kind (ap (λ v. turns.values 0 (v ∷ [])) is)

@@ -18,4 +18,4 @@ abbrev pub HasFilter : Task → Option FirState → List ℤ → Type 0
 HasFilter task filter taken =
     task.kind ≡ Fir
     → (fir : FirState) × (filter ≡ Some fir) × (fir.taps ≡ task.taps)
-    × (fir.shift ≡ task.shift) × StandsFor fir taken
+    × (fir.form ≡ task.form) × StandsFor fir taken

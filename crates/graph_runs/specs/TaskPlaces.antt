@@ -100,7 +100,7 @@ abbrev pub owed_after_wait : Task → ℕ → List ℤ → List ℤ → Owed
 owed_after_wait task begun taken xs = of task.kind
   where
     of : Kind → Owed
-    of Fir = values 0 (map ranged (outputs_of_block task.taps task.shift taken xs))
+    of Fir = values 0 (map ranged (outputs_of_block task.taps task.form taken xs))
     of Split = values (begun % length task.outputs) (map (λ x. Ok x) xs)
     of Join = values 0 (map (λ x. Ok x) xs)
     of Peer = values 0 (map (λ x. Ok x) xs)

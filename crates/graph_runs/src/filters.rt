@@ -23,7 +23,7 @@ pub fn first_filter(alloc: Global, job: &Job, t: usize) -> Result<Option<Fir>, A
         return Ok(None);
     }
     let line = job.graph().task(t);
-    match Fir::new(alloc, &line.taps, line.shift) {
+    match Fir::new(alloc, &line.taps, line.form) {
         Ok(fir) => Ok(Some(fir)),
         Err(FirFault::OutOfMemory) => Err(AllocError),
         Err(FirFault::BadTaps) => unreachable!(),
@@ -37,7 +37,7 @@ pub fn filtered(job: &Job, t: usize, filter: &mut Option<Fir>, x: i64) -> Result
     requires filter { (taken : List ℤ) × HasFilter (task_at job.now.graph t) filter.old taken }
     ensures answer { (taken : List ℤ) → HasFilter (task_at job.now.graph t) filter.old taken
         → let task = task_at job.now.graph t in
-        result ≡ ranged (output_after task.taps task.shift (taken ++ x ∷ [])) }
+        result ≡ ranged (output_after task.taps task.form (taken ++ x ∷ [])) }
     ensures filter { (taken : List ℤ) → HasFilter (task_at job.now.graph t) filter.old taken
         → HasFilter (task_at job.now.graph t) filter.new (taken ++ x ∷ []) }
 {
@@ -62,7 +62,7 @@ pub fn filtered_all(
     ensures made { (taken : List ℤ) → HasFilter (task_at job.now.graph t) filter.old taken
         → let task = task_at job.now.graph t in
         made.new.items ≡ made.old.items
-        ++ before_out_of_range (outputs_of_block task.taps task.shift taken xs.now) }
+        ++ before_out_of_range (outputs_of_block task.taps task.form taken xs.now) }
     ensures filter { (taken : List ℤ) → HasFilter (task_at job.now.graph t) filter.old taken
         → let count = length made.new.items - length made.old.items in
         HasFilter (task_at job.now.graph t) filter.new (taken ++ take (count + 1) xs.now) }

@@ -4,6 +4,7 @@ use Rattle.phase_base.specs.Words.{Word}
 use Rattle.graph_text.specs.Decls.{Decl, Spells}
 use Rattle.graph_text.specs.declared.version.Version.{Version}
 use Rattle.graph_text.specs.Lines.{decl_of}
+use Rattle.graph_text.specs.Versions.{may_declare}
 use Rattle.graph_text.specs.WordReading.{decl_at}
 use Rattle.graph_text.specs.declared.line.Line.{Line}
 use Rattle.graph_text.proofs.Spelled.{line_again}
@@ -19,6 +20,6 @@ pub none : (version : Version) (o : Option Line) (ws : List Word)
     → option_map decl_of o ≡ decl_at version ws → IfNone o ((d : Decl) → ¬ (Spells version ws d))
 none version None ws e = λ d spells.
     let clash : None ≡ Some d =
-    e ∙ ap (decl_at version) spells.spelled ∙ line_again version d spells.well_formed in
+    e ∙ ap (decl_at version) spells.spelled ∙ line_again (may_declare version) version d spells.well_formed in
     absurd (cc)
 none version (Some line) ws e = tt

@@ -4,10 +4,10 @@ use Rattle.std.specs.List.{list_all, list_any}
 use Rattle.graph_text.specs.Texts.{words_of_line, are_printable, is_ignored}
 use Rattle.phase_base.specs.declared.operation.Op.TheVariants.{Sum}
 use Rattle.phase_base.specs.Numbers.{is_nat, is_int}
-use Rattle.graph_text.specs.Decls.{phaser, task, source, sink, neg, abs, halve, clamp, EndWords}
-use Rattle.graph_text.specs.Versions.{is_heading}
-use Rattle.graph_text.specs.declared.version.Version.TheVariants.{One, Two}
-use Rattle.graph_text.specs.WordReading.{decl_at, phaser_words_at, task_words_at, body_at, source_at, split_at, sink_at, word_at, some_at, after, begins, single_at, operation_at, function_at, function_named, clamp_at, now_at, by_at, until_at, block_number, block_at, ends_at}
+use Rattle.graph_text.specs.Decls.{phaser, task, source, fir, delay, sink, neg, abs, halve, clamp, EndWords}
+use Rattle.graph_text.specs.Versions.{heading_of}
+use Rattle.graph_text.specs.declared.version.Version.TheVariants.{One, Two, Three}
+use Rattle.graph_text.specs.WordReading.{decl_at, decl_by, phaser_words_at, task_words_at, body_at, source_at, fir_at, plus_at, delay_at, split_at, sink_at, word_at, some_at, after, begins, single_at, operation_at, function_at, function_named, clamp_at, now_at, by_at, until_at, block_number, block_at, ends_at}
 
 -- ---- words
 
@@ -40,12 +40,12 @@ no_ends = record { by = None; until = None; block = None }
 -- `->` may name a file
 arrow_file : decl_at One (words_of_line (codes "source s -> -> X"))
     ≡ Some (task (codes "s") (source (codes "->") (codes "X")) no_ends)
-unfolding decl_at task_words_at body_at source_at word_at after ends_at by_at until_at block_at begins
+unfolding decl_by task_words_at body_at source_at word_at after ends_at by_at until_at block_at begins
 arrow_file = refl
 
 halved : decl_at One (words_of_line (codes "phaser X sum 2 single halve"))
     ≡ Some (phaser (codes "X") Sum (codes "2") (Some halve))
-unfolding decl_at phaser_words_at word_at operation_at single_at begins after function_at function_named
+unfolding decl_by phaser_words_at word_at operation_at single_at begins after function_at function_named
 halved = refl
 
 negated : function_at (codes "neg" ∷ []) ≡ Some (neg, [])
@@ -63,35 +63,39 @@ clamped = refl
 
 -- no such operation, and no such function
 mean : decl_at One (words_of_line (codes "phaser X mean 2")) ≡ None
-unfolding decl_at phaser_words_at word_at operation_at
+unfolding decl_by phaser_words_at word_at operation_at
 mean = refl
 
 doubled : decl_at One (words_of_line (codes "phaser X sum 2 single double")) ≡ None
-unfolding decl_at phaser_words_at word_at operation_at single_at begins after function_at function_named
+unfolding decl_by phaser_words_at word_at operation_at single_at begins after function_at function_named
 doubled = refl
 
 -- a word of the grammar is no name
 sink_named_at : decl_at One (words_of_line (codes "sink at A")) ≡ None
-unfolding decl_at task_words_at word_at
+unfolding decl_by task_words_at word_at
 sink_named_at = refl
 
 -- the ends stand in their order, and nothing after them
 ends_turned : decl_at One (words_of_line (codes "sink o X until 5 by s at 1")) ≡ None
-unfolding decl_at task_words_at body_at sink_at word_at ends_at by_at until_at block_at begins after
+unfolding decl_by task_words_at body_at sink_at word_at ends_at by_at until_at block_at begins after
 ends_turned = refl
 
 one_more : decl_at One (words_of_line (codes "sink o X until 5 until")) ≡ None
-unfolding decl_at task_words_at body_at sink_at word_at ends_at by_at until_at block_at begins after
+unfolding decl_by task_words_at body_at sink_at word_at ends_at by_at until_at block_at begins after
 one_more = refl
 
 -- ---- the heading
 
-headed : is_heading (words_of_line (codes "  graph   2")) ≡ true
+headed : heading_of (words_of_line (codes "  graph   2")) ≡ Some Two
 headed = refl
 
+headed_three : heading_of (words_of_line (codes "graph 3")) ≡ Some Three
+headed_three = refl
+
 -- no other version, no other form of the number, and nothing behind it
-unheaded : list_any (λ line. is_heading (words_of_line line))
-    (codes "graph" ∷ codes "graph 1" ∷ codes "graph 02" ∷ codes "graph 2 x" ∷ codes "Graph 2" ∷ [])
+unheaded : list_any (λ line. is_some (heading_of (words_of_line line)))
+    (codes "graph" ∷ codes "graph 1" ∷ codes "graph 02" ∷ codes "graph 2 x" ∷ codes "Graph 2"
+    ∷ codes "graph 4" ∷ [])
     ≡ false
 unheaded = refl
 
@@ -106,39 +110,39 @@ late_ends = record {
 
 late : decl_at Two (words_of_line (codes "sink late X by out at 2 now until 9 block=4"))
     ≡ Some (task (codes "late") (sink (codes "X")) late_ends)
-unfolding decl_at task_words_at body_at sink_at word_at ends_at by_at now_at until_at begins after
+unfolding decl_by task_words_at body_at sink_at word_at ends_at by_at now_at until_at begins after
     block_at block_number
 late = refl
 
 -- in the first version the same line is none
 late_in_one : decl_at One (words_of_line (codes "sink late X by out at 2 now until 9 block=4")) ≡ None
-unfolding decl_at task_words_at body_at sink_at word_at ends_at by_at now_at until_at begins after
+unfolding decl_by task_words_at body_at sink_at word_at ends_at by_at now_at until_at begins after
     block_at block_number
 late_in_one = refl
 
 blocked_in_one : decl_at One (words_of_line (codes "source s s.csv -> X block=4")) ≡ None
-unfolding decl_at task_words_at body_at source_at word_at ends_at by_at until_at begins after block_at
+unfolding decl_by task_words_at body_at source_at word_at ends_at by_at until_at begins after block_at
 blocked_in_one = refl
 
 -- only a sink with a parent joins now, and `now` stands directly behind the parent
 now_of_a_source : decl_at Two (words_of_line (codes "source s s.csv -> X by p at 2 now")) ≡ None
-unfolding decl_at task_words_at body_at source_at word_at ends_at by_at now_at until_at begins after
+unfolding decl_by task_words_at body_at source_at word_at ends_at by_at now_at until_at begins after
     block_at block_number
 now_of_a_source = refl
 
 now_alone : decl_at Two (words_of_line (codes "sink o X now")) ≡ None
-unfolding decl_at task_words_at body_at sink_at word_at ends_at by_at until_at begins after
+unfolding decl_by task_words_at body_at sink_at word_at ends_at by_at until_at begins after
     block_at block_number
 now_alone = refl
 
 now_behind_until : decl_at Two (words_of_line (codes "sink o X by p at 2 until 5 now")) ≡ None
-unfolding decl_at task_words_at body_at sink_at word_at ends_at by_at now_at until_at begins after
+unfolding decl_by task_words_at body_at sink_at word_at ends_at by_at now_at until_at begins after
     block_at block_number
 now_behind_until = refl
 
 -- a block stands last, has a number, and is of no splitter
 block_first : decl_at Two (words_of_line (codes "sink o X block=4 until 5")) ≡ None
-unfolding decl_at task_words_at body_at sink_at word_at ends_at by_at until_at begins after block_at
+unfolding decl_by task_words_at body_at sink_at word_at ends_at by_at until_at begins after block_at
 block_first = refl
 
 blocks : list_all (λ word. is_some (block_number word))
@@ -153,7 +157,7 @@ unfolding block_number
 no_blocks = refl
 
 splitter_with_a_block : decl_at Two (words_of_line (codes "split d X -> A B block=2")) ≡ None
-unfolding decl_at task_words_at body_at split_at word_at some_at ends_at by_at until_at begins after
+unfolding decl_by task_words_at body_at split_at word_at some_at ends_at by_at until_at begins after
     block_at
 splitter_with_a_block = refl
 
@@ -164,6 +168,45 @@ named_now : decl_at Two (words_of_line (codes "sink now block by graph at 1"))
       until = None;
       block = None;
     }))
-unfolding decl_at task_words_at body_at sink_at word_at ends_at by_at now_at until_at begins after
+unfolding decl_by task_words_at body_at sink_at word_at ends_at by_at now_at until_at begins after
     block_at
 named_now = refl
+
+-- ---- lines of the third version
+
+rounded : decl_at Three (words_of_line (codes "fir f X -> Y shift 2 plus 2 taps 1 -1"))
+    ≡ Some (task (codes "f") (fir (codes "X") (codes "Y") (codes "2") (Some (codes "2"))
+    (codes "1" ∷ codes "-1" ∷ [])) no_ends)
+unfolding decl_by task_words_at body_at fir_at plus_at some_at word_at ends_at by_at until_at begins
+    after block_at
+rounded = refl
+
+delayed : decl_at Three (words_of_line (codes "delay d X -> Y of 1000"))
+    ≡ Some (task (codes "d") (delay (codes "X") (codes "Y") (codes "1000")) no_ends)
+unfolding decl_by task_words_at body_at delay_at word_at ends_at by_at until_at begins after block_at
+delayed = refl
+
+-- in the second version neither is a line
+rounded_in_two : decl_at Two (words_of_line (codes "fir f X -> Y shift 2 plus 2 taps 1 -1")) ≡ None
+unfolding decl_by task_words_at body_at fir_at plus_at word_at begins after
+rounded_in_two = refl
+
+delayed_in_two : decl_at Two (words_of_line (codes "delay d X -> Y of 1000")) ≡ None
+unfolding decl_by task_words_at body_at word_at
+delayed_in_two = refl
+
+-- what is added stands before the taps
+plus_behind : decl_at Three (words_of_line (codes "fir f X -> Y shift 2 taps 1 plus 2")) ≡ None
+unfolding decl_by task_words_at body_at fir_at plus_at some_at word_at ends_at by_at until_at begins
+    after block_at block_number
+plus_behind = refl
+
+-- the words of the third version may be names in the second, and in the third they are none
+named_delay : decl_at Two (words_of_line (codes "sink delay of"))
+    ≡ Some (task (codes "delay") (sink (codes "of")) no_ends)
+unfolding decl_by task_words_at body_at sink_at word_at ends_at by_at until_at begins after block_at
+named_delay = refl
+
+no_name_delay : decl_at Three (words_of_line (codes "sink delay of")) ≡ None
+unfolding decl_by task_words_at word_at
+no_name_delay = refl

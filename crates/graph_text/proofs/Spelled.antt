@@ -11,10 +11,11 @@ use Rattle.phase_base.specs.OperationWords.{operation_word}
 use Rattle.phase_base.specs.declared.operation.Op.{Op}
 use Rattle.phase_base.specs.declared.operation.Op.TheVariants.{Sum, Product, Least, Greatest, Any}
 use Rattle.phase_base.specs.Numbers.{is_nat, is_int}
-use Rattle.graph_text.specs.Decls.{Decl, phaser, task, FunctionWords, neg, abs, halve, clamp, ByWords, EndWords, BodyWords, source, fir, split, join, peer, sink, decl_spelling, function_words, single_words, now_words, by_words, until_words, block_words, end_words, body_word, body_words, IsFunction, IsBody, IsBy, MayHaveBy, AreEnds, AreSome, IsWellFormed, may_have_parent, may_join_now, may_have_blocks, Spells}
+use Rattle.graph_text.specs.Decls.{Decl, phaser, task, FunctionWords, neg, abs, halve, clamp, ByWords, EndWords, BodyWords, source, fir, delay, split, join, peer, sink, decl_spelling, function_words, single_words, now_words, by_words, until_words, block_words, end_words, body_word, body_words, plus_words, IsFunction, IsBody, IsBy, MayHaveBy, AreEnds, AreSome, IsWellFormed, IsWellFormedBy, may_have_parent, may_join_now, may_have_blocks, Spells}
+use Rattle.graph_text.specs.Versions.{has_third, is_third_word}
 use Rattle.graph_text.specs.declared.version.Version.{Version}
-use Rattle.graph_text.specs.declared.version.Version.TheVariants.{One, Two}
-use Rattle.graph_text.specs.WordReading.{word_at, after, begins, some_at, operation_at, clamp_at, function_named, function_at, single_at, now_at, by_at, until_at, block_number, block_at, ends_at, source_at, fir_at, split_at, join_at, peer_at, sink_at, body_at, phaser_words_at, task_words_at, decl_at}
+use Rattle.graph_text.specs.declared.version.Version.TheVariants.{Three}
+use Rattle.graph_text.specs.WordReading.{word_at, after, begins, some_at, operation_at, clamp_at, function_named, function_at, single_at, now_at, by_at, until_at, block_number, block_at, ends_at, source_at, plus_at, fir_at, delay_at, split_at, join_at, peer_at, sink_at, body_at, phaser_words_at, task_words_at, decl_by}
 
 -- ---- words
 
@@ -153,68 +154,108 @@ no_name steps = at (length (codes "block=" ++ steps) == 0)
     at false true = refl
     at false false = refl
 
-body_again : (body : BodyWords) (ws : List Word) → IsBody body → Stops is_int ws → Stops is_name ws
-    → body_at (body_word body) (body_words body ++ ws) ≡ Some (body, ws)
-unfolding body_at source_at fir_at split_at join_at peer_at sink_at after word_at
-body_again (source file output) ws is ints names = rw (is.0, is.1) refl
-body_again (fir input output shift taps) ws is ints names =
-    rw (is.0, is.1, is.2, some_again is_int taps ws is.3 ints) refl
-body_again (split input outputs) ws is ints names =
+-- what is added, before the word for the taps
+plus_again : (allowed : Bool) (plus : Option Word) (ws : List Word)
+    → IfSome plus (λ plus. IsTrue (is_int plus) × IsTrue allowed)
+    → plus_at allowed (plus_words plus ++ codes "taps" ∷ ws) ≡ Some (plus, codes "taps" ∷ ws)
+unfolding plus_at after begins word_at
+plus_again true None ws is = refl
+plus_again false None ws is = refl
+plus_again allowed (Some plus) ws is = rw (is.1, is.0) refl
+
+body_again : (version : Version) (body : BodyWords) (ws : List Word) → IsBody version body
+    → Stops is_int ws → Stops is_name ws
+    → body_at (has_third version) (body_word body) (body_words body ++ ws) ≡ Some (body, ws)
+unfolding body_at source_at fir_at delay_at split_at join_at peer_at sink_at after word_at
+body_again version (source file output) ws is ints names = rw (is.0, is.1) refl
+body_again version (fir input output shift plus taps) ws is ints names =
+    rw (
+      is.0,
+      is.1,
+      append_assoc (plus_words plus) (codes "taps" ∷ taps) ws,
+      is.2,
+      plus_again (has_third version) plus (taps ++ ws) is.3,
+      some_again is_int taps ws is.4 ints,
+    ) refl
+body_again version (delay input output steps) ws is ints names = rw (is.3, is.0, is.1, is.2) refl
+body_again version (split input outputs) ws is ints names =
     rw (is.0, some_again is_name outputs ws is.1 names) refl
-body_again (join inputs output) ws is ints names =
+body_again version (join inputs output) ws is ints names =
     rw (
       append_assoc inputs (codes "->" ∷ output ∷ []) ws,
       some_again is_name inputs (codes "->" ∷ output ∷ ws) is.0 refl,
       is.1,
     ) refl
-body_again (peer input exchange output factor) ws is ints names =
+body_again version (peer input exchange output factor) ws is ints names =
     rw (is.0, is.1, is.2, is.3) refl
-body_again (sink input) ws is ints names = rw is refl
+body_again version (sink input) ws is ints names = rw is refl
 
 is_no_phaser : (body : BodyWords) → bytes_eq (body_word body) (codes "phaser") ≡ false
 is_no_phaser (source file output) = refl
-is_no_phaser (fir input output shift taps) = refl
+is_no_phaser (fir input output shift plus taps) = refl
+is_no_phaser (delay input output steps) = refl
 is_no_phaser (split input outputs) = refl
 is_no_phaser (join inputs output) = refl
 is_no_phaser (peer input exchange output factor) = refl
 is_no_phaser (sink input) = refl
 
 -- what is spelled is read so
-pub line_again : (version : Version) (d : Decl) → IsWellFormed version d
-    → decl_at version (decl_spelling d) ≡ Some d
-unfolding decl_at phaser_words_at task_words_at word_at
-line_again version (phaser name operation bound single) is =
+pub line_again : (declares : Word → Bool) (version : Version) (d : Decl)
+    → IsWellFormedBy declares version d → decl_by declares version (decl_spelling d) ≡ Some d
+unfolding decl_by phaser_words_at task_words_at word_at
+line_again declares version (phaser name operation bound single) is =
     rw (
       is.0,
       operation_again operation (bound ∷ single_words single),
       is.1,
       single_again single is.2,
     ) refl
-line_again version (task name body ends) is =
+line_again declares version (task name body ends) is =
     let ints = ends_stop is_int refl refl no_int ends in
     let names = ends_stop is_name refl refl no_name ends in
     rw (
       is_no_phaser body,
       is.0,
-      body_again body (end_words ends) is.1 ints names,
+      body_again version body (end_words ends) is.1 ints names,
       ends_again version body ends is.2,
     ) refl
 
--- ---- both versions
+-- ---- all versions
 
--- what a line of the first version may say, one of the second may say
+-- what a line of any version may say, one of the third may say
 may_join_later : (version : Version) (body : BodyWords) → may_join_now version body ≡ true
-    → may_join_now Two body ≡ true
-may_join_later One body may = absurd (cc)
-may_join_later Two body may = may
+    → may_join_now Three body ≡ true
+may_join_later version (source file output) may = may
+may_join_later version (fir input output shift plus taps) may = may
+may_join_later version (delay input output steps) may = may
+may_join_later version (split input outputs) may = may
+may_join_later version (join inputs output) may = may
+may_join_later version (peer input exchange output factor) may = may
+may_join_later version (sink input) may = refl
 
 may_have_later : (version : Version) (body : BodyWords) → may_have_blocks version body ≡ true
-    → may_have_blocks Two body ≡ true
-may_have_later One body may = absurd (cc)
-may_have_later Two body may = may
+    → may_have_blocks Three body ≡ true
+may_have_later version (source file output) may = refl
+may_have_later version (fir input output shift plus taps) may = refl
+may_have_later version (delay input output steps) may = refl
+may_have_later version (split input outputs) may = may
+may_have_later version (join inputs output) may = may
+may_have_later version (peer input exchange output factor) may = may
+may_have_later version (sink input) may = refl
+
+pub body_later : (version : Version) (body : BodyWords) → IsBody version body → IsBody Three body
+body_later version (source file output) is = is
+body_later version (fir input output shift None taps) is = is
+body_later version (fir input output shift (Some plus) taps) is =
+    (is.0, is.1, is.2, (is.3.0, refl), is.4)
+body_later version (delay input output steps) is = (is.0, is.1, is.2, refl)
+body_later version (split input outputs) is = is
+body_later version (join inputs output) is = is
+body_later version (peer input exchange output factor) is = is
+body_later version (sink input) is = is
 
 ends_later : (version : Version) (body : BodyWords) (ends : EndWords) → AreEnds version body ends
-    → AreEnds Two body ends
+    → AreEnds Three body ends
 ends_later version body ends are = record {
   by = by_later ends.by are.by;
   until = are.until;
@@ -223,26 +264,32 @@ ends_later version body ends are = record {
   where
     by_later : (by : Option ByWords)
         → IfSome by (λ by. IsBy by × MayHaveBy version body by)
-        → IfSome by (λ by. IsBy by × MayHaveBy Two body by)
+        → IfSome by (λ by. IsBy by × MayHaveBy Three body by)
     by_later None is = tt
     by_later (Some by) is = (is.0, (is.1.0, λ now. may_join_later version body (is.1.1 now)))
 
     block_later : (block : Option Word)
         → IfSome block (λ steps. IsTrue (is_nat steps) × IsTrue (may_have_blocks version body))
-        → IfSome block (λ steps. IsTrue (is_nat steps) × IsTrue (may_have_blocks Two body))
+        → IfSome block (λ steps. IsTrue (is_nat steps) × IsTrue (may_have_blocks Three body))
     block_later None is = tt
     block_later (Some steps) is = (is.0, may_have_later version body is.1)
 
--- a line of any version is one of the second
-pub well_formed_later : (version : Version) (d : Decl) → IsWellFormed version d → IsWellFormed Two d
-well_formed_later version (phaser name operation bound single) is = is
-well_formed_later version (task name body ends) is = (is.0, is.1, ends_later version body ends is.2)
+-- a line of any version is one of the third, where that may declare any name
+pub well_formed_later : (version : Version) (d : Decl) → IsWellFormed version d
+    → IsWellFormedBy is_name Three d
+well_formed_later version (phaser name operation bound single) is =
+    ((and_parts (is_name name) (not (has_third version && is_third_word name)) is.0).0, is.1, is.2)
+well_formed_later version (task name body ends) is = (
+  (and_parts (is_name name) (not (has_third version && is_third_word name)) is.0).0,
+  body_later version body is.1,
+  ends_later version body ends is.2,
+)
 
 -- words declare one thing at most, in whichever version
 pub one_declaration : (version other : Version) (words : List Word) (d e : Decl)
     → Spells version words d → Spells other words e → d ≡ e
 one_declaration version other words d e first second =
     same_Some d e
-    (sym (line_again Two d (well_formed_later version d first.well_formed))
-    ∙ ap (decl_at Two) (sym first.spelled ∙ second.spelled)
-    ∙ line_again Two e (well_formed_later other e second.well_formed))
+    (sym (line_again is_name Three d (well_formed_later version d first.well_formed))
+    ∙ ap (decl_by is_name Three) (sym first.spelled ∙ second.spelled)
+    ∙ line_again is_name Three e (well_formed_later other e second.well_formed))

@@ -12,10 +12,11 @@ use Rattle.phase_base.specs.OperationWords.{operation_of, operation_word}
 use Rattle.phase_base.specs.declared.operation.Op.{Op}
 use Rattle.phase_base.proofs.OperationWords.{operation-read}
 use Rattle.phase_base.specs.Numbers.{is_nat, is_int}
-use Rattle.graph_text.specs.Decls.{Decl, phaser, task, FunctionWords, neg, abs, halve, ByWords, EndWords, BodyWords, function_words, single_words, now_words, by_words, until_words, block_words, end_words, body_word, body_words, IsFunction, IsBody, IsBy, AreEnds, AreSome, may_have_parent, may_join_now, may_have_blocks, Spells}
+use Rattle.graph_text.specs.Decls.{Decl, phaser, task, FunctionWords, neg, abs, halve, ByWords, EndWords, BodyWords, function_words, single_words, now_words, by_words, until_words, block_words, end_words, body_word, body_words, plus_words, IsFunction, IsBody, IsBy, AreEnds, AreSome, may_have_parent, may_join_now, may_have_blocks, Spells}
+use Rattle.graph_text.specs.Versions.{has_third, may_declare}
 use Rattle.graph_text.specs.declared.version.Version.{Version}
 use Rattle.std.proofs.lemmas.Bool.{and_parts}
-use Rattle.graph_text.specs.WordReading.{Found, ◌>>=◌, word_at, after, begins, some_at, operation_at, clamp_at, function_named, function_at, single_at, now_at, by_with, by_at, until_at, block_number, block_at, ends_at, source_at, fir_at, split_at, join_at, peer_at, sink_at, body_at, phaser_words_at, task_words_at, decl_at}
+use Rattle.graph_text.specs.WordReading.{Found, ◌>>=◌, word_at, after, begins, some_at, operation_at, clamp_at, function_named, function_at, single_at, now_at, by_with, by_at, until_at, block_number, block_at, ends_at, source_at, plus_at, fir_at, delay_at, split_at, join_at, peer_at, sink_at, body_at, phaser_words_at, task_words_at, decl_by, decl_at}
 
 -- ---- words
 
@@ -283,72 +284,122 @@ ends_takes version body ws ends e =
 -- ---- what a task does
 
 -- the words spell the body that was read, before the words that are left
-TakesBody : Word → List Word → Option (Found BodyWords) → Type 0
-TakesBody kind ws o = IfSome o (λ x.
-    IsBody x.0 × (kind ≡ body_word x.0) × (ws ≡ body_words x.0 ++ x.1))
+TakesBody : Version → Word → List Word → Option (Found BodyWords) → Type 0
+TakesBody version kind ws o = IfSome o (λ x.
+    IsBody version x.0 × (kind ≡ body_word x.0) × (ws ≡ body_words x.0 ++ x.1))
 
-source_takes : (ws : List Word) (x : Found BodyWords) → source_at ws ≡ Some x
-    → TakesBody (codes "source") ws (Some x)
+source_takes : (version : Version) (ws : List Word) (x : Found BodyWords) → source_at ws ≡ Some x
+    → TakesBody version (codes "source") ws (Some x)
 unfolding source_at TakesBody
-source_takes ws x e =
+source_takes version ws x e =
     let f = steps _ (word_at is_file ws) x e in
     let s = steps _ (after (codes "->") f.0.1) x f.2 in
     let o = steps _ (word_at is_name s.0) x s.2 in
     let file = word_takes is_file ws f.0 f.1 in
     let sent = after_takes (codes "->") f.0.1 s.0 s.1 in
     let output = word_takes is_name s.0 o.0 o.1 in
-    subst (TakesBody (codes "source") ws) o.2 (
+    subst (TakesBody version (codes "source") ws) o.2 (
       (file.0, output.0),
       refl,
       followed f.0.0 file.1 (followed (codes "->") sent output.1),
     )
 
-fir_takes : (ws : List Word) (x : Found BodyWords) → fir_at ws ≡ Some x
-    → TakesBody (codes "fir") ws (Some x)
+plus_takes : (allowed : Bool) (ws : List Word) (x : Found (Option Word))
+    → plus_at allowed ws ≡ Some x
+    → IfSome x.0 (λ plus. IsTrue (is_int plus) × IsTrue allowed) × (ws ≡ plus_words x.0 ++ x.1)
+unfolding plus_at
+plus_takes allowed ws x e = at allowed (begins (codes "plus") ws) e
+  where
+    P : Bool → Option (Found (Option Word)) → Type 0
+    P may o = IfSome o (λ x. IfSome x.0 (λ c. IsTrue (is_int c) × IsTrue may)
+        × (ws ≡ plus_words x.0 ++ x.1))
+
+    at : (may is_added : Bool) → cond (may && is_added)
+        (after (codes "plus") ws >>= (λ added. word_at is_int added >>= (λ c. Some (Some c.0, c.1))))
+        (Some (None, ws)) ≡ Some x
+        → IfSome x.0 (λ plus. IsTrue (is_int plus) × IsTrue may) × (ws ≡ plus_words x.0 ++ x.1)
+    at true true found =
+        let a = steps _ (after (codes "plus") ws) x found in
+        let c = steps _ (word_at is_int a.0) x a.2 in
+        let number = word_takes is_int a.0 c.0 c.1 in
+        subst (P true) c.2 (
+          (number.0, refl),
+          followed (codes "plus") (after_takes (codes "plus") ws a.0 a.1) number.1,
+        )
+    at true false found = subst (P true) found (tt, refl)
+    at false added found = subst (P false) found (tt, refl)
+
+fir_takes : (version : Version) (ws : List Word) (x : Found BodyWords)
+    → fir_at (has_third version) ws ≡ Some x → TakesBody version (codes "fir") ws (Some x)
 unfolding fir_at TakesBody
-fir_takes ws x e =
+fir_takes version ws x e =
     let i = steps _ (word_at is_name ws) x e in
     let s = steps _ (after (codes "->") i.0.1) x i.2 in
     let o = steps _ (word_at is_name s.0) x s.2 in
     let m = steps _ (after (codes "shift") o.0.1) x o.2 in
     let n = steps _ (word_at is_nat m.0) x m.2 in
-    let t = steps _ (after (codes "taps") n.0.1) x n.2 in
+    let p = steps _ (plus_at (has_third version) n.0.1) x n.2 in
+    let t = steps _ (after (codes "taps") p.0.1) x p.2 in
     let l = steps _ (some_at is_int t.0) x t.2 in
     let input = word_takes is_name ws i.0 i.1 in
     let sent = after_takes (codes "->") i.0.1 s.0 s.1 in
     let output = word_takes is_name s.0 o.0 o.1 in
     let marked = after_takes (codes "shift") o.0.1 m.0 m.1 in
     let shift = word_takes is_nat m.0 n.0 n.1 in
-    let tapped = after_takes (codes "taps") n.0.1 t.0 t.1 in
+    let plus = plus_takes (has_third version) n.0.1 p.0 p.1 in
+    let tapped = after_takes (codes "taps") p.0.1 t.0 t.1 in
     let taps = some_takes is_int t.0 l.0 l.1 in
-    subst (TakesBody (codes "fir") ws) l.2 (
-      (input.0, output.0, shift.0, taps.0),
+    let rest = plus.1 ∙ ap (λ ws. plus_words p.0.0 ++ ws) (followed (codes "taps") tapped taps.1)
+    ∙ sym (append_assoc (plus_words p.0.0) (codes "taps" ∷ l.0.0) l.0.1) in
+    subst (TakesBody version (codes "fir") ws) l.2 (
+      (input.0, output.0, shift.0, plus.0, taps.0),
       refl,
       followed i.0.0 input.1 (followed (codes "->") sent (followed o.0.0 output.1
-          (followed (codes "shift") marked (followed n.0.0 shift.1
-          (followed (codes "taps") tapped taps.1))))),
+          (followed (codes "shift") marked (followed n.0.0 shift.1 rest)))),
     )
 
-split_takes : (ws : List Word) (x : Found BodyWords) → split_at ws ≡ Some x
-    → TakesBody (codes "split") ws (Some x)
+delay_takes : (version : Version) (ws : List Word) (x : Found BodyWords)
+    → IsTrue (has_third version) → delay_at ws ≡ Some x
+    → TakesBody version (codes "delay") ws (Some x)
+unfolding delay_at TakesBody
+delay_takes version ws x third e =
+    let i = steps _ (word_at is_name ws) x e in
+    let s = steps _ (after (codes "->") i.0.1) x i.2 in
+    let o = steps _ (word_at is_name s.0) x s.2 in
+    let c = steps _ (after (codes "of") o.0.1) x o.2 in
+    let n = steps _ (word_at is_nat c.0) x c.2 in
+    let input = word_takes is_name ws i.0 i.1 in
+    let sent = after_takes (codes "->") i.0.1 s.0 s.1 in
+    let output = word_takes is_name s.0 o.0 o.1 in
+    let counted = after_takes (codes "of") o.0.1 c.0 c.1 in
+    let number = word_takes is_nat c.0 n.0 n.1 in
+    subst (TakesBody version (codes "delay") ws) n.2 (
+      (input.0, output.0, number.0, third),
+      refl,
+      followed i.0.0 input.1 (followed (codes "->") sent (followed o.0.0 output.1
+          (followed (codes "of") counted number.1))),
+    )
+
+split_takes : (version : Version) (ws : List Word) (x : Found BodyWords) → split_at ws ≡ Some x
+    → TakesBody version (codes "split") ws (Some x)
 unfolding split_at TakesBody
-split_takes ws x e =
+split_takes version ws x e =
     let i = steps _ (word_at is_name ws) x e in
     let s = steps _ (after (codes "->") i.0.1) x i.2 in
     let l = steps _ (some_at is_name s.0) x s.2 in
     let input = word_takes is_name ws i.0 i.1 in
     let sent = after_takes (codes "->") i.0.1 s.0 s.1 in
     let outputs = some_takes is_name s.0 l.0 l.1 in
-    subst (TakesBody (codes "split") ws) l.2 (
+    subst (TakesBody version (codes "split") ws) l.2 (
       (input.0, outputs.0),
       refl,
       followed i.0.0 input.1 (followed (codes "->") sent outputs.1),
     )
 
-join_takes : (ws : List Word) (x : Found BodyWords) → join_at ws ≡ Some x
-    → TakesBody (codes "join") ws (Some x)
+join_takes : (version : Version) (ws : List Word) (x : Found BodyWords) → join_at ws ≡ Some x
+    → TakesBody version (codes "join") ws (Some x)
 unfolding join_at TakesBody
-join_takes ws x e =
+join_takes version ws x e =
     let l = steps _ (some_at is_name ws) x e in
     let s = steps _ (after (codes "->") l.0.1) x l.2 in
     let o = steps _ (word_at is_name s.0) x s.2 in
@@ -356,16 +407,16 @@ join_takes ws x e =
     let sent = after_takes (codes "->") l.0.1 s.0 s.1 in
     let output = word_takes is_name s.0 o.0 o.1 in
     let line = inputs.1 ∙ ap (λ ws. l.0.0 ++ ws) (followed (codes "->") sent output.1) in
-    subst (TakesBody (codes "join") ws) o.2 (
+    subst (TakesBody version (codes "join") ws) o.2 (
       (inputs.0, output.0),
       refl,
       line ∙ sym (append_assoc l.0.0 (codes "->" ∷ o.0.0 ∷ []) o.0.1),
     )
 
-peer_takes : (ws : List Word) (x : Found BodyWords) → peer_at ws ≡ Some x
-    → TakesBody (codes "peer") ws (Some x)
+peer_takes : (version : Version) (ws : List Word) (x : Found BodyWords) → peer_at ws ≡ Some x
+    → TakesBody version (codes "peer") ws (Some x)
 unfolding peer_at TakesBody
-peer_takes ws x e =
+peer_takes version ws x e =
     let i = steps _ (word_at is_name ws) x e in
     let b = steps _ (after (codes "<->") i.0.1) x i.2 in
     let c = steps _ (word_at is_name b.0) x b.2 in
@@ -380,7 +431,7 @@ peer_takes ws x e =
     let output = word_takes is_name s.0 o.0 o.1 in
     let times = after_takes (codes "mul") o.0.1 m.0 m.1 in
     let factor = word_takes is_int m.0 f.0 f.1 in
-    subst (TakesBody (codes "peer") ws) f.2 (
+    subst (TakesBody version (codes "peer") ws) f.2 (
       (input.0, exchange.0, output.0, factor.0),
       refl,
       followed i.0.0 input.1 (followed (codes "<->") both (followed c.0.0 exchange.1
@@ -388,49 +439,56 @@ peer_takes ws x e =
           (followed (codes "mul") times factor.1))))),
     )
 
-sink_takes : (ws : List Word) (x : Found BodyWords) → sink_at ws ≡ Some x
-    → TakesBody (codes "sink") ws (Some x)
+sink_takes : (version : Version) (ws : List Word) (x : Found BodyWords) → sink_at ws ≡ Some x
+    → TakesBody version (codes "sink") ws (Some x)
 unfolding sink_at TakesBody
-sink_takes ws x e =
+sink_takes version ws x e =
     let i = steps _ (word_at is_name ws) x e in
     let input = word_takes is_name ws i.0 i.1 in
-    subst (TakesBody (codes "sink") ws) i.2 (input.0, refl, input.1)
+    subst (TakesBody version (codes "sink") ws) i.2 (input.0, refl, input.1)
 
 -- a choice by the first word
-by_kind : (kind sign : Word) (ws : List Word) (x : Found BodyWords) (one other : Option (Found BodyWords))
-    → (one ≡ Some x → TakesBody sign ws (Some x)) → (other ≡ Some x → TakesBody kind ws (Some x))
-    → (if bytes_eq kind sign then one else other) ≡ Some x → TakesBody kind ws (Some x)
-by_kind kind sign ws x one other takes others e = at (bytes_eq kind sign) refl e
+by_kind : (version : Version) (allowed : Bool) (kind sign : Word) (ws : List Word)
+    (x : Found BodyWords) (one other : Option (Found BodyWords))
+    → (IsTrue allowed → one ≡ Some x → TakesBody version sign ws (Some x))
+    → (other ≡ Some x → TakesBody version kind ws (Some x))
+    → (if allowed && bytes_eq kind sign then one else other) ≡ Some x
+    → TakesBody version kind ws (Some x)
+by_kind version allowed kind sign ws x one other takes others e =
+    at allowed (bytes_eq kind sign) refl refl e
   where
-    at : (is : Bool) → bytes_eq kind sign ≡ is → (if is then one else other) ≡ Some x
-        → TakesBody kind ws (Some x)
-    at true is found =
-        rw (same kind sign is) (takes found)
-    at false is found = others found
+    at : (may is : Bool) → allowed ≡ may → bytes_eq kind sign ≡ is
+        → (if may && is then one else other) ≡ Some x → TakesBody version kind ws (Some x)
+    at true true may is found = rw (same kind sign is) (takes may found)
+    at true false may is found = others found
+    at false is may e found = others found
 
-body_takes : (kind : Word) (ws : List Word) (x : Found BodyWords) → body_at kind ws ≡ Some x
-    → TakesBody kind ws (Some x)
+body_takes : (version : Version) (kind : Word) (ws : List Word) (x : Found BodyWords)
+    → body_at (has_third version) kind ws ≡ Some x → TakesBody version kind ws (Some x)
 unfolding body_at
-body_takes kind ws x e =
-    by_kind kind (codes "source") ws x _ _ (source_takes ws x)
-    (by_kind kind (codes "fir") ws x _ _ (fir_takes ws x)
-    (by_kind kind (codes "split") ws x _ _ (split_takes ws x)
-    (by_kind kind (codes "join") ws x _ _ (join_takes ws x)
-    (by_kind kind (codes "peer") ws x _ _ (peer_takes ws x)
-    (by_kind kind (codes "sink") ws x _ _ (sink_takes ws x) (λ none. absurd (cc))))))) e
+body_takes version kind ws x e =
+    by_kind version true kind (codes "source") ws x _ _ (λ yes. source_takes version ws x)
+    (by_kind version true kind (codes "fir") ws x _ _ (λ yes. fir_takes version ws x)
+    (by_kind version (has_third version) kind (codes "delay") ws x _ _
+    (λ third. delay_takes version ws x third)
+    (by_kind version true kind (codes "split") ws x _ _ (λ yes. split_takes version ws x)
+    (by_kind version true kind (codes "join") ws x _ _ (λ yes. join_takes version ws x)
+    (by_kind version true kind (codes "peer") ws x _ _ (λ yes. peer_takes version ws x)
+    (by_kind version true kind (codes "sink") ws x _ _ (λ yes. sink_takes version ws x)
+    (λ none. absurd (cc)))))))) e
 
 -- ---- a line
 
-phaser_takes : (version : Version) (ws : List Word) (d : Decl) → phaser_words_at ws ≡ Some d
-    → Spells version (codes "phaser" ∷ ws) d
+phaser_takes : (version : Version) (ws : List Word) (d : Decl)
+    → phaser_words_at (may_declare version) ws ≡ Some d → Spells version (codes "phaser" ∷ ws) d
 unfolding phaser_words_at
 phaser_takes version ws d e =
-    let n = steps _ (word_at is_name ws) d e in
+    let n = steps _ (word_at (may_declare version) ws) d e in
     let o = steps _ (operation_at n.0.1) d n.2 in
     let b = steps _ (word_at is_nat o.0.1) d o.2 in
     let s = steps _ (single_at b.0.1) d b.2 in
     let c = cond_some (length s.0.1 == 0) (phaser n.0.0 o.0.0 b.0.0 s.0.0) d s.2 in
-    let name = word_takes is_name ws n.0 n.1 in
+    let name = word_takes (may_declare version) ws n.0 n.1 in
     let operation = operation_takes n.0.1 o.0 o.1 in
     let bound = word_takes is_nat o.0.1 b.0 b.1 in
     let single = single_takes b.0.1 s.0 s.1 in
@@ -444,14 +502,14 @@ phaser_takes version ws d e =
     })
 
 task_takes : (version : Version) (kind : Word) (ws : List Word) (d : Decl)
-    → task_words_at version kind ws ≡ Some d → Spells version (kind ∷ ws) d
+    → task_words_at (may_declare version) version kind ws ≡ Some d → Spells version (kind ∷ ws) d
 unfolding task_words_at TakesBody
 task_takes version kind ws d e =
-    let n = steps _ (word_at is_name ws) d e in
-    let b = steps _ (body_at kind n.0.1) d n.2 in
+    let n = steps _ (word_at (may_declare version) ws) d e in
+    let b = steps _ (body_at (has_third version) kind n.0.1) d n.2 in
     let s = steps _ (ends_at version b.0.0 b.0.1) d b.2 in
-    let name = word_takes is_name ws n.0 n.1 in
-    let body = body_takes kind n.0.1 b.0 b.1 in
+    let name = word_takes (may_declare version) ws n.0 n.1 in
+    let body = body_takes version kind n.0.1 b.0 b.1 in
     let ends = ends_takes version b.0.0 b.0.1 s.0 s.1 in
     subst (Spells version (kind ∷ ws)) (same_Some (task n.0.0 b.0.0 s.0) d s.2) (record {
       well_formed = (name.0, body.0, ends.0);
@@ -462,12 +520,13 @@ task_takes version kind ws d e =
 -- what is read is spelled so
 pub line_takes : (version : Version) (ws : List Word) (d : Decl) → decl_at version ws ≡ Some d
     → Spells version ws d
-unfolding decl_at
+unfolding decl_by
 line_takes version [] d e = absurd (cc)
 line_takes version (kind ∷ ws) d e = at (bytes_eq kind (codes "phaser")) refl e
   where
     at : (is : Bool) → bytes_eq kind (codes "phaser") ≡ is
-        → (if is then phaser_words_at ws else task_words_at version kind ws) ≡ Some d
+        → (if is then phaser_words_at (may_declare version) ws
+        else task_words_at (may_declare version) version kind ws) ≡ Some d
         → Spells version (kind ∷ ws) d
     at true is found =
         rw (same kind (codes "phaser") is) (phaser_takes version ws d found)

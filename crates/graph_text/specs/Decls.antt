@@ -1,5 +1,6 @@
 -- What a line declares, and the one way in which its words spell it. Names, files and numbers stand
--- as they are written. A text of the second version may have more ends.
+-- as they are written. A text of the second version may have more ends, and one of the third also
+-- delays and filters that add.
 use Rattle.std.specs.Prelude.{ℕ, ◌≡◌, ◌≤◌, Bool, true, false, List, [], ◌∷◌, ◌++◌, length, Option, Some, None, IsTrue, IfSome, codes, if◌then◌else◌}
 use Rattle.std.specs.List.{list_all}
 use Rattle.phase_base.specs.Words.{Word, is_name, is_file}
@@ -8,7 +9,7 @@ use Rattle.phase_base.specs.OperationWords.{operation_word}
 use Rattle.phase_base.specs.declared.operation.Op.{Op}
 use Rattle.phase_base.specs.Numbers.{is_nat, is_int}
 use Rattle.graph_text.specs.declared.version.Version.{Version}
-use Rattle.graph_text.specs.declared.version.Version.TheVariants.{One, Two}
+use Rattle.graph_text.specs.Versions.{has_second, has_third, may_declare}
 
 -- ---- what a line declares
 
@@ -35,7 +36,8 @@ pub record EndWords : Type 0 where
 -- what a task does, with its phasers
 pub data BodyWords : Type 0 where
   source : (file output : Word) → BodyWords
-  fir : (input output shift : Word) (taps : List Word) → BodyWords
+  fir : (input output shift : Word) (plus : Option Word) (taps : List Word) → BodyWords
+  delay : (input output steps : Word) → BodyWords
   split : (input : Word) (outputs : List Word) → BodyWords
   join : (inputs : List Word) (output : Word) → BodyWords
   peer : (input exchange output factor : Word) → BodyWords
@@ -83,10 +85,16 @@ block_words (Some steps) = (codes "block=" ++ steps) ∷ []
 abbrev pub end_words : EndWords → List Word
 end_words ends = by_words ends.by ++ (until_words ends.until ++ block_words ends.block)
 
+-- the words of what a filter adds, where there is something
+abbrev pub plus_words : Option Word → List Word
+plus_words None = []
+plus_words (Some plus) = codes "plus" ∷ plus ∷ []
+
 -- the first word of the line
 abbrev pub body_word : BodyWords → Word
 body_word (source file output) = codes "source"
-body_word (fir input output shift taps) = codes "fir"
+body_word (fir input output shift plus taps) = codes "fir"
+body_word (delay input output steps) = codes "delay"
 body_word (split input outputs) = codes "split"
 body_word (join inputs output) = codes "join"
 body_word (peer input exchange output factor) = codes "peer"
@@ -95,8 +103,10 @@ body_word (sink input) = codes "sink"
 -- the words between the name and the ends
 abbrev pub body_words : BodyWords → List Word
 body_words (source file output) = file ∷ codes "->" ∷ output ∷ []
-body_words (fir input output shift taps) =
-    input ∷ codes "->" ∷ output ∷ codes "shift" ∷ shift ∷ codes "taps" ∷ taps
+body_words (fir input output shift plus taps) =
+    input ∷ codes "->" ∷ output ∷ codes "shift" ∷ shift ∷ (plus_words plus ++ codes "taps" ∷ taps)
+body_words (delay input output steps) =
+    input ∷ codes "->" ∷ output ∷ codes "of" ∷ steps ∷ []
 body_words (split input outputs) = input ∷ codes "->" ∷ outputs
 body_words (join inputs output) = inputs ++ codes "->" ∷ output ∷ []
 body_words (peer input exchange output factor) =
@@ -121,7 +131,8 @@ IsFunction (clamp low high) = IsTrue (is_int low) × IsTrue (is_int high)
 -- whether a line of the kind may name a parent
 abbrev pub may_have_parent : BodyWords → Bool
 may_have_parent (source file output) = true
-may_have_parent (fir input output shift taps) = true
+may_have_parent (fir input output shift plus taps) = true
+may_have_parent (delay input output steps) = true
 may_have_parent (split input outputs) = false
 may_have_parent (join inputs output) = false
 may_have_parent (peer input exchange output factor) = false
@@ -131,36 +142,40 @@ may_have_parent (sink input) = true
 abbrev pub AreSome : (Word → Bool) → List Word → Type 0
 AreSome test words = (1 ≤ length words) × IsTrue (list_all test words)
 
--- the names, files and numbers of what a task does are such
-abbrev pub IsBody : BodyWords → Type 0
-IsBody (source file output) = IsTrue (is_file file) × IsTrue (is_name output)
-IsBody (fir input output shift taps) = IsTrue (is_name input) × IsTrue (is_name output)
-    × IsTrue (is_nat shift) × AreSome is_int taps
-IsBody (split input outputs) = IsTrue (is_name input) × AreSome is_name outputs
-IsBody (join inputs output) = AreSome is_name inputs × IsTrue (is_name output)
-IsBody (peer input exchange output factor) = IsTrue (is_name input) × IsTrue (is_name exchange)
+-- the names, files and numbers of what a task does are such, on a line of this version
+abbrev pub IsBody : Version → BodyWords → Type 0
+IsBody version (source file output) = IsTrue (is_file file) × IsTrue (is_name output)
+IsBody version (fir input output shift plus taps) = IsTrue (is_name input)
+    × IsTrue (is_name output) × IsTrue (is_nat shift)
+    × IfSome plus (λ plus. IsTrue (is_int plus) × IsTrue (has_third version))
+    × AreSome is_int taps
+IsBody version (delay input output steps) = IsTrue (is_name input) × IsTrue (is_name output)
+    × IsTrue (is_nat steps) × IsTrue (has_third version)
+IsBody version (split input outputs) = IsTrue (is_name input) × AreSome is_name outputs
+IsBody version (join inputs output) = AreSome is_name inputs × IsTrue (is_name output)
+IsBody version (peer input exchange output factor) = IsTrue (is_name input) × IsTrue (is_name exchange)
     × IsTrue (is_name output) × IsTrue (is_int factor)
-IsBody (sink input) = IsTrue (is_name input)
+IsBody version (sink input) = IsTrue (is_name input)
 
 -- whether a line of this version, of this kind, may say that its task joins now
 abbrev pub may_join_now : Version → BodyWords → Bool
-may_join_now One body = false
-may_join_now Two (source file output) = false
-may_join_now Two (fir input output shift taps) = false
-may_join_now Two (split input outputs) = false
-may_join_now Two (join inputs output) = false
-may_join_now Two (peer input exchange output factor) = false
-may_join_now Two (sink input) = true
+may_join_now version (source file output) = false
+may_join_now version (fir input output shift plus taps) = false
+may_join_now version (delay input output steps) = false
+may_join_now version (split input outputs) = false
+may_join_now version (join inputs output) = false
+may_join_now version (peer input exchange output factor) = false
+may_join_now version (sink input) = has_second version
 
 -- whether a line of this version, of this kind, may say how many steps a block has
 abbrev pub may_have_blocks : Version → BodyWords → Bool
-may_have_blocks One body = false
-may_have_blocks Two (source file output) = true
-may_have_blocks Two (fir input output shift taps) = true
-may_have_blocks Two (split input outputs) = false
-may_have_blocks Two (join inputs output) = false
-may_have_blocks Two (peer input exchange output factor) = false
-may_have_blocks Two (sink input) = true
+may_have_blocks version (source file output) = has_second version
+may_have_blocks version (fir input output shift plus taps) = has_second version
+may_have_blocks version (delay input output steps) = has_second version
+may_have_blocks version (split input outputs) = false
+may_have_blocks version (join inputs output) = false
+may_have_blocks version (peer input exchange output factor) = false
+may_have_blocks version (sink input) = has_second version
 
 -- a parent is named, and the count of its steps is a number
 abbrev pub IsBy : ByWords → Type 0
@@ -178,12 +193,17 @@ pub record AreEnds (version : Version) (body : BodyWords) (ends : EndWords) : Ty
   pub block : IfSome ends.block (λ steps.
       IsTrue (is_nat steps) × IsTrue (may_have_blocks version body))
 
--- names are names, numbers are numbers, and so on, on a line of this version
+-- names are names, of which the declared one passes this test, numbers are numbers, and so on, on a
+-- line of this version
+abbrev pub IsWellFormedBy : (Word → Bool) → Version → Decl → Type 0
+IsWellFormedBy declares version (phaser name operation bound single) =
+    IsTrue (declares name) × IsTrue (is_nat bound) × IfSome single IsFunction
+IsWellFormedBy declares version (task name body ends) =
+    IsTrue (declares name) × IsBody version body × AreEnds version body ends
+
+-- the declared name is one that a line of this version may declare
 abbrev pub IsWellFormed : Version → Decl → Type 0
-IsWellFormed version (phaser name operation bound single) =
-    IsTrue (is_name name) × IsTrue (is_nat bound) × IfSome single IsFunction
-IsWellFormed version (task name body ends) =
-    IsTrue (is_name name) × IsBody body × AreEnds version body ends
+IsWellFormed version d = IsWellFormedBy (may_declare version) version d
 
 -- the words spell what is declared, in a text of this version
 pub record Spells (version : Version) (words : List Word) (d : Decl) : Type 0 where

@@ -8,7 +8,8 @@ use Rattle.phase_base.specs.Words.{Word, is_name, is_file}
 use Rattle.phase_base.specs.OperationWords.{operation_of}
 use Rattle.phase_base.specs.declared.operation.Op.{Op}
 use Rattle.phase_base.specs.Numbers.{is_nat, is_int}
-use Rattle.graph_text.specs.Decls.{Decl, phaser, task, FunctionWords, neg, abs, halve, clamp, ByWords, EndWords, BodyWords, source, fir, split, join, peer, sink, may_have_parent, may_join_now, may_have_blocks}
+use Rattle.graph_text.specs.Decls.{Decl, phaser, task, FunctionWords, neg, abs, halve, clamp, ByWords, EndWords, BodyWords, source, fir, delay, split, join, peer, sink, may_have_parent, may_join_now, may_have_blocks}
+use Rattle.graph_text.specs.Versions.{has_third, may_declare}
 use Rattle.graph_text.specs.declared.version.Version.{Version}
 use Rattle.graph_text.specs.Lines.{function_of, single_of, by_of, word_of, body_of}
 use Rattle.graph_text.specs.Plain.{plain as words_in}
@@ -155,17 +156,38 @@ source_at words = do
   output ← word_at is_name sent
   Some (source file.0 output.0, output.1)
 
--- what a filter does
-unfoldable pub fir_at : List Word → Option (Found BodyWords)
-fir_at words = do
+-- what a filter adds, or nothing where that is not allowed or the word for it is missing
+unfoldable pub plus_at : Bool → List Word → Option (Found (Option Word))
+plus_at allowed words =
+    if allowed && begins (codes "plus") words
+    then (do
+      added ← after (codes "plus") words
+      plus ← word_at is_int added
+      Some (Some plus.0, plus.1))
+    else Some (None, words)
+
+-- what a filter does, which may add where that is allowed
+unfoldable pub fir_at : Bool → List Word → Option (Found BodyWords)
+fir_at adds words = do
   input ← word_at is_name words
   sent ← after (codes "->") input.1
   output ← word_at is_name sent
   shifted ← after (codes "shift") output.1
   shift ← word_at is_nat shifted
-  tapped ← after (codes "taps") shift.1
+  plus ← plus_at adds shift.1
+  tapped ← after (codes "taps") plus.1
   taps ← some_at is_int tapped
-  Some (fir input.0 output.0 shift.0 taps.0, taps.1)
+  Some (fir input.0 output.0 shift.0 plus.0 taps.0, taps.1)
+
+-- what a delay does
+unfoldable pub delay_at : List Word → Option (Found BodyWords)
+delay_at words = do
+  input ← word_at is_name words
+  sent ← after (codes "->") input.1
+  output ← word_at is_name sent
+  counted ← after (codes "of") output.1
+  steps ← word_at is_nat counted
+  Some (delay input.0 output.0 steps.0, steps.1)
 
 -- what a splitter does
 unfoldable pub split_at : List Word → Option (Found BodyWords)
@@ -201,11 +223,13 @@ sink_at words = do
   input ← word_at is_name words
   Some (sink input.0, input.1)
 
--- what a task does, by the first word of its line
-unfoldable pub body_at : Word → List Word → Option (Found BodyWords)
-body_at kind words =
+-- what a task does, by the first word of its line, where a delay and a filter that adds may be
+-- allowed
+unfoldable pub body_at : Bool → Word → List Word → Option (Found BodyWords)
+body_at adds kind words =
     if bytes_eq kind (codes "source") then source_at words
-    else if bytes_eq kind (codes "fir") then fir_at words
+    else if bytes_eq kind (codes "fir") then fir_at adds words
+    else if adds && bytes_eq kind (codes "delay") then delay_at words
     else if bytes_eq kind (codes "split") then split_at words
     else if bytes_eq kind (codes "join") then join_at words
     else if bytes_eq kind (codes "peer") then peer_at words
@@ -214,29 +238,33 @@ body_at kind words =
 
 -- ---- a line
 
--- the line of a phaser, behind its first word
-unfoldable pub phaser_words_at : List Word → Option Decl
-phaser_words_at words = do
-  name ← word_at is_name words
+-- the line of a phaser, behind its first word, whose name passes this test
+unfoldable pub phaser_words_at : (Word → Bool) → List Word → Option Decl
+phaser_words_at declares words = do
+  name ← word_at declares words
   operation ← operation_at name.1
   bound ← word_at is_nat operation.1
   single ← single_at bound.1
   if length single.1 == 0 then Some (phaser name.0 operation.0 bound.0 single.0) else None
 
--- the line of a task, by its first word
-unfoldable pub task_words_at : Version → Word → List Word → Option Decl
-task_words_at version kind words = do
-  name ← word_at is_name words
-  body ← body_at kind name.1
+-- the line of a task, by its first word, whose name passes this test
+unfoldable pub task_words_at : (Word → Bool) → Version → Word → List Word → Option Decl
+task_words_at declares version kind words = do
+  name ← word_at declares words
+  body ← body_at (has_third version) kind name.1
   ends ← ends_at version body.0 body.1
   Some (task name.0 body.0 ends)
 
+-- a line whose declared name passes this test
+unfoldable pub decl_by : (Word → Bool) → Version → List Word → Option Decl
+decl_by declares version [] = None
+decl_by declares version (kind ∷ words) =
+    if bytes_eq kind (codes "phaser") then phaser_words_at declares words
+    else task_words_at declares version kind words
+
 -- a line
-unfoldable pub decl_at : Version → List Word → Option Decl
-decl_at version [] = None
-decl_at version (kind ∷ words) =
-    if bytes_eq kind (codes "phaser") then phaser_words_at words
-    else task_words_at version kind words
+abbrev pub decl_at : Version → List Word → Option Decl
+decl_at version words = decl_by (may_declare version) version words
 
 -- ---- what was read, with the words after it
 
@@ -274,6 +302,11 @@ found_by found = (by_of found.0, words_in found.1.now)
 abbrev pub found_until :
     Option (Bor (List ℕ)) × Bor (List (Bor (List ℕ))) → Found (Option Word)
 found_until found = (word_of found.0, words_in found.1.now)
+
+-- what a filter adds or nothing
+abbrev pub found_plus :
+    Option (Bor (List ℕ)) × Bor (List (Bor (List ℕ))) → Found (Option Word)
+found_plus found = (word_of found.0, words_in found.1.now)
 
 -- what a task does
 abbrev pub found_body : Body × Bor (List (Bor (List ℕ))) → Found BodyWords

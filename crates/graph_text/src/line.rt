@@ -53,8 +53,11 @@ pub struct TaskWords<'w, 'a> {
 pub enum Body<'w, 'a> {
     /// `FILE -> Y`: the file, and the output.
     Source(&'a [u8], &'a [u8]),
-    /// `X -> Y shift N taps T1 T2 ..`: the input, the output, the shift and the taps.
-    Fir(&'a [u8], &'a [u8], &'a [u8], &'w [&'a [u8]]),
+    /// `X -> Y shift N plus C taps T1 T2 ..`: the input, the output, the shift, what is added, in a
+    /// text of version 3, and the taps.
+    Fir(&'a [u8], &'a [u8], &'a [u8], Option<&'a [u8]>, &'w [&'a [u8]]),
+    /// `X -> Y of N`, in a text of version 3: the input, the output and the number of steps.
+    Delay(&'a [u8], &'a [u8], &'a [u8]),
     /// `X -> Y0 Y1 ..`: the input, and the outputs.
     Split(&'a [u8], &'w [&'a [u8]]),
     /// `X0 X1 .. -> Y`: the inputs, and the output.
@@ -72,7 +75,7 @@ pub struct Ends<'a> {
     pub by: Option<By<'a>>,
     /// The number after `until`.
     pub until: Option<&'a [u8]>,
-    /// The number after `block=`, in a text of version 2.
+    /// The number after `block=`, in a text of version 2 or 3.
     pub block: Option<&'a [u8]>,
 }
 
@@ -83,7 +86,7 @@ pub struct By<'a> {
     pub parent: &'a [u8],
     /// How many steps that task makes before.
     pub at: &'a [u8],
-    /// Whether `now` stands behind it, in a text of version 2: the child joins at the first phase
+    /// Whether `now` stands behind it, in a text of version 2 or 3: the child joins at the first phase
     /// that is not complete then.
     pub now: bool,
 }

@@ -5,7 +5,8 @@ ghost use Rattle.phase_base.specs.Words.{is_name as is_name_word, is_file as is_
 ghost use Rattle.phase_base.specs.Numbers.{is_nat as is_nat_word, is_int as is_int_word};
 ghost use Rattle.graph_text.specs.Decls.{Decl, Spells, may_have_parent, may_join_now, may_have_blocks};
 ghost use Rattle.std.specs.List.{prefix_len};
-ghost use Rattle.graph_text.specs.WordReading.{found_word, found_words, found_operation, found_function, found_single, found_now, found_by, found_until, found_body, word_at, after, begins, some_at, operation_at, clamp_at, function_named, function_at, single_at, now_at, by_at, until_at, block_number, block_at, ends_at, source_at, fir_at, split_at, join_at, peer_at, sink_at, body_at, phaser_words_at, task_words_at, decl_at};
+ghost use Rattle.graph_text.specs.WordReading.{found_word, found_words, found_operation, found_function, found_single, found_now, found_by, found_until, found_plus, found_body, word_at, after, begins, some_at, operation_at, clamp_at, function_named, function_at, single_at, now_at, by_at, until_at, block_number, block_at, ends_at, source_at, plus_at, fir_at, delay_at, split_at, join_at, peer_at, sink_at, body_at, phaser_words_at, task_words_at, decl_at};
+ghost use Rattle.graph_text.specs.Versions.{may_declare};
 ghost use Rattle.graph_text.specs.Lines.{word_of, body_of, ends_of, decl_of};
 
 use crate::line::{Body, By, Ends, Function, Line, PhaserWords, TaskWords};
@@ -21,6 +22,20 @@ fn name_at<'w, 'a>(words: &'w [&'a [u8]]) -> Option<(&'a [u8], &'w [&'a [u8]])>
 {
     match words {
         [word, rest @ ..] if is_name(word) => Some((*word, rest)),
+        _ => None,
+    }
+}
+
+/// The first word, where a line of this version may declare it as a name, and the words after it.
+#[tactic(auto, unfolding(crate::specs::WordReading::word_at))]
+fn declared_at<'w, 'a>(
+    version: Version,
+    words: &'w [&'a [u8]],
+) -> Option<(&'a [u8], &'w [&'a [u8]])>
+    ensures { option_map found_word result ≡ word_at (may_declare version) (plain words.now) }
+{
+    match words {
+        [word, rest @ ..] if version.may_declare(word) => Some((*word, rest)),
         _ => None,
     }
 }
@@ -296,19 +311,51 @@ fn source_at<'w, 'a>(words: &'w [&'a [u8]]) -> Option<(Body<'w, 'a>, &'w [&'a [u
     Some((Body::Source(file, output), rest))
 }
 
-/// `X -> Y shift N taps T1 T2 ..`, and the words after it.
+/// `plus C` where that is allowed, or nothing, and the words after it.
+#[tactic(auto, unfolding(crate::specs::WordReading::plus_at))]
+fn plus_at<'w, 'a>(
+    allowed: bool,
+    words: &'w [&'a [u8]],
+) -> Option<(Option<&'a [u8]>, &'w [&'a [u8]])>
+    ensures { option_map found_plus result ≡ plus_at allowed (plain words.now) }
+{
+    if allowed && begins(b"plus", words) {
+        let rest = after(b"plus", words)?;
+        let (plus, rest) = int_at(rest)?;
+        Some((Some(plus), rest))
+    } else {
+        Some((None, words))
+    }
+}
+
+/// `X -> Y shift N taps T1 T2 ..`, with `plus C` before `taps` where that is allowed, and the words
+/// after it.
 #[tactic(auto, unfolding(crate::specs::WordReading::fir_at))]
-fn fir_at<'w, 'a>(words: &'w [&'a [u8]]) -> Option<(Body<'w, 'a>, &'w [&'a [u8]])>
-    ensures { option_map found_body result ≡ fir_at (plain words.now) }
+fn fir_at<'w, 'a>(adds: bool, words: &'w [&'a [u8]]) -> Option<(Body<'w, 'a>, &'w [&'a [u8]])>
+    ensures { option_map found_body result ≡ fir_at adds (plain words.now) }
 {
     let (input, rest) = name_at(words)?;
     let rest = after(b"->", rest)?;
     let (output, rest) = name_at(rest)?;
     let rest = after(b"shift", rest)?;
     let (shift, rest) = nat_at(rest)?;
+    let (plus, rest) = plus_at(adds, rest)?;
     let rest = after(b"taps", rest)?;
     let (taps, rest) = ints_at(rest)?;
-    Some((Body::Fir(input, output, shift, taps), rest))
+    Some((Body::Fir(input, output, shift, plus, taps), rest))
+}
+
+/// `X -> Y of N`, and the words after it.
+#[tactic(auto, unfolding(crate::specs::WordReading::delay_at))]
+fn delay_at<'w, 'a>(words: &'w [&'a [u8]]) -> Option<(Body<'w, 'a>, &'w [&'a [u8]])>
+    ensures { option_map found_body result ≡ delay_at (plain words.now) }
+{
+    let (input, rest) = name_at(words)?;
+    let rest = after(b"->", rest)?;
+    let (output, rest) = name_at(rest)?;
+    let rest = after(b"of", rest)?;
+    let (steps, rest) = nat_at(rest)?;
+    Some((Body::Delay(input, output, steps), rest))
 }
 
 /// `X -> Y0 Y1 ..`, and the words after it.
@@ -357,15 +404,22 @@ fn sink_at<'w, 'a>(words: &'w [&'a [u8]]) -> Option<(Body<'w, 'a>, &'w [&'a [u8]
     Some((Body::Sink(input), rest))
 }
 
-/// What a task does, by the first word of its line, and the words after it.
+/// What a task does, by the first word of its line, and the words after it; a delay and a filter
+/// that adds where they are allowed.
 #[tactic(auto, unfolding(crate::specs::WordReading::body_at))]
-fn body_at<'w, 'a>(kind: &[u8], words: &'w [&'a [u8]]) -> Option<(Body<'w, 'a>, &'w [&'a [u8]])>
-    ensures { option_map found_body result ≡ body_at kind.now (plain words.now) }
+fn body_at<'w, 'a>(
+    adds: bool,
+    kind: &[u8],
+    words: &'w [&'a [u8]],
+) -> Option<(Body<'w, 'a>, &'w [&'a [u8]])>
+    ensures { option_map found_body result ≡ body_at adds kind.now (plain words.now) }
 {
     if kind == b"source".as_slice() {
         source_at(words)
     } else if kind == b"fir".as_slice() {
-        fir_at(words)
+        fir_at(adds, words)
+    } else if adds && kind == b"delay".as_slice() {
+        delay_at(words)
     } else if kind == b"split".as_slice() {
         split_at(words)
     } else if kind == b"join".as_slice() {
@@ -383,34 +437,39 @@ fn body_at<'w, 'a>(kind: &[u8], words: &'w [&'a [u8]]) -> Option<(Body<'w, 'a>, 
 fn may_have_parent(body: Body<'_, '_>) -> bool
     ensures { result ≡ may_have_parent (body_of body.entry) }
 {
-    matches!(body, Body::Source(..) | Body::Fir(..) | Body::Sink(..))
+    matches!(
+        body,
+        Body::Source(..) | Body::Fir(..) | Body::Delay(..) | Body::Sink(..)
+    )
 }
 
 /// Whether a line of this version, of the kind, may say that its task joins now.
 fn may_join_now(version: Version, body: Body<'_, '_>) -> bool
     ensures { result ≡ may_join_now version (body_of body.entry) }
 {
-    matches!((version, body), (Version::Two, Body::Sink(..)))
+    version.has_second() && matches!(body, Body::Sink(..))
 }
 
 /// Whether a line of this version, of the kind, may say how many steps a block has.
 fn may_have_blocks(version: Version, body: Body<'_, '_>) -> bool
     ensures { result ≡ may_have_blocks version (body_of body.entry) }
 {
-    match version {
-        Version::One => false,
-        Version::Two => matches!(body, Body::Source(..) | Body::Fir(..) | Body::Sink(..)),
-    }
+    version.has_second()
+        && matches!(
+            body,
+            Body::Source(..) | Body::Fir(..) | Body::Delay(..) | Body::Sink(..)
+        )
 }
 
 // ---- a line
 
 /// What the words after `phaser` declare.
 #[tactic(auto, unfolding(crate::specs::WordReading::phaser_words_at))]
-fn phaser_at<'w, 'a>(words: &'w [&'a [u8]]) -> Option<Line<'w, 'a>>
-    ensures { option_map decl_of result ≡ phaser_words_at (plain words.now) }
+fn phaser_at<'w, 'a>(version: Version, words: &'w [&'a [u8]]) -> Option<Line<'w, 'a>>
+    ensures { option_map decl_of result
+        ≡ phaser_words_at (may_declare version) (plain words.now) }
 {
-    let (name, rest) = name_at(words)?;
+    let (name, rest) = declared_at(version, words)?;
     let (operation, rest) = operation_at(rest)?;
     let (bound, rest) = nat_at(rest)?;
     let (single, rest) = single_at(rest)?;
@@ -429,16 +488,17 @@ fn phaser_at<'w, 'a>(words: &'w [&'a [u8]]) -> Option<Line<'w, 'a>>
 /// What the words after the kind of a task declare.
 #[tactic(auto, unfolding(crate::specs::WordReading::task_words_at))]
 fn task_at<'w, 'a>(version: Version, kind: &[u8], words: &'w [&'a [u8]]) -> Option<Line<'w, 'a>>
-    ensures { option_map decl_of result ≡ task_words_at version kind.now (plain words.now) }
+    ensures { option_map decl_of result
+        ≡ task_words_at (may_declare version) version kind.now (plain words.now) }
 {
-    let (name, rest) = name_at(words)?;
-    let (body, rest) = body_at(kind, rest)?;
+    let (name, rest) = declared_at(version, words)?;
+    let (body, rest) = body_at(version.has_third(), kind, rest)?;
     let ends = ends_at(version, body, rest)?;
     Some(Line::Task(TaskWords { name, body, ends }))
 }
 
 /// What the words declare, read one after another.
-#[tactic(auto, unfolding(crate::specs::WordReading::decl_at))]
+#[tactic(auto, unfolding(crate::specs::WordReading::decl_by))]
 fn read<'w, 'a>(words: &'w [&'a [u8]], version: Version) -> Option<Line<'w, 'a>>
     ensures { option_map decl_of result ≡ decl_at version (plain words.now) }
 {
@@ -446,7 +506,7 @@ fn read<'w, 'a>(words: &'w [&'a [u8]], version: Version) -> Option<Line<'w, 'a>>
         [] => None,
         [kind, rest @ ..] => {
             if *kind == b"phaser".as_slice() {
-                phaser_at(rest)
+                phaser_at(version, rest)
             } else {
                 task_at(version, kind, rest)
             }

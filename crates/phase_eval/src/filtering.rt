@@ -8,7 +8,7 @@ ghost use Rattle.graph_commands.specs.stream_lists.Ranges.{is_out_of_range};
 ghost use Rattle.phase_eval.specs.FilterParts.{IsFilterPart};
 
 use crate::texts::{ByThreads, VALUES_MIN};
-use graph_commands::stream_eval::stream_filters::{FilterFault, filter_list, laws};
+use graph_commands::stream_eval::stream_filters::{FilterFault, Form, filter_list, laws};
 use graph_commands::stream_eval::{FilterLists, filter_part, parts_follow};
 use std::alloc::Global;
 use std::thread::{self, Threads};
@@ -28,33 +28,33 @@ impl<H: Threads + Sync> FilterLists for ByThreads<'_, H> {
         &self,
         alloc: Global,
         taps: &[i64],
-        shift: u32,
+        form: Form,
         samples: &[i64],
     ) -> Result<Vec<i64>, FilterFault> {
         let count = self.parts(samples.len(), VALUES_MIN);
         if count > 1 {
-            if let Some(values) = self.filter(taps, shift, samples, count) {
+            if let Some(values) = self.filter(taps, form, samples, count) {
                 return Ok(values);
             }
         }
-        filter_list(alloc, taps, shift, samples)
+        filter_list(alloc, taps, form, samples)
     }
 }
 
 impl<H: Threads + Sync> ByThreads<'_, H> {
     /// The outputs of a filter at all samples, or nothing where one is out of range, or memory was
     /// refused.
-    fn filter(&self, taps: &[i64], shift: u32, samples: &[i64], count: usize) -> Option<Vec<i64>>
+    fn filter(&self, taps: &[i64], form: Form, samples: &[i64], count: usize) -> Option<Vec<i64>>
         requires sync { IsSync H.row }
-        requires taps { AreTaps taps.now shift }
-        ensures made { IfSome result (λ list. list.items ≡ outputs taps.now shift samples.now) }
+        requires taps { AreTaps taps.now form }
+        ensures made { IfSome result (λ list. list.items ≡ outputs taps.now form samples.now) }
         ensures in_range { IfSome result (λ list.
-            position_from is_out_of_range 0 (outputs taps.now shift samples.now) ≡ None) }
+            position_from is_out_of_range 0 (outputs taps.now form samples.now) ≡ None) }
     {
         let alloc = self.alloc;
-        let filter = |k: usize| part_of(alloc, taps, shift, samples, count, k);
+        let filter = |k: usize| part_of(alloc, taps, form, samples, count, k);
         match thread::map_indices(self.rt, alloc, count, &filter) {
-            Ok(parts) => joined(alloc, taps, shift, samples, &parts),
+            Ok(parts) => joined(alloc, taps, form, samples, &parts),
             Err(_) => None,
         }
     }
@@ -64,14 +64,14 @@ impl<H: Threads + Sync> ByThreads<'_, H> {
 fn part_of(
     alloc: Global,
     taps: &[i64],
-    shift: u32,
+    form: Form,
     samples: &[i64],
     count: usize,
     k: usize,
 ) -> Option<FilterPart>
     requires place { k < count }
-    requires taps { AreTaps taps.now shift }
-    ensures { IfSome result (IsFilterPart (outputs taps.now shift samples.now)) }
+    requires taps { AreTaps taps.now form }
+    ensures { IfSome result (IsFilterPart (outputs taps.now form samples.now)) }
 {
     laws::outputs_entries();
     let size = samples.len() / count;
@@ -81,7 +81,7 @@ fn part_of(
     } else {
         from + size
     };
-    match filter_part(alloc, taps, shift, samples, from, to) {
+    match filter_part(alloc, taps, form, samples, from, to) {
         Some(values) => Some(FilterPart { from, to, values }),
         None => None,
     }
@@ -91,15 +91,15 @@ fn part_of(
 fn joined(
     alloc: Global,
     taps: &[i64],
-    shift: u32,
+    form: Form,
     samples: &[i64],
     parts: &[Option<FilterPart>],
 ) -> Option<Vec<i64>>
-    requires { All (λ part. IfSome part (IsFilterPart (outputs taps.now shift samples.now)))
+    requires { All (λ part. IfSome part (IsFilterPart (outputs taps.now form samples.now)))
         parts.now }
-    ensures made { IfSome result (λ list. list.items ≡ outputs taps.now shift samples.now) }
+    ensures made { IfSome result (λ list. list.items ≡ outputs taps.now form samples.now) }
     ensures in_range { IfSome result (λ list.
-        position_from is_out_of_range 0 (outputs taps.now shift samples.now) ≡ None) }
+        position_from is_out_of_range 0 (outputs taps.now form samples.now) ≡ None) }
 {
     parts_follow();
     laws::outputs_entries();

@@ -1,13 +1,13 @@
 -- Parts of the list of a filter.
-use Rattle.std.proofs.Common.{◌≡◌, ◌≤◌, ◌<◌, ◌⊎◌, inl, inr, ℕ, ◌+◌, ◌-◌, ◌++◌, [], List, length, take, drop, get_or, ℤ, pos, None, Some, sym, ap, subst, ◌∙◌, arith}
-use Rattle.std.specs.Prelude.{Option, IfSome}
+use Rattle.std.proofs.Common.{◌≡◌, ◌≤◌, ◌<◌, ◌⊎◌, inl, inr, ℕ, ◌+◌, ◌-◌, ◌++◌, ◌∷◌, [], List, length, take, drop, get_or, ℤ, pos, ◌+ℤ◌, None, Some, refl, sym, ap, subst, ◌∙◌, true, false, arith}
+use Rattle.std.specs.Prelude.{Option, IfSome, unsigned_abs, nat_le}
 use Rattle.std.specs.List.{position_from}
 use Rattle.std.proofs.lemmas.Bool.{cases_lt}
 use Rattle.std.proofs.lemmas.List.{drop-drop, take_all, get_or-take, get_or-drop, length-take-le, length-drop, same_lists}
 use Rattle.std.proofs.lemmas.Simd.{length-chunk, get_or-chunk}
-use Rattle.std.proofs.Math.Seq.{take-add}
-use Rattle.stream_lists.specs.phase_accum.Sends.{AreSends}
-use Rattle.stream_lists.specs.stream_filters.Filter.{back, output_after, outputs, shifted_down}
+use Rattle.stream_lists.specs.phase_accum.Sends.{AreSends, IsSend, value_max}
+use Rattle.stream_lists.specs.stream_filters.Filter.{back, output_after, outputs, reach, shifted_down}
+use Rattle.stream_lists.specs.stream_filters.declared.form.Form.{Form}
 use Rattle.stream_lists.specs.Ranges.{is_out_of_range}
 use Rattle.stream_lists.proofs.phase_accum_lemmas.Parts.{AreSends-append, AreSends-drop}
 use Rattle.stream_lists.proofs.stream_filters_lemmas.Outputs.{back_is, back-before, outputs-entry, outputs-length}
@@ -60,12 +60,12 @@ length-with_lead samples lead from to front order within =
     length-chunk (from - lead) (to - (from - lead)) samples (omega arith)
 
 -- what stands before an output is the same where enough samples are in front, or all that there are
-same-back : (taps samples : List ℤ) (lead from to k j : ℕ) → lead ≤ from → from ≤ to
-    → to ≤ length samples → (from ≤ lead) ⊎ (length taps ≤ lead + 1) → k < to - from
-    → j < length taps
+same-back : (samples : List ℤ) (reached lead from to k j : ℕ) → lead ≤ from → from ≤ to
+    → to ≤ length samples → (from ≤ lead) ⊎ (reached ≤ lead + 1) → k < to - from → j < reached
     → back (take (lead + k + 1) (with_lead samples lead from to)) j
     ≡ back (take (from + k + 1) samples) j
-same-back taps samples lead from to k j front order within enough lt near = by (cases_lt j (lead + k + 1))
+same-back samples reached lead from to k j front order within enough lt near =
+    by (cases_lt j (lead + k + 1))
   where
     shown : List ℤ
     shown = with_lead samples lead from to
@@ -92,31 +92,32 @@ same-back taps samples lead from to k j front order within enough lt near = by (
         back-before (take (lead + k + 1) shown) j (omega (arith, len))
         ∙ sym (back-before (take (from + k + 1) samples) j (omega (arith, all, least)))
       where
-        first : (from ≤ lead) ⊎ (length taps ≤ lead + 1) → from ≤ lead
+        first : (from ≤ lead) ⊎ (reached ≤ lead + 1) → from ≤ lead
         first (inl is) = is
         first (inr few) = absurd (omega arith)
 
-same-output : (taps samples : List ℤ) (shift lead from to k : ℕ) → lead ≤ from → from ≤ to
-    → to ≤ length samples → (from ≤ lead) ⊎ (length taps ≤ lead + 1) → k < to - from
-    → output_after taps shift (take (lead + k + 1) (with_lead samples lead from to))
-    ≡ output_after taps shift (take (from + k + 1) samples)
-same-output taps samples shift lead from to k front order within enough lt =
-    ap (λ z. shifted_down z shift) (weighted-same _ _ taps
-    (λ j near. same-back taps samples lead from to k j front order within enough lt near))
+same-output : (taps samples : List ℤ) (form : Form) (lead from to k : ℕ) → lead ≤ from → from ≤ to
+    → to ≤ length samples → (from ≤ lead) ⊎ (reach taps form ≤ lead + 1) → k < to - from
+    → output_after taps form (take (lead + k + 1) (with_lead samples lead from to))
+    ≡ output_after taps form (take (from + k + 1) samples)
+same-output taps samples form lead from to k front order within enough lt =
+    ap (λ z. shifted_down (z +ℤ form.plus) form.shift) (weighted-same _ _ taps
+    (λ j near. same-back samples (reach taps form) lead from to k (form.delay + j) front order within
+    enough lt (omega arith)))
 
 -- the outputs behind those in front
-outputs-behind : (taps samples : List ℤ) (shift lead from to : ℕ) → lead ≤ from → from ≤ to
-    → to ≤ length samples → (from ≤ lead) ⊎ (length taps ≤ lead + 1)
-    → drop lead (outputs taps shift (with_lead samples lead from to))
-    ≡ take (to - from) (drop from (outputs taps shift samples))
-outputs-behind taps samples shift lead from to front order within enough =
+outputs-behind : (taps samples : List ℤ) (form : Form) (lead from to : ℕ) → lead ≤ from → from ≤ to
+    → to ≤ length samples → (from ≤ lead) ⊎ (reach taps form ≤ lead + 1)
+    → drop lead (outputs taps form (with_lead samples lead from to))
+    ≡ take (to - from) (drop from (outputs taps form samples))
+outputs-behind taps samples form lead from to front order within enough =
     same_lists _ _ (omega (arith, few, many)) (λ k d lt.
     let below : k < to - from = omega (arith, few) in
-    get_or-drop lead (outputs taps shift shown) k d
-    ∙ (outputs-entry taps shift shown (lead + k) d (omega (arith, size))
-    ∙ (same-output taps samples shift lead from to k front order within enough below
-    ∙ (sym (outputs-entry taps shift samples (from + k) d (omega arith))
-    ∙ sym (get_or-chunk from (to - from) (outputs taps shift samples) k d below)))))
+    get_or-drop lead (outputs taps form shown) k d
+    ∙ (outputs-entry taps form shown (lead + k) d (omega (arith, size))
+    ∙ (same-output taps samples form lead from to k front order within enough below
+    ∙ (sym (outputs-entry taps form samples (from + k) d (omega arith))
+    ∙ sym (get_or-chunk from (to - from) (outputs taps form samples) k d below)))))
   where
     shown : List ℤ
     shown = with_lead samples lead from to
@@ -124,23 +125,23 @@ outputs-behind taps samples shift lead from to front order within enough =
     size : length shown ≡ to - (from - lead)
     size = length-with_lead samples lead from to front order within
 
-    few : length (drop lead (outputs taps shift shown)) ≡ to - from
-    few = omega (arith, length-drop lead (outputs taps shift shown), outputs-length taps shift shown, size)
+    few : length (drop lead (outputs taps form shown)) ≡ to - from
+    few = omega (arith, length-drop lead (outputs taps form shown), outputs-length taps form shown, size)
 
-    many : length (take (to - from) (drop from (outputs taps shift samples))) ≡ to - from
-    many = length-chunk from (to - from) (outputs taps shift samples)
-        (omega (arith, outputs-length taps shift samples))
+    many : length (take (to - from) (drop from (outputs taps form samples))) ≡ to - from
+    many = length-chunk from (to - from) (outputs taps form samples)
+        (omega (arith, outputs-length taps form samples))
 
 -- the part that a filter makes
-pub filter-part : (taps samples made : List ℤ) (shift lead from to : ℕ) → lead ≤ from → from ≤ to
-    → to ≤ length samples → (from ≤ lead) ⊎ (length taps ≤ lead + 1)
-    → made ≡ outputs taps shift (with_lead samples lead from to)
-    → position_from is_out_of_range 0 (outputs taps shift (with_lead samples lead from to)) ≡ None
-    → ArePart (outputs taps shift samples) from to (drop lead made)
-filter-part taps samples made shift lead from to front order within enough is fits = record {
+pub filter-part : (taps samples made : List ℤ) (form : Form) (lead from to : ℕ) → lead ≤ from
+    → from ≤ to → to ≤ length samples → (from ≤ lead) ⊎ (reach taps form ≤ lead + 1)
+    → made ≡ outputs taps form (with_lead samples lead from to)
+    → position_from is_out_of_range 0 (outputs taps form (with_lead samples lead from to)) ≡ None
+    → ArePart (outputs taps form samples) from to (drop lead made)
+filter-part taps samples made form lead from to front order within enough is fits = record {
   values_are = ap (drop lead) is
-      ∙ outputs-behind taps samples shift lead from to front order within enough;
-  sends = AreSends-drop lead made (subst AreSends (sym is) (all_sends 0 _ fits));
+      ∙ outputs-behind taps samples form lead from to front order within enough;
+  sends = AreSends-drop lead made (subst AreSends (sym is) (AreSends-in_range 0 _ fits));
 }
 
 -- of what is there, if anything is

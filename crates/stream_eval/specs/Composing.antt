@@ -27,7 +27,7 @@ member_option (Some list) = Some (member_of list)
 pub record LineMayPut (task : TaskLine) (lists j : ℕ) : Type 0 where
   pub ends : HasEnds task.kind lists (length task.outputs.items)
   pub turn : task.kind ≡ Split → j < length task.outputs.items
-  pub taps : HasTaps task.kind task.taps.items task.shift
+  pub taps : HasTaps task.kind task.taps.items task.form
 
 -- each part is that of what the members send in its phase
 pub record HasParts {A : Type 0} (op : Operation A) (parts : List A) (members : List Contribution)

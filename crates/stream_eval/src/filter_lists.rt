@@ -6,7 +6,7 @@ ghost use Rattle.stream_lists.specs.Ranges.{is_out_of_range};
 ghost use Rattle.stream_eval.specs.Parts.{ArePart};
 
 use std::alloc::Global;
-use stream_lists::stream_filters::{FilterFault, filter_list};
+use stream_lists::stream_filters::{FilterFault, Form, filter_list};
 
 /// Who makes the list of a filter: one thread, or several.
 pub trait FilterLists {
@@ -18,16 +18,16 @@ pub trait FilterLists {
         &self,
         alloc: Global,
         taps: &[i64],
-        shift: u32,
+        form: Form,
         samples: &[i64],
     ) -> Result<Vec<i64>, FilterFault>
         requires may { may_filter self.now }
-        requires taps { AreTaps taps.now shift }
-        ensures ok { IfOk result (λ list. list.items ≡ outputs taps.now shift samples.now) }
+        requires taps { AreTaps taps.now form }
+        ensures ok { IfOk result (λ list. list.items ≡ outputs taps.now form samples.now) }
         ensures in_range { IfOk result (λ list.
-            position_from is_out_of_range 0 (outputs taps.now shift samples.now) ≡ None) }
+            position_from is_out_of_range 0 (outputs taps.now form samples.now) ≡ None) }
         ensures too_big { (step : ℕ) → result ≡ Err (FilterFault.TooBig step)
-            → position_from is_out_of_range 0 (outputs taps.now shift samples.now) ≡ Some step };
+            → position_from is_out_of_range 0 (outputs taps.now form samples.now) ≡ Some step };
 }
 
 /// One thread, which makes a list from its first output to its last.
@@ -38,10 +38,10 @@ impl FilterLists for InTurn {
         &self,
         alloc: Global,
         taps: &[i64],
-        shift: u32,
+        form: Form,
         samples: &[i64],
     ) -> Result<Vec<i64>, FilterFault> {
-        filter_list(alloc, taps, shift, samples)
+        filter_list(alloc, taps, form, samples)
     }
 }
 
@@ -50,19 +50,19 @@ impl FilterLists for InTurn {
 pub fn filter_part(
     alloc: Global,
     taps: &[i64],
-    shift: u32,
+    form: Form,
     samples: &[i64],
     from: usize,
     to: usize,
 ) -> Option<Vec<i64>>
-    requires taps { AreTaps taps.now shift }
+    requires taps { AreTaps taps.now form }
     requires order { from ≤ to }
     requires within { to ≤ length samples.now }
     ensures { IfSome result (λ values.
-        ArePart (outputs taps.now shift samples.now) from to values.items) }
+        ArePart (outputs taps.now form samples.now) from to values.items) }
 {
-    let lead = from.min(taps.len() - 1);
-    match filter_list(alloc, taps, shift, &samples[from - lead..to]) {
+    let lead = from.min(form.delay + taps.len() - 1);
+    match filter_list(alloc, taps, form, &samples[from - lead..to]) {
         Ok(list) => behind(alloc, &list, lead),
         Err(_) => None,
     }

@@ -10,7 +10,7 @@ ghost use Rattle.stream_eval.specs.declared.list.ListFault.TheVariants as fault;
 use crate::filter_lists::FilterLists;
 use std::alloc::{AllocError, Global};
 use stream_lists::graph_base::ENDS_MAX;
-use stream_lists::stream_filters::{FilterFault, Peer};
+use stream_lists::stream_filters::{FilterFault, Form, Peer};
 
 /// Why no list was made.
 #[derive(Clone, Copy, Debug, PartialEq, Eq)]
@@ -35,20 +35,20 @@ pub fn fir_list<L: FilterLists>(
     alloc: Global,
     filters: &L,
     taps: &[i64],
-    shift: u32,
+    form: Form,
     samples: &[i64],
 ) -> Result<Vec<i64>, ListFault>
     requires may { L.may_filter filters.now }
-    requires taps { AreTaps taps.now shift }
+    requires taps { AreTaps taps.now form }
     requires samples { AreSends samples.now }
-    ensures ok { IfOk result (λ list. list.items ≡ outputs taps.now shift samples.now) }
+    ensures ok { IfOk result (λ list. list.items ≡ outputs taps.now form samples.now) }
     ensures sends { IfOk result (λ list. AreSends list.items) }
     ensures in_range { IfOk result (λ list.
-        position_from is_out_of_range 0 (outputs taps.now shift samples.now) ≡ None) }
+        position_from is_out_of_range 0 (outputs taps.now form samples.now) ≡ None) }
     ensures too_big { (step : ℕ) → result ≡ Err (ListFault.TooBig step)
-        → position_from is_out_of_range 0 (outputs taps.now shift samples.now) ≡ Some step }
+        → position_from is_out_of_range 0 (outputs taps.now form samples.now) ≡ Some step }
 {
-    match filters.filtered(alloc, taps, shift, samples) {
+    match filters.filtered(alloc, taps, form, samples) {
         Ok(list) => Ok(list),
         Err(FilterFault::TooBig(step)) => Err(ListFault::TooBig(step)),
         Err(FilterFault::BadTaps | FilterFault::OutOfMemory) => Err(ListFault::OutOfMemory),

@@ -1,5 +1,5 @@
 -- Vectors of signed lanes, which the operations take as their bits.
-use Rattle.std.proofs.Common.{◌≡◌, ℕ, zero, suc, ◌^◌, ◌<◌, List, [], ◌∷◌, length, map, ℤ, pos, negsuc, ◌+ℤ◌, ◌*ℤ◌, w32, w64, FitsSigned, to_z, of_z, refl, ◌∙◌, arith}
+use Rattle.std.proofs.Common.{◌≡◌, ℕ, zero, suc, ◌^◌, ◌<◌, List, [], ◌∷◌, length, map, ℤ, pos, negsuc, ◌+◌, ◌+ℤ◌, ◌*ℤ◌, w32, w64, FitsSigned, to_z, of_z, refl, ◌∙◌, arith}
 use Rattle.std.specs.Prelude.{unsigned_abs, replicate}
 use Rattle.std.specs.Simd.Lanes.{zip2, Each1, Each2}
 use lib.Signed.{shr_z}
@@ -9,7 +9,7 @@ use Rattle.std.proofs.lemmas.Nat.{mul-le}
 use Rattle.std.proofs.lemmas.Simd.{Each1-weaker, Each2-splat}
 use Rattle.stream_filters.specs.Filter.{shifted_down}
 use Rattle.stream_filters.specs.Lanes.{IsShort, AddsUp}
-use Rattle.stream_filters.proofs.Weighted.{shifted_down-le}
+use Rattle.stream_filters.proofs.Weighted.{abs_add, shifted_down-le}
 
 -- a fact of the bits of each lane
 pub Each1-bits : (P : ℕ → Type 0) (xs : List ℤ) → Each1 (λ x. P (of_z w64 x)) xs
@@ -175,3 +175,18 @@ pub shifted-bits : (shift : ℕ) (sum : ℤ) → unsigned_abs sum < 2 ^ 63
 shifted-bits shift sum fits =
     let le = shifted_down-le sum shift in
     rw (abs-fits sum fits, shr_z-is sum shift) (abs-fits (shifted_down sum shift) (omega arith))
+
+-- an addition of one number
+pub added-fits : (plus sum : ℤ) → unsigned_abs sum + unsigned_abs plus < 2 ^ 63
+    → FitsSigned w64 (to_z w64 (of_z w64 sum) +ℤ to_z w64 (of_z w64 plus))
+added-fits plus sum fits =
+    let both = abs_add sum plus in
+    rw (abs-fits sum (omega arith), abs-fits plus (omega arith))
+    (fits_signed_from_abs w64 _ (omega (arith, both)))
+
+pub added-bits : (plus sum : ℤ) → unsigned_abs sum + unsigned_abs plus < 2 ^ 63
+    → to_z w64 (of_z w64 (to_z w64 (of_z w64 sum) +ℤ to_z w64 (of_z w64 plus))) ≡ sum +ℤ plus
+added-bits plus sum fits =
+    let both = abs_add sum plus in
+    rw (abs-fits sum (omega arith), abs-fits plus (omega arith))
+    (abs-fits (sum +ℤ plus) (omega (arith, both)))

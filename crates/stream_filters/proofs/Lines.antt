@@ -1,11 +1,12 @@
 -- The line in which a filter keeps its samples.
-use Rattle.std.proofs.Common.{◌≡◌, ℕ, zero, suc, ◌+◌, ◌-◌, ◌*◌, ◌^◌, ◌<◌, ◌≤◌, List, [], ◌∷◌, ◌++◌, length, take, drop, reverse, get_or, ℤ, pos, refl, sym, ap, subst, ◌∙◌, append-nil, append_assoc, arith, ◌⊎◌, inl, inr}
+use Rattle.std.proofs.Common.{◌≡◌, ℕ, zero, suc, ◌+◌, ◌-◌, ◌*◌, ◌^◌, ◌<◌, ◌≤◌, List, [], ◌∷◌, ◌++◌, length, take, drop, reverse, get_or, ℤ, pos, ◌+ℤ◌, refl, sym, ap, subst, ◌∙◌, append-nil, append_assoc, arith, ◌⊎◌, inl, inr}
 use Rattle.std.specs.Prelude.{unsigned_abs}
 use Rattle.std.specs.List.{All, copy_within}
 use Rattle.std.proofs.lemmas.Bool.{cases_lt}
 use Rattle.std.proofs.lemmas.List.{get_or-take, get_or_append_left, get_or-append-add, get_or-reverse, length_push, length-drop, length-reverse, reverse-append, take_all, take-append-drop, take-append-le}
 use Rattle.std.proofs.lemmas.List.Elements.{All-weaker}
-use Rattle.stream_filters.specs.Filter.{AreTaps, FirState, StandsFor, after_sample, at_place, back, output_after, shifted_down, weight}
+use Rattle.stream_filters.specs.Filter.{AreTaps, FirState, StandsFor, after_sample, at_place, back, output_after, reach, shifted_down, summed, weight}
+use Rattle.stream_filters.specs.declared.form.Form.{Form}
 use Rattle.stream_filters.specs.FilterFields.{AreSmall, IsNarrowBack, answer_at, window_of}
 use Rattle.stream_filters.specs.Range.{ranged}
 use Rattle.stream_filters.proofs.Weighted.{weighted-same}
@@ -55,20 +56,20 @@ window_of-push (suc n) line x =
 
 -- ---- filters by their lines
 
--- the filter with these taps and this shift that has its samples in the line
-abbrev pub fir_of : List ℤ → ℕ → List ℤ → FirState
-fir_of taps shift line =
-    record { taps = taps; shift = shift; window = window_of (length taps) line }
+-- the filter with these taps and this form that has its samples in the line
+abbrev pub fir_of : List ℤ → Form → List ℤ → FirState
+fir_of taps form line =
+    record { taps = taps; form = form; window = window_of (reach taps form) line }
 
 -- room was made, and one sample came
-pub fir_of-push : (taps : List ℤ) (shift : ℕ) (old line more : List ℤ) (x : ℤ)
-    → window_of (length taps) line ≡ window_of (length taps) old → more ≡ line ++ x ∷ []
-    → fir_of taps shift more ≡ after_sample (fir_of taps shift old) x
-fir_of-push taps shift old line more x same pushed =
-    ap (λ window. record { taps = taps; shift = shift; window = window })
-    (ap (window_of (length taps)) pushed
-    ∙ (window_of-push (length taps) line x
-    ∙ ap (λ window. take (length taps) (x ∷ window)) same))
+pub fir_of-push : (taps : List ℤ) (form : Form) (old line more : List ℤ) (x : ℤ)
+    → window_of (reach taps form) line ≡ window_of (reach taps form) old → more ≡ line ++ x ∷ []
+    → fir_of taps form more ≡ after_sample (fir_of taps form old) x
+fir_of-push taps form old line more x same pushed =
+    ap (λ window. record { taps = taps; form = form; window = window })
+    (ap (window_of (reach taps form)) pushed
+    ∙ (window_of-push (reach taps form) line x
+    ∙ ap (λ window. take (reach taps form) (x ∷ window)) same))
 
 -- ---- what a window shows
 
@@ -84,11 +85,12 @@ window_of-same n line other e j lt =
     ∙ (ap (λ window. at_place window j) e ∙ window_of-shows n other j lt)
 
 -- the answer is the output at the last sample of the line
-pub answer_at-line : (taps : List ℤ) (shift : ℕ) (line : List ℤ)
-    → answer_at taps shift (window_of (length taps) line) ≡ ranged (output_after taps shift line)
-answer_at-line taps shift line =
-    ap (λ z. ranged (shifted_down z shift))
-    (weighted-same _ _ taps (window_of-shows (length taps) line))
+pub answer_at-line : (taps : List ℤ) (form : Form) (line : List ℤ)
+    → answer_at taps form (window_of (reach taps form) line) ≡ ranged (output_after taps form line)
+answer_at-line taps form line =
+    ap (λ z. ranged (shifted_down (z +ℤ form.plus) form.shift))
+    (weighted-same _ _ taps (λ j lt.
+    window_of-shows (reach taps form) line (form.delay + j) (omega arith)))
 
 -- ---- lines whose last samples are the same
 
@@ -114,17 +116,17 @@ Agree-append n line other (x ∷ xs) agree =
     ∙ ap (λ l. back l j) (append_assoc other (x ∷ []) xs))
 
 -- a line agrees with the samples that its filter stands for
-pub Agree-stands : (taps : List ℤ) (shift : ℕ) (old line taken : List ℤ)
-    → window_of (length taps) line ≡ window_of (length taps) old
-    → StandsFor (fir_of taps shift old) taken → Agree (length taps) line taken
-Agree-stands taps shift old line taken same has j lt =
-    window_of-same (length taps) line old same j lt
-    ∙ (sym (window_of-shows (length taps) old j lt) ∙ has.shows j lt)
+pub Agree-stands : (taps : List ℤ) (form : Form) (old line taken : List ℤ)
+    → window_of (reach taps form) line ≡ window_of (reach taps form) old
+    → StandsFor (fir_of taps form old) taken → Agree (reach taps form) line taken
+Agree-stands taps form old line taken same has j lt =
+    window_of-same (reach taps form) line old same j lt
+    ∙ (sym (window_of-shows (reach taps form) old j lt) ∙ has.shows j lt)
 
-pub StandsFor-agree : (taps : List ℤ) (shift : ℕ) (line taken : List ℤ)
-    → Agree (length taps) line taken → StandsFor (fir_of taps shift line) taken
-StandsFor-agree taps shift line taken agree = record {
-  shows = λ j lt. window_of-shows (length taps) line j lt ∙ agree j lt;
+pub StandsFor-agree : (taps : List ℤ) (form : Form) (line taken : List ℤ)
+    → Agree (reach taps form) line taken → StandsFor (fir_of taps form line) taken
+StandsFor-agree taps form line taken agree = record {
+  shows = λ j lt. window_of-shows (reach taps form) line j lt ∙ agree j lt;
 }
 
 -- ---- samples within a limit
@@ -156,10 +158,11 @@ AreRecent-same limit n left line other same recent j lt =
     rw (window_of-same n line other same j (omega arith)) (recent j lt)
 
 -- a window of samples within a limit that the taps allow
-pub IsNarrowBack-recent : (taps line : List ℤ) (shift limit : ℕ) → AreTaps taps shift
-    → limit < 2 ^ 31 → weight taps * limit < 2 ^ 63
-    → ((j : ℕ) → j < length taps → unsigned_abs (back line j) ≤ limit) → IsNarrowBack taps line
-IsNarrowBack-recent taps line shift limit are short fits small = record {
+pub IsNarrowBack-recent : (taps line : List ℤ) (form : Form) (limit : ℕ) → AreTaps taps form
+    → limit < 2 ^ 31 → weight taps * limit + unsigned_abs form.plus < 2 ^ 63
+    → ((j : ℕ) → j < length taps → unsigned_abs (back line j) ≤ limit)
+    → IsNarrowBack taps form.plus line
+IsNarrowBack-recent taps line form limit are short fits small = record {
   limit = limit;
   short = short;
   short_taps = All-weaker (λ tap. unsigned_abs tap ≤ 2147483647) (λ tap. unsigned_abs tap < 2 ^ 31)

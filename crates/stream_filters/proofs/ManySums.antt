@@ -10,11 +10,12 @@ use Rattle.std.proofs.lemmas.List.Sums.{sum_by-take-le}
 use Rattle.std.proofs.lemmas.Nat.{mul-le}
 use Rattle.std.proofs.lemmas.Simd.{length-chunk, get_or-chunk, map-map, zip2_of_maps}
 use Rattle.stream_filters.specs.Filter.{shifted_down, weighted, weight}
+use Rattle.stream_filters.specs.declared.form.Form.{Form}
 use Rattle.stream_filters.specs.FilterFields.{IsNarrow}
 use Rattle.stream_filters.specs.Lanes.{before, output_shown, IsShort, AddsUp}
 use Rattle.stream_filters.proofs.Lanes.{product-short, short-64, lanes-64, products-handed}
 use Rattle.stream_filters.proofs.Outputs.{map-range_with_len_same}
-use Rattle.stream_filters.proofs.Weighted.{weighted-small, at_place-small, shifted_down-le}
+use Rattle.stream_filters.proofs.Weighted.{abs_add, weighted-small, at_place-small, shifted_down-le}
 
 -- ---- facts of each of so many values
 
@@ -48,40 +49,40 @@ sum_after taps samples j k = weighted (before samples (length taps - 1 + k)) (ta
 abbrev pub product_at : List ℤ → List ℤ → ℕ → ℕ → ℤ
 product_at taps samples j k = get_or taps j (pos 0) *ℤ before samples (length taps - 1 + k) j
 
-pub before-small : (taps samples : List ℤ) (narrow : IsNarrow taps samples) (n j : ℕ)
+pub before-small : (taps : List ℤ) (plus : ℤ) (samples : List ℤ) (narrow : IsNarrow taps plus samples) (n j : ℕ)
     → unsigned_abs (before samples n j) ≤ narrow.limit
-before-small taps samples narrow n j = at_place-small narrow.limit samples narrow.small (n - j)
+before-small taps plus samples narrow n j = at_place-small narrow.limit samples narrow.small (n - j)
 
-pub before-short : (taps samples : List ℤ) → IsNarrow taps samples → (n j : ℕ)
+pub before-short : (taps : List ℤ) (plus : ℤ) (samples : List ℤ) → IsNarrow taps plus samples → (n j : ℕ)
     → IsShort (before samples n j)
-before-short taps samples narrow n j =
-    let small = before-small taps samples narrow n j in
+before-short taps plus samples narrow n j =
+    let small = before-small taps plus samples narrow n j in
     let short = narrow.short in
     record { short = omega arith }
 
-pub tap-short : (taps samples : List ℤ) → IsNarrow taps samples → (j : ℕ) (d : ℤ) → j < length taps
+pub tap-short : (taps : List ℤ) (plus : ℤ) (samples : List ℤ) → IsNarrow taps plus samples → (j : ℕ) (d : ℤ) → j < length taps
     → IsShort (get_or taps j d)
-tap-short taps samples narrow j d lt = record { short = narrow.short_taps j d lt }
+tap-short taps plus samples narrow j d lt = record { short = narrow.short_taps j d lt }
 
-pub sum_after-small : (taps samples : List ℤ) → IsNarrow taps samples → (j k : ℕ)
+pub sum_after-small : (taps : List ℤ) (plus : ℤ) (samples : List ℤ) → IsNarrow taps plus samples → (j k : ℕ)
     → unsigned_abs (sum_after taps samples j k) < 2 ^ 63
-sum_after-small taps samples narrow j k =
+sum_after-small taps plus samples narrow j k =
     let n = length taps - 1 + k in
     let small = weighted-small narrow.limit (before samples n) (take j taps)
-    (before-small taps samples narrow n) in
+    (before-small taps plus samples narrow n) in
     let light = mul-le (weight (take j taps)) narrow.limit (weight taps) narrow.limit
     (sum_by-take-le unsigned_abs taps j) (omega arith) in
     let fits = narrow.fits in
     omega arith
 
-pub adds_up : (taps samples : List ℤ) → IsNarrow taps samples → (j : ℕ) → j < length taps → (k : ℕ)
+pub adds_up : (taps : List ℤ) (plus : ℤ) (samples : List ℤ) → IsNarrow taps plus samples → (j : ℕ) → j < length taps → (k : ℕ)
     → AddsUp (sum_after taps samples j k) (product_at taps samples j k)
-adds_up taps samples narrow j lt k = record {
-  sum_fits = sum_after-small taps samples narrow j k;
-  product_fits = product-short _ _ (tap-short taps samples narrow j (pos 0) lt)
-      (before-short taps samples narrow (length taps - 1 + k) j);
+adds_up taps plus samples narrow j lt k = record {
+  sum_fits = sum_after-small taps plus samples narrow j k;
+  product_fits = product-short _ _ (tap-short taps plus samples narrow j (pos 0) lt)
+      (before-short taps plus samples narrow (length taps - 1 + k) j);
   fits = rw (← weighted-take (before samples (length taps - 1 + k)) taps j lt)
-      (sum_after-small taps samples narrow (suc j) k);
+      (sum_after-small taps plus samples narrow (suc j) k);
 }
 
 -- ---- 16 windows
@@ -138,54 +139,62 @@ sums_after-more taps samples j lt =
     ∙ map-range_with_len_same _ _ 16 (λ k below.
     sym (weighted-take (before samples (length taps - 1 + k)) taps j lt))
 
-pub sums_after-fit : (taps samples : List ℤ) → IsNarrow taps samples → (j : ℕ)
+pub sums_after-fit : (taps : List ℤ) (plus : ℤ) (samples : List ℤ) → IsNarrow taps plus samples → (j : ℕ)
     → Each1 (λ z. unsigned_abs z < 2 ^ 63) (sums_after taps samples j)
-sums_after-fit taps samples narrow j =
+sums_after-fit taps plus samples narrow j =
     Each1-maps (λ z. unsigned_abs z < 2 ^ 63) (sum_after taps samples j) (range_with_len 0 16)
-    (sum_after-small taps samples narrow j)
+    (sum_after-small taps plus samples narrow j)
 
-pub products_at-fit : (taps samples : List ℤ) → IsNarrow taps samples → (j : ℕ) → j < length taps
+pub products_at-fit : (taps : List ℤ) (plus : ℤ) (samples : List ℤ) → IsNarrow taps plus samples → (j : ℕ) → j < length taps
     → Each1 (λ z. unsigned_abs z < 2 ^ 63) (products_at taps samples j)
-products_at-fit taps samples narrow j lt =
+products_at-fit taps plus samples narrow j lt =
     Each1-maps (λ z. unsigned_abs z < 2 ^ 63) (product_at taps samples j) (range_with_len 0 16)
-    (λ k. (adds_up taps samples narrow j lt k).product_fits)
+    (λ k. (adds_up taps plus samples narrow j lt k).product_fits)
 
-pub lanes_at-short : (taps samples : List ℤ) → IsNarrow taps samples → (j : ℕ)
+pub lanes_at-short : (taps : List ℤ) (plus : ℤ) (samples : List ℤ) → IsNarrow taps plus samples → (j : ℕ)
     → Each1 IsShort (lanes_at taps samples j)
-lanes_at-short taps samples narrow j =
+lanes_at-short taps plus samples narrow j =
     Each1-maps IsShort (λ k. before samples (length taps - 1 + k) j) (range_with_len 0 16)
-    (λ k. before-short taps samples narrow (length taps - 1 + k) j)
+    (λ k. before-short taps plus samples narrow (length taps - 1 + k) j)
 
-pub lanes-add_up : (taps samples : List ℤ) → IsNarrow taps samples → (j : ℕ) → j < length taps
+pub lanes-add_up : (taps : List ℤ) (plus : ℤ) (samples : List ℤ) → IsNarrow taps plus samples → (j : ℕ) → j < length taps
     → Each2 AddsUp (sums_after taps samples j) (products_at taps samples j)
-lanes-add_up taps samples narrow j lt =
+lanes-add_up taps plus samples narrow j lt =
     Each2-maps AddsUp (sum_after taps samples j) (product_at taps samples j) (range_with_len 0 16)
-    (adds_up taps samples narrow j lt)
+    (adds_up taps plus samples narrow j lt)
 
 -- the products that the code makes of the lanes
-pub products-made : (taps samples lanes result : List ℤ) (j : ℕ) → IsNarrow taps samples
+pub products-made : (taps : List ℤ) (plus : ℤ) (samples lanes result : List ℤ) (j : ℕ)
+    → IsNarrow taps plus samples
     → j < length taps
     → lanes ≡ lanes_at taps samples j
     → result ≡ zip2 (λ x tap. tap *ℤ x) (map (to_z w64) (map (of_z w64) lanes))
     (replicate 16 (to_z w64 (of_z w64 (get_or taps j (pos 0)))))
     → result ≡ products_at taps samples j
-products-made taps samples lanes result j narrow lt lanes_are is =
+products-made taps plus samples lanes result j narrow lt lanes_are is =
     products-handed lanes (lanes_at taps samples j) (products_at taps samples j) 16 (get_or taps j
     (pos 0)) _ result is
-    (short-64 _ (tap-short taps samples narrow j (pos 0) lt)) lanes_are
-    (lanes_at-short taps samples narrow j)
+    (short-64 _ (tap-short taps plus samples narrow j (pos 0) lt)) lanes_are
+    (lanes_at-short taps plus samples narrow j)
     (products_at-is taps samples j)
 
 -- ---- shifted down
 
--- the sum over a window of narrow samples
-pub weighted-before-small : (taps samples : List ℤ) → IsNarrow taps samples → (n : ℕ)
-    → unsigned_abs (weighted (before samples n) taps) < 2 ^ 63
-weighted-before-small taps samples narrow n =
+-- the sum over a window of narrow samples, and what is added to it
+pub before-added-fits : (taps : List ℤ) (plus : ℤ) (samples : List ℤ) → IsNarrow taps plus samples
+    → (n : ℕ) → unsigned_abs (weighted (before samples n) taps) + unsigned_abs plus < 2 ^ 63
+before-added-fits taps plus samples narrow n =
     let small = weighted-small narrow.limit (before samples n) taps
-    (before-small taps samples narrow n) in
+    (before-small taps plus samples narrow n) in
     let fits = narrow.fits in
     omega arith
+
+pub before-added-small : (taps : List ℤ) (plus : ℤ) (samples : List ℤ) → IsNarrow taps plus samples
+    → (n : ℕ) → unsigned_abs (weighted (before samples n) taps +ℤ plus) < 2 ^ 63
+before-added-small taps plus samples narrow n =
+    let both = abs_add (weighted (before samples n) taps) plus in
+    let fits = before-added-fits taps plus samples narrow n in
+    omega (arith, both)
 
 -- all taps are summed
 sums_after-all : (taps samples : List ℤ) (j : ℕ) → length taps ≤ j → sums_after taps samples j
@@ -194,41 +203,73 @@ sums_after-all taps samples j le =
     ap (λ ts. map (λ k. weighted (before samples (length taps - 1 + k)) ts) (range_with_len 0 16))
     (take_all j taps le)
 
--- the sums are handed on to the shift
-pub sums-back : (taps samples : List ℤ) (j : ℕ) (bits : List ℕ) → IsNarrow taps samples
-    → bits ≡ map (of_z w64) (sums_after taps samples j) → map (to_z w64) bits
-    ≡ sums_after taps samples j
-sums-back taps samples j bits narrow is =
+-- the sums are handed on
+pub sums-back : (taps : List ℤ) (plus : ℤ) (samples : List ℤ) (j : ℕ) (bits : List ℕ)
+    → IsNarrow taps plus samples → bits ≡ map (of_z w64) (sums_after taps samples j)
+    → map (to_z w64) bits ≡ sums_after taps samples j
+sums-back taps plus samples j bits narrow is =
     ap (map (to_z w64)) is ∙ lanes-64 (sums_after taps samples j)
-    (sums_after-fit taps samples narrow j)
+    (sums_after-fit taps plus samples narrow j)
 
-pub shifted-all : (taps samples : List ℤ) (shift j : ℕ) → length taps ≤ j
-    → map (λ sum. shifted_down sum shift) (sums_after taps samples j)
-    ≡ map (output_shown taps shift samples) (range_with_len 0 16)
-shifted-all taps samples shift j le =
-    ap (map (λ sum. shifted_down sum shift)) (sums_after-all taps samples j le)
-    ∙ map-map (λ sum. shifted_down sum shift) (λ k. weighted (before samples
-    (length taps - 1 + k)) taps) (range_with_len 0 16)
+-- the sums with what is added to each
+abbrev pub sums_added : List ℤ → ℤ → List ℤ → List ℤ
+sums_added taps plus samples =
+    map (λ k. weighted (before samples (length taps - 1 + k)) taps +ℤ plus) (range_with_len 0 16)
 
-pub output_shown-small : (taps samples : List ℤ) (shift : ℕ) → IsNarrow taps samples → (k : ℕ)
-    → unsigned_abs (output_shown taps shift samples k) < 2 ^ 63
-output_shown-small taps samples shift narrow k =
-    let sum = weighted (before samples (length taps - 1 + k)) taps in
-    let le = shifted_down-le sum shift in
-    let small = weighted-before-small taps samples narrow (length taps - 1 + k) in
+-- something can be added to each of them
+pub sums_after-added-fit : (taps : List ℤ) (plus : ℤ) (samples : List ℤ) (j : ℕ)
+    → IsNarrow taps plus samples → length taps ≤ j
+    → Each1 (λ z. unsigned_abs z + unsigned_abs plus < 2 ^ 63) (sums_after taps samples j)
+sums_after-added-fit taps plus samples j narrow le =
+    rw (sums_after-all taps samples j le)
+    (Each1-maps (λ z. unsigned_abs z + unsigned_abs plus < 2 ^ 63)
+    (λ k. weighted (before samples (length taps - 1 + k)) taps) (range_with_len 0 16)
+    (λ k. before-added-fits taps plus samples narrow (length taps - 1 + k)))
+
+-- it is added
+pub sums-added : (taps : List ℤ) (plus : ℤ) (samples : List ℤ) (j : ℕ) (bits : List ℕ)
+    (result : List ℤ) → IsNarrow taps plus samples → length taps ≤ j
+    → bits ≡ map (of_z w64) (sums_after taps samples j)
+    → result ≡ map (λ sum. sum +ℤ plus) (map (to_z w64) bits) → result ≡ sums_added taps plus samples
+sums-added taps plus samples j bits result narrow le bits_are is =
+    is ∙ (ap (map (λ sum. sum +ℤ plus))
+    (sums-back taps plus samples j bits narrow bits_are ∙ sums_after-all taps samples j le)
+    ∙ map-map (λ sum. sum +ℤ plus) (λ k. weighted (before samples (length taps - 1 + k)) taps)
+    (range_with_len 0 16))
+
+pub sums_added-fit : (taps : List ℤ) (plus : ℤ) (samples : List ℤ) → IsNarrow taps plus samples
+    → Each1 (λ z. unsigned_abs z < 2 ^ 63) (sums_added taps plus samples)
+sums_added-fit taps plus samples narrow =
+    Each1-maps (λ z. unsigned_abs z < 2 ^ 63)
+    (λ k. weighted (before samples (length taps - 1 + k)) taps +ℤ plus) (range_with_len 0 16)
+    (λ k. before-added-small taps plus samples narrow (length taps - 1 + k))
+
+pub shifted-all : (taps : List ℤ) (form : Form) (samples : List ℤ)
+    → map (λ sum. shifted_down sum form.shift) (sums_added taps form.plus samples)
+    ≡ map (output_shown taps form samples) (range_with_len 0 16)
+shifted-all taps form samples =
+    map-map (λ sum. shifted_down sum form.shift) (λ k. weighted (before samples
+    (length taps - 1 + k)) taps +ℤ form.plus) (range_with_len 0 16)
+
+pub output_shown-small : (taps : List ℤ) (form : Form) (samples : List ℤ)
+    → IsNarrow taps form.plus samples → (k : ℕ)
+    → unsigned_abs (output_shown taps form samples k) < 2 ^ 63
+output_shown-small taps form samples narrow k =
+    let sum = weighted (before samples (length taps - 1 + k)) taps +ℤ form.plus in
+    let le = shifted_down-le sum form.shift in
+    let small = before-added-small taps form.plus samples narrow (length taps - 1 + k) in
     omega arith
 
-pub outputs-handed : (taps samples : List ℤ) (shift j : ℕ) (bits : List ℕ) (result : List ℤ)
-    → IsNarrow taps samples → length taps ≤ j → bits ≡ map (of_z w64) (sums_after taps samples j)
-    → result ≡ map (λ sum. shifted_down sum shift) (map (to_z w64) bits)
-    → map (to_z w64) (map (of_z w64) result) ≡ map (output_shown taps shift samples)
-    (range_with_len 0 16)
-outputs-handed taps samples shift j bits result narrow le bits_are is =
-    let outputs_are : result ≡ map (output_shown taps shift samples) (range_with_len 0 16) =
-    is ∙ (ap (map (λ sum. shifted_down sum shift)) (sums-back taps samples j bits narrow bits_are)
-    ∙ shifted-all taps samples shift j le) in
+pub outputs-handed : (taps : List ℤ) (form : Form) (samples sums result : List ℤ)
+    → IsNarrow taps form.plus samples → sums ≡ sums_added taps form.plus samples
+    → result ≡ map (λ sum. shifted_down sum form.shift) sums
+    → map (to_z w64) (map (of_z w64) result)
+    ≡ map (output_shown taps form samples) (range_with_len 0 16)
+outputs-handed taps form samples sums result narrow sums_are is =
+    let outputs_are : result ≡ map (output_shown taps form samples) (range_with_len 0 16) =
+    is ∙ (ap (map (λ sum. shifted_down sum form.shift)) sums_are ∙ shifted-all taps form samples) in
     ap (λ r. map (to_z w64) (map (of_z w64) r)) outputs_are
-    ∙ lanes-64 (map (output_shown taps shift samples) (range_with_len 0 16))
-    (Each1-maps (λ z. unsigned_abs z < 2 ^ 63) (output_shown taps shift samples)
+    ∙ lanes-64 (map (output_shown taps form samples) (range_with_len 0 16))
+    (Each1-maps (λ z. unsigned_abs z < 2 ^ 63) (output_shown taps form samples)
     (range_with_len 0 16)
-    (output_shown-small taps samples shift narrow))
+    (output_shown-small taps form samples narrow))

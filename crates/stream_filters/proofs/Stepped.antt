@@ -1,11 +1,12 @@
 -- Samples that a filter takes one after the other, and the outputs at them.
-use Rattle.std.proofs.Common.{◌≡◌, ◌≢◌, ℕ, suc, ◌+◌, ◌-◌, ◌*◌, ◌^◌, ◌<◌, ◌≤◌, List, [], ◌∷◌, ◌++◌, length, take, drop, reverse, get_or, map, ℤ, pos, Bool, true, false, Ok, Err, refl, sym, ap, subst, ◌∙◌, append-nil, append_assoc, arith}
+use Rattle.std.proofs.Common.{◌≡◌, ◌≢◌, ℕ, suc, ◌+◌, ◌-◌, ◌*◌, ◌^◌, ◌<◌, ◌≤◌, List, [], ◌∷◌, ◌++◌, length, take, drop, reverse, get_or, map, ℤ, pos, ◌+ℤ◌, Bool, true, false, Ok, Err, refl, sym, ap, subst, ◌∙◌, append-nil, append_assoc, arith}
 use Rattle.std.specs.Prelude.{not, cond, unsigned_abs}
 use Rattle.std.specs.List.{All, prefix_len, range_with_len}
 use Rattle.std.proofs.lemmas.List.{get_or-append-add, length_push, length-append, length-take, length-take-le, reverse-reverse, take_all, take_more, take-append-drop, take-append-le}
 use Rattle.std.proofs.lemmas.List.Sums.{take_while-cons}
 use Rattle.std.proofs.Math.Seq.{take-append-add}
-use Rattle.stream_filters.specs.Filter.{AreTaps, FirState, StandsFor, output_after, outputs, outputs_of_block, shifted_down, weight}
+use Rattle.stream_filters.specs.Filter.{AreTaps, FirState, StandsFor, output_after, outputs, outputs_of_block, reach, shifted_down, weight}
+use Rattle.stream_filters.specs.declared.form.Form.{Form}
 use Rattle.stream_filters.specs.FilterFields.{AreSmall, AreSmallAt, HasStepped, window_of}
 use Rattle.stream_filters.specs.Lanes.{output_shown}
 use Rattle.stream_filters.specs.Range.{before_out_of_range, is_out_of_range, ranged}
@@ -18,37 +19,38 @@ use Rattle.stream_filters.specs.declared.fault.TooBigValue.{TooBigValue}
 
 -- ---- the outputs of a block
 
-pub length-outputs_of_block : (taps : List ℤ) (shift : ℕ) (taken xs : List ℤ)
-    → length (outputs_of_block taps shift taken xs) ≡ length xs
-length-outputs_of_block taps shift taken [] = refl
-length-outputs_of_block taps shift taken (x ∷ xs) =
-    ap suc (length-outputs_of_block taps shift (taken ++ x ∷ []) xs)
+pub length-outputs_of_block : (taps : List ℤ) (form : Form) (taken xs : List ℤ)
+    → length (outputs_of_block taps form taken xs) ≡ length xs
+length-outputs_of_block taps form taken [] = refl
+length-outputs_of_block taps form taken (x ∷ xs) =
+    ap suc (length-outputs_of_block taps form (taken ++ x ∷ []) xs)
 
-pub outputs_of_block-append : (taps : List ℤ) (shift : ℕ) (taken xs ys : List ℤ)
-    → outputs_of_block taps shift taken (xs ++ ys)
-    ≡ outputs_of_block taps shift taken xs ++ outputs_of_block taps shift (taken ++ xs) ys
-outputs_of_block-append taps shift taken [] ys =
-    ap (λ l. outputs_of_block taps shift l ys) (sym (append-nil taken))
-outputs_of_block-append taps shift taken (x ∷ xs) ys =
+pub outputs_of_block-append : (taps : List ℤ) (form : Form) (taken xs ys : List ℤ)
+    → outputs_of_block taps form taken (xs ++ ys)
+    ≡ outputs_of_block taps form taken xs ++ outputs_of_block taps form (taken ++ xs) ys
+outputs_of_block-append taps form taken [] ys =
+    ap (λ l. outputs_of_block taps form l ys) (sym (append-nil taken))
+outputs_of_block-append taps form taken (x ∷ xs) ys =
     let next = taken ++ x ∷ [] in
-    let first = output_after taps shift next in
-    ap (λ zs. first ∷ zs) (outputs_of_block-append taps shift next xs ys)
-    ∙ ap (λ l. first ∷ (outputs_of_block taps shift next xs ++ outputs_of_block taps shift l ys))
+    let first = output_after taps form next in
+    ap (λ zs. first ∷ zs) (outputs_of_block-append taps form next xs ys)
+    ∙ ap (λ l. first ∷ (outputs_of_block taps form next xs ++ outputs_of_block taps form l ys))
     (append_assoc taken (x ∷ []) xs)
 
 -- an output looks at the last samples alone, as many as there are taps
-pub outputs_of_block-agree : (taps : List ℤ) (shift : ℕ) (line taken xs : List ℤ)
-    → Agree (length taps) line taken
-    → outputs_of_block taps shift line xs ≡ outputs_of_block taps shift taken xs
-outputs_of_block-agree taps shift line taken [] agree = refl
-outputs_of_block-agree taps shift line taken (x ∷ xs) agree =
-    let more = Agree-push (length taps) line taken x agree in
-    let first : output_after taps shift (line ++ x ∷ [])
-    ≡ output_after taps shift (taken ++ x ∷ []) =
-    ap (λ z. shifted_down z shift) (weighted-same _ _ taps more) in
-    ap (λ z. z ∷ outputs_of_block taps shift (line ++ x ∷ []) xs) first
-    ∙ ap (λ zs. output_after taps shift (taken ++ x ∷ []) ∷ zs)
-    (outputs_of_block-agree taps shift (line ++ x ∷ []) (taken ++ x ∷ []) xs more)
+pub outputs_of_block-agree : (taps : List ℤ) (form : Form) (line taken xs : List ℤ)
+    → Agree (reach taps form) line taken
+    → outputs_of_block taps form line xs ≡ outputs_of_block taps form taken xs
+outputs_of_block-agree taps form line taken [] agree = refl
+outputs_of_block-agree taps form line taken (x ∷ xs) agree =
+    let more = Agree-push (reach taps form) line taken x agree in
+    let first : output_after taps form (line ++ x ∷ [])
+    ≡ output_after taps form (taken ++ x ∷ []) =
+    ap (λ z. shifted_down (z +ℤ form.plus) form.shift)
+    (weighted-same _ _ taps (λ j lt. more (form.delay + j) (omega arith))) in
+    ap (λ z. z ∷ outputs_of_block taps form (line ++ x ∷ []) xs) first
+    ∙ ap (λ zs. output_after taps form (taken ++ x ∷ []) ∷ zs)
+    (outputs_of_block-agree taps form (line ++ x ∷ []) (taken ++ x ∷ []) xs more)
 
 -- ---- the outputs before the first one out of range
 
@@ -141,7 +143,7 @@ HasStepped-none fir made = record {
       (sym (ap (λ l. taken ++ l) (take_all (length made - length made + 1) [] (omega arith))
       ∙ append-nil taken)) has;
   taps = refl;
-  shift = refl;
+  form = refl;
 }
 
 -- steps, and more behind them
@@ -150,28 +152,28 @@ pub HasStepped-then : (old between new : FirState) (xs ys first middle last : Li
     → HasStepped between new ys middle last → HasStepped old new (xs ++ ys) first last
 HasStepped-then old between new xs ys first middle last so_far all more = record {
   made = λ taken has.
-      let zs = outputs_of_block old.taps old.shift taken xs in
-      let ws = outputs_of_block old.taps old.shift (taken ++ xs) ys in
-      let many : length zs ≡ length xs = length-outputs_of_block old.taps old.shift taken xs in
+      let zs = outputs_of_block old.taps old.form taken xs in
+      let ws = outputs_of_block old.taps old.form (taken ++ xs) ys in
+      let many : length zs ≡ length xs = length-outputs_of_block old.taps old.form taken xs in
       let here = so_far.made taken has in
       let count : length middle ≡ length first + length (before_out_of_range zs) =
       ap length here ∙ length-append first (before_out_of_range zs) in
       let stands = all_taken taken has in
-      let same : outputs_of_block between.taps between.shift (taken ++ xs) ys ≡ ws =
-      ap (λ t. outputs_of_block t between.shift (taken ++ xs) ys) so_far.taps
-      ∙ ap (λ s. outputs_of_block old.taps s (taken ++ xs) ys) so_far.shift in
+      let same : outputs_of_block between.taps between.form (taken ++ xs) ys ≡ ws =
+      ap (λ t. outputs_of_block t between.form (taken ++ xs) ys) so_far.taps
+      ∙ ap (λ f. outputs_of_block old.taps f (taken ++ xs) ys) so_far.form in
       more.made (taken ++ xs) stands
       ∙ (ap (λ l. middle ++ before_out_of_range l) same
       ∙ (ap (λ l. l ++ before_out_of_range ws) here
       ∙ (append_assoc first (before_out_of_range zs) (before_out_of_range ws)
       ∙ (ap (λ l. first ++ l) (sym (before-all zs ws (omega arith)))
       ∙ ap (λ l. first ++ before_out_of_range l)
-      (sym (outputs_of_block-append old.taps old.shift taken xs ys))))));
+      (sym (outputs_of_block-append old.taps old.form taken xs ys))))));
   stands = λ taken has.
       let stands = all_taken taken has in
       let grows = ap length (more.made (taken ++ xs) stands)
       ∙ length-append middle (before_out_of_range
-      (outputs_of_block between.taps between.shift (taken ++ xs) ys)) in
+      (outputs_of_block between.taps between.form (taken ++ xs) ys)) in
       let count : length last - length first + 1 ≡ length xs + (length last - length middle + 1) =
       omega (arith, grows) in
       subst (StandsFor new)
@@ -180,7 +182,7 @@ HasStepped-then old between new xs ys first middle last so_far all more = record
       ∙ ap (λ n. taken ++ take n (xs ++ ys)) (sym count)))
       (more.stands (taken ++ xs) stands);
   taps = more.taps ∙ so_far.taps;
-  shift = more.shift ∙ so_far.shift;
+  form = more.form ∙ so_far.form;
 }
   where
     all_taken : (taken : List ℤ) → StandsFor old taken → StandsFor between (taken ++ xs)
@@ -193,36 +195,36 @@ pub HasStepped-stop : (old new : FirState) (xs ys first last : List ℤ)
     → HasStepped old new (xs ++ ys) first last
 HasStepped-stop old new xs ys first last so_far less = record {
   made = λ taken has.
-      let zs = outputs_of_block old.taps old.shift taken xs in
-      let ws = outputs_of_block old.taps old.shift (taken ++ xs) ys in
+      let zs = outputs_of_block old.taps old.form taken xs in
+      let ws = outputs_of_block old.taps old.form (taken ++ xs) ys in
       let here = so_far.made taken has in
       here ∙ (ap (λ l. first ++ l) (sym (before-some zs ws (other taken has)))
-      ∙ ap (λ l. first ++ before_out_of_range l) (sym (outputs_of_block-append old.taps old.shift taken xs ys)));
+      ∙ ap (λ l. first ++ before_out_of_range l) (sym (outputs_of_block-append old.taps old.form taken xs ys)));
   stands = λ taken has.
       subst (λ l. StandsFor new (taken ++ l))
       (sym (take-append-le (length last - length first + 1) xs ys (few taken has)))
       (so_far.stands taken has);
   taps = so_far.taps;
-  shift = so_far.shift;
+  form = so_far.form;
 }
   where
     counted : (taken : List ℤ) → StandsFor old taken → length last
-        ≡ length first + length (before_out_of_range (outputs_of_block old.taps old.shift taken xs))
+        ≡ length first + length (before_out_of_range (outputs_of_block old.taps old.form taken xs))
     counted taken has = ap length (so_far.made taken has) ∙ length-append first _
 
     other : (taken : List ℤ) → StandsFor old taken
-        → length (before_out_of_range (outputs_of_block old.taps old.shift taken xs))
-        ≢ length (outputs_of_block old.taps old.shift taken xs)
+        → length (before_out_of_range (outputs_of_block old.taps old.form taken xs))
+        ≢ length (outputs_of_block old.taps old.form taken xs)
     other taken has e =
         less (counted taken has ∙ ap (λ n. length first + n)
-        (e ∙ length-outputs_of_block old.taps old.shift taken xs))
+        (e ∙ length-outputs_of_block old.taps old.form taken xs))
 
     few : (taken : List ℤ) → StandsFor old taken → length last - length first + 1 ≤ length xs
     few taken has =
-        let zs = outputs_of_block old.taps old.shift taken xs in
+        let zs = outputs_of_block old.taps old.form taken xs in
         let count : length last ≡ length first + length (before_out_of_range zs) =
         ap length (so_far.made taken has) ∙ length-append first (before_out_of_range zs) in
-        let many : length zs ≡ length xs = length-outputs_of_block old.taps old.shift taken xs in
+        let many : length zs ≡ length xs = length-outputs_of_block old.taps old.form taken xs in
         let le = before-few zs in
         let differ : length (before_out_of_range zs) ≢ length zs =
         λ e. less (count ∙ ap (λ n. length first + n) (e ∙ many)) in
@@ -238,21 +240,21 @@ pub HasStepped-few : (old new : FirState) (xs first last : List ℤ) → HasStep
     → length last ≤ length first + length xs
 HasStepped-few old new xs first last so_far =
     let taken = reverse old.window in
-    let zs = outputs_of_block old.taps old.shift taken xs in
+    let zs = outputs_of_block old.taps old.form taken xs in
     let count : length last ≡ length first + length (before_out_of_range zs) =
     ap length (so_far.made taken (stands_somewhere old)) ∙ length-append first (before_out_of_range zs) in
-    omega (arith, before-few zs, length-outputs_of_block old.taps old.shift taken xs)
+    omega (arith, before-few zs, length-outputs_of_block old.taps old.form taken xs)
 
 -- one step, whose answer is in range
 HasStepped-one : (old new : FirState) (x y : ℤ) (made : List ℤ)
     → ((taken : List ℤ) → StandsFor old taken
-    → Ok y ≡ ranged (output_after old.taps old.shift (taken ++ x ∷ [])))
+    → Ok y ≡ ranged (output_after old.taps old.form (taken ++ x ∷ [])))
     → ((taken : List ℤ) → StandsFor old taken → StandsFor new (taken ++ x ∷ []))
-    → new.taps ≡ old.taps → new.shift ≡ old.shift
+    → new.taps ≡ old.taps → new.form ≡ old.form
     → HasStepped old new (x ∷ []) made (made ++ y ∷ [])
-HasStepped-one old new x y made answer stands taps shift = record {
+HasStepped-one old new x y made answer stands taps form = record {
   made = λ taken has.
-      let z = output_after old.taps old.shift (taken ++ x ∷ []) in
+      let z = output_after old.taps old.form (taken ++ x ∷ []) in
       let told = ranged-ok z y (sym (answer taken has)) in
       ap (λ v. made ++ v ∷ []) (sym told.0)
       ∙ ap (λ l. made ++ l) (sym (before-cons z [] true (ap not told.1)));
@@ -261,19 +263,19 @@ HasStepped-one old new x y made answer stands taps shift = record {
       (sym (take_all (length (made ++ y ∷ []) - length made + 1) (x ∷ []) (omega arith)))
       (stands taken has);
   taps = taps;
-  shift = shift;
+  form = form;
 }
 
 -- one step, whose answer is not
 HasStepped-over : (old new : FirState) (x : ℤ) (made : List ℤ) (fault : TooBigValue)
     → ((taken : List ℤ) → StandsFor old taken
-    → Err fault ≡ ranged (output_after old.taps old.shift (taken ++ x ∷ [])))
+    → Err fault ≡ ranged (output_after old.taps old.form (taken ++ x ∷ [])))
     → ((taken : List ℤ) → StandsFor old taken → StandsFor new (taken ++ x ∷ []))
-    → new.taps ≡ old.taps → new.shift ≡ old.shift
+    → new.taps ≡ old.taps → new.form ≡ old.form
     → HasStepped old new (x ∷ []) made made
-HasStepped-over old new x made fault answer stands taps shift = record {
+HasStepped-over old new x made fault answer stands taps form = record {
   made = λ taken has.
-      let z = output_after old.taps old.shift (taken ++ x ∷ []) in
+      let z = output_after old.taps old.form (taken ++ x ∷ []) in
       let told = ranged-err z fault (sym (answer taken has)) in
       sym (append-nil made)
       ∙ ap (λ l. made ++ l) (sym (before-cons z [] false (ap not told)));
@@ -282,7 +284,7 @@ HasStepped-over old new x made fault answer stands taps shift = record {
       (sym (take_all (length made - length made + 1) (x ∷ []) (omega arith)))
       (stands taken has);
   taps = taps;
-  shift = shift;
+  form = form;
 }
 
 module _ (old between new : FirState) (samples first middle : List ℤ) (i : ℕ)
@@ -290,25 +292,25 @@ module _ (old between new : FirState) (samples first middle : List ℤ) (i : ℕ
     (all : length middle ≡ length first + i)
     (stands : (taken : List ℤ) → StandsFor between taken
     → StandsFor new (taken ++ get_or samples i (pos 0) ∷ []))
-    (taps : new.taps ≡ between.taps) (shift : new.shift ≡ between.shift)
+    (taps : new.taps ≡ between.taps) (form : new.form ≡ between.form)
   where
     many : length (take i samples) ≡ i
     many = length-take-le i samples (omega arith)
 
     -- after i steps one more
     pub HasStepped-more : (y : ℤ) → ((taken : List ℤ) → StandsFor between taken
-        → Ok y ≡ ranged (output_after between.taps between.shift
+        → Ok y ≡ ranged (output_after between.taps between.form
         (taken ++ get_or samples i (pos 0) ∷ [])))
         → HasStepped old new (take (i + 1) samples) first (middle ++ y ∷ [])
     HasStepped-more y answer =
         subst (λ l. HasStepped old new l first (middle ++ y ∷ [])) (sym (take_more samples i (pos 0) below))
         (HasStepped-then old between new (take i samples) (get_or samples i (pos 0) ∷ []) first middle
         (middle ++ y ∷ []) so_far (all ∙ ap (λ n. length first + n) (sym many))
-        (HasStepped-one between new (get_or samples i (pos 0)) y middle answer stands taps shift))
+        (HasStepped-one between new (get_or samples i (pos 0)) y middle answer stands taps form))
 
     -- after i steps the last one
     pub HasStepped-ended : (fault : TooBigValue) → ((taken : List ℤ) → StandsFor between taken
-        → Err fault ≡ ranged (output_after between.taps between.shift
+        → Err fault ≡ ranged (output_after between.taps between.form
         (taken ++ get_or samples i (pos 0) ∷ [])))
         → HasStepped old new samples first middle
     HasStepped-ended fault answer =
@@ -322,62 +324,67 @@ module _ (old between new : FirState) (samples first middle : List ℤ) (i : ℕ
         (HasStepped-stop old new xs (drop (i + 1) samples) first middle
         (HasStepped-then old between new (take i samples) (get_or samples i (pos 0) ∷ []) first middle
         middle so_far (all ∙ ap (λ n. length first + n) (sym many))
-        (HasStepped-over between new (get_or samples i (pos 0)) middle fault answer stands taps shift))
+        (HasStepped-over between new (get_or samples i (pos 0)) middle fault answer stands taps form))
         (λ e. let no : length middle ≡ length first + (i + 1)
         = e ∙ ap (λ n. length first + n) long in omega (arith, all)))
 
 -- ---- many at once
 
 -- the part of a line that the windows of a block show
-pub shown_is : (taps line xs whole : List ℤ) (size count : ℕ) → whole ≡ line ++ xs
-    → length xs ≡ 16 → size ≡ length whole → count ≡ length taps → length taps ≤ length line
-    → take (length whole - (size + 1 - 16 - count)) (drop (size + 1 - 16 - count) whole)
-    ≡ shown taps (line ++ xs) (length line)
-shown_is taps line xs whole size count is sixteen size_is count_is held =
+pub shown_is : (taps line xs whole : List ℤ) (form : Form) (end count : ℕ) → whole ≡ line ++ xs
+    → length xs ≡ 16 → end ≡ length whole - form.delay → count ≡ length taps
+    → reach taps form ≤ length line
+    → take (end - (end + 1 - 16 - count)) (drop (end + 1 - 16 - count) whole)
+    ≡ shown taps (line ++ xs) (length line - form.delay)
+shown_is taps line xs whole form end count is sixteen end_is count_is held =
+    let first = length line - form.delay in
     let long : length whole ≡ length line + 16 =
     ap length is ∙ (length-append line xs ∙ ap (λ n. length line + n) sixteen) in
-    let first : size + 1 - 16 - count ≡ length line + 1 - length taps = omega arith in
-    let end : length whole - (length line + 1 - length taps)
-    ≡ length line + 16 - (length line + 1 - length taps) = omega arith in
-    ap (λ m. take (length whole - m) (drop m whole)) first
-    ∙ (ap (λ m. take m (drop (length line + 1 - length taps) whole)) end
-    ∙ ap (λ l. take (length line + 16 - (length line + 1 - length taps))
-    (drop (length line + 1 - length taps) l)) is)
+    let from : end + 1 - 16 - count ≡ first + 1 - length taps = omega arith in
+    let many : end - (first + 1 - length taps) ≡ first + 16 - (first + 1 - length taps) =
+    omega arith in
+    ap (λ m. take (end - m) (drop m whole)) from
+    ∙ (ap (λ m. take m (drop (first + 1 - length taps) whole)) many
+    ∙ ap (λ l. take (first + 16 - (first + 1 - length taps)) (drop (first + 1 - length taps) l)) is)
 
 -- the samples that they show are small enough
-pub AreSmallAt-behind : (taps line xs : List ℤ) (limit : ℕ) → limit < 2 ^ 31
-    → weight taps * limit < 2 ^ 63 → length xs ≡ 16 → AreRecent limit (length taps) 0 line
-    → All (λ x. unsigned_abs x ≤ limit) xs → AreSmallAt taps (line ++ xs) (length line)
-AreSmallAt-behind taps line xs limit short fits sixteen recent all = record {
+pub AreSmallAt-behind : (taps line xs : List ℤ) (form : Form) (limit : ℕ) → limit < 2 ^ 31
+    → weight taps * limit + unsigned_abs form.plus < 2 ^ 63 → length xs ≡ 16
+    → reach taps form ≤ length line → AreRecent limit (reach taps form) 0 line
+    → All (λ x. unsigned_abs x ≤ limit) xs
+    → AreSmallAt taps form.plus (line ++ xs) (length line - form.delay)
+AreSmallAt-behind taps line xs form limit short fits sixteen held recent all = record {
   limit = limit;
   short = short;
   fits = fits;
-  small = subst (λ n. AreSmall limit (line ++ xs) (length line + 1 - length taps) (length line + n))
-      sixteen (AreSmall-behind limit (length taps) line xs recent all);
+  small = λ m from to.
+      AreSmall-behind limit (reach taps form) line xs recent all m (omega arith)
+      (omega (arith, sixteen));
 }
 
 -- the outputs of a block are those at its samples
-pub HasStepped-block : (taps line old xs block made : List ℤ) (shift : ℕ) → AreTaps taps shift
-    → AreSmallAt taps (line ++ xs) (length line) → length taps ≤ length line → length xs ≡ 16
-    → window_of (length taps) line ≡ window_of (length taps) old
-    → block ≡ map (output_shown taps shift (shown taps (line ++ xs) (length line)))
+pub HasStepped-block : (taps line old xs block made : List ℤ) (form : Form) → AreTaps taps form
+    → AreSmallAt taps form.plus (line ++ xs) (length line - form.delay)
+    → reach taps form ≤ length line → length xs ≡ 16
+    → window_of (reach taps form) line ≡ window_of (reach taps form) old
+    → block ≡ map (output_shown taps form (shown taps (line ++ xs) (length line - form.delay)))
     (range_with_len 0 16)
-    → HasStepped (fir_of taps shift old) (fir_of taps shift (line ++ xs)) xs made (made ++ block)
-HasStepped-block taps line old xs block made shift are small held sixteen same is = record {
+    → HasStepped (fir_of taps form old) (fir_of taps form (line ++ xs)) xs made (made ++ block)
+HasStepped-block taps line old xs block made form are small held sixteen same is = record {
   made = λ taken has.
-      let agree = Agree-stands taps shift old line taken same has in
-      ap (λ l. made ++ l) (sym (ap before_out_of_range (outputs_of_block-agree taps shift taken line xs
-      (λ j lt. sym (agree j lt))) ∙ before-ranged (outputs_of_block taps shift line xs) block
-      (length-outputs_of_block taps shift line xs ∙ (sixteen ∙ sym long)) each));
+      let agree = Agree-stands taps form old line taken same has in
+      ap (λ l. made ++ l) (sym (ap before_out_of_range (outputs_of_block-agree taps form taken line xs
+      (λ j lt. sym (agree j lt))) ∙ before-ranged (outputs_of_block taps form line xs) block
+      (length-outputs_of_block taps form line xs ∙ (sixteen ∙ sym long)) each));
   stands = λ taken has.
-      let agree = Agree-stands taps shift old line taken same has in
-      subst (λ l. StandsFor (fir_of taps shift (line ++ xs)) (taken ++ l))
+      let agree = Agree-stands taps form old line taken same has in
+      subst (λ l. StandsFor (fir_of taps form (line ++ xs)) (taken ++ l))
       (sym (take_all (length (made ++ block) - length made + 1) xs
       (omega (arith, length-append made block, long))))
-      (StandsFor-agree taps shift (line ++ xs) (taken ++ xs)
-      (Agree-append (length taps) line taken xs agree));
+      (StandsFor-agree taps form (line ++ xs) (taken ++ xs)
+      (Agree-append (reach taps form) line taken xs agree));
   taps = refl;
-  shift = refl;
+  form = refl;
 }
   where
     long : length block ≡ 16
@@ -386,21 +393,22 @@ HasStepped-block taps line old xs block made shift are small held sixteen same i
     whole : length line + 16 ≤ length (line ++ xs)
     whole = omega (arith, length-append line xs)
 
-    entry : (k : ℕ) → get_or (outputs_of_block taps shift line xs) k (pos 0)
-        ≡ get_or (outputs taps shift (line ++ xs)) (length line + k) (pos 0)
+    entry : (k : ℕ) → get_or (outputs_of_block taps form line xs) k (pos 0)
+        ≡ get_or (outputs taps form (line ++ xs)) (length line + k) (pos 0)
     entry k =
-        let first = outputs taps shift line in
-        let rest = outputs_of_block taps shift line xs in
-        sym (ap (λ l. get_or l (length line + k) (pos 0)) (outputs-block taps shift line xs)
-        ∙ (ap (λ n. get_or (first ++ rest) (n + k) (pos 0)) (sym (outputs-length taps shift line))
+        let first = outputs taps form line in
+        let rest = outputs_of_block taps form line xs in
+        sym (ap (λ l. get_or l (length line + k) (pos 0)) (outputs-block taps form line xs)
+        ∙ (ap (λ n. get_or (first ++ rest) (n + k) (pos 0)) (sym (outputs-length taps form line))
         ∙ get_or-append-add first rest k (pos 0)))
 
-    each : (k : ℕ) → k < length block → ranged (get_or (outputs_of_block taps shift line xs) k (pos 0))
+    each : (k : ℕ) → k < length block → ranged (get_or (outputs_of_block taps form line xs) k (pos 0))
         ≡ Ok (get_or block k (pos 0))
     each k lt =
         let below : k < 16 = omega (arith, long) in
-        let held_at : length taps ≤ length line + 1 = omega arith in
+        let held_at : reach taps form ≤ length line + 1 = omega arith in
         ap ranged (entry k)
-        ∙ (block-output taps (line ++ xs) shift (length line) k are small held_at whole below
+        ∙ (block-output taps (line ++ xs) form (length line) k are small held_at whole below
         ∙ ap Ok (sym (ap (λ l. get_or l k (pos 0)) is
-        ∙ outputs_shown-entry taps (shown taps (line ++ xs) (length line)) shift k 16 below)))
+        ∙ outputs_shown-entry taps (shown taps (line ++ xs) (length line - form.delay)) form k 16
+        below)))

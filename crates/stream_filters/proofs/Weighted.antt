@@ -46,7 +46,7 @@ weighted-push (y ∷ xs) (tap ∷ taps) x lt =
     ap (λ z. (tap *ℤ y) +ℤ z) (weighted-push xs taps x (omega arith)) ∙ sym (+ℤ_assoc (tap *ℤ y) _ _)
 
 -- a sum is at most the magnitudes together
-abs_add : (a b : ℤ) → unsigned_abs (a +ℤ b) ≤ unsigned_abs a + unsigned_abs b
+pub abs_add : (a b : ℤ) → unsigned_abs (a +ℤ b) ≤ unsigned_abs a + unsigned_abs b
 abs_add (pos a) (pos b) = omega arith
 abs_add (pos a) (negsuc b) = grind (arith, ints)
 abs_add (negsuc a) (pos b) = grind (arith, ints)
@@ -131,9 +131,10 @@ at_place-small limit (x ∷ samples) small (suc j) =
     at_place-small limit samples (λ k d lt. small (suc k) d (omega arith)) j
 
 -- a sum over narrow samples, of which there are as many as taps
-pub IsNarrowBack-small : (taps samples : List ℤ) → IsNarrowBack taps samples
-    → unsigned_abs (weighted (back samples) taps) < 2 ^ 63
-IsNarrowBack-small taps samples narrow =
+pub IsNarrowBack-small : (taps : List ℤ) (plus : ℤ) (samples : List ℤ)
+    → IsNarrowBack taps plus samples
+    → unsigned_abs (weighted (back samples) taps) + unsigned_abs plus < 2 ^ 63
+IsNarrowBack-small taps plus samples narrow =
     let shown = at_place (take (length taps) (reverse samples)) in
     let same : weighted (back samples) taps ≡ weighted shown taps =
     weighted-same (back samples) shown taps
@@ -150,6 +151,26 @@ IsNarrowBack-small taps samples narrow =
     ) (narrow.small k few))) in
     let fits = narrow.fits in
     rw same (omega arith)
+
+-- so is it with what is added to it
+pub IsNarrowBack-added : (taps : List ℤ) (plus : ℤ) (samples : List ℤ)
+    → IsNarrowBack taps plus samples
+    → unsigned_abs (weighted (back samples) taps +ℤ plus) < 2 ^ 63
+IsNarrowBack-added taps plus samples narrow =
+    let both = abs_add (weighted (back samples) taps) plus in
+    let small = IsNarrowBack-small taps plus samples narrow in
+    omega (arith, both)
+
+-- and with nothing added
+pub IsNarrowBack-alone : (taps : List ℤ) (plus : ℤ) (samples : List ℤ)
+    → IsNarrowBack taps plus samples → IsNarrowBack taps (pos 0) samples
+IsNarrowBack-alone taps plus samples narrow = record {
+  limit = narrow.limit;
+  short = narrow.short;
+  short_taps = narrow.short_taps;
+  small = narrow.small;
+  fits = let fits = narrow.fits in omega arith;
+}
 
 -- a shift does not lead away from zero
 pub shifted_down-le : (z : ℤ) (shift : ℕ) → unsigned_abs (shifted_down z shift) ≤ unsigned_abs z

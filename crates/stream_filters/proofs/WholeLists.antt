@@ -1,5 +1,5 @@
 -- A filter over a whole list of samples.
-use Rattle.std.proofs.Common.{◌≡◌, ℕ, ◌+◌, ◌-◌, ◌^◌, ◌<◌, ◌≤◌, ◌⊎◌, inl, inr, List, ◌++◌, length, map, take, drop, get_or, ℤ, pos, Ok, Err, sym, ap, subst, ◌∙◌, zero-add, arith}
+use Rattle.std.proofs.Common.{◌≡◌, ℕ, ◌+◌, ◌-◌, ◌^◌, ◌<◌, ◌≤◌, ◌⊎◌, inl, inr, List, ◌++◌, length, map, take, drop, get_or, ℤ, pos, ◌+ℤ◌, Ok, Err, sym, ap, subst, ◌∙◌, zero-add, arith}
 use Rattle.std.specs.Prelude.{unsigned_abs, Result, OnOk, is_ok, if◌then◌else◌}
 use Rattle.std.specs.List.{All, range_with_len}
 use Rattle.std.proofs.lemmas.Bool.{cases_lt}
@@ -7,12 +7,13 @@ use Rattle.std.proofs.lemmas.List.{get_or_default, get_or-take, length-take-le}
 use Rattle.std.proofs.lemmas.List.Elements.{All-weaker}
 use Rattle.std.proofs.lemmas.List.FromFn.{get_or-map-range_with_len}
 use Rattle.std.proofs.lemmas.Simd.{length-chunk, get_or-chunk}
-use Rattle.stream_filters.specs.Filter.{AreTaps, back, weighted, outputs, shifted_down}
+use Rattle.stream_filters.specs.Filter.{AreTaps, back, reach, weighted, outputs, shifted_down}
+use Rattle.stream_filters.specs.declared.form.Form.{Form}
 use Rattle.stream_filters.specs.FilterFields.{AreSmall, AreSmallAt, IsNarrow, MadeSoFar}
 use Rattle.stream_filters.specs.Lanes.{before, output_shown}
 use Rattle.stream_filters.specs.Range.{ranged}
 use Rattle.stream_filters.proofs.Made.{MadeSoFar-append}
-use Rattle.stream_filters.proofs.ManySums.{weighted-before-small}
+use Rattle.stream_filters.proofs.ManySums.{before-added-small}
 use Rattle.stream_filters.proofs.Outputs.{outputs-entry, outputs-length, back_is}
 use Rattle.stream_filters.proofs.Weighted.{weighted-same, ranged-shifted_down}
 
@@ -40,10 +41,11 @@ shown-entry taps samples at k d long within lt =
     get_or-chunk (at + 1 - length taps) (at + 16 - (at + 1 - length taps)) samples k d (omega arith)
     ∙ get_or_default samples (at + 1 - length taps + k) d (pos 0) (omega arith)
 
-pub IsNarrow-shown : (taps samples : List ℤ) (shift at : ℕ) → AreTaps taps shift
-    → AreSmallAt taps samples at
-    → length taps ≤ at + 1 → at + 16 ≤ length samples → IsNarrow taps (shown taps samples at)
-IsNarrow-shown taps samples shift at are small long within = record {
+pub IsNarrow-shown : (taps samples : List ℤ) (form : Form) (at : ℕ) → AreTaps taps form
+    → AreSmallAt taps form.plus samples at
+    → length taps ≤ at + 1 → at + 16 ≤ length samples
+    → IsNarrow taps form.plus (shown taps samples at)
+IsNarrow-shown taps samples form at are small long within = record {
   limit = small.limit;
   short = small.short;
   short_taps = All-weaker (λ tap. unsigned_abs tap ≤ 2147483647) (λ tap. unsigned_abs tap < 2 ^ 31)
@@ -59,53 +61,73 @@ IsNarrow-shown taps samples shift at are small long within = record {
 shown-before : (taps samples : List ℤ) (at k j : ℕ) → length taps ≤ at + 1
     → at + 16 ≤ length samples
     → k < 16 → j < length taps
-    → before (shown taps samples at) (length taps - 1 + k) j ≡ back (take (at + k + 1) samples) j
+    → before (shown taps samples at) (length taps - 1 + k) j ≡ get_or samples (at + k - j) (pos 0)
 shown-before taps samples at k j long within few lt =
     let place : at + 1 - length taps + (length taps - 1 + k - j) ≡ at + k - j = omega arith in
-    let len : length (take (at + k + 1) samples) ≡ at + k + 1 = length-take-le
-    (at + k + 1) samples (omega arith) in
     shown-entry taps samples at (length taps - 1 + k - j) (pos 0) long within (omega arith)
-    ∙ (ap (λ i. get_or samples i (pos 0)) place
-    ∙ (sym (get_or-take (at + k + 1) samples (at + k - j) (pos 0) (omega arith))
-    ∙ sym (back_is (take (at + k + 1) samples) (at + k) j len (omega arith))))
+    ∙ ap (λ i. get_or samples i (pos 0)) place
+
+-- what stands `delay` and j places before the last of the first n + 1 samples
+back-entry : (samples : List ℤ) (n delay j : ℕ) → n < length samples → delay + j ≤ n
+    → back (take (n + 1) samples) (delay + j) ≡ get_or samples (n - delay - j) (pos 0)
+back-entry samples n delay j within le =
+    let len : length (take (n + 1) samples) ≡ n + 1 = length-take-le
+    (n + 1) samples (omega arith) in
+    let place : n - (delay + j) ≡ n - delay - j = omega arith in
+    back_is (take (n + 1) samples) n (delay + j) len le
+    ∙ (get_or-take (n + 1) samples (n - (delay + j)) (pos 0) (omega arith)
+    ∙ ap (λ i. get_or samples i (pos 0)) place)
 
 -- one of the outputs of a block
-pub block-output : (taps samples : List ℤ) (shift at k : ℕ) → AreTaps taps shift
-    → AreSmallAt taps samples at → length taps ≤ at + 1 → at + 16 ≤ length samples → k < 16
-    → ranged (get_or (outputs taps shift samples) (at + k) (pos 0))
-    ≡ Ok (output_shown taps shift (shown taps samples at) k)
-block-output taps samples shift at k are small long within lt =
-    let narrow = IsNarrow-shown taps samples shift at are small long within in
-    let sum = weighted (before (shown taps samples at) (length taps - 1 + k)) taps in
-    let sum_is : sum ≡ weighted (back (take (at + k + 1) samples)) taps =
-    weighted-same _ _ taps (λ j below. shown-before taps samples at k j long within lt below) in
-    ap ranged (outputs-entry taps shift samples (at + k) (pos 0) (omega arith))
-    ∙ (ap (λ z. ranged (shifted_down z shift)) (sym sum_is)
-    ∙ ranged-shifted_down sum shift
-    (weighted-before-small taps (shown taps samples at) narrow (length taps - 1 + k)))
+pub block-output : (taps samples : List ℤ) (form : Form) (at k : ℕ) → AreTaps taps form
+    → AreSmallAt taps form.plus samples (at - form.delay) → reach taps form ≤ at + 1
+    → at + 16 ≤ length samples → k < 16
+    → ranged (get_or (outputs taps form samples) (at + k) (pos 0))
+    ≡ Ok (output_shown taps form (shown taps samples (at - form.delay)) k)
+block-output taps samples form at k are small long within lt =
+    let first = at - form.delay in
+    let some = are.some in
+    let long_first : length taps ≤ first + 1 = omega arith in
+    let within_first : first + 16 ≤ length samples = omega arith in
+    let narrow = IsNarrow-shown taps samples form first are small long_first within_first in
+    let sum = weighted (before (shown taps samples first) (length taps - 1 + k)) taps in
+    let sum_is : sum
+    ≡ weighted (λ j. back (take (at + k + 1) samples) (form.delay + j)) taps =
+    weighted-same _ _ taps (λ j below.
+    let place : first + k - j ≡ at + k - form.delay - j = omega arith in
+    shown-before taps samples first k j long_first within_first lt below
+    ∙ (ap (λ i. get_or samples i (pos 0)) place
+    ∙ sym (back-entry samples (at + k) form.delay j (omega arith) (omega arith)))) in
+    ap ranged (outputs-entry taps form samples (at + k) (pos 0) (omega arith))
+    ∙ (ap (λ z. ranged (shifted_down (z +ℤ form.plus) form.shift)) (sym sum_is)
+    ∙ ranged-shifted_down (sum +ℤ form.plus) form.shift
+    (before-added-small taps form.plus (shown taps samples first) narrow (length taps - 1 + k)))
 
 -- the outputs of n samples
-pub outputs_shown-entry : (taps samples : List ℤ) (shift k n : ℕ) → k < n
-    → get_or (map (output_shown taps shift samples) (range_with_len 0 n)) k (pos 0)
-    ≡ output_shown taps shift samples k
-outputs_shown-entry taps samples shift k n lt =
-    get_or-map-range_with_len (output_shown taps shift samples) 0 n k k (pos 0) lt (zero-add k)
+pub outputs_shown-entry : (taps samples : List ℤ) (form : Form) (k n : ℕ) → k < n
+    → get_or (map (output_shown taps form samples) (range_with_len 0 n)) k (pos 0)
+    ≡ output_shown taps form samples k
+outputs_shown-entry taps samples form k n lt =
+    get_or-map-range_with_len (output_shown taps form samples) 0 n k k (pos 0) lt (zero-add k)
 
 -- a block of outputs is made
-pub block-made : (taps samples list block : List ℤ) (shift at : ℕ) → AreTaps taps shift
-    → AreSmallAt taps samples at → length taps ≤ at + 1 → at + 16 ≤ length samples
-    → block ≡ map (output_shown taps shift (shown taps samples at)) (range_with_len 0 16)
-    → MadeSoFar (outputs taps shift samples) list at
-    → MadeSoFar (outputs taps shift samples) (list ++ block) (at + 16)
-block-made taps samples list block shift at are small long within is made =
+pub block-made : (taps samples list block : List ℤ) (form : Form) (at : ℕ) → AreTaps taps form
+    → AreSmallAt taps form.plus samples (at - form.delay) → reach taps form ≤ at + 1
+    → at + 16 ≤ length samples
+    → block ≡ map (output_shown taps form (shown taps samples (at - form.delay)))
+    (range_with_len 0 16)
+    → MadeSoFar (outputs taps form samples) list at
+    → MadeSoFar (outputs taps form samples) (list ++ block) (at + 16)
+block-made taps samples list block form at are small long within is made =
+    let first = at - form.delay in
     let len : length block ≡ 16 = ap length is in
-    subst (λ n. MadeSoFar (outputs taps shift samples) (list ++ block) (at + n)) len
-    (MadeSoFar-append (outputs taps shift samples) list block at made
-    (omega (arith, outputs-length taps shift samples)) (λ k lt.
+    subst (λ n. MadeSoFar (outputs taps form samples) (list ++ block) (at + n)) len
+    (MadeSoFar-append (outputs taps form samples) list block at made
+    (omega (arith, outputs-length taps form samples)) (λ k lt.
     let below : k < 16 = omega arith in
-    block-output taps samples shift at k are small long within below
+    block-output taps samples form at k are small long within below
     ∙ ap Ok (sym (ap (λ xs. get_or xs k (pos 0)) is
-    ∙ outputs_shown-entry taps (shown taps samples at) shift k 16 below))))
+    ∙ outputs_shown-entry taps (shown taps samples first) form k 16 below))))
 
 -- where there was memory, the list is longer
 pub OnOk-extended : {A E : Type 0} (r : Result A E) (P : List ℤ → Type 0) (old block new : List ℤ)
@@ -116,9 +138,9 @@ OnOk-extended (Err e) P old block new is made = tt
 -- ---- the whole list
 
 -- the outputs at the samples before number `at`, and from where on these are within the limit
-pub record AreFiltered (taps : List ℤ) (shift : ℕ) (samples list : List ℤ) (at small_from limit : ℕ)
-    : Type 0 where
-  pub made : MadeSoFar (outputs taps shift samples) list at
+pub record AreFiltered (taps : List ℤ) (form : Form) (samples list : List ℤ)
+    (at small_from limit : ℕ) : Type 0 where
+  pub made : MadeSoFar (outputs taps form samples) list at
   pub within : at ≤ length samples
   pub from : small_from ≤ at
   pub small : AreSmall limit samples small_from at

@@ -1,15 +1,16 @@
 -- What many windows at once need of their samples and sums.
 use Rattle.std.specs.Prelude.{ℕ, ◌+◌, ◌-◌, ◌^◌, ◌<◌, List, length, ℤ, pos, ◌+ℤ◌, unsigned_abs, get_or}
 use Rattle.stream_filters.specs.Filter.{shifted_down, weighted}
+use Rattle.stream_filters.specs.declared.form.Form.{Form}
 
 -- the sample j places before sample number n of these
 abbrev pub before : List ℤ → ℕ → ℕ → ℤ
 before samples n j = get_or samples (n - j) (pos 0)
 
 -- the output at the sample that stands k samples after the first one whose window these show
-abbrev pub output_shown : List ℤ → ℕ → List ℤ → ℕ → ℤ
-output_shown taps shift samples k =
-    shifted_down (weighted (before samples (length taps - 1 + k)) taps) shift
+abbrev pub output_shown : List ℤ → Form → List ℤ → ℕ → ℤ
+output_shown taps form samples k =
+    shifted_down (weighted (before samples (length taps - 1 + k)) taps +ℤ form.plus) form.shift
 
 -- 32 bits hold it
 pub record IsShort (x : ℤ) : Type 0 where

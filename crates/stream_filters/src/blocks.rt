@@ -7,6 +7,7 @@ ghost use Rattle.stream_filters.specs.FilterFields.{IsNarrow};
 ghost use Rattle.stream_filters.specs.Lanes.{output_shown, IsShort, AddsUp};
 
 use crate::fir::SHIFT_MAX;
+use crate::form::Form;
 use std::simd::prelude::*;
 
 /// How many outputs are made at once, where the samples are small enough for the taps.
@@ -38,6 +39,15 @@ fn added(sums: i64x16, products: i64x16) -> i64x16
     sums.strict_add(products)
 }
 
+/// Each sum with so much added to it.
+fn with_added(sums: i64x16, plus: i64) -> i64x16
+    requires lanes { length sums ≡ 16 }
+    requires fits { Each1 (λ sum. unsigned_abs sum + unsigned_abs plus < 2 ^ 63) sums }
+    ensures { result ≡ map (λ sum. sum +ℤ plus) sums }
+{
+    sums.strict_add(i64x16::splat(plus))
+}
+
 /// Each sum divided by 2 to the power `shift`, rounded down.
 fn lanes_shifted(sums: i64x16, shift: u32) -> i64x16
     requires shift { shift ≤ SHIFT_MAX }
@@ -50,16 +60,16 @@ fn lanes_shifted(sums: i64x16, shift: u32) -> i64x16
 
 /// The outputs at 16 samples one after the other, from the samples in their windows, where 64 bits
 /// hold the sums.
-pub(crate) fn block_outputs(taps: &[i64], shift: u32, samples: &[i64]) -> [i64; 16]
-    requires shift { shift ≤ SHIFT_MAX }
+pub(crate) fn block_outputs(taps: &[i64], form: Form, samples: &[i64]) -> [i64; 16]
+    requires shift { form.shift ≤ SHIFT_MAX }
     requires enough { length samples.now ≡ length taps.now + 15 }
-    requires narrow { IsNarrow taps.now samples.now }
-    ensures { result ≡ map (output_shown taps.now shift samples.now) (range_with_len 0 16) }
+    requires narrow { IsNarrow taps.now form.plus samples.now }
+    ensures { result ≡ map (output_shown taps.now form samples.now) (range_with_len 0 16) }
 {
     let mut sums = i64x16::splat(0);
     for j in 0..taps.len() {
         let lanes = short_lanes(&samples[taps.len() - 1 - j..]);
         sums = added(sums, scaled(lanes, taps[j]));
     }
-    lanes_shifted(sums, shift).to_array()
+    lanes_shifted(with_added(sums, form.plus), form.shift).to_array()
 }

@@ -6,7 +6,8 @@ ghost use Rattle.stream_filters.specs.Range.{before_out_of_range, ranged};
 
 use crate::blocks::{BLOCK, block_outputs};
 use crate::fault::{FirFault, TooBigValue};
-use crate::sums::{narrow_limit, narrow_output, weight_of};
+use crate::form::Form;
+use crate::sums::{earlier, narrow_limit, narrow_output, weight_of};
 use crate::whole_list::{are_within, last_output};
 use std::alloc::Global;
 use std::marker::Model;
@@ -17,17 +18,23 @@ pub const TAPS_MAX: usize = 64;
 pub const TAP_MAX: u64 = 2_147_483_647;
 /// The greatest shift, in bits.
 pub const SHIFT_MAX: u32 = 62;
+/// The greatest magnitude of what is added to each sum.
+pub const PLUS_MAX: u64 = 4_611_686_018_427_387_904;
+/// The greatest delay, in samples.
+pub const DELAY_MAX: usize = 65_536;
 
 /// How many samples there is room for behind those of a window, so that they move rarely.
 const ROOM: usize = 1024;
 
-/// Whether a filter may have these taps and this shift.
-pub(crate) fn are_taps(taps: &[i64], shift: u32) -> bool
-    ensures { IsTrue result ↔ AreTaps taps.now shift }
+/// Whether a filter may have these taps and this form.
+pub(crate) fn are_taps(taps: &[i64], form: Form) -> bool
+    ensures { IsTrue result ↔ AreTaps taps.now form }
 {
     !taps.is_empty()
         && taps.len() <= TAPS_MAX
-        && shift <= SHIFT_MAX
+        && form.shift <= SHIFT_MAX
+        && form.plus.unsigned_abs() <= PLUS_MAX
+        && form.delay <= DELAY_MAX
         && taps.iter().all(|tap| tap.unsigned_abs() <= TAP_MAX)
 }
 
@@ -61,21 +68,23 @@ fn put_all(list: &mut Vec<i64>, values: &[i64])
 /// A filter with a finite impulse response: each answer is a weighted sum of the last samples,
 /// which stand in a window (a delay line).
 ///
-/// **Samples.** The first tap weighs the newest sample, the next the one before it, and so on.
-/// Before the first sample there are zeros.
+/// **Samples.** The first tap weighs the newest sample, or the one that came so many samples before
+/// it as the delay says, the next tap the one before that, and so on. Before the first sample there
+/// are zeros.
 ///
-/// **Answers.** The sum is divided by 2 to the power of the shift and rounded down, so -1 shifted
-/// by one bit is -1. Where that is out of range the answer is `TooBigValue`, and the window has
-/// taken the sample all the same.
+/// **Answers.** What the form adds is added to the sum, which is then divided by 2 to the power of
+/// the shift and rounded down, so -1 shifted by one bit is -1. Where that is out of range the answer
+/// is `TooBigValue`, and the window has taken the sample all the same.
 ///
 /// **Speed.** While each sample in the window is small enough for the taps, sums are accumulated in
 /// 64 bits, and else in 128. The answers are the same.
 ///
-/// **Example.** With the taps 1, 2 and 1 and a shift of 2, the samples -1, -1 and 0 give -1 each.
+/// **Example.** With the taps 1, 2 and 1 and a shift of 2, the samples -1, -1 and 0 give -1 each, and
+/// 0, -1 and -1 where 2 is added, which rounds to the nearest.
 #[derive(Drop)]
 pub struct Fir {
     taps: Vec<i64>,
-    shift: u32,
+    form: Form,
     // the last samples, the newest last, behind zeros at first
     line: Vec<i64>,
     // the greatest magnitude of samples at which 64 bits hold each sum
@@ -99,24 +108,26 @@ impl Model for Fir {
 impl Fir {
     ghost use Rattle.stream_filters.specs.FilterFields.{HasStepped, answer_at};
 
-    /// Makes a filter with these taps and a shift in bits, before its first sample.
+    /// Makes a filter with these taps and this form, before its first sample.
     ///
-    /// It takes memory for the taps, and for as many samples and 1,024 more. `BadTaps` comes first.
-    pub fn new(alloc: Global, taps: &[i64], shift: u32) -> Result<Fir, FirFault>
+    /// It takes memory for the taps, and for twice as many samples as it looks back to and 1,024
+    /// more. `BadTaps` comes first.
+    pub fn new(alloc: Global, taps: &[i64], form: Form) -> Result<Fir, FirFault>
         ensures stands { IfOk result (λ fir. StandsFor fir []) }
         ensures taps { IfOk result (λ fir. fir.taps ≡ taps.now) }
-        ensures shift { IfOk result (λ fir. fir.shift ≡ shift) }
+        ensures form { IfOk result (λ fir. fir.form ≡ form) }
 
-        ensures bad_taps { (result ≡ Err FirFault.BadTaps) ↔ ¬ (AreTaps taps.now shift) }
+        ensures bad_taps { (result ≡ Err FirFault.BadTaps) ↔ ¬ (AreTaps taps.now form) }
     {
-        if !are_taps(taps, shift) {
+        if !are_taps(taps, form) {
             return Err(FirFault::BadTaps);
         }
-        let limit = narrow_limit(weight_of(taps));
-        let Ok(mut line) = Vec::with_capacity(alloc, taps.len() + ROOM) else {
+        let limit = narrow_limit(weight_of(taps), form.plus);
+        let kept = form.delay + taps.len();
+        let Ok(mut line) = Vec::with_capacity(alloc, 2 * kept + ROOM) else {
             return Err(FirFault::OutOfMemory);
         };
-        let Ok(()) = line.resize(taps.len(), 0) else {
+        let Ok(()) = line.resize(kept, 0) else {
             return Err(FirFault::OutOfMemory);
         };
         let Ok(taps) = Vec::from_slice(alloc, taps) else {
@@ -124,7 +135,7 @@ impl Fir {
         };
         Ok(Fir {
             taps,
-            shift,
+            form,
             line,
             limit,
             wide_steps_left: 0,
@@ -135,12 +146,12 @@ impl Fir {
     /// `TooBigValue` where that is out of range. `x` may be any number. It takes no memory.
     pub fn step(&mut self, x: i64) -> Result<i64, TooBigValue>
         ensures answer { (samples : List ℤ) → StandsFor self.old samples
-            → result ≡ ranged (output_after self.old.taps self.old.shift (samples ++ x ∷ [])) }
+            → result ≡ ranged (output_after self.old.taps self.old.form (samples ++ x ∷ [])) }
         ensures stands { (samples : List ℤ) → StandsFor self.old samples
             → StandsFor self.new (samples ++ x ∷ []) }
 
         ensures taps { self.new.taps ≡ self.old.taps }
-        ensures shift { self.new.shift ≡ self.old.shift }
+        ensures form { self.new.form ≡ self.old.form }
     {
         self.take(x);
         self.answer()
@@ -155,12 +166,13 @@ impl Fir {
             → StandsFor self.new (samples ++ x ∷ []) }
 
         ensures taps { self.new.taps ≡ self.old.taps }
-        ensures shift { self.new.shift ≡ self.old.shift }
+        ensures form { self.new.form ≡ self.old.form }
     {
-        make_room(&mut self.line, self.taps.len(), 1);
+        let kept = self.form.delay + self.taps.len();
+        make_room(&mut self.line, kept, 1);
         self.line.push_reserved(x);
         self.wide_steps_left = if x.unsigned_abs() > self.limit {
-            self.taps.len()
+            kept
         } else {
             self.wide_steps_left.saturating_sub(1)
         };
@@ -174,7 +186,7 @@ impl Fir {
     pub fn steps(&mut self, samples: &[i64], made: &mut Vec<i64>) -> Result<(), TooBigValue>
         requires room { length made.old.items + length samples.now ≤ vec_capacity made.old }
         ensures made { (taken : List ℤ) → StandsFor self.old taken
-            → let outputs = outputs_of_block self.old.taps self.old.shift taken samples.now in
+            → let outputs = outputs_of_block self.old.taps self.old.form taken samples.now in
             made.new.items ≡ made.old.items ++ before_out_of_range outputs }
         ensures stands { (taken : List ℤ) → StandsFor self.old taken
             → let count = length made.new.items - length made.old.items in
@@ -184,7 +196,7 @@ impl Fir {
 
         ensures capacity { vec_capacity made.new ≡ vec_capacity made.old }
         ensures taps { self.new.taps ≡ self.old.taps }
-        ensures shift { self.new.shift ≡ self.old.shift }
+        ensures form { self.new.form ≡ self.old.form }
     {
         let mut at = 0;
         while samples.len() - at >= BLOCK {
@@ -224,10 +236,12 @@ impl Fir {
         if self.wide_steps_left > 0 || !are_within(samples, self.limit) {
             return false;
         }
-        make_room(&mut self.line, self.taps.len(), BLOCK);
+        let kept = self.form.delay + self.taps.len();
+        make_room(&mut self.line, kept, BLOCK);
         put_all(&mut self.line, samples);
-        let first = self.line.len() + 1 - BLOCK - self.taps.len();
-        let outputs = block_outputs(&self.taps, self.shift, &self.line[first..]);
+        let end = self.line.len() - self.form.delay;
+        let shown = &self.line[end + 1 - BLOCK - self.taps.len()..end];
+        let outputs = block_outputs(&self.taps, self.form, shown);
         put_all(made, &outputs);
         true
     }
@@ -248,11 +262,12 @@ impl Fir {
 
     /// The answer at the samples in the window.
     fn answer(&self) -> Result<i64, TooBigValue>
-        ensures { result ≡ answer_at self.now.taps self.now.shift self.now.window }
+        ensures { result ≡ answer_at self.now.taps self.now.form self.now.window }
     {
         if self.wide_steps_left > 0 {
-            return last_output(&self.taps, self.shift, &self.line);
+            return last_output(&self.taps, self.form, &self.line);
         }
-        Ok(narrow_output(&self.taps, self.shift, &self.line))
+        let samples = earlier(&self.line, self.form.delay);
+        Ok(narrow_output(&self.taps, self.form, samples))
     }
 }

@@ -1,16 +1,19 @@
 //! Laws of the definitions.
 ghost use Rattle.std.specs.Prelude.{◌≡◌, ℕ, ◌+◌, ◌-◌, ◌^◌, ◌<◌, ◌≤◌, List, [], ◌∷◌, ◌++◌, length, take, get_or, ℤ, pos, neg_ℤ, ◌+ℤ◌, ◌*ℤ◌, ◌≤ℤ◌, ◌<ℤ◌};
+ghost use Rattle.stream_filters.specs.declared.form.Form.{Form};
 ghost use Rattle.stream_filters.specs.declared.range.TheConstants.{VALUE_MAX, VALUE_MIN};
 ghost use Rattle.stream_filters.specs.Filter.{back, output_after, outputs, shifted_down};
 
-use crate::fir::{SHIFT_MAX, TAP_MAX, TAPS_MAX};
+use crate::fir::{DELAY_MAX, PLUS_MAX, SHIFT_MAX, TAP_MAX, TAPS_MAX};
 
-/// The limits of filters and of values, as numbers: taps, a tap's magnitude, a shift in bits, and
-/// the least and the greatest value.
+/// The limits of filters and of values, as numbers: taps, a tap's magnitude, a shift in bits, the
+/// magnitude of what is added, a delay in samples, and the least and the greatest value.
 pub fn limits_are()
     ensures taps { TAPS_MAX ≡ 64 }
     ensures tap { TAP_MAX ≡ 2147483647 }
     ensures shift { SHIFT_MAX ≡ 62 }
+    ensures plus { PLUS_MAX ≡ 4611686018427387904 }
+    ensures delay { DELAY_MAX ≡ 65536 }
     ensures greatest { VALUE_MAX ≡ pos 9223372036854775807 }
     ensures least { VALUE_MIN ≡ neg_ℤ (pos 9223372036854775807) }
 {}
@@ -18,18 +21,18 @@ pub fn limits_are()
 /// One more sample leaves the outputs as they were and adds one, the output after it. So a run of
 /// steps from a new filter answers the outputs of all its samples.
 pub fn outputs_grow()
-    ensures { (taps : List ℤ) (shift : ℕ) (samples : List ℤ) (x : ℤ)
-        → outputs taps shift (samples ++ x ∷ [])
-        ≡ outputs taps shift samples ++ output_after taps shift (samples ++ x ∷ []) ∷ [] }
+    ensures { (taps : List ℤ) (form : Form) (samples : List ℤ) (x : ℤ)
+        → outputs taps form (samples ++ x ∷ [])
+        ≡ outputs taps form samples ++ output_after taps form (samples ++ x ∷ []) ∷ [] }
 {}
 
 /// The outputs are one for each sample: number `n` is the output after the first `n + 1` samples.
 pub fn outputs_entries()
-    ensures entry { (taps : List ℤ) (shift : ℕ) (samples : List ℤ) (n : ℕ) (default : ℤ)
-        → n < length samples → get_or (outputs taps shift samples) n default
-        ≡ output_after taps shift (take (n + 1) samples) }
-    ensures length { (taps : List ℤ) (shift : ℕ) (samples : List ℤ)
-        → length (outputs taps shift samples) ≡ length samples }
+    ensures entry { (taps : List ℤ) (form : Form) (samples : List ℤ) (n : ℕ) (default : ℤ)
+        → n < length samples → get_or (outputs taps form samples) n default
+        ≡ output_after taps form (take (n + 1) samples) }
+    ensures length { (taps : List ℤ) (form : Form) (samples : List ℤ)
+        → length (outputs taps form samples) ≡ length samples }
 {}
 
 /// A shift divides and rounds down: the quotient times the divisor is at most the value, and the

@@ -7,6 +7,7 @@
 mod blocks;
 mod fault;
 mod fir;
+mod form;
 pub mod laws;
 mod peer;
 mod range;
@@ -15,7 +16,8 @@ mod turns;
 mod whole_list;
 
 pub use fault::{FilterFault, FirFault, TooBigValue};
-pub use fir::{Fir, SHIFT_MAX, TAP_MAX, TAPS_MAX};
+pub use fir::{DELAY_MAX, Fir, PLUS_MAX, SHIFT_MAX, TAP_MAX, TAPS_MAX};
+pub use form::Form;
 pub use peer::Peer;
 pub use range::{VALUE_MAX, VALUE_MIN};
 pub use turns::{Join, RoundRobin, Split};

@@ -1,10 +1,11 @@
 //! The sums of products that the filters answer.
-ghost use Rattle.std.specs.Prelude.{◌≡◌, ◌+◌, ◌*◌, ◌^◌, ◌<◌, ◌≤◌, ◌++◌, length, ◌*ℤ◌, unsigned_abs};
-ghost use Rattle.stream_filters.specs.Filter.{back, output_after, shifted_down, weight, weighted};
+ghost use Rattle.std.specs.Prelude.{◌≡◌, ◌+◌, ◌*◌, ◌^◌, ◌<◌, ◌≤◌, ◌++◌, length, ◌+ℤ◌, ◌*ℤ◌, unsigned_abs, pos, Ok, ℕ};
+ghost use Rattle.stream_filters.specs.Filter.{AreTaps, back, shifted_down, weight, weighted};
 ghost use Rattle.stream_filters.specs.FilterFields.{IsNarrowBack};
 ghost use Rattle.stream_filters.specs.Range.{ranged};
 
-use crate::fir::SHIFT_MAX;
+use crate::fir::{PLUS_MAX, SHIFT_MAX};
+use crate::form::Form;
 
 /// The product of two values, which always fits 128 bits.
 pub(crate) fn product(x: i64, y: i64) -> i128
@@ -16,7 +17,7 @@ pub(crate) fn product(x: i64, y: i64) -> i128
 
 /// The sum of each tap times the sample that it weighs, of any size, where the newest sample is the
 /// last.
-pub(crate) fn wide_sum_back(taps: &[i64], samples: &[i64]) -> i128
+fn wide_sum_back(taps: &[i64], samples: &[i64]) -> i128
     requires { weight taps.now ≤ 2 ^ 37 }
     ensures { result ≡ weighted (back samples.now) taps.now }
 {
@@ -28,7 +29,7 @@ pub(crate) fn wide_sum_back(taps: &[i64], samples: &[i64]) -> i128
 }
 
 /// The sum divided by 2 to the power `shift`, rounded down.
-pub(crate) fn wide_shifted(wide: i128, shift: u32) -> i128
+fn wide_shifted(wide: i128, shift: u32) -> i128
     requires { shift ≤ SHIFT_MAX }
     ensures { result ≡ shifted_down wide shift }
 {
@@ -49,7 +50,7 @@ fn short_product(x: i64, y: i64) -> i64
 // Inlined, its loops would take the registers of a step that does not run them.
 #[inline(never)]
 fn narrow_sum_back(taps: &[i64], samples: &[i64]) -> i64
-    requires { IsNarrowBack taps.now samples.now }
+    requires { IsNarrowBack taps.now (pos 0) samples.now }
     ensures { result ≡ weighted (back samples.now) taps.now }
 {
     let mut sum = 0;
@@ -68,12 +69,31 @@ fn narrow_shifted(narrow: i64, shift: u32) -> i64
 }
 
 /// The output at the last of these samples, where 64 bits hold the sum.
-pub(crate) fn narrow_output(taps: &[i64], shift: u32, samples: &[i64]) -> i64
-    requires narrow { IsNarrowBack taps.now samples.now }
-    requires shift { shift ≤ SHIFT_MAX }
-    ensures { Ok result ≡ ranged (output_after taps.now shift samples.now) }
+pub(crate) fn narrow_output(taps: &[i64], form: Form, samples: &[i64]) -> i64
+    requires narrow { IsNarrowBack taps.now form.plus samples.now }
+    requires shift { form.shift ≤ SHIFT_MAX }
+    ensures { Ok result ≡ ranged (shifted_down (weighted (back samples.now) taps.now +ℤ form.plus)
+        form.shift) }
 {
-    narrow_shifted(narrow_sum_back(taps, samples), shift)
+    narrow_shifted(narrow_sum_back(taps, samples) + form.plus, form.shift)
+}
+
+/// The output at the last of these samples, of any size.
+pub(crate) fn wide_output(taps: &[i64], form: Form, samples: &[i64]) -> i128
+    requires { AreTaps taps.now form }
+    ensures { result ≡ shifted_down (weighted (back samples.now) taps.now +ℤ form.plus) form.shift }
+{
+    wide_shifted(
+        wide_sum_back(taps, samples) + i128::from(form.plus),
+        form.shift,
+    )
+}
+
+/// The samples up to the one that stands so many before the last.
+pub(crate) fn earlier(samples: &[i64], delay: usize) -> &[i64]
+    ensures { (j : ℕ) → back result.now j ≡ back samples.now (delay + j) }
+{
+    &samples[..samples.len().saturating_sub(delay)]
 }
 
 /// The sum of the taps' magnitudes.
@@ -85,10 +105,11 @@ pub(crate) fn weight_of(taps: &[i64]) -> u64
 }
 
 /// The greatest magnitude of samples of 32 bits at which 64 bits hold each sum, for taps of this
-/// weight.
-pub(crate) fn narrow_limit(weight: u64) -> u64
-    ensures light { weight * result < 2 ^ 63 }
+/// weight and with so much added to each.
+pub(crate) fn narrow_limit(weight: u64, plus: i64) -> u64
+    requires { unsigned_abs plus ≤ PLUS_MAX }
+    ensures light { weight * result + unsigned_abs plus < 2 ^ 63 }
     ensures short { result < 2 ^ 31 }
 {
-    (0x7fff_ffff_ffff_ffff / weight.max(1)).min(0x7fff_ffff)
+    ((0x7fff_ffff_ffff_ffff - plus.unsigned_abs()) / weight.max(1)).min(0x7fff_ffff)
 }

@@ -1,15 +1,16 @@
 //! A filter over a whole list of samples.
-ghost use Rattle.std.specs.Prelude.{◌≡◌, ◌↔◌, ◌+◌, ◌≤◌, ℕ, [], length, IfOk, OnOk, IsTrue, None, Some, Err, unsigned_abs};
+ghost use Rattle.std.specs.Prelude.{◌≡◌, ◌↔◌, ◌+◌, ◌-◌, ◌≤◌, ℕ, [], length, IfOk, OnOk, IsTrue, None, Some, Err, unsigned_abs};
 ghost use Rattle.std.specs.List.{All, position_from};
-ghost use Rattle.stream_filters.specs.Filter.{AreTaps, output_after, outputs};
+ghost use Rattle.stream_filters.specs.Filter.{AreTaps, output_after, outputs, reach};
 ghost use Rattle.stream_filters.specs.FilterFields.{AreSmall, AreSmallAt, MadeSoFar};
 ghost use Rattle.stream_filters.specs.Range.{is_out_of_range, ranged};
 
 use crate::blocks::{BLOCK, block_outputs};
 use crate::fault::{FilterFault, TooBigValue};
 use crate::fir::are_taps;
+use crate::form::Form;
 use crate::range::in_range;
-use crate::sums::{narrow_limit, weight_of, wide_shifted, wide_sum_back};
+use crate::sums::{earlier, narrow_limit, weight_of, wide_output};
 use std::alloc::{AllocError, Global};
 
 /// Whether the magnitude of each of these samples is at most `limit`.
@@ -20,11 +21,11 @@ pub(crate) fn are_within(samples: &[i64], limit: u64) -> bool
 }
 
 /// The output at the last of these samples.
-pub(crate) fn last_output(taps: &[i64], shift: u32, samples: &[i64]) -> Result<i64, TooBigValue>
-    requires { AreTaps taps.now shift }
-    ensures { result ≡ ranged (output_after taps.now shift samples.now) }
+pub(crate) fn last_output(taps: &[i64], form: Form, samples: &[i64]) -> Result<i64, TooBigValue>
+    requires { AreTaps taps.now form }
+    ensures { result ≡ ranged (output_after taps.now form samples.now) }
 {
-    in_range(wide_shifted(wide_sum_back(taps, samples), shift))
+    in_range(wide_output(taps, form, earlier(samples, form.delay)))
 }
 
 /// Adds the outputs at the samples from number `at` to the one before number `end`, which may be of
@@ -32,21 +33,21 @@ pub(crate) fn last_output(taps: &[i64], shift: u32, samples: &[i64]) -> Result<i
 fn add_each(
     list: &mut Vec<i64>,
     taps: &[i64],
-    shift: u32,
+    form: Form,
     samples: &[i64],
     at: usize,
     end: usize,
 ) -> Result<(), FilterFault>
-    requires taps { AreTaps taps.now shift }
+    requires taps { AreTaps taps.now form }
     requires within { (at ≤ end) × (end ≤ length samples.now) }
-    requires made { MadeSoFar (outputs taps.now shift samples.now) list.old.items at }
-    ensures made { OnOk result (MadeSoFar (outputs taps.now shift samples.now) list.new.items end) }
+    requires made { MadeSoFar (outputs taps.now form samples.now) list.old.items at }
+    ensures made { OnOk result (MadeSoFar (outputs taps.now form samples.now) list.new.items end) }
     ensures too_big { (step : ℕ) → result ≡ Err (FilterFault.TooBig step)
-        → position_from is_out_of_range 0 (outputs taps.now shift samples.now) ≡ Some step }
+        → position_from is_out_of_range 0 (outputs taps.now form samples.now) ≡ Some step }
     ensures taps_stand { result ≡ Err FilterFault.BadTaps → ⊥ }
 {
     for n in at..end {
-        let Ok(y) = last_output(taps, shift, &samples[..n + 1]) else {
+        let Ok(y) = last_output(taps, form, &samples[..n + 1]) else {
             return Err(FilterFault::TooBig(n));
         };
         let Ok(()) = list.push(y) else {
@@ -61,18 +62,20 @@ fn add_each(
 fn add_block(
     list: &mut Vec<i64>,
     taps: &[i64],
-    shift: u32,
+    form: Form,
     samples: &[i64],
     at: usize,
 ) -> Result<(), AllocError>
-    requires taps { AreTaps taps.now shift }
-    requires within { (length taps.now ≤ at + 1) × (at + 16 ≤ length samples.now) }
-    requires small { AreSmallAt taps.now samples.now at }
-    requires made { MadeSoFar (outputs taps.now shift samples.now) list.old.items at }
+    requires taps { AreTaps taps.now form }
+    requires within { (reach taps.now form ≤ at + 1) × (at + 16 ≤ length samples.now) }
+    requires small { AreSmallAt taps.now form.plus samples.now (at - form.delay) }
+    requires made { MadeSoFar (outputs taps.now form samples.now) list.old.items at }
     ensures made { OnOk result
-        (MadeSoFar (outputs taps.now shift samples.now) list.new.items (at + 16)) }
+        (MadeSoFar (outputs taps.now form samples.now) list.new.items (at + 16)) }
 {
-    let outputs = block_outputs(taps, shift, &samples[at + 1 - taps.len()..at + BLOCK]);
+    let first = at - form.delay;
+    let shown = &samples[first + 1 - taps.len()..first + BLOCK];
+    let outputs = block_outputs(taps, form, shown);
     list.extend_from_slice(&outputs)
 }
 
@@ -94,38 +97,38 @@ fn small_since(samples: &[i64], limit: u64, since: usize, at: usize, end: usize)
 fn add_all(
     list: &mut Vec<i64>,
     taps: &[i64],
-    shift: u32,
+    form: Form,
     samples: &[i64],
 ) -> Result<(), FilterFault>
-    requires taps { AreTaps taps.now shift }
+    requires taps { AreTaps taps.now form }
     requires empty { list.old.items ≡ [] }
-    ensures ok { OnOk result (list.new.items ≡ outputs taps.now shift samples.now) }
+    ensures ok { OnOk result (list.new.items ≡ outputs taps.now form samples.now) }
     ensures in_range { OnOk result
-        (position_from is_out_of_range 0 (outputs taps.now shift samples.now) ≡ None) }
+        (position_from is_out_of_range 0 (outputs taps.now form samples.now) ≡ None) }
     ensures too_big { (step : ℕ) → result ≡ Err (FilterFault.TooBig step)
-        → position_from is_out_of_range 0 (outputs taps.now shift samples.now) ≡ Some step }
+        → position_from is_out_of_range 0 (outputs taps.now form samples.now) ≡ Some step }
     ensures taps_stand { result ≡ Err FilterFault.BadTaps → ⊥ }
 {
-    let limit = narrow_limit(weight_of(taps));
+    let limit = narrow_limit(weight_of(taps), form.plus);
     let mut small_from = 0;
     let mut at = 0;
     while at < samples.len() {
         let end = samples.len().min(at + BLOCK);
         small_from = small_since(samples, limit, small_from, at, end);
-        if end == at + BLOCK && small_from + taps.len() <= at + 1 {
-            let Ok(()) = add_block(list, taps, shift, samples, at) else {
+        if end == at + BLOCK && small_from + form.delay + taps.len() <= at + 1 {
+            let Ok(()) = add_block(list, taps, form, samples, at) else {
                 return Err(FilterFault::OutOfMemory);
             };
         } else {
-            add_each(list, taps, shift, samples, at, end)?;
+            add_each(list, taps, form, samples, at, end)?;
         }
         at = end;
     }
     Ok(())
 }
 
-/// Makes the outputs of a filter with these taps and a shift in bits at each of these samples, or
-/// finds the first step at which one is out of range.
+/// Makes the outputs of a filter with these taps and this form at each of these samples, or finds
+/// the first step at which one is out of range.
 ///
 /// The answers are those of a `Fir` that is stepped over the samples. It takes memory for the list
 /// that it returns, and no other. `BadTaps` comes first.
@@ -135,23 +138,23 @@ fn add_all(
 pub fn filter_list(
     alloc: Global,
     taps: &[i64],
-    shift: u32,
+    form: Form,
     samples: &[i64],
 ) -> Result<Vec<i64>, FilterFault>
-    ensures ok { IfOk result (λ list. list.items ≡ outputs taps.now shift samples.now) }
+    ensures ok { IfOk result (λ list. list.items ≡ outputs taps.now form samples.now) }
     ensures in_range { IfOk result (λ list.
-        position_from is_out_of_range 0 (outputs taps.now shift samples.now) ≡ None) }
+        position_from is_out_of_range 0 (outputs taps.now form samples.now) ≡ None) }
 
-    ensures bad_taps { (result ≡ Err FilterFault.BadTaps) ↔ ¬ (AreTaps taps.now shift) }
+    ensures bad_taps { (result ≡ Err FilterFault.BadTaps) ↔ ¬ (AreTaps taps.now form) }
     ensures too_big { (step : ℕ) → result ≡ Err (FilterFault.TooBig step)
-        → position_from is_out_of_range 0 (outputs taps.now shift samples.now) ≡ Some step }
+        → position_from is_out_of_range 0 (outputs taps.now form samples.now) ≡ Some step }
 {
-    if !are_taps(taps, shift) {
+    if !are_taps(taps, form) {
         return Err(FilterFault::BadTaps);
     }
     let Ok(mut list) = Vec::with_capacity(alloc, samples.len()) else {
         return Err(FilterFault::OutOfMemory);
     };
-    add_all(&mut list, taps, shift, samples)?;
+    add_all(&mut list, taps, form, samples)?;
     Ok(list)
 }

@@ -5,6 +5,7 @@ use Rattle.std.proofs.lemmas.List.{length-take, map-append, take-take, take_all}
 use Rattle.std.proofs.Math.Seq.{take-add}
 use Rattle.graph_lang.specs.graph_base.Graphs.{Task}
 use Rattle.graph_lang.specs.stream_filters.declared.fault.TooBigValue.{TooBigValue}
+use Rattle.graph_lang.specs.stream_filters.declared.form.Form.{Form}
 use Rattle.graph_lang.specs.stream_filters.Filter.{FirState, output_after}
 use Rattle.graph_lang.specs.stream_filters.Range.{before_out_of_range, is_out_of_range, ranged}
 use Rattle.graph_lang.proofs.graph_base_lemmas.stream_filters_lemmas.Stepped.{before-cons}
@@ -29,14 +30,14 @@ pub filtered_then : (task : Task) (xs ys : List ℤ) (old between new : Option F
     → HasFiltered task ys between new some all → HasFiltered task (xs ++ ys) old new made all
 filtered_then task xs ys old between new made some all first more = record {
   answers = λ taken has.
-      let zs = outputs_of_block task.taps task.shift taken xs in
-      let ws = outputs_of_block task.taps task.shift (taken ++ xs) ys in
+      let zs = outputs_of_block task.taps task.form taken xs in
+      let ws = outputs_of_block task.taps task.form (taken ++ xs) ys in
       more.answers (taken ++ xs) (first.filter taken has)
       ∙ (ap (λ l. l ++ map ranged ws) (first.answers taken has)
       ∙ (append_assoc made (map ranged zs) (map ranged ws)
       ∙ ap (λ l. made ++ l)
       (sym (map-append ranged zs ws)
-      ∙ ap (map ranged) (sym (outputs_of_block-append task.taps task.shift taken xs ys)))));
+      ∙ ap (map ranged) (sym (outputs_of_block-append task.taps task.form taken xs ys)))));
   filter = λ taken has.
       subst (HasFilter task new) (append_assoc taken xs ys)
       (more.filter (taken ++ xs) (first.filter taken has));
@@ -46,7 +47,7 @@ filtered_then task xs ys old between new made some all first more = record {
 pub filtered_one : (task : Task) (x : ℤ) (old new : Option FirState)
     (answer : Result ℤ TooBigValue) (made after : List (Result ℤ TooBigValue))
     → ((taken : List ℤ) → HasFilter task old taken
-    → answer ≡ ranged (output_after task.taps task.shift (taken ++ x ∷ [])))
+    → answer ≡ ranged (output_after task.taps task.form (taken ++ x ∷ [])))
     → ((taken : List ℤ) → HasFilter task old taken → HasFilter task new (taken ++ x ∷ []))
     → after ≡ made ++ answer ∷ [] → HasFiltered task (x ∷ []) old new made after
 filtered_one task x old new answer made after is next items = record {
@@ -106,20 +107,20 @@ ranged-some (z ∷ zs) less = by (ranged-some zs) (fits z) refl
         (sym (before-cons z zs false f)) (ap (λ r. r ∷ []) (ranged-out z f))
 
 -- the outputs of a part of a block are a part of its outputs
-outputs-take : (n : ℕ) (taps : List ℤ) (shift : ℕ) (taken ys : List ℤ)
-    → outputs_of_block taps shift taken (take n ys)
-    ≡ take n (outputs_of_block taps shift taken ys)
-outputs-take zero taps shift taken ys = refl
-outputs-take (suc n) taps shift taken [] = refl
-outputs-take (suc n) taps shift taken (y ∷ ys) =
-    ap (λ zs. output_after taps shift (taken ++ y ∷ []) ∷ zs)
-    (outputs-take n taps shift (taken ++ y ∷ []) ys)
+outputs-take : (n : ℕ) (taps : List ℤ) (form : Form) (taken ys : List ℤ)
+    → outputs_of_block taps form taken (take n ys)
+    ≡ take n (outputs_of_block taps form taken ys)
+outputs-take zero taps form taken ys = refl
+outputs-take (suc n) taps form taken [] = refl
+outputs-take (suc n) taps form taken (y ∷ ys) =
+    ap (λ zs. output_after taps form (taken ++ y ∷ []) ∷ zs)
+    (outputs-take n taps form (taken ++ y ∷ []) ys)
 
 -- a filter was given numbers up to the first answer out of range, or all of them where there is none
 pub filtered_so : (task : Task) (ys : List ℤ) (old new : Option FirState) (values : List ℤ)
     (made after : List (Result ℤ TooBigValue)) (count : ℕ)
     → ((taken : List ℤ) → HasFilter task old taken
-    → values ≡ before_out_of_range (outputs_of_block task.taps task.shift taken ys))
+    → values ≡ before_out_of_range (outputs_of_block task.taps task.form taken ys))
     → ((taken : List ℤ) → HasFilter task old taken
     → HasFilter task new (taken ++ take (length values + 1) ys))
     → (length values ≡ length ys) × (count ≡ length ys)
@@ -132,21 +133,21 @@ filtered_so task ys old new values made after count outputs next (inl (all, many
     let more : take (length values + 1) ys ≡ ys = take_all (length values + 1) ys (omega arith) in
     record {
       answers = λ taken has.
-          let zs = outputs_of_block task.taps task.shift taken ys in
-          let long : length zs ≡ length ys = length-outputs_of_block task.taps task.shift taken ys in
+          let zs = outputs_of_block task.taps task.form taken ys in
+          let long : length zs ≡ length ys = length-outputs_of_block task.taps task.form taken ys in
           let same = ap length (outputs taken has) in
           items
           ∙ ap (λ l. made ++ map good l) (outputs taken has)
           ∙ ap (λ l. made ++ l) (sym (ranged-all zs (omega arith)))
-          ∙ ap (λ l. made ++ map ranged (outputs_of_block task.taps task.shift taken l)) (sym whole);
+          ∙ ap (λ l. made ++ map ranged (outputs_of_block task.taps task.form taken l)) (sym whole);
       filter = λ taken has.
           subst (λ l. HasFilter task new (taken ++ l)) (more ∙ sym whole) (next taken has);
     }
 filtered_so task ys old new values made after count outputs next (inr (some, many, items)) =
     record {
       answers = λ taken has.
-          let zs = outputs_of_block task.taps task.shift taken ys in
-          let long : length zs ≡ length ys = length-outputs_of_block task.taps task.shift taken ys in
+          let zs = outputs_of_block task.taps task.form taken ys in
+          let long : length zs ≡ length ys = length-outputs_of_block task.taps task.form taken ys in
           let is = outputs taken has in
           let same : length values ≡ length (before_out_of_range zs) = ap length is in
           let first : count ≡ length (before_out_of_range zs) + 1 = omega arith in
@@ -155,7 +156,7 @@ filtered_so task ys old new values made after count outputs next (inr (some, man
           ∙ ap (λ l. made ++ (map good l ++ out ∷ [])) is
           ∙ ap (λ l. made ++ l) (sym (ranged-some zs (λ e. some (same ∙ e ∙ long))))
           ∙ ap (λ n. made ++ map ranged (take n zs)) (sym first)
-          ∙ ap (λ l. made ++ map ranged l) (sym (outputs-take count task.taps task.shift taken ys));
+          ∙ ap (λ l. made ++ map ranged l) (sym (outputs-take count task.taps task.form taken ys));
       filter = λ taken has.
           subst (λ n. HasFilter task new (taken ++ take n ys)) (sym many) (next taken has);
     }
@@ -179,14 +180,14 @@ take-few many end os le = take-take many end os le
 pub record WasGiven (task : Task) (ys : List ℤ) (old new : Option FirState) (values : List ℤ)
     : Type 0 where
   pub outputs : (taken : List ℤ) → HasFilter task old taken
-      → values ≡ before_out_of_range (outputs_of_block task.taps task.shift taken ys)
+      → values ≡ before_out_of_range (outputs_of_block task.taps task.form taken ys)
   pub next : (taken : List ℤ) → HasFilter task old taken
       → HasFilter task new (taken ++ take (length values + 1) ys)
 
 pub was_given : (task : Task) (ys : List ℤ) (old new : Option FirState) (start values : List ℤ)
     → start ≡ []
     → ((taken : List ℤ) → HasFilter task old taken → values
-    ≡ start ++ before_out_of_range (outputs_of_block task.taps task.shift taken ys))
+    ≡ start ++ before_out_of_range (outputs_of_block task.taps task.form taken ys))
     → ((taken : List ℤ) → HasFilter task old taken
     → HasFilter task new (taken ++ take (length values - length start + 1) ys))
     → WasGiven task ys old new values
@@ -202,8 +203,8 @@ was_given task ys old new (v ∷ start) values none made next = absurd (cc)
 pub few_given : (task : Task) (ys : List ℤ) (old new : Option FirState) (values taken : List ℤ)
     → WasGiven task ys old new values → HasFilter task old taken → length values ≤ length ys
 few_given task ys old new values taken given has =
-    let zs = outputs_of_block task.taps task.shift taken ys in
-    let long : length zs ≡ length ys = length-outputs_of_block task.taps task.shift taken ys in
+    let zs = outputs_of_block task.taps task.form taken ys in
+    let long : length zs ≡ length ys = length-outputs_of_block task.taps task.form taken ys in
     let same = ap length (given.outputs taken has) in
     let few : length (before_out_of_range zs) ≤ length zs = length-take-few _ zs in
     omega arith

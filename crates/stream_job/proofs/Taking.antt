@@ -39,7 +39,7 @@ took_values task xs old new fir some nothing none made stays = record {
   owed = λ taken has.
       ap (owed_in new.owed)
       (made.answers taken has
-      ∙ ap (λ l. l ++ map ranged (outputs_of_block task.taps task.shift taken xs)) none)
+      ∙ ap (λ l. l ++ map ranged (outputs_of_block task.taps task.form taken xs)) none)
       ∙ some_owed taken xs some ∙ rw fir refl;
   made_by = λ is. nothing;
   made_none = λ other. absurd (other fir);
@@ -47,8 +47,8 @@ took_values task xs old new fir some nothing none made stays = record {
 }
   where
     some_owed : (taken ys : List ℤ) → 1 ≤ length ys
-        → owed_in new.owed (map ranged (outputs_of_block task.taps task.shift taken ys))
-        ≡ places.values 0 (map ranged (outputs_of_block task.taps task.shift taken ys))
+        → owed_in new.owed (map ranged (outputs_of_block task.taps task.form taken ys))
+        ≡ places.values 0 (map ranged (outputs_of_block task.taps task.form taken ys))
     some_owed taken [] le = absurd (omega arith)
     some_owed taken (y ∷ ys) le = refl
 

@@ -11,5 +11,5 @@ use Rattle.graph_runs.specs.TaskPlaces.{outputs_of_block}
 pub record HasFiltered (task : Task) (xs : List ℤ) (old new : Option FirState)
     (made after : List (Result ℤ TooBigValue)) : Type 0 where
   pub answers : (taken : List ℤ) → HasFilter task old taken
-      → after ≡ made ++ map ranged (outputs_of_block task.taps task.shift taken xs)
+      → after ≡ made ++ map ranged (outputs_of_block task.taps task.form taken xs)
   pub filter : (taken : List ℤ) → HasFilter task old taken → HasFilter task new (taken ++ xs)

@@ -8,6 +8,7 @@ use Rattle.graph_base.specs.declared.line.Kind.TheVariants.{Source, Fir, Split, 
 use Rattle.graph_base.specs.declared.place.Place.TheVariants as place
 use Rattle.graph_base.specs.declared.line.PhaserLine.{PhaserLine}
 use Rattle.graph_base.specs.Graphs.{Task, no_graph, no_task}
+use Rattle.graph_base.specs.stream_filters.Filter.{no_form}
 use Rattle.stream_lists.specs.Jobs.{Job}
 use Rattle.stream_lists.specs.Ranges.{answer_of}
 use Rattle.stream_lists.specs.Meetings.{meeting_line}
@@ -28,13 +29,13 @@ abbrev pub source : ℕ → ℕ → Task
 source line y = record no_task { line = line; kind = Source; outputs = y ∷ [] }
 
 abbrev pub fir : ℕ → ℕ → ℕ → ℕ → List ℤ → Task
-fir line x y shift taps = record no_task {
+fir line x y bits taps = record no_task {
   line = line;
   kind = Fir;
   inputs = x ∷ [];
   outputs = y ∷ [];
   taps = taps;
-  shift = shift;
+  form = record no_form { shift = bits };
 }
 
 abbrev pub splitter : ℕ → ℕ → List ℕ → Task

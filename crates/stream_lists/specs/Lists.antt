@@ -58,7 +58,7 @@ output_list samples taken task steps j = of task.kind
   where
     of : Kind → List ℤ
     of Source = take steps samples
-    of Fir = outputs task.taps task.shift (get_or taken 0 [])
+    of Fir = outputs task.taps task.form (get_or taken 0 [])
     of Split = every (length task.outputs) j (get_or taken 0 [])
     of Join = in_turn taken steps
     of Peer =

@@ -24,7 +24,7 @@ pub record MadeSoFar (task : Task) (xs : List ℤ) (old new : Option FirState) (
     : Type 0 where
   pub filter : (taken : List ℤ) → HasFilter task old taken → HasFilter task new (taken ++ xs)
   pub made_are : (taken : List ℤ) → HasFilter task old taken
-      → map ranged (outputs_of_block task.taps task.shift taken xs) ≡ map (λ v. Ok v) made
+      → map ranged (outputs_of_block task.taps task.form taken xs) ≡ map (λ v. Ok v) made
   pub many : length made ≡ length xs
 
 pub made_none : (task : Task) (filter : Option FirState) (made : List ℤ) → made ≡ []
@@ -40,7 +40,7 @@ pub made_then : (task : Task) (xs ys : List ℤ) (old between new : Option FirSt
     (made after : List ℤ) → MadeSoFar task xs old between made
     → length after ≡ length made + length ys
     → ((taken : List ℤ) → HasFilter task between taken → after ≡ made
-    ++ before_out_of_range (outputs_of_block task.taps task.shift taken ys))
+    ++ before_out_of_range (outputs_of_block task.taps task.form taken ys))
     → ((taken : List ℤ) → HasFilter task between taken
     → HasFilter task new (taken ++ take (length after - length made + 1) ys))
     → MadeSoFar task (xs ++ ys) old new after
@@ -52,14 +52,14 @@ made_then task xs ys old between new made after so all outputs next = record {
       ∙ append_assoc taken xs ys)
       (next (taken ++ xs) (so.filter taken has));
   made_are = λ taken has.
-      let zs = outputs_of_block task.taps task.shift (taken ++ xs) ys in
+      let zs = outputs_of_block task.taps task.form (taken ++ xs) ys in
       let here = outputs (taken ++ xs) (so.filter taken has) in
       let count : length after ≡ length made + length (before_out_of_range zs) =
       ap length here ∙ length-append made (before_out_of_range zs) in
       let many : length zs ≡ length ys =
-      length-outputs_of_block task.taps task.shift (taken ++ xs) ys in
-      ap (map ranged) (outputs_of_block-append task.taps task.shift taken xs ys)
-      ∙ (map-append ranged (outputs_of_block task.taps task.shift taken xs) zs
+      length-outputs_of_block task.taps task.form (taken ++ xs) ys in
+      ap (map ranged) (outputs_of_block-append task.taps task.form taken xs ys)
+      ∙ (map-append ranged (outputs_of_block task.taps task.form taken xs) zs
       ∙ (ap (λ l. l ++ map ranged zs) (so.made_are taken has)
       ∙ (ap (λ l. map (λ v. Ok v) made ++ l) (ranged-all zs (omega arith))
       ∙ (sym (map-append (λ v. Ok v) made (before_out_of_range zs))
@@ -74,13 +74,13 @@ take_few n xs = omega (arith, length-take n xs)
 pub made_few : (task : Task) (ys : List ℤ) (between : Option FirState) (made after taken : List ℤ)
     → HasFilter task between taken
     → (HasFilter task between taken → after ≡ made
-    ++ before_out_of_range (outputs_of_block task.taps task.shift taken ys))
+    ++ before_out_of_range (outputs_of_block task.taps task.form taken ys))
     → length after ≤ length made + length ys
 made_few task ys between made after taken has outputs =
-    let zs = outputs_of_block task.taps task.shift taken ys in
+    let zs = outputs_of_block task.taps task.form taken ys in
     let count = ap length (outputs has) ∙ length-append made (before_out_of_range zs) in
     let few : length (before_out_of_range zs) ≤ length zs = take_few _ zs in
-    omega (arith, count, length-outputs_of_block task.taps task.shift taken ys)
+    omega (arith, count, length-outputs_of_block task.taps task.form taken ys)
 
 -- the numbers of more outcomes, behind those before them
 pub numbers_then : (os : List Outcome) (at end : ℕ) (ys : List ℤ) → at ≤ end
@@ -96,7 +96,7 @@ numbers_then os at end ys le is =
 -- what a filter has made of what it took is what it owes
 pub filter_owes : (task : Task) (begun : ℕ) (taken : List ℤ) (os : List Outcome) (made : List ℤ)
     → task.kind ≡ Fir → 1 ≤ length os
-    → map ranged (outputs_of_block task.taps task.shift taken (map number os))
+    → map ranged (outputs_of_block task.taps task.form taken (map number os))
     ≡ map (λ v. Ok v) made
     → owed_by Nothing made ≡ owed_after_wait task begun taken (map number os)
 filter_owes task begun taken [] made fir some e = absurd (let no : 1 ≤ 0 = some in omega arith)

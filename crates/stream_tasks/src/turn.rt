@@ -336,7 +336,7 @@ fn filter_all(
     ensures made { result ≡ true → (taken : List ℤ)
         → HasFilter (task_at job.now.graph t) filter.old taken
         → let task = task_at job.now.graph t in
-        map ranged (outputs_of_block task.taps task.shift taken (map number outcomes.now))
+        map ranged (outputs_of_block task.taps task.form taken (map number outcomes.now))
         ≡ map (λ v. Ok v) made.new.items }
     ensures filter { result ≡ true → (taken : List ℤ)
         → HasFilter (task_at job.now.graph t) filter.old taken

@@ -18,6 +18,8 @@ use Rattle.graph_runs.specs.graph_base.Graphs.{Graph, Task, Named, IsPlace, name
 use Rattle.graph_runs.specs.graph_base.Names.{place_of}
 use Rattle.graph_runs.specs.graph_base.TaskLines.{IsGraph, IsTaskLine, IsPhaserLine, IsParent, AreNames, AreRising, AreAmong, HasEnds, HasTaps, HasFactor, HasBlock, MayJoinNow, IsExchangeBelow, has_children, has_blocks}
 use Rattle.graph_runs.specs.phase_base.Lists.{is_distinct}
+use Rattle.graph_runs.specs.graph_base.stream_filters.Filter.{no_form}
+use Rattle.graph_runs.specs.graph_base.stream_filters.declared.form.Form.{Form}
 use Rattle.worked_runs.proofs.Tests as test
 use Rattle.worked_runs.proofs.Tests.{Test, Both, never, always, giving, both, either, each, when_some, where_so}
 
@@ -75,27 +77,38 @@ is_exchange_below Split inputs = always tt
 is_exchange_below Join inputs = always tt
 is_exchange_below Sink inputs = always tt
 
-abbrev pub no_taps : (taps : List ℤ) (shift : ℕ) → Test ((taps ≡ []) × (shift ≡ 0))
-no_taps taps shift =
-    giving (λ b. (b.left, b.right)) (both (test.is_empty taps) (test.is_equal shift 0))
+form_is : (form : Form) → form.shift ≡ 0 → form.plus ≡ pos 0 → form.delay ≡ 0 → form ≡ no_form
+form_is form shift plus delay = cc (shift, plus, delay)
 
-abbrev pub has_taps : (kind : Kind) (taps : List ℤ) (shift : ℕ) → Test (HasTaps kind taps shift)
-has_taps Fir taps shift =
+abbrev pub no_taps : (taps : List ℤ) (form : Form) → Test ((taps ≡ []) × (form ≡ no_form))
+no_taps taps form =
+    giving (λ b. (b.left, form_is form b.right.left b.right.right.left b.right.right.right))
+    (both (test.is_empty taps)
+    (both (test.is_equal form.shift 0)
+    (both (test.is_value form.plus (pos 0)) (test.is_equal form.delay 0))))
+
+abbrev pub has_taps : (kind : Kind) (taps : List ℤ) (form : Form) → Test (HasTaps kind taps form)
+has_taps Fir taps form =
     giving (λ b. record {
       some = b.left;
       few = b.right.left;
       small = b.right.right.left;
-      shift_small = b.right.right.right;
+      shift_small = b.right.right.right.left;
+      plus_small = b.right.right.right.right.left;
+      delay_small = b.right.right.right.right.right;
     })
     (both (test.is_at_most 1 (length taps))
     (both (test.is_at_most (length taps) 64)
     (both (all_of (λ tap. unsigned_abs tap ≤ 2147483647) taps
-    (λ tap. test.is_at_most (unsigned_abs tap) 2147483647)) (test.is_at_most shift 62))))
-has_taps Source taps shift = no_taps taps shift
-has_taps Split taps shift = no_taps taps shift
-has_taps Join taps shift = no_taps taps shift
-has_taps Peer taps shift = no_taps taps shift
-has_taps Sink taps shift = no_taps taps shift
+    (λ tap. test.is_at_most (unsigned_abs tap) 2147483647)) 
+    (both (test.is_at_most form.shift 62)
+    (both (test.is_at_most (unsigned_abs form.plus) 4611686018427387904)
+    (test.is_at_most form.delay 65536))))))
+has_taps Source taps form = no_taps taps form
+has_taps Split taps form = no_taps taps form
+has_taps Join taps form = no_taps taps form
+has_taps Peer taps form = no_taps taps form
+has_taps Sink taps form = no_taps taps form
 
 abbrev pub has_factor : (kind : Kind) (mul : ℤ) → Test (HasFactor kind mul)
 has_factor Peer mul = test.is_at_most (unsigned_abs mul) FACTOR_MAX
@@ -185,7 +198,7 @@ is_task_line graph t task =
     (λ x. all_of (λ y. x < y) task.outputs (λ y. test.is_below x y)))))))
     (both (is_exchange_below task.kind task.inputs)
     (both (all_of Plain task.outputs (λ y. test.is_none (phaser_at graph y).single))
-    (both (has_taps task.kind task.taps task.shift)
+    (both (has_taps task.kind task.taps task.form)
     (both (has_factor task.kind task.mul)
     (both (if_some task.until (λ steps. steps ≤ STEPS_MAX)
     (λ steps. test.is_at_most steps STEPS_MAX))

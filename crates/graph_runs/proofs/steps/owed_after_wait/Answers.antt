@@ -13,7 +13,7 @@ returns-in-Fir-clause-owed c = λ taken has.
     c.filtered.result (sym c.kind_of.ensures ∙ c.in-Fir.is)
     (c.filtered.ensures.answer taken has
     ∙ ap (λ y. ranged (output_after (task_at c.args.job.now.graph c.args.t).taps
-    (task_at c.args.job.now.graph c.args.t).shift (taken ++ y ∷ []))) (to_z-of_z c.ranges.x))
+    (task_at c.args.job.now.graph c.args.t).form (taken ++ y ∷ []))) (to_z-of_z c.ranges.x))
 
 pub returns-in-Fir-clause-filter : goal.returns-in-Fir-clause-filter
 returns-in-Fir-clause-filter c = λ taken has.

@@ -7,7 +7,7 @@ use Rattle.phase_eval.proofs.filtering.joined.Goals as goal
 
 pub loop-part-init : goal.loop-part-init
 loop-part-init c =
-    let whole = outputs c.args.taps.now c.args.shift c.args.samples.now in
+    let whole = outputs c.args.taps.now c.args.form c.args.samples.now in
     let none : c.in-Ok.values.items ≡ [] = search rules in
     record {
       within = omega arith;
@@ -16,7 +16,7 @@ loop-part-init c =
 
 pub loop-part-preserved : goal.loop-part-preserved
 loop-part-preserved c =
-    let whole = outputs c.args.taps.now c.args.shift c.args.samples.now in
+    let whole = outputs c.args.taps.now c.args.form c.args.samples.now in
     let at = c.loop-part.at in
     let part = c.in-Some.part in
     let inv = c.loop-part.invariant in

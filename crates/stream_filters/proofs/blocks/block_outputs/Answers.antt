@@ -1,6 +1,6 @@
 use Rattle.std.proofs.Common.{arith, ◌≡◌, ◌+◌, suc, map, w64, of_z, ap, ◌∙◌}
 use Rattle.stream_filters.proofs.Lanes.{short-handed, sums-handed, added-handed}
-use Rattle.stream_filters.proofs.ManySums.{sums_after, products_at, lanes_at, lanes-read, lanes_at-short, products-made, sums_after-fit, products_at-fit, lanes-add_up, sums_after-more, sums-back, outputs-handed}
+use Rattle.stream_filters.proofs.ManySums.{sums_after, products_at, lanes_at, lanes-read, lanes_at-short, products-made, sums_after-fit, products_at-fit, lanes-add_up, sums_after-more, sums-back, sums_after-added-fit, sums-added, sums_added-fit, outputs-handed}
 use Rattle.stream_filters.proofs.blocks.block_outputs.Goals as goal
 
 -- samples of 32 bits
@@ -9,7 +9,7 @@ short_lanes-lanes-requires-clause-short c =
     let taps = c.args.taps.now in
     let samples = c.args.samples.now in
     rw (lanes-read taps samples c.loop-j.j c.loop-j-test.true c.requires.enough)
-    (lanes_at-short taps samples c.requires.narrow c.loop-j.j)
+    (lanes_at-short taps c.args.form.plus samples c.requires.narrow c.loop-j.j)
 
 pub scaled-requires-clause-short : goal.scaled-requires-clause-short
 scaled-requires-clause-short c =
@@ -18,7 +18,7 @@ scaled-requires-clause-short c =
     let j = c.loop-j.j in
     short-handed _ (lanes_at taps samples j)
     (c.short_lanes-lanes.ensures ∙ lanes-read taps samples j c.loop-j-test.true c.requires.enough)
-    (lanes_at-short taps samples c.requires.narrow j)
+    (lanes_at-short taps c.args.form.plus samples c.requires.narrow j)
 
 -- no sum is too large
 pub added-sums-requires : goal.added-sums-requires
@@ -30,9 +30,9 @@ added-sums-requires c =
     let narrow = c.requires.narrow in
     let lanes = c.short_lanes-lanes.ensures ∙ lanes-read taps samples j lt c.requires.enough in
     sums-handed _ (sums_after taps samples j) _ (products_at taps samples j) c.loop-j.invariant
-    (products-made taps samples _ _ j narrow lt lanes c.scaled.ensures)
-    (sums_after-fit taps samples narrow j) (products_at-fit taps samples narrow j lt)
-    (lanes-add_up taps samples narrow j lt)
+    (products-made taps c.args.form.plus samples _ _ j narrow lt lanes c.scaled.ensures)
+    (sums_after-fit taps c.args.form.plus samples narrow j) (products_at-fit taps c.args.form.plus samples narrow j lt)
+    (lanes-add_up taps c.args.form.plus samples narrow j lt)
 
 -- the sums with one more tap
 pub loop-j-preserved : goal.loop-j-preserved
@@ -47,22 +47,35 @@ loop-j-preserved c =
     let sums : c.added-sums.result ≡ sums_after taps samples (suc j) =
     added-handed _ (sums_after taps samples j) _ (products_at taps samples j)
     (sums_after taps samples (suc j)) _
-    c.added-sums.ensures c.loop-j.invariant (products-made taps samples _ _ j narrow lt lanes
+    c.added-sums.ensures c.loop-j.invariant (products-made taps c.args.form.plus samples _ _ j narrow lt lanes
     c.scaled.ensures)
-    (sums_after-fit taps samples narrow j) (products_at-fit taps samples narrow j lt)
+    (sums_after-fit taps c.args.form.plus samples narrow j) (products_at-fit taps c.args.form.plus samples narrow j lt)
     (sums_after-more taps samples j lt) in
     ap (map (of_z w64)) (sums ∙ ap (sums_after taps samples) next)
 
--- the sums over all taps, shifted down
+-- what is added to the sums over all taps
+pub with_added-requires-clause-fits : goal.with_added-requires-clause-fits
+with_added-requires-clause-fits c =
+    let taps = c.args.taps.now in
+    let plus = c.args.form.plus in
+    let samples = c.args.samples.now in
+    rw (sums-back taps plus samples c.loop-j.j c.loop-j.sums c.requires.narrow c.loop-j.invariant)
+    (sums_after-added-fit taps plus samples c.loop-j.j c.requires.narrow c.loop-j-test.false)
+
 pub lanes_shifted-requires-clause-fits : goal.lanes_shifted-requires-clause-fits
 lanes_shifted-requires-clause-fits c =
     let taps = c.args.taps.now in
+    let plus = c.args.form.plus in
     let samples = c.args.samples.now in
-    rw (sums-back taps samples c.loop-j.j c.loop-j.sums c.requires.narrow c.loop-j.invariant)
-    (sums_after-fit taps samples c.requires.narrow c.loop-j.j)
+    rw (sums-added taps plus samples c.loop-j.j c.loop-j.sums _ c.requires.narrow
+    c.loop-j-test.false c.loop-j.invariant c.with_added.ensures)
+    (sums_added-fit taps plus samples c.requires.narrow)
 
+-- and these shifted down
 pub returns : goal.returns
 returns c =
-    outputs-handed c.args.taps.now c.args.samples.now c.args.shift c.loop-j.j c.loop-j.sums _
-    c.requires.narrow
-    c.loop-j-test.false c.loop-j.invariant c.lanes_shifted.ensures
+    let taps = c.args.taps.now in
+    let samples = c.args.samples.now in
+    outputs-handed taps c.args.form samples _ _ c.requires.narrow
+    (sums-added taps c.args.form.plus samples c.loop-j.j c.loop-j.sums _ c.requires.narrow
+    c.loop-j-test.false c.loop-j.invariant c.with_added.ensures) c.lanes_shifted.ensures

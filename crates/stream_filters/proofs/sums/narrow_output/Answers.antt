@@ -9,7 +9,7 @@ pub returns : goal.returns
 returns c =
     let sum : FitsSigned w64 c.narrow_sum_back.result = search rules in
     let shifted : FitsSigned w64 c.narrow_shifted.result = search rules in
-    let shifted_is : c.narrow_shifted.result ≡ shifted_down c.narrow_sum_back.result c.args.shift =
-    c.narrow_shifted.ensures ∙ ap (λ z. shifted_down z c.args.shift) (to_z-of_z w64 _ sum) in
+    let shifted_is : c.narrow_shifted.result ≡ shifted_down c.narrow_sum_back.result c.args.form =
+    c.narrow_shifted.ensures ∙ ap (λ z. shifted_down z c.args.form) (to_z-of_z w64 _ sum) in
     rw (to_z-of_z w64 _ shifted, shifted_is, c.narrow_sum_back.ensures)
-    (sym (ranged-shifted_down _ c.args.shift (IsNarrowBack-small _ _ c.requires.narrow)))
+    (sym (ranged-shifted_down _ c.args.form (IsNarrowBack-small _ _ c.requires.narrow)))

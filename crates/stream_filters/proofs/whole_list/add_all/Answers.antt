@@ -6,7 +6,7 @@ use Rattle.stream_filters.proofs.whole_list.add_all.Goals as goal
 
 -- 64 taps weigh little
 pub weight_of-requires : goal.weight_of-requires
-weight_of-requires c = weight-small c.args.taps.now c.args.shift c.requires.taps
+weight_of-requires c = weight-small c.args.taps.now c.args.form c.requires.taps
 
 -- all outputs are made
 pub returns-clause-ok : goal.returns-clause-ok
@@ -14,7 +14,7 @@ returns-clause-ok c =
     (MadeSoFar-all _ _ _ c.loop-at.invariant.made
     (omega (
       arith,
-      outputs-length c.args.taps.now c.args.shift c.args.samples.now,
+      outputs-length c.args.taps.now c.args.form c.args.samples.now,
       c.loop-at-test.false,
     ))).0
 
@@ -23,6 +23,6 @@ returns-clause-in_range c =
     (MadeSoFar-all _ _ _ c.loop-at.invariant.made
     (omega (
       arith,
-      outputs-length c.args.taps.now c.args.shift c.args.samples.now,
+      outputs-length c.args.taps.now c.args.form c.args.samples.now,
       c.loop-at-test.false,
     ))).1

@@ -4,7 +4,7 @@ use Rattle.stream_filters.proofs.whole_list.add_all.Given as goal
 
 -- the outputs at the samples before number `at`
 abbrev pub invariant-loop-at : goal.invariant-loop-at
-invariant-loop-at l = AreFiltered l.taps l.shift l.samples l.list.items l.at l.small_from l.limit
+invariant-loop-at l = AreFiltered l.taps l.form l.samples l.list.items l.at l.small_from l.limit
 
 -- the samples that are left
 abbrev pub decreases-loop-at : goal.decreases-loop-at

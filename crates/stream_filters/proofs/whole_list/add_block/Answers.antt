@@ -7,7 +7,7 @@ use Rattle.stream_filters.proofs.whole_list.add_block.Goals as goal
 -- the samples are small
 pub block_outputs-outputs-requires-clause-narrow : goal.block_outputs-outputs-requires-clause-narrow
 block_outputs-outputs-requires-clause-narrow c =
-    IsNarrow-shown _ _ c.args.shift c.args.at c.requires.taps c.requires.small c.requires.within.0
+    IsNarrow-shown _ _ c.args.form c.args.at c.requires.taps c.requires.small c.requires.within.0
     c.requires.within.1
 
 -- the next 16 outputs, which are in range
@@ -18,11 +18,11 @@ returns c =
     let at = c.args.at in
     record {
       made = OnOk-extended c.extend_from_slice.result
-          (λ list. MadeSoFar (outputs taps c.args.shift samples) list
+          (λ list. MadeSoFar (outputs taps c.args.form samples) list
           (at + 16)) c.args.list.now.items
           c.block_outputs-outputs.result _ c.extend_from_slice.ensures.items
           (block-made taps samples c.args.list.now.items c.block_outputs-outputs.result
-          c.args.shift at c.requires.taps
+          c.args.form at c.requires.taps
           c.requires.small c.requires.within.0 c.requires.within.1 c.block_outputs-outputs.ensures
           c.requires.made);
     }

@@ -13,10 +13,10 @@ returns-in_default-clause-too_big c step e =
     let samples = c.args.samples.now in
     let n = c.loop-n.n in
     let below : n < length samples = omega (arith, c.requires.within, c.loop-n-test.true) in
-    let next = outputs-entry taps c.args.shift samples n (pos 0) below in
-    let here = MadeSoFar-fault (outputs taps c.args.shift samples) _ n c.in_default.field-0
+    let next = outputs-entry taps c.args.form samples n (pos 0) below in
+    let here = MadeSoFar-fault (outputs taps c.args.form samples) _ n c.in_default.field-0
     c.loop-n.invariant
-    (omega (arith, outputs-length taps c.args.shift samples))
+    (omega (arith, outputs-length taps c.args.form samples))
     (ap ranged next ∙ (sym c.last_output.ensures ∙ c.in_default.is)) in
     grind (arith, here, e)
 
@@ -27,9 +27,9 @@ loop-n-preserved c =
     let samples = c.args.samples.now in
     let n = c.loop-n.n in
     let below : n < length samples = omega (arith, c.requires.within, c.loop-n-test.true) in
-    let next = outputs-entry taps c.args.shift samples n (pos 0) below in
+    let next = outputs-entry taps c.args.form samples n (pos 0) below in
     let fits : FitsSigned w64 c.in-Ok.y = search rules in
     rw (c.in-Ok-push.ensures.items, to_z-of_z w64 c.in-Ok.y fits)
-    (MadeSoFar-more (outputs taps c.args.shift samples) _ n c.in-Ok.y c.loop-n.invariant
-    (omega (arith, outputs-length taps c.args.shift samples))
+    (MadeSoFar-more (outputs taps c.args.form samples) _ n c.in-Ok.y c.loop-n.invariant
+    (omega (arith, outputs-length taps c.args.form samples))
     (ap ranged next ∙ (sym c.last_output.ensures ∙ c.in-Ok.is)))

@@ -4,4 +4,4 @@ use Rattle.stream_filters.proofs.whole_list.add_each.Given as goal
 
 -- the outputs at the samples before this one
 abbrev pub invariant-loop-n : goal.invariant-loop-n
-invariant-loop-n l = MadeSoFar (outputs l.taps l.shift l.samples) l.list.items l.n
+invariant-loop-n l = MadeSoFar (outputs l.taps l.form l.samples) l.list.items l.n

@@ -25,7 +25,7 @@ returns-in-len1-clause-filtered c =
     (filtered_one task x c.args.filter.now c.filtered.new.filter c.filtered.result
     c.args.made.now.items c.push_reserved.new.self.items
     (λ taken has. c.filtered.ensures.answer taken has
-    ∙ ap (λ y. ranged (output_after task.taps task.shift (taken ++ y ∷ []))) got)
+    ∙ ap (λ y. ranged (output_after task.taps task.form (taken ++ y ∷ []))) got)
     (λ taken has. subst (λ y. HasFilter task c.filtered.new.filter (taken ++ y ∷ [])) got
     (c.filtered.ensures.filter taken has)) c.push_reserved.ensures.items)
 

@@ -6,7 +6,7 @@ use Rattle.stream_filters.proofs.fir.Fir.answer.Goals as goal
 pub narrow_output-requires-clause-narrow : goal.narrow_output-requires-clause-narrow
 narrow_output-requires-clause-narrow c =
     rw (c.deref-2.ensures.value, c.deref-3.ensures.value)
-    (IsNarrowBack-recent c.self.inside.taps.items c.self.inside.line.items c.self.inside.shift
+    (IsNarrowBack-recent c.self.inside.taps.items c.self.inside.line.items c.self.inside.form
     c.self.inside.limit c.self.invariant.are_taps c.self.invariant.short c.self.invariant.light
     (λ j lt. c.self.invariant.recent j (omega arith)))
 
@@ -15,7 +15,7 @@ pub returns-then-self-gt0 : goal.returns-then-self-gt0
 returns-then-self-gt0 c =
     rw (
       ← c.self.view_is,
-      answer_at-line c.self.inside.taps.items c.self.inside.shift
+      answer_at-line c.self.inside.taps.items c.self.inside.form
           c.self.inside.line.items,
       ← c.deref.ensures.value,
       ← c.deref-then-self-gt0.ensures.value,
@@ -26,7 +26,7 @@ pub returns : goal.returns
 returns c =
     rw (
       ← c.self.view_is,
-      answer_at-line c.self.inside.taps.items c.self.inside.shift
+      answer_at-line c.self.inside.taps.items c.self.inside.form
           c.self.inside.line.items,
       ← c.deref-2.ensures.value,
       ← c.deref-3.ensures.value,

@@ -19,11 +19,11 @@ x_is c =
     to_z-of_z fits
 
 answer : (c : After-branch-step) (taken : List ℤ) → StandsFor c.loop-x.self taken
-    → c.step.result ≡ ranged (output_after c.loop-x.self.taps c.loop-x.self.shift
+    → c.step.result ≡ ranged (output_after c.loop-x.self.taps c.loop-x.self.form
     (taken ++ get_or c.args.samples.now c.loop-x.x-index (pos 0) ∷ []))
 answer c taken has =
     subst (λ x. c.step.result
-    ≡ ranged (output_after c.loop-x.self.taps c.loop-x.self.shift (taken ++ x ∷ []))) (x_is c)
+    ≡ ranged (output_after c.loop-x.self.taps c.loop-x.self.form (taken ++ x ∷ []))) (x_is c)
     (c.step.ensures.answer taken has)
 
 stands : (c : After-branch-step) (taken : List ℤ) → StandsFor c.loop-x.self taken
@@ -40,7 +40,7 @@ returns-in_err-step-clause-steps c =
     HasStepped-ended c.args.self.now c.loop-x.self c.step.new.self c.args.samples.now
     c.args.made.now.items c.loop-x.made.items c.loop-x.x-index c.loop-x-test.true
     c.loop-x.invariant.0 c.loop-x.invariant.1 (stands told) c.step.ensures.taps
-    c.step.ensures.shift c.in_err-step.field-0.0
+    c.step.ensures.form c.in_err-step.field-0.0
     (λ taken has. sym c.in_err-step.was ∙ answer told taken has)
 
 -- one output more
@@ -56,7 +56,7 @@ loop-x-preserved c =
           (HasStepped-more c.args.self.now c.loop-x.self c.step.new.self c.args.samples.now
           c.args.made.now.items c.loop-x.made.items c.loop-x.x-index c.loop-x-test.true
           c.loop-x.invariant.0 c.loop-x.invariant.1 (stands told) c.step.ensures.taps
-          c.step.ensures.shift c.in_ok-step.field-0
+          c.step.ensures.form c.in_ok-step.field-0
           (λ taken has. sym c.in_ok-step.was ∙ answer told taken has)),
       omega (
         arith,

@@ -3,6 +3,7 @@ use Rattle.std.specs.Prelude.{unsigned_abs}
 use Rattle.std.specs.List.{All, range_with_len}
 use Rattle.stream_filters.specs.Lanes.{output_shown}
 use Rattle.std.proofs.lemmas.List.{length-append}
+use Rattle.stream_filters.specs.Filter.{reach}
 use Rattle.stream_filters.specs.FilterFields.{AreSmallAt, window_of}
 use Rattle.stream_filters.proofs.Lines.{AreRecent, AreRecent-same, AreRecent-behind}
 use Rattle.stream_filters.proofs.Stepped.{AreSmallAt-behind, HasStepped-block, shown_is}
@@ -11,15 +12,16 @@ use Rattle.stream_filters.proofs.fir.Fir.makes_at_once.Goals as goal
 use Rattle.stream_filters.proofs.fir.Fir.makes_at_once.Goals.{After-deref-2}
 
 -- the window stays while room is made
-kept : (c : After-deref-2) → window_of (length c.self.inside.taps.items) c.make_room.new.line.items
-    ≡ window_of (length c.self.inside.taps.items) c.self.inside.line.items
+kept : (c : After-deref-2) → window_of (reach c.self.inside.taps.items c.self.inside.form) c.make_room.new.line.items
+    ≡ window_of (reach c.self.inside.taps.items c.self.inside.form) c.self.inside.line.items
 kept c =
-    let count : c.len.result ≡ length c.self.inside.taps.items = omega (arith, c.len.ensures) in
+    let count : c.self.inside.form.delay + c.len.result
+    ≡ reach c.self.inside.taps.items c.self.inside.form = omega (arith, c.len.ensures) in
     subst (λ n. window_of n c.make_room.new.line.items ≡ window_of n c.self.inside.line.items)
     count c.make_room.ensures.last
 
 held : (c : After-deref-2)
-    → length c.self.inside.taps.items ≤ length c.make_room.new.line.items
+    → reach c.self.inside.taps.items c.self.inside.form ≤ length c.make_room.new.line.items
 held c = omega (arith, c.len.ensures, c.make_room.ensures.held)
 
 -- the samples are within the limit
@@ -28,19 +30,21 @@ within : (c : After-deref-2)
 within c = c.are_within.ensures.0 c.if-not-are_within.false
 
 -- and so are the last ones of the line
-recent : (c : After-deref-2) → AreRecent c.self.inside.limit (length c.self.inside.taps.items) 0
+recent : (c : After-deref-2) → AreRecent c.self.inside.limit
+    (reach c.self.inside.taps.items c.self.inside.form) 0
     c.make_room.new.line.items
 recent c =
-    AreRecent-same _ (length c.self.inside.taps.items) 0 c.make_room.new.line.items
+    AreRecent-same _ (reach c.self.inside.taps.items c.self.inside.form) 0 c.make_room.new.line.items
     c.self.inside.line.items (kept c)
     (λ j lt. c.self.invariant.recent j (omega (arith, c.if-self-gt0.false)))
 
 small : (c : After-deref-2) → AreSmallAt c.self.inside.taps.items
-    (c.make_room.new.line.items ++ c.args.samples.now) (length c.make_room.new.line.items)
+    c.self.inside.form.plus (c.make_room.new.line.items ++ c.args.samples.now)
+    (length c.make_room.new.line.items - c.self.inside.form.delay)
 small c =
     AreSmallAt-behind c.self.inside.taps.items c.make_room.new.line.items c.args.samples.now
-    c.self.inside.limit c.self.invariant.short c.self.invariant.light c.requires.many (recent c)
-    (within c)
+    c.self.inside.form c.self.inside.limit c.self.invariant.short c.self.invariant.light
+    c.requires.many (held c) (recent c) (within c)
 
 -- the part of the line that is read
 read : (c : After-deref-2)
@@ -60,14 +64,14 @@ block_outputs-outputs-requires-clause-narrow c =
     let here = (goal.at.block_outputs-outputs-requires-clause-narrow c).After-deref-2 in
     let line = c.make_room.new.line.items in
     rw (c.deref.ensures.value, read here) (IsNarrow-shown c.self.inside.taps.items
-    (line ++ c.args.samples.now) c.self.inside.shift (length line) c.self.invariant.are_taps
+    (line ++ c.args.samples.now) c.self.inside.form (length line) c.self.invariant.are_taps
     (small here) (omega (arith, held here))
     (omega (arith, length-append line c.args.samples.now, c.requires.many)))
 
 pub invariant_of-self : goal.invariant_of-self
 invariant_of-self c =
     let here = (goal.at.invariant_of-self c).After-deref-2 in
-    let n = length c.self.inside.taps.items in
+    let n = reach c.self.inside.taps.items c.self.inside.form in
     let line = c.make_room.new.line.items in
     let all = line ++ c.args.samples.now in
     let long : length all ≡ length line + 16 =
@@ -94,16 +98,16 @@ returns-clause-steps c =
     let here = (goal.at.returns-clause-steps c).After-deref-2 in
     let taps = c.self.inside.taps.items in
     let line = c.make_room.new.line.items in
-    let shift = c.self.inside.shift in
+    let form = c.self.inside.form in
     let outputs_are : c.block_outputs-outputs.result
-    ≡ map (output_shown taps shift (shown taps (line ++ c.args.samples.now) (length line)))
+    ≡ map (output_shown taps form (shown taps (line ++ c.args.samples.now) (length line)))
     (range_with_len 0 16) =
     c.block_outputs-outputs.ensures
     ∙ (ap (λ t. map (output_shown t shift (take (length c.deref-2.result.now
     - (c.len-2.result + 1 - 16 - c.len-3.result))
     (drop (c.len-2.result + 1 - 16 - c.len-3.result) c.deref-2.result.now))) (range_with_len 0 16))
     c.deref.ensures.value
-    ∙ ap (λ l. map (output_shown taps shift l) (range_with_len 0 16)) (read here)) in
+    ∙ ap (λ l. map (output_shown taps form l) (range_with_len 0 16)) (read here)) in
     λ yes. rw (← c.self.view_is, c.put_all.ensures.items, c.put_all-2.ensures.items)
     (HasStepped-block taps line c.self.inside.line.items c.args.samples.now
     c.block_outputs-outputs.result c.args.made.now.items shift c.self.invariant.are_taps

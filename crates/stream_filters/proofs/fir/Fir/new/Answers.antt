@@ -6,5 +6,5 @@ use Rattle.stream_filters.proofs.fir.Fir.new.Goals as goal
 -- the taps passed the test
 pub weight_of-requires : goal.weight_of-requires
 weight_of-requires c =
-    let are : AreTaps c.args.taps.now c.args.shift = search rules in
-    weight-small _ c.args.shift are
+    let are : AreTaps c.args.taps.now c.args.form = search rules in
+    weight-small _ c.args.form are

@@ -11,4 +11,4 @@ returns-clause-answer c samples stands =
     let x = to_z-of_z w64 c.args.x c.ranges.x in
     let after = c.take.ensures.window in
     let answer = c.answer.ensures in
-    answer ∙ (ap (λ fir. answer_at fir.taps fir.shift fir.window) after ∙ rw x (answer_at-push c.args.self.now samples c.args.x stands))
+    answer ∙ (ap (λ fir. answer_at fir.taps fir.form fir.window) after ∙ rw x (answer_at-push c.args.self.now samples c.args.x stands))

@@ -2,6 +2,7 @@ use Rattle.std.proofs.Common.{◌≡◌, ◌≤◌, ◌-◌, ◌++◌, ◌∷◌
 use Rattle.std.specs.Prelude.{unsigned_abs}
 use Rattle.std.proofs.lemmas.Int.{to_z-of_z}
 use Rattle.std.proofs.lemmas.List.{length_push}
+use Rattle.stream_filters.specs.Filter.{reach}
 use Rattle.stream_filters.specs.FilterFields.{window_of}
 use Rattle.stream_filters.proofs.Lines.{AreRecent, AreRecent-next, AreRecent-same, fir_of-push}
 use Rattle.stream_filters.proofs.fir.Fir.take.Goals as goal
@@ -9,10 +10,11 @@ use Rattle.stream_filters.proofs.fir.Fir.take.Goals.{then-unsigned_abs-self, els
 
 -- the window stays while room is made
 kept : (c : goal.After-self-1)
-    → window_of (length c.self.inside.taps.items) c.make_room.new.line.items
-    ≡ window_of (length c.self.inside.taps.items) c.self.inside.line.items
+    → window_of (reach c.self.inside.taps.items c.self.inside.form) c.make_room.new.line.items
+    ≡ window_of (reach c.self.inside.taps.items c.self.inside.form) c.self.inside.line.items
 kept c =
-    let n : c.len.result ≡ length c.self.inside.taps.items = omega (arith, c.len.ensures) in
+    let n : c.self.inside.form.delay + c.len.result
+    ≡ reach c.self.inside.taps.items c.self.inside.form = omega (arith, c.len.ensures) in
     subst (λ n. window_of n c.make_room.new.line.items ≡ window_of n c.self.inside.line.items)
     n c.make_room.ensures.last
 
@@ -27,7 +29,7 @@ pushed c =
 next : (c : goal.After-self-1)
     → ((unsigned_abs c.args.x ≤ c.self.inside.limit)
     × (c.if-unsigned_abs-self.self ≡ c.self.inside.wide_steps_left - 1))
-    ⊎ (c.if-unsigned_abs-self.self ≡ length c.self.inside.taps.items)
+    ⊎ (c.if-unsigned_abs-self.self ≡ reach c.self.inside.taps.items c.self.inside.form)
 next c =
     let size : c.unsigned_abs.result ≡ unsigned_abs c.args.x =
     c.unsigned_abs.ensures.value ∙ ap unsigned_abs (to_z-of_z w64 c.args.x c.ranges.x) in
@@ -45,7 +47,7 @@ next c =
 
 pub invariant_of-self : goal.invariant_of-self
 invariant_of-self c =
-    let n = length c.self.inside.taps.items in
+    let n = reach c.self.inside.taps.items c.self.inside.form in
     let line = c.make_room.new.line.items in
     let recent : AreRecent c.self.inside.limit n c.self.inside.wide_steps_left line =
     AreRecent-same _ n _ line c.self.inside.line.items (kept c) c.self.invariant.recent in
@@ -61,6 +63,6 @@ invariant_of-self c =
 
 pub returns-clause-window : goal.returns-clause-window
 returns-clause-window c =
-    rw (← c.self.view_is) (fir_of-push c.self.inside.taps.items c.self.inside.shift
+    rw (← c.self.view_is) (fir_of-push c.self.inside.taps.items c.self.inside.form
     c.self.inside.line.items c.make_room.new.line.items c.push_reserved.new.self.items c.args.x
     (kept c) (pushed c))
