@@ -4,7 +4,7 @@ use Rattle.std.proofs.Common.{ℕ, ◌≡◌, true, false, inl, sym, ap, List, [
 use Rattle.graph_base.specs.phase_accum.declared.single.Single.TheVariants.{Clamp}
 use Rattle.graph_text.specs.Texts.{is_ignored}
 use Rattle.graph_text.specs.Decls.{Decl, phaser, task, clamp, source, sink, Declares}
-use Rattle.graph_text.specs.WordReading.{decl_at, task_words_at, body_at, word_at}
+use Rattle.graph_text.specs.WordReading.{decl_at, decl_by, task_words_at, body_at, word_at}
 use Rattle.graph_text.specs.Versions.{may_declare}
 use Rattle.graph_text.specs.declared.version.Version.{Version}
 use Rattle.graph_text.specs.declared.version.Version.TheVariants.{One, Two}

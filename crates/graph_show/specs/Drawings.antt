@@ -1,19 +1,20 @@
 -- The drawing of a graph, as text for Graphviz.
-use Rattle.std.specs.Prelude.{ℕ, ℤ, ◌==◌, ◌||◌, Bool, if◌then◌else◌, List, [], ◌∷◌, ◌++◌, length, Option, None, Some, codes, decimal}
+use Rattle.std.specs.Prelude.{ℕ, ℤ, ◌==◌, ◌||◌, nat_lt, unsigned_abs, Bool, if◌then◌else◌, List, [], ◌∷◌, ◌++◌, length, Option, None, Some, codes, decimal}
 use Rattle.std.specs.Fmt.{signed_decimal}
 use Rattle.std.specs.List.{concat, flat_map, range_with_len}
 use Rattle.graph_lang.specs.phase_base.OperationWords.{operation_word}
 use Rattle.graph_lang.specs.phase_accum.declared.single.Single.{Single}
 use Rattle.graph_lang.specs.phase_accum.declared.single.Single.TheVariants as single
-use Rattle.graph_lang.specs.graph_base.Graphs.{Graph, name_at, phaser_at, task_at, file_at, source_number}
+use Rattle.graph_lang.specs.graph_base.Graphs.{Graph, Task, name_at, phaser_at, task_at, file_at, source_number}
 use Rattle.graph_lang.specs.graph_base.Registrations.{signalled_by}
 use Rattle.graph_lang.specs.graph_base.declared.line.Kind.{Kind}
 use Rattle.graph_lang.specs.graph_base.declared.line.Kind.TheVariants.{Source, Fir, Split, Join, Peer, Sink}
 use Rattle.graph_lang.specs.graph_base.declared.line.Parent.{Parent}
+use Rattle.graph_lang.specs.graph_base.stream_filters.declared.form.Form.{Form}
 use Rattle.graph_lang.specs.graph_base.declared.line.PhaserLine.{PhaserLine}
 use Rattle.graph_lang.specs.graph_base.declared.place.Place.TheVariants as place
 
--- the first word of the line of a task
+-- the first word of the line of a task of this kind
 abbrev pub kind_word : Kind → List ℕ
 kind_word Source = codes "source"
 kind_word Fir = codes "fir"
@@ -21,6 +22,14 @@ kind_word Split = codes "split"
 kind_word Join = codes "join"
 kind_word Peer = codes "peer"
 kind_word Sink = codes "sink"
+
+-- a filter of this form is told as a delay
+abbrev pub is_delay : Form → Bool
+is_delay form = nat_lt 0 form.delay
+
+-- the first word of the line of a task
+abbrev pub task_word : Task → List ℕ
+task_word task = if is_delay task.form then codes "delay" else kind_word task.kind
 
 -- ---- nodes
 
@@ -66,18 +75,32 @@ file_note graph t =
 abbrev pub tap_text : ℤ → List ℕ
 tap_text tap = codes " " ++ signed_decimal tap
 
--- the shift and the taps of a filter
-abbrev pub taps_note : ℕ → List ℤ → List ℕ
-taps_note shift taps =
-    note (codes "shift " ++ decimal shift ++ note (codes "taps")) ++ flat_map tap_text taps
+-- what a filter adds, where it adds something
+abbrev pub plus_note : ℤ → List ℕ
+plus_note plus = if unsigned_abs plus == 0 then [] else note (codes "plus " ++ signed_decimal plus)
+
+-- the shift of a filter, what it adds, and its taps
+abbrev pub taps_note : Form → List ℤ → List ℕ
+taps_note form taps =
+    note (codes "shift " ++ decimal form.shift)
+    ++ (plus_note form.plus ++ (note (codes "taps") ++ flat_map tap_text taps))
+
+-- the steps of a delay, or what a filter does
+abbrev pub filter_note : Form → List ℤ → List ℕ
+filter_note form taps =
+    if is_delay form then note (codes "of " ++ decimal form.delay) else taps_note form taps
+
+-- the factor of a peer
+abbrev pub peer_note : ℤ → List ℕ
+peer_note factor = note (codes "mul " ++ signed_decimal factor)
 
 -- what a box says of a task of this kind alone
 abbrev pub kind_notes : Graph → ℕ → Kind → List ℕ
 kind_notes graph t Source = file_note graph t
-kind_notes graph t Fir = taps_note (task_at graph t).shift (task_at graph t).taps
+kind_notes graph t Fir = filter_note (task_at graph t).form (task_at graph t).taps
 kind_notes graph t Split = []
 kind_notes graph t Join = []
-kind_notes graph t Peer = note (codes "mul " ++ signed_decimal (task_at graph t).mul)
+kind_notes graph t Peer = peer_note (task_at graph t).mul
 kind_notes graph t Sink = []
 
 -- how many steps a task makes at most
@@ -97,7 +120,7 @@ block_note block = if block == 1 then [] else note (codes "block " ++ decimal bl
 abbrev pub task_notes : Graph → ℕ → List ℕ
 task_notes graph t =
     let task = task_at graph t in
-    note (kind_word task.kind) ++ kind_notes graph t task.kind ++ until_note task.until
+    note (task_word task) ++ kind_notes graph t task.kind ++ until_note task.until
     ++ now_note task.joins_now ++ block_note task.block
 
 -- how the node of a name begins that has this shape

@@ -3,7 +3,7 @@
 use crate::explain_parts::Part;
 use crate::grammar::{Known, Reading};
 use crate::names::are_near;
-use graph_lang::graph_text::{Version, begins_comment, is_heading, without_cr, words_of};
+use graph_lang::graph_text::{Version, begins_comment, heading_of, without_cr, words_of};
 use graph_lang::phase_base::{BOUND_MAX, nat};
 use std::alloc::{AllocError, Global};
 
@@ -103,9 +103,11 @@ impl<'a> Above<'a> {
         if begins_comment(words) {
             return Ok(());
         }
-        if self.known.is_none() && is_heading(words) {
-            self.known = Some(Version::Two);
-            return Ok(());
+        if self.known.is_none() {
+            if let Some(version) = heading_of(words) {
+                self.known = Some(version);
+                return Ok(());
+            }
         }
         self.known = Some(self.version());
         let reading = Reading::of(alloc, words, self.known)?;

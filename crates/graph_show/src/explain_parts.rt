@@ -2,6 +2,7 @@
 
 use crate::wanted::Wanted;
 use graph_lang::Op;
+use graph_lang::graph_text::is_third_word;
 use graph_lang::phase_base::{is_file, is_int, is_kind_word, is_mark, is_name, is_nat};
 
 const A_NAME: &str =
@@ -10,8 +11,11 @@ const A_NAME: &str =
 /// What may stand at a place of a line.
 #[derive(Clone, Copy)]
 pub(crate) enum Part {
-    /// The first word.
+    /// The first word, and the first word of a line in a text of the third version.
     Kind,
+    LaterKind,
+    /// The version behind `graph`.
+    Version,
     /// The name that the line declares.
     Own,
     Operation,
@@ -30,7 +34,11 @@ pub(crate) enum Part {
     Output,
     Outputs,
     Shift,
+    /// What a filter adds.
+    Plus,
     Taps,
+    /// The steps of a delay.
+    Delay,
     Factor,
     Parent,
     Steps,
@@ -44,12 +52,14 @@ pub(crate) enum Part {
 
 /// Whether the word is one of the grammar, and so no name.
 fn is_of_grammar(word: &[u8]) -> bool {
-    is_kind_word(word) || is_mark(word)
+    is_kind_word(word) || is_mark(word) || is_third_word(word)
 }
 
 /// The kind of a line that this word is but for capital letters.
 fn kind_in_capitals(word: &[u8]) -> Option<&'static str> {
-    for kind in ["phaser", "source", "fir", "split", "join", "peer", "sink"] {
+    for kind in [
+        "phaser", "source", "fir", "delay", "split", "join", "peer", "sink",
+    ] {
         if word.eq_ignore_ascii_case(kind.as_bytes()) {
             return Some(kind);
         }
@@ -83,15 +93,17 @@ impl Part {
     pub(crate) fn fits(self, word: &[u8]) -> bool {
         match self {
             Part::Kind => is_kind_word(word),
+            Part::LaterKind => is_kind_word(word) || word == b"delay".as_slice(),
+            Part::Version => word == b"2".as_slice() || word == b"3".as_slice(),
             Part::Own | Part::Parent => is_name(word),
             Part::Input | Part::Inputs | Part::Exchange => is_name(word),
             Part::Output | Part::Outputs => is_name(word),
             Part::Operation => Op::read(word).is_some(),
             Part::File => is_file(word),
             Part::Function => is_function(word),
-            Part::Bound | Part::Shift | Part::Steps => is_nat(word),
+            Part::Bound | Part::Shift | Part::Delay | Part::Steps => is_nat(word),
             Part::Block => is_block(word),
-            Part::Low | Part::High | Part::Taps | Part::Factor => is_int(word),
+            Part::Low | Part::High | Part::Plus | Part::Taps | Part::Factor => is_int(word),
             Part::Sign(sign) => word == sign.as_bytes(),
             Part::End(_) => false,
         }
@@ -135,12 +147,18 @@ impl Part {
     fn told(self) -> &'static str {
         match self {
             Part::Kind => "`phaser`, `source`, `fir`, `split`, `join`, `peer` or `sink`",
+            Part::LaterKind => {
+                "`phaser`, `source`, `fir`, `delay`, `split`, `join`, `peer` or `sink`"
+            }
+            Part::Version => "`2` or `3`",
             Part::Operation => "`sum`, `product`, `least`, `greatest` or `any`",
             Part::Function => "`neg`, `abs`, `halve` or `clamp`",
             Part::File => "the name of a file, of at most 255 bytes",
-            Part::Bound | Part::Shift | Part::Steps => "a whole number without a sign",
+            Part::Bound | Part::Shift | Part::Delay | Part::Steps => {
+                "a whole number without a sign"
+            }
             Part::Block => "`block=` and, without a space, a whole number without a sign",
-            Part::Low | Part::High | Part::Taps | Part::Factor => "a whole number",
+            Part::Low | Part::High | Part::Plus | Part::Taps | Part::Factor => "a whole number",
             Part::Sign(sign) => sign,
             Part::End(wanted) => wanted,
             _ => A_NAME,
@@ -184,7 +202,7 @@ impl Part {
         }
         match self {
             Part::Sign(sign) => Wanted::with_word("`", sign, b"".as_slice(), "`"),
-            Part::Kind => match kind_in_capitals(word) {
+            Part::Kind | Part::LaterKind => match kind_in_capitals(word) {
                 Some(kind) => Wanted::with_word("`", kind, b"".as_slice(), "`, in small letters"),
                 None => Wanted::text(self.told()),
             },

@@ -1,7 +1,7 @@
 //! The words of a line, each with what it is, as far as the line is in the grammar.
 
 use crate::explain_parts::Part;
-use graph_lang::graph_text::Version;
+use graph_lang::graph_text::{Version, is_third_word};
 use std::alloc::{AllocError, Global};
 
 /// A word of a line, with what it is.
@@ -19,7 +19,10 @@ pub(crate) struct Reading<'w, 'a> {
 
 /// Whether a task of this kind may have a parent, and a block.
 fn may_have_parent(kind: &[u8]) -> bool {
-    kind == b"source".as_slice() || kind == b"fir".as_slice() || kind == b"sink".as_slice()
+    kind == b"source".as_slice()
+        || kind == b"fir".as_slice()
+        || kind == b"delay".as_slice()
+        || kind == b"sink".as_slice()
 }
 
 impl<'w, 'a> Reading<'w, 'a> {
@@ -45,7 +48,12 @@ impl<'w, 'a> Reading<'w, 'a> {
         if self.known.is_none() && kind == b"graph".as_slice() {
             return self.read_heading();
         }
-        if !self.take(Part::Kind)? || !self.follow_body(kind)? {
+        let first = if self.is_of_three() {
+            Part::LaterKind
+        } else {
+            Part::Kind
+        };
+        if !self.take(first)? || !self.follow_body(kind)? {
             return Ok(());
         }
         if kind == b"phaser".as_slice() {
@@ -60,7 +68,7 @@ impl<'w, 'a> Reading<'w, 'a> {
 
     /// Reads the heading of a text.
     fn read_heading(&mut self) -> Result<(), AllocError> {
-        if self.follow(&[Part::Sign("graph"), Part::Sign("2")])? {
+        if self.follow(&[Part::Sign("graph"), Part::Version])? {
             self.wanted = Part::End("the end of the line");
         }
         Ok(())
@@ -86,6 +94,10 @@ impl<'w, 'a> Reading<'w, 'a> {
             let ends = self.follow(&[Part::Own, Part::Input, arrow, Part::Output])?;
             return Ok(ends && self.follow_taps()?);
         }
+        if kind == b"delay".as_slice() {
+            let ends = self.follow(&[Part::Own, Part::Input, arrow, Part::Output])?;
+            return Ok(ends && self.follow(&[Part::Sign("of"), Part::Delay])?);
+        }
         if kind == b"peer".as_slice() {
             let meets = self.follow(&[Part::Own, Part::Input, Part::Sign("<->"), Part::Exchange])?;
             return Ok(meets && self.follow_factor()?);
@@ -95,12 +107,22 @@ impl<'w, 'a> Reading<'w, 'a> {
 
     /// Reads the numbers of a filter.
     fn follow_taps(&mut self) -> Result<bool, AllocError> {
-        self.follow(&[
-            Part::Sign("shift"),
-            Part::Shift,
-            Part::Sign("taps"),
-            Part::Taps,
-        ])
+        if !self.follow(&[Part::Sign("shift"), Part::Shift])? || !self.follow_plus()? {
+            return Ok(false);
+        }
+        self.follow(&[Part::Sign("taps"), Part::Taps])
+    }
+
+    /// Reads what a filter adds, where it adds something in a text of the third version.
+    fn follow_plus(&mut self) -> Result<bool, AllocError> {
+        if !self.is_of_three() || Part::Sign("taps").fits(self.next()) {
+            return Ok(true);
+        }
+        if Part::Sign("plus").fits(self.next()) {
+            return self.follow(&[Part::Sign("plus"), Part::Plus]);
+        }
+        self.wanted = Part::End("`plus` or `taps`");
+        Ok(false)
     }
 
     /// Reads the output and the factor of a peer.
@@ -137,9 +159,24 @@ impl<'w, 'a> Reading<'w, 'a> {
         Ok(())
     }
 
-    /// Whether the text is of the second version.
+    /// Whether the text is of the second version or a later one.
     fn is_of_two(&self) -> bool {
-        self.known == Some(Version::Two)
+        self.known == Some(Version::Two) || self.is_of_three()
+    }
+
+    /// Whether the text is of the third version.
+    fn is_of_three(&self) -> bool {
+        self.known == Some(Version::Three)
+    }
+
+    /// Whether the first word that was not read may stand there in a text of the third version.
+    pub(crate) fn wants_three(&self) -> bool {
+        let word = self.next();
+        match self.wanted {
+            Part::Kind => word == b"delay".as_slice(),
+            Part::Sign("taps") => !self.is_of_three() && word == b"plus".as_slice(),
+            _ => false,
+        }
     }
 
     /// Whether an arrow is one of the words of the line.
@@ -204,7 +241,7 @@ impl<'w, 'a> Reading<'w, 'a> {
     }
 
     /// Reads the optional ends behind a parent, or tells what else may stand there, in a text of
-    /// the first version and in one of the second.
+    /// the first version and in a later one.
     fn read_last(&mut self, one: &'static str, two: &'static str) -> Result<(), AllocError> {
         if self.is_of_two() {
             return self.read_more(two);
@@ -213,7 +250,7 @@ impl<'w, 'a> Reading<'w, 'a> {
         Ok(())
     }
 
-    /// Reads these ends in a text of the second version, or tells what else may stand there.
+    /// Reads these ends in a text of a later version, or tells what else may stand there.
     fn read_more(&mut self, wanted: &'static str) -> Result<(), AllocError> {
         if self.read_until(wanted, "`block=`, or the end of the line")? {
             return self.read_block();
@@ -255,11 +292,16 @@ impl<'w, 'a> Reading<'w, 'a> {
         }
     }
 
+    /// Whether a word that is no name in the third version stands where the line declares one.
+    fn is_reserved(&self, part: Part, word: &[u8]) -> bool {
+        self.is_of_three() && matches!(part, Part::Own) && is_third_word(word)
+    }
+
     /// Reads the next word, where it is such a part.
     fn take(&mut self, part: Part) -> Result<bool, AllocError> {
         self.wanted = part;
         let word = self.next();
-        if word.is_empty() || !part.fits(word) {
+        if word.is_empty() || !part.fits(word) || self.is_reserved(part, word) {
             return Ok(false);
         }
         self.found.push((part, word))?;

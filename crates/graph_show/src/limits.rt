@@ -4,7 +4,7 @@ ghost use Rattle.std.specs.Prelude.{◌<◌, ◌^◌};
 use crate::explain_parts::Part;
 use graph_lang::phase_accum::MAGNITUDE_MAX;
 use graph_lang::phase_base::{BOUND_MAX, nat};
-use graph_lang::stream_filters::{SHIFT_MAX, TAP_MAX, TAPS_MAX};
+use graph_lang::stream_filters::{DELAY_MAX, PLUS_MAX, SHIFT_MAX, TAP_MAX, TAPS_MAX};
 use graph_lang::{ENDS_MAX, FACTOR_MAX, STEPS_MAX};
 
 /// The digits of a number, which stand behind `block=` or a minus where that is there.
@@ -35,6 +35,12 @@ pub(crate) fn limit_passed(part: Part, word: &[u8]) -> Option<&'static str> {
     let (least, most, wanted) = match part {
         Part::Bound => (1, BOUND_MAX, "a bound from 1 to 65536"),
         Part::Shift => (0, u64::from(SHIFT_MAX), "a shift of at most 62"),
+        Part::Plus => (
+            0,
+            PLUS_MAX,
+            "a number of a magnitude of at most 4611686018427387904",
+        ),
+        Part::Delay => (0, DELAY_MAX as u64, "a delay of at most 65536 steps"),
         Part::Taps => (0, TAP_MAX, "a tap of a magnitude of at most 2147483647"),
         Part::Factor => (
             0,

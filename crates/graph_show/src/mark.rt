@@ -81,6 +81,9 @@ fn syntax_mark<'a>(reading: &Reading<'_, 'a>) -> Mark<'a> {
     if reading.wants_two() {
         return Mark::text(word, "text 2 for this word: `graph 2` as the first line");
     }
+    if reading.wants_three() {
+        return Mark::text(word, "text 3 for this word: `graph 3` as the first line");
+    }
     if let Some(wanted) = misplaced(reading) {
         return Mark::text(word, wanted);
     }
@@ -92,7 +95,7 @@ fn syntax_mark<'a>(reading: &Reading<'_, 'a>) -> Mark<'a> {
 fn misplaced(reading: &Reading<'_, '_>) -> Option<&'static str> {
     let word = reading.next();
     match reading.wanted {
-        Part::Kind if word == b"graph".as_slice() => {
+        Part::Kind | Part::LaterKind if word == b"graph".as_slice() => {
             Some("no `graph` here: it is the first line of a text alone")
         }
         Part::Input if reading.is_of(b"sink") && word == b"->".as_slice() => {
@@ -313,6 +316,9 @@ fn parent_wanted(version: Version) -> &'static str {
     match version {
         Version::One => "a source, a filter or a sink, which have children",
         Version::Two => "a source, a filter, or a sink that does not join now, which have children",
+        Version::Three => {
+            "a source, a filter, a delay, or a sink that does not join now, which have children"
+        }
     }
 }
 

@@ -2,11 +2,14 @@
 ghost use Rattle.std.specs.Prelude.{◌≡◌, ◌++◌, ◌<◌, length, OnOk};
 ghost use Rattle.std.specs.List.{flat_map, range_with_len};
 ghost use Rattle.graph_lang.specs.phase_base.OperationWords.{operation_word};
-ghost use Rattle.graph_show.specs.Drawings.{kind_word, node_end, node_start, phaser_node, phaser_notes, task_node, task_notes};
+ghost use Rattle.graph_show.specs.Drawings.{kind_word, node_end, node_start, phaser_node, phaser_notes, task_node, task_notes, task_word};
+ghost use Rattle.graph_lang.specs.graph_base.GraphFields.{task_of};
 
-use crate::notes::{put_block_note, put_kind_notes, put_now_note, put_single_note, put_until_note};
+use crate::notes::{
+    is_delay, put_block_note, put_kind_notes, put_now_note, put_single_note, put_until_note,
+};
 use crate::parts::put;
-use graph_lang::graph_base::PhaserLine;
+use graph_lang::graph_base::{PhaserLine, TaskLine};
 use graph_lang::{Graph, Kind, Op, Place};
 use itoa::Buffer;
 use std::alloc::AllocError;
@@ -36,6 +39,16 @@ fn kind_word(kind: Kind) -> &'static str
         Kind::Peer => "peer",
         Kind::Sink => "sink",
     }
+}
+
+/// The first word of the line of a task: a filter that looks back is told as a delay.
+fn task_word(task: &TaskLine) -> &'static str
+    ensures { result.now ≡ task_word (task_of task.now) }
+{
+    if is_delay(task.form) {
+        return "delay";
+    }
+    kind_word(task.kind)
 }
 
 /// Puts the first part of a node behind the text: its name and shape.
@@ -91,7 +104,7 @@ fn put_task_notes(text: &mut Vec<u8>, graph: &Graph, t: usize) -> Result<(), All
     ensures ok { OnOk result (text.new.items ≡ text.old.items ++ task_notes graph.now t) }
 {
     let task = graph.task(t);
-    put(text, ["\\n", kind_word(task.kind)].as_slice())?;
+    put(text, ["\\n", task_word(task)].as_slice())?;
     put_kind_notes(text, graph, t)?;
     put_until_note(text, task.until)?;
     put_now_note(text, task.joins_now)?;

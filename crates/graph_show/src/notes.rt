@@ -2,10 +2,11 @@
 ghost use Rattle.std.specs.Prelude.{◌≡◌, ◌++◌, ◌<◌, length, Some, None, OnOk};
 ghost use Rattle.std.specs.List.{flat_map};
 ghost use Rattle.graph_lang.specs.graph_base.Graphs.{task_at};
-ghost use Rattle.graph_show.specs.Drawings.{block_note, clamp_ends, clamp_note, file_note, kind_notes, note, now_note, quoted, single_note, tap_text, taps_note, until_note};
+ghost use Rattle.graph_show.specs.Drawings.{block_note, clamp_ends, clamp_note, file_note, filter_note, is_delay, kind_notes, note, now_note, peer_note, plus_note, quoted, single_note, tap_text, taps_note, until_note};
 
 use crate::parts::put;
 use graph_lang::phase_accum::Single;
+use graph_lang::stream_filters::Form;
 use graph_lang::{Graph, Kind};
 use itoa::Buffer;
 use std::alloc::AllocError;
@@ -94,16 +95,52 @@ fn put_taps(text: &mut Vec<u8>, taps: &[i64]) -> Result<(), AllocError>
     Ok(())
 }
 
-/// Puts the shift and the taps of a filter behind the text.
-fn put_taps_note(text: &mut Vec<u8>, shift: u32, taps: &[i64]) -> Result<(), AllocError>
-    ensures ok { OnOk result (text.new.items ≡ text.old.items ++ taps_note shift taps.now) }
+/// Whether a filter of this form is told as a delay.
+pub(crate) fn is_delay(form: Form) -> bool
+    ensures { result ≡ is_delay form }
+{
+    form.delay > 0
+}
+
+/// Puts what a filter adds behind the text, where it adds something.
+fn put_plus_note(text: &mut Vec<u8>, plus: i64) -> Result<(), AllocError>
+    ensures ok { OnOk result (text.new.items ≡ text.old.items ++ plus_note plus) }
+{
+    if plus == 0 {
+        return Ok(());
+    }
+    let mut buffer = Buffer::new();
+    put(text, ["\\nplus ", buffer.format(plus)].as_slice())
+}
+
+/// Puts the shift of a filter, what it adds, and its taps behind the text.
+fn put_taps_note(text: &mut Vec<u8>, form: Form, taps: &[i64]) -> Result<(), AllocError>
+    ensures ok { OnOk result (text.new.items ≡ text.old.items ++ taps_note form taps.now) }
 {
     let mut buffer = Buffer::new();
-    put(
-        text,
-        ["\\nshift ", buffer.format(shift), "\\ntaps"].as_slice(),
-    )?;
+    put(text, ["\\nshift ", buffer.format(form.shift)].as_slice())?;
+    put_plus_note(text, form.plus)?;
+    put(text, ["\\ntaps"].as_slice())?;
     put_taps(text, taps)
+}
+
+/// Puts the steps of a delay, or what a filter does, behind the text.
+fn put_filter_note(text: &mut Vec<u8>, form: Form, taps: &[i64]) -> Result<(), AllocError>
+    ensures ok { OnOk result (text.new.items ≡ text.old.items ++ filter_note form taps.now) }
+{
+    if !is_delay(form) {
+        return put_taps_note(text, form, taps);
+    }
+    let mut buffer = Buffer::new();
+    put(text, ["\\nof ", buffer.format(form.delay)].as_slice())
+}
+
+/// Puts the factor of a peer behind the text.
+fn put_peer_note(text: &mut Vec<u8>, factor: i64) -> Result<(), AllocError>
+    ensures ok { OnOk result (text.new.items ≡ text.old.items ++ peer_note factor) }
+{
+    let mut buffer = Buffer::new();
+    put(text, ["\\nmul ", buffer.format(factor)].as_slice())
 }
 
 /// Puts what is said of a task of its kind alone behind the text.
@@ -115,11 +152,8 @@ pub(crate) fn put_kind_notes(text: &mut Vec<u8>, graph: &Graph, t: usize) -> Res
     let task = graph.task(t);
     match task.kind {
         Kind::Source => put_file_note(text, graph, t),
-        Kind::Fir => put_taps_note(text, task.shift, &task.taps),
-        Kind::Peer => {
-            let mut buffer = Buffer::new();
-            put(text, ["\\nmul ", buffer.format(task.mul)].as_slice())
-        }
+        Kind::Fir => put_filter_note(text, task.form, &task.taps),
+        Kind::Peer => put_peer_note(text, task.mul),
         Kind::Split | Kind::Join | Kind::Sink => Ok(()),
     }
 }

@@ -16,4 +16,4 @@ pub use phase_base;
 pub use phase_base::{FILE_MAX, NAME_MAX, Op, file_text, name_text, without_cr};
 pub use read::line_at;
 pub use text::{are_printable, begins_comment, lines_of, words_of};
-pub use version::{Version, heading_of};
+pub use version::{Version, heading_of, is_third_word};

@@ -56,8 +56,9 @@ impl Version {
     }
 }
 
-/// Whether a word has a meaning in a text of version 3 alone.
-fn is_third_word(word: &[u8]) -> bool
+/// Whether a word has a meaning in a text of version 3 alone, where it is no name that a line
+/// declares.
+pub fn is_third_word(word: &[u8]) -> bool
     ensures { result ≡ is_third_word word.now }
 {
     word == b"delay".as_slice()

@@ -1,5 +1,5 @@
 -- Samples that a filter takes one after the other, and a state that shows the last of them.
-use Rattle.std.proofs.Common.{◌≡◌, ℕ, ◌+◌, ◌-◌, ◌<◌, ◌≤◌, Bool, true, false, not, List, [], ◌∷◌, ◌++◌, ℤ, pos, length, take, drop, reverse, get_or, Ok, Err, refl, sym, ap, subst, ◌∙◌, arith, append_assoc, length-append, set}
+use Rattle.std.proofs.Common.{◌≡◌, ℕ, ◌+◌, ◌-◌, ◌<◌, ◌≤◌, Bool, true, false, not, List, [], ◌∷◌, ◌++◌, ℤ, pos, ◌+ℤ◌, length, take, drop, reverse, get_or, Ok, Err, refl, sym, ap, subst, ◌∙◌, arith, append_assoc, length-append, set}
 use Rattle.std.specs.Prelude.{Result, nat_le, nat_lt, unsigned_abs}
 use Rattle.std.proofs.Math.Seq.{drop-append-add}
 use Rattle.std.proofs.lemmas.Bool.{le-leb, ltb-false, ltb-true}
@@ -7,7 +7,8 @@ use Rattle.std.proofs.lemmas.Grind.{drop_more_same}
 use Rattle.std.proofs.lemmas.List.{drop-set-lt, take_more, take_more_set, reverse-append, length-reverse, get_or_append_left, get_or-append_right, get_or-drop, get_or-reverse, length-drop, length-take-le}
 use Rattle.std.proofs.lemmas.List.FromFn.{map-range_with_len_more}
 use Rattle.graph_numbers.specs.graph_lang.phase_accum.Sends.{AreSends, IsSend, value_max}
-use Rattle.stream_eval.specs.stream_filters.Filter.{FirState, StandsFor, back, output_after, shifted_down}
+use Rattle.stream_eval.specs.stream_filters.Filter.{FirState, StandsFor, back, output_after, reach, shifted_down}
+use Rattle.stream_eval.specs.stream_filters.declared.form.Form.{Form}
 use Rattle.stream_eval.specs.stream_filters.Range.{ranged}
 use Rattle.stream_eval.specs.stream_filters.declared.fault.TooBigValue.{TooBigValue}
 use Rattle.stream_eval.proofs.stream_lists_lemmas.Growing.{map-same}
@@ -27,11 +28,11 @@ one_more before samples i d less =
     ∙ ap (λ xs. before ++ xs) (sym (take_more samples i d less))
 
 -- and one more output
-outputs_more : (taps : List ℤ) (shift : ℕ) (before block : List ℤ) (n : ℕ)
-    → first_outputs taps shift before block (n + 1)
-    ≡ first_outputs taps shift before block n ++ output_behind taps shift before block n ∷ []
-outputs_more taps shift before block n =
-    map-range_with_len_more (output_behind taps shift before block) 0 n n (omega arith)
+outputs_more : (taps : List ℤ) (form : Form) (before block : List ℤ) (n : ℕ)
+    → first_outputs taps form before block (n + 1)
+    ≡ first_outputs taps form before block n ++ output_behind taps form before block n ∷ []
+outputs_more taps form before block n =
+    map-range_with_len_more (output_behind taps form before block) 0 n n (omega arith)
 
 -- a value that was answered is the output, and in range
 answered : (z v : ℤ) → ranged z ≡ Ok v → (v ≡ z) × IsSend v
@@ -59,22 +60,22 @@ step_stands now before block n less x next stands =
 
 module _ (old now : FirState) (before block : List ℤ) (n : ℕ) (less : n < length block) (x : ℤ)
     (next : x ≡ get_or block n (pos 0)) (answer : Result ℤ TooBigValue)
-    (taps : now.taps ≡ old.taps) (shift : now.shift ≡ old.shift)
-    (told : answer ≡ ranged (output_after now.taps now.shift ((before ++ take n block) ++ x ∷ [])))
+    (taps : now.taps ≡ old.taps) (form : now.form ≡ old.form)
+    (told : answer ≡ ranged (output_after now.taps now.form ((before ++ take n block) ++ x ∷ [])))
   where
     abbrev output : ℤ
-    output = output_behind old.taps old.shift before block n
+    output = output_behind old.taps old.form before block n
 
     answer_is : answer ≡ ranged output
     answer_is =
         let was = before ++ take n block in
         let samples = before ++ take (n + 1) block in
         told
-        ∙ (ap (λ z. ranged (output_after now.taps now.shift (was ++ z ∷ []))) next
-        ∙ (ap (λ xs. ranged (output_after now.taps now.shift xs))
+        ∙ (ap (λ z. ranged (output_after now.taps now.form (was ++ z ∷ []))) next
+        ∙ (ap (λ xs. ranged (output_after now.taps now.form xs))
         (one_more before block n (pos 0) less)
-        ∙ (ap (λ ts. ranged (output_after ts now.shift samples)) taps
-        ∙ ap (λ k. ranged (output_after old.taps k samples)) shift)))
+        ∙ (ap (λ ts. ranged (output_after ts now.form samples)) taps
+        ∙ ap (λ k. ranged (output_after old.taps k samples)) form)))
 
     -- a value that it answers is the output there, and in range
     pub step_gives : (v : ℤ) → answer ≡ Ok v → (v ≡ output) × IsSend v
@@ -96,15 +97,15 @@ same_behind xs ys n d same =
     ∙ (get_or-drop n ys 0 d ∙ ap (λ k. get_or ys k d) (omega arith))))
 
 -- one more output was written
-pub written_more : (taps : List ℤ) (shift : ℕ) (before block out : List ℤ) (n : ℕ) (v : ℤ)
-    → n < length out → take n out ≡ first_outputs taps shift before block n
-    → v ≡ output_behind taps shift before block n
-    → take (n + 1) (set out n v) ≡ first_outputs taps shift before block (n + 1)
-written_more taps shift before block out n v room written is =
+pub written_more : (taps : List ℤ) (form : Form) (before block out : List ℤ) (n : ℕ) (v : ℤ)
+    → n < length out → take n out ≡ first_outputs taps form before block n
+    → v ≡ output_behind taps form before block n
+    → take (n + 1) (set out n v) ≡ first_outputs taps form before block (n + 1)
+written_more taps form before block out n v room written is =
     take_more_set out n v room
     ∙ (ap (λ vs. vs ++ v ∷ []) written
-    ∙ (ap (λ z. first_outputs taps shift before block n ++ z ∷ []) is
-    ∙ sym (outputs_more taps shift before block n)))
+    ∙ (ap (λ z. first_outputs taps form before block n ++ z ∷ []) is
+    ∙ sym (outputs_more taps form before block n)))
 
 -- and is in range
 pub fits_more : (out : List ℤ) (n : ℕ) (v : ℤ) → n < length out → AreSends (take n out) → IsSend v
@@ -150,24 +151,23 @@ shows_behind m xs ys block same j less = by (nat_lt j (length block)) refl
         ∙ sym (apart ys))))
 
 -- the output behind a state is the one behind the samples that it shows
-output_same : (taps : List ℤ) (shift : ℕ) (state before block : List ℤ) (n : ℕ)
-    → length state + 1 ≡ length taps → ShowsLast state before → n < length block
-    → output_behind taps shift state block n ≡ output_behind taps shift before block n
-output_same taps shift state before block n long shows less =
+output_same : (taps : List ℤ) (form : Form) (state before block : List ℤ) (n : ℕ)
+    → length state + 1 ≡ reach taps form → ShowsLast state before → n < length block
+    → output_behind taps form state block n ≡ output_behind taps form before block n
+output_same taps form state before block n long shows less =
     let some : length (take (n + 1) block) ≡ n + 1 =
     length-take-le (n + 1) block (omega (arith, less)) in
-    ap (λ z. shifted_down z shift)
-    (weighted-same (back (state ++ take (n + 1) block)) (back (before ++ take (n + 1) block)) taps
-    (λ j lt. shows_behind (length state) state before (take (n + 1) block) shows j
+    ap (λ z. shifted_down (z +ℤ form.plus) form.shift) (weighted-same _ _ taps
+    (λ j lt. shows_behind (length state) state before (take (n + 1) block) shows (form.delay + j)
     (omega (arith, some, long, lt))))
 
 -- so are the first ones
-outputs_same : (taps : List ℤ) (shift : ℕ) (state before block : List ℤ) (n : ℕ)
-    → length state + 1 ≡ length taps → ShowsLast state before → n ≤ length block
-    → first_outputs taps shift state block n ≡ first_outputs taps shift before block n
-outputs_same taps shift state before block n long shows few =
-    map-same (output_behind taps shift state block) (output_behind taps shift before block) 0 n
-    (λ k less. output_same taps shift state before block k long shows (omega (arith, few, less)))
+outputs_same : (taps : List ℤ) (form : Form) (state before block : List ℤ) (n : ℕ)
+    → length state + 1 ≡ reach taps form → ShowsLast state before → n ≤ length block
+    → first_outputs taps form state block n ≡ first_outputs taps form before block n
+outputs_same taps form state before block n long shows few =
+    map-same (output_behind taps form state block) (output_behind taps form before block) 0 n
+    (λ k less. output_same taps form state before block k long shows (omega (arith, few, less)))
 
 -- the last of these samples show all of them
 drop_shows : (samples : List ℤ) (n j : ℕ) → n + j < length samples
@@ -203,43 +203,43 @@ drop_past state block le =
     ∙ drop-append-add state block (length block - length state))
 
 -- what a filter with these taps gives behind a state are the outputs behind what the state shows
-outputs_are : (taps other : List ℤ) (shift moved : ℕ) (state before block : List ℤ) (n : ℕ)
-    → other ≡ taps → moved ≡ shift → length state + 1 ≡ length taps → ShowsLast state before
+outputs_are : (taps other : List ℤ) (form moved : Form) (state before block : List ℤ) (n : ℕ)
+    → other ≡ taps → moved ≡ form → length state + 1 ≡ reach taps form → ShowsLast state before
     → n ≤ length block
-    → first_outputs other moved state block n ≡ first_outputs taps shift before block n
-outputs_are taps other shift moved state before block n same unmoved long shows few =
+    → first_outputs other moved state block n ≡ first_outputs taps form before block n
+outputs_are taps other form moved state before block n same unmoved long shows few =
     ap (λ ts. first_outputs ts moved state block n) same
     ∙ (ap (λ k. first_outputs taps k state block n) unmoved
-    ∙ outputs_same taps shift state before block n long shows few)
+    ∙ outputs_same taps form state before block n long shows few)
 
 -- an output behind the state that is out of range is so behind what the state shows
-too_big_is : (taps other : List ℤ) (shift moved : ℕ) (state before block : List ℤ) (n : ℕ)
-    → other ≡ taps → moved ≡ shift → length state + 1 ≡ length taps → ShowsLast state before
+too_big_is : (taps other : List ℤ) (form moved : Form) (state before block : List ℤ) (n : ℕ)
+    → other ≡ taps → moved ≡ form → length state + 1 ≡ reach taps form → ShowsLast state before
     → n < length block → ¬ (IsSend (output_behind other moved state block n))
-    → ¬ (IsSend (output_behind taps shift before block n))
-too_big_is taps other shift moved state before block n same unmoved long shows less big is =
+    → ¬ (IsSend (output_behind taps form before block n))
+too_big_is taps other form moved state before block n same unmoved long shows less big is =
     big (subst IsSend (sym (ap (λ ts. output_behind ts moved state block n) same
     ∙ (ap (λ k. output_behind taps k state block n) unmoved
-    ∙ output_same taps shift state before block n long shows less))) is)
+    ∙ output_same taps form state before block n long shows less))) is)
 
 -- ---- a filter that has taken the samples of a state
 
-module _ (taps : List ℤ) (shift : ℕ) (state block old new : List ℤ) (count : ℕ) (fir : FirState)
-    (of_filter : AreOfFilter taps shift state) (same : fir.taps ≡ taps)
-    (unmoved : fir.shift ≡ shift) (stands : StandsFor fir state) (room : length block ≤ length old)
+module _ (taps : List ℤ) (form : Form) (state block old new : List ℤ) (count : ℕ) (fir : FirState)
+    (of_filter : AreOfFilter taps form state) (same : fir.taps ≡ taps)
+    (unmoved : fir.form ≡ form) (stands : StandsFor fir state) (room : length block ≤ length old)
     (few : count ≤ length block)
     (written : (before : List ℤ) → StandsFor fir before
-    → take count new ≡ first_outputs fir.taps fir.shift before block count)
+    → take count new ≡ first_outputs fir.taps fir.form before block count)
     (fits : (before : List ℤ) → StandsFor fir before → AreSends (take count new))
     (behind : drop count new ≡ drop count old)
   where
     -- what it wrote of a block is what the definition gives
-    filters_are : Filters taps shift state block old new count
+    filters_are : Filters taps form state block old new count
     filters_are = record {
       of_filter = of_filter;
       room = room;
       written = λ before shows. written state stands
-          ∙ outputs_are taps fir.taps shift fir.shift state before block count same unmoved
+          ∙ outputs_are taps fir.taps form fir.form state before block count same unmoved
           of_filter.long shows few;
       fits = fits state stands;
       behind = behind;
@@ -248,21 +248,21 @@ module _ (taps : List ℤ) (shift : ℕ) (state block old new : List ℤ) (count
     -- and where it met a value out of range, it was the first
     pub filters_to : count < length block
         → ((before : List ℤ) → StandsFor fir before → count < length block
-        → ¬ (IsSend (output_behind fir.taps fir.shift before block count)))
-        → FiltersTo taps shift state block old new count
+        → ¬ (IsSend (output_behind fir.taps fir.form before block count)))
+        → FiltersTo taps form state block old new count
     filters_to less too_big = record {
       filters = filters_are;
       less = less;
-      too_big = λ before shows. too_big_is taps fir.taps shift fir.shift state before block count
+      too_big = λ before shows. too_big_is taps fir.taps form fir.form state before block count
           same unmoved of_filter.long shows less (too_big state stands less);
     }
 
     -- and where it wrote all, a state that keeps the last samples goes on behind it
     pub filters_all : (kept : List ℤ) → count ≡ length block
         → kept ≡ drop (length block) (state ++ block)
-        → FiltersAll taps shift state kept block old new count
+        → FiltersAll taps form state kept block old new count
     filters_all kept all is = record {
-      filters = subst (Filters taps shift state block old new) all filters_are;
+      filters = subst (Filters taps form state block old new) all filters_are;
       shows = λ before shows. keeps_shows state before block kept shows is;
       long = omega (
         arith,

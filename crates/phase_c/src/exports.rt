@@ -1,5 +1,6 @@
 //! The exports, which `phase.h` declares. None requires anything.
 ghost use Rattle.std.specs.Prelude.{◌≡◌, ◌≢◌, pos, length, IfOk, IfErr};
+ghost use Rattle.stream_eval.specs.stream_filters.Filter.{by_shift};
 ghost use Rattle.phase_c.specs.Filtered.{FilterStops, FiltersAll};
 ghost use Rattle.phase_c.specs.Names.{WritesNames, all_names_text, names_text};
 ghost use Rattle.phase_c.specs.Refusals.{IsDone, RefusesText};
@@ -176,9 +177,9 @@ pub extern "C" fn phase_fir(
     out: &mut [i64],
     done: &mut usize,
 ) -> i32
-    ensures all { result ≡ pos 0 → FiltersAll taps.now shift state.old state.new block.now
+    ensures all { result ≡ pos 0 → FiltersAll taps.now (by_shift shift) state.old state.new block.now
         out.old out.new done.new }
-    ensures stops { result ≢ pos 0 → FilterStops taps.now shift state.old block.now
+    ensures stops { result ≢ pos 0 → FilterStops taps.now (by_shift shift) state.old block.now
         out.old out.new done.new result }
     ensures same { result ≢ pos 0 → state.new ≡ state.old }
 {
@@ -203,9 +204,9 @@ pub extern "C" fn phase_fir_in_place(
     block: &mut [i64],
     done: &mut usize,
 ) -> i32
-    ensures all { result ≡ pos 0 → FiltersAll taps.now shift state.old state.new block.old
+    ensures all { result ≡ pos 0 → FiltersAll taps.now (by_shift shift) state.old state.new block.old
         block.old block.new done.new }
-    ensures stops { result ≢ pos 0 → FilterStops taps.now shift state.old block.old
+    ensures stops { result ≢ pos 0 → FilterStops taps.now (by_shift shift) state.old block.old
         block.old block.new done.new result }
     ensures same { result ≢ pos 0 → state.new ≡ state.old }
 {

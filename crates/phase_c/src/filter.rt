@@ -1,11 +1,11 @@
 //! A filter over a block of samples, which goes on where the block before it ended.
 ghost use Rattle.std.specs.Prelude.{◌≡◌, ◌≤◌, ◌<◌, ◌+◌, ◌++◌, ℤ, List, length, take, drop, OnOk, OnErr, IfOk, IfErr};
 ghost use Rattle.graph_numbers.specs.graph_lang.phase_accum.Sends.{AreSends, IsSend};
-ghost use Rattle.stream_eval.specs.stream_filters.Filter.{StandsFor};
+ghost use Rattle.stream_eval.specs.stream_filters.Filter.{StandsFor, by_shift};
 ghost use Rattle.phase_c.specs.Filtered.{AreOfFilter, FiltersAll, RefusesBlock, filter_status_of, first_outputs, output_behind};
 
 use std::alloc::Global;
-use stream_eval::stream_lists::stream_filters::{Fir, FirFault};
+use stream_eval::stream_lists::stream_filters::{Fir, FirFault, Form};
 
 /// Why a block was not filtered, or not to its end.
 #[derive(Clone, Copy, Debug, PartialEq, Eq)]
@@ -40,7 +40,7 @@ fn take_in(fir: &mut Fir, samples: &[i64])
     ensures stands { (before : List ℤ) → StandsFor fir.old before
         → StandsFor fir.new (before ++ samples.now) }
     ensures taps { fir.new.taps ≡ fir.old.taps }
-    ensures shift { fir.new.shift ≡ fir.old.shift }
+    ensures form { fir.new.form ≡ fir.old.form }
 {
     for x in samples {
         fir.take(*x);
@@ -53,12 +53,12 @@ fn steps(fir: &mut Fir, block: &[i64], out: &mut [i64]) -> usize
     requires room { length block.now ≤ length out.old }
     ensures few { result ≤ length block.now }
     ensures written { (before : List ℤ) → StandsFor fir.old before → take result out.new
-        ≡ first_outputs fir.old.taps fir.old.shift before block.now result }
+        ≡ first_outputs fir.old.taps fir.old.form before block.now result }
     ensures fits { (before : List ℤ) → StandsFor fir.old before
         → AreSends (take result out.new) }
     ensures behind { drop result out.new ≡ drop result out.old }
     ensures too_big { (before : List ℤ) → StandsFor fir.old before → result < length block.now
-        → ¬ (IsSend (output_behind fir.old.taps fir.old.shift before block.now result)) }
+        → ¬ (IsSend (output_behind fir.old.taps fir.old.form before block.now result)) }
 {
     for n in 0..block.len() {
         match fir.step(block[n]) {
@@ -88,25 +88,25 @@ pub(crate) fn keep(state: &mut [i64], block: &[i64])
 pub(crate) fn filter_behind(
     alloc: Global,
     taps: &[i64],
-    shift: u32,
+    form: Form,
     state: &[i64],
     samples: usize,
     room: usize,
 ) -> Result<Fir, FilterRefusal>
     ensures stands { IfOk result (λ fir. StandsFor fir state.now) }
     ensures taps { IfOk result (λ fir. fir.taps ≡ taps.now) }
-    ensures shift { IfOk result (λ fir. fir.shift ≡ shift) }
-    ensures of_filter { OnOk result (AreOfFilter taps.now shift state.now) }
+    ensures form { IfOk result (λ fir. fir.form ≡ form) }
+    ensures of_filter { OnOk result (AreOfFilter taps.now form state.now) }
     ensures room { OnOk result (samples ≤ room) }
     ensures refused { (block old : List ℤ) → length block ≡ samples → length old ≡ room
-        → IfErr result (λ why. RefusesBlock taps.now shift state.now block old old 0 why) }
+        → IfErr result (λ why. RefusesBlock taps.now form state.now block old old 0 why) }
 {
-    let made = match Fir::new(alloc, taps, shift) {
+    let made = match Fir::new(alloc, taps, form) {
         Ok(fir) => Some(fir),
         Err(FirFault::BadTaps) => return Err(FilterRefusal::Taps),
         Err(FirFault::OutOfMemory) => None,
     };
-    if state.len() + 1 != taps.len() {
+    if state.len() + 1 != form.delay + taps.len() {
         return Err(FilterRefusal::Counts);
     }
     if room < samples {
@@ -130,14 +130,15 @@ pub(crate) fn filter_block(
     out: &mut [i64],
     done: &mut usize,
 ) -> Result<(), FilterRefusal>
-    ensures done { OnOk result (FiltersAll taps.now shift state.old state.new block.now
+    ensures done { OnOk result (FiltersAll taps.now (by_shift shift) state.old state.new block.now
         out.old out.new done.new) }
-    ensures refused { IfErr result (λ why. RefusesBlock taps.now shift state.old block.now
+    ensures refused { IfErr result (λ why. RefusesBlock taps.now (by_shift shift) state.old block.now
         out.old out.new done.new why) }
     ensures same { OnErr result (state.new ≡ state.old) }
 {
     *done = 0;
-    let mut fir = match filter_behind(alloc, taps, shift, state, block.len(), out.len()) {
+    let form = Form::by_shift(shift);
+    let mut fir = match filter_behind(alloc, taps, form, state, block.len(), out.len()) {
         Ok(fir) => fir,
         Err(why) => return Err(why),
     };

@@ -1,24 +1,24 @@
 //! A filter over a block of samples, whose values take the places of the samples.
 ghost use Rattle.std.specs.Prelude.{◌≡◌, ◌≤◌, ◌<◌, ℤ, List, length, take, drop, OnOk, OnErr, IfErr};
 ghost use Rattle.graph_numbers.specs.graph_lang.phase_accum.Sends.{AreSends, IsSend};
-ghost use Rattle.stream_eval.specs.stream_filters.Filter.{StandsFor};
+ghost use Rattle.stream_eval.specs.stream_filters.Filter.{StandsFor, by_shift};
 ghost use Rattle.phase_c.specs.Filtered.{FiltersAll, RefusesBlock, first_outputs, output_behind};
 
 use crate::filter::{FilterRefusal, filter_behind, keep};
 use std::alloc::Global;
-use stream_eval::stream_filters::{Fir, TAPS_MAX};
+use stream_eval::stream_filters::{Fir, Form, TAPS_MAX};
 
 /// Writes what a filter answers at each sample of a block over the sample, up to the first value
 /// that is out of range, and returns how many it wrote.
 fn steps_in_place(fir: &mut Fir, block: &mut [i64]) -> usize
     ensures few { result ≤ length block.old }
     ensures written { (before : List ℤ) → StandsFor fir.old before → take result block.new
-        ≡ first_outputs fir.old.taps fir.old.shift before block.old result }
+        ≡ first_outputs fir.old.taps fir.old.form before block.old result }
     ensures fits { (before : List ℤ) → StandsFor fir.old before
         → AreSends (take result block.new) }
     ensures behind { drop result block.new ≡ drop result block.old }
     ensures too_big { (before : List ℤ) → StandsFor fir.old before → result < length block.old
-        → ¬ (IsSend (output_behind fir.old.taps fir.old.shift before block.old result)) }
+        → ¬ (IsSend (output_behind fir.old.taps fir.old.form before block.old result)) }
 {
     for n in 0..block.len() {
         match fir.step(block[n]) {
@@ -39,14 +39,15 @@ pub(crate) fn filter_in_place(
     block: &mut [i64],
     done: &mut usize,
 ) -> Result<(), FilterRefusal>
-    ensures done { OnOk result (FiltersAll taps.now shift state.old state.new block.old
+    ensures done { OnOk result (FiltersAll taps.now (by_shift shift) state.old state.new block.old
         block.old block.new done.new) }
-    ensures refused { IfErr result (λ why. RefusesBlock taps.now shift state.old block.old
+    ensures refused { IfErr result (λ why. RefusesBlock taps.now (by_shift shift) state.old block.old
         block.old block.new done.new why) }
     ensures same { OnErr result (state.new ≡ state.old) }
 {
     *done = 0;
-    let mut fir = match filter_behind(alloc, taps, shift, state, block.len(), block.len()) {
+    let form = Form::by_shift(shift);
+    let mut fir = match filter_behind(alloc, taps, form, state, block.len(), block.len()) {
         Ok(fir) => fir,
         Err(why) => return Err(why),
     };

@@ -35,6 +35,10 @@ summed at taps form = weighted (λ j. at (form.delay + j)) taps +ℤ form.plus
 abbrev pub no_form : Form
 no_form = record { shift = 0; plus = pos 0; delay = 0 }
 
+-- the form of what shifts by so many bits, and does no more
+abbrev pub by_shift : ℕ → Form
+by_shift shift = record no_form { shift = shift }
+
 -- the output of a filter at the last of these samples, before its range is checked
 abbrev pub output_after : List ℤ → Form → List ℤ → ℤ
 output_after taps form samples = shifted_down (summed (back samples) taps form) form.shift

@@ -1,5 +1,6 @@
 //! The form of a filter: all of it but its taps.
-ghost use Rattle.std.specs.Prelude.{◌≡◌, pos};
+ghost use Rattle.std.specs.Prelude.{◌≡◌};
+ghost use Rattle.stream_filters.specs.Filter.{by_shift};
 
 /// What a filter does beside weighing: how old the newest sample is that it weighs, what it adds to
 /// each sum, and by how many bits the sum is shifted down then.
@@ -17,9 +18,7 @@ pub struct Form {
 impl Form {
     /// A form that shifts, adds nothing, and weighs from the newest sample on.
     pub fn by_shift(shift: u32) -> Form
-        ensures shift { result.shift ≡ shift }
-        ensures plus { result.plus ≡ pos 0 }
-        ensures delay { result.delay ≡ 0 }
+        ensures { result ≡ by_shift shift }
     {
         Form {
             shift,

@@ -2,12 +2,18 @@
 use std::alloc::AllocError;
 use std::test::*;
 use stream_job::stream_filters::{
-    FilterFault, Fir, FirFault, Join, Peer, Split, TooBigValue, VALUE_MAX, VALUE_MIN, filter_list,
+    FilterFault, Fir, FirFault, Form, Join, Peer, Split, TooBigValue, VALUE_MAX, VALUE_MIN,
+    filter_list,
 };
 
 /// The filter, or that memory ran out.
 fn made(fir: Result<Fir, FirFault>) -> Result<Fir, AllocError> {
     fir.map_err(|_fault| AllocError)
+}
+
+/// The form that shifts by so many bits, adds so much, and has such a delay.
+const fn by(shift: u32, plus: i64, delay: usize) -> Form {
+    Form { shift, plus, delay }
 }
 
 /// What a step answers.
@@ -32,33 +38,33 @@ type Steps = (usize, i64, Answer);
 struct Case {
     name: &'static str,
     taps: &'static [i64],
-    shift: u32,
+    form: Form,
     steps: &'static [Steps],
 }
 
-const CASES: [Case; 6] = [
+const CASES: [Case; 10] = [
     Case {
         name: "rounds down and not towards zero",
         taps: &[1, 2, 1],
-        shift: 2,
+        form: by(2, 0, 0),
         steps: &[(2, -1, Answer::Value(-1)), (1, 0, Answer::Value(-1))],
     },
     Case {
         name: "one tap of one answers the sample",
         taps: &[1],
-        shift: 0,
+        form: by(0, 0, 0),
         steps: &[(1, 7, Answer::Value(7))],
     },
     Case {
         name: "only a sum out of range is too big",
         taps: &[2],
-        shift: 0,
+        form: by(0, 0, 0),
         steps: &[(1, VALUE_MAX, Answer::TooBig), (1, 1, Answer::Value(2))],
     },
     Case {
         name: "a sum that is halved is in range",
         taps: &[2],
-        shift: 1,
+        form: by(1, 0, 0),
         steps: &[
             (1, VALUE_MAX, Answer::Value(VALUE_MAX)),
             (1, VALUE_MIN, Answer::Value(VALUE_MIN)),
@@ -67,7 +73,7 @@ const CASES: [Case; 6] = [
     Case {
         name: "sixty-four greatest taps meet the extremes",
         taps: &[2_147_483_647; 64],
-        shift: 62,
+        form: by(62, 0, 0),
         steps: &[
             (1, VALUE_MAX, Answer::Value(4_294_967_293)),
             (62, VALUE_MAX, Answer::SomeValue),
@@ -79,18 +85,55 @@ const CASES: [Case; 6] = [
     Case {
         name: "a sample that is no value is weighed too",
         taps: &[1, 1],
-        shift: 0,
+        form: by(0, 0, 0),
         steps: &[
             (1, i64::MIN, Answer::TooBig),
             (1, 1, Answer::Value(VALUE_MIN)),
         ],
+    },
+    Case {
+        name: "half of the divisor rounds to the nearest",
+        taps: &[1, 2, 1],
+        form: by(2, 2, 0),
+        steps: &[
+            (1, -1, Answer::Value(0)),
+            (1, -1, Answer::Value(-1)),
+            (1, 0, Answer::Value(-1)),
+        ],
+    },
+    Case {
+        name: "what is added counts for the range",
+        taps: &[1],
+        form: by(0, 1, 0),
+        steps: &[
+            (1, VALUE_MAX, Answer::TooBig),
+            (1, VALUE_MIN, Answer::Value(VALUE_MIN + 1)),
+        ],
+    },
+    Case {
+        name: "a delay answers what came two samples before",
+        taps: &[1],
+        form: by(0, 0, 2),
+        steps: &[
+            (1, 3, Answer::Value(0)),
+            (1, 1, Answer::Value(0)),
+            (1, VALUE_MAX, Answer::Value(3)),
+            (1, 1, Answer::Value(1)),
+            (1, 5, Answer::Value(VALUE_MAX)),
+        ],
+    },
+    Case {
+        name: "the longest delay answers zeros first",
+        taps: &[1],
+        form: by(0, 0, 65_536),
+        steps: &[(65_536, 7, Answer::Value(0)), (1, 8, Answer::Value(7))],
     },
 ];
 
 #[test]
 fn a_filter_answers_its_steps(rt: HostRuntime) -> Result<(), Fail> {
     for case in &CASES {
-        let mut fir = made(Fir::new(rt.alloc(), case.taps, case.shift))?;
+        let mut fir = made(Fir::new(rt.alloc(), case.taps, case.form))?;
         for (count, sample, wanted) in case.steps {
             for _ in 0..*count {
                 let found = fir.step(*sample);
@@ -111,16 +154,23 @@ fn a_filter_answers_a_list(rt: HostRuntime) -> Result<(), Fail> {
     let mut samples = [5; 40];
     let mut wanted = [2; 40];
     wanted[0] = 7;
-    let found = filter_list(rt.alloc(), &[3, -2], 1, &samples).map_err(|_fault| AllocError)?;
+    let found = filter_list(rt.alloc(), &[3, -2], by(1, 0, 0), &samples).map_err(
+        |_fault| AllocError,
+    )?;
     assert_eq!(rt; found.as_slice(), wanted.as_slice());
     samples[33] = VALUE_MAX;
-    let found = filter_list(rt.alloc(), &[3, -2], 1, &samples);
+    let found = filter_list(rt.alloc(), &[3, -2], by(1, 0, 0), &samples);
     assert!(rt;
         matches!(found, Err(FilterFault::TooBig(33))),
         "the first output too big"
     );
-    let found = filter_list(rt.alloc(), &[3, -2], 2, &samples);
+    let found = filter_list(rt.alloc(), &[3, -2], by(2, 0, 0), &samples);
     assert!(rt; found.is_ok(), "a large output in range");
+    let delayed = filter_list(rt.alloc(), &[1], by(0, 0, 33), &samples).map_err(
+        |_fault| AllocError,
+    )?;
+    assert_eq!(rt; &delayed[..33], [0; 33].as_slice());
+    assert_eq!(rt; &delayed[33..], &samples[..7]);
     Ok(())
 }
 
@@ -137,20 +187,26 @@ fn peers_and_turns(rt: HostRuntime) -> Result<(), Fail> {
     Ok(())
 }
 
-/// Taps and a shift that no filter has.
-const BAD: [(&str, &[i64], u32); 4] = [
-    ("no taps", &[], 0),
-    ("too many taps", &[0; 65], 0),
-    ("a tap past its limit", &[2_147_483_648], 0),
-    ("a shift past its limit", &[1], 63),
+/// Taps and a form that no filter has.
+const BAD: [(&str, &[i64], Form); 6] = [
+    ("no taps", &[], by(0, 0, 0)),
+    ("too many taps", &[0; 65], by(0, 0, 0)),
+    ("a tap past its limit", &[2_147_483_648], by(0, 0, 0)),
+    ("a shift past its limit", &[1], by(63, 0, 0)),
+    (
+        "a sum past its limit",
+        &[1],
+        by(0, -4_611_686_018_427_387_905, 0),
+    ),
+    ("a delay past its limit", &[1], by(0, 0, 65_537)),
 ];
 
 #[test]
 fn bad_taps_are_refused(rt: HostRuntime) {
-    for (name, taps, shift) in &BAD {
-        let fir = Fir::new(rt.alloc(), taps, *shift);
+    for (name, taps, form) in &BAD {
+        let fir = Fir::new(rt.alloc(), taps, *form);
         assert!(rt; matches!(fir, Err(FirFault::BadTaps)), "{name}");
-        let list = filter_list(rt.alloc(), taps, *shift, &[]);
+        let list = filter_list(rt.alloc(), taps, *form, &[]);
         assert!(rt;
             matches!(list, Err(FilterFault::BadTaps)),
             "{name}, of a list"

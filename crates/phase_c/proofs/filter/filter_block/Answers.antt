@@ -1,4 +1,5 @@
 use Rattle.std.proofs.Common.{◌≡◌, ◌<◌, ℕ, length, refl, arith}
+use Rattle.stream_eval.specs.stream_filters.Filter.{by_shift}
 use Rattle.phase_c.proofs.Streams.{filters_all, filters_to}
 use Rattle.phase_c.proofs.filter.filter_block.Goals as goal
 
@@ -14,8 +15,8 @@ returns-then-done-block-clause-refused c =
     let made = c.in-Ok.ensures in
     let went = c.steps.ensures in
     let less : n < length block = omega (arith, c.if-done-block.true) in
-    filters_to c.args.taps.now c.args.shift c.args.state.now block c.args.out.now c.steps.new.out n
-    c.in-Ok.fir made.of_filter made.taps made.shift made.stands made.room went.few went.written
+    filters_to c.args.taps.now (by_shift c.args.shift) c.args.state.now block c.args.out.now c.steps.new.out n
+    c.in-Ok.fir made.of_filter made.taps made.form made.stands made.room went.few went.written
     went.fits went.behind less went.too_big
 
 -- it went through the whole block, and the state has the last samples
@@ -26,6 +27,6 @@ returns-clause-done c =
     let made = c.in-Ok.ensures in
     let went = c.steps.ensures in
     let all : n ≡ length block = omega (arith, went.few, c.if-done-block.false) in
-    filters_all c.args.taps.now c.args.shift c.args.state.now block c.args.out.now c.steps.new.out n
-    c.in-Ok.fir made.of_filter made.taps made.shift made.stands made.room went.few went.written
+    filters_all c.args.taps.now (by_shift c.args.shift) c.args.state.now block c.args.out.now c.steps.new.out n
+    c.in-Ok.fir made.of_filter made.taps made.form made.stands made.room went.few went.written
     went.fits went.behind c.keep.new.state all c.keep.ensures

@@ -10,9 +10,9 @@ invariant-loop-n l = record {
   stands : (before : List ℤ) → StandsFor l.fn.fir before
       → StandsFor l.fir (before ++ take l.n l.block);
   taps : l.fir.taps ≡ l.fn.fir.taps;
-  shift : l.fir.shift ≡ l.fn.fir.shift;
+  form : l.fir.form ≡ l.fn.fir.form;
   written : (before : List ℤ) → StandsFor l.fn.fir before
-      → take l.n l.out ≡ first_outputs l.fn.fir.taps l.fn.fir.shift before l.block l.n;
+      → take l.n l.out ≡ first_outputs l.fn.fir.taps l.fn.fir.form before l.block l.n;
   fits : (before : List ℤ) → StandsFor l.fn.fir before → AreSends (take l.n l.out);
   behind : drop l.n l.out ≡ drop l.n l.fn.out;
   long : length l.out ≡ length l.fn.out;

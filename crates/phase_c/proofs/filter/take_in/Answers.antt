@@ -19,5 +19,5 @@ loop-x-preserved c =
           (to_z-of_z w64 x fits)
           (c.take.ensures.stands (before ++ take i samples) (l.stands before s)));
       taps = c.take.ensures.taps ∙ l.taps;
-      shift = c.take.ensures.shift ∙ l.shift;
+      form = c.take.ensures.form ∙ l.form;
     }

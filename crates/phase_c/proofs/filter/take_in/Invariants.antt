@@ -8,5 +8,5 @@ invariant-loop-x l = record {
   stands : (before : List ℤ) → StandsFor l.fn.fir before
       → StandsFor l.fir (before ++ take l.x-index l.samples);
   taps : l.fir.taps ≡ l.fn.fir.taps;
-  shift : l.fir.shift ≡ l.fn.fir.shift;
+  form : l.fir.form ≡ l.fn.fir.form;
 }

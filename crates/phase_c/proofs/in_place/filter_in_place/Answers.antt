@@ -1,4 +1,5 @@
 use Rattle.std.proofs.Common.{◌≡◌, ◌<◌, ◌++◌, ℕ, length, drop, refl, ap, ◌∙◌, arith}
+use Rattle.stream_eval.specs.stream_filters.Filter.{by_shift}
 use Rattle.phase_c.proofs.Streams.{filters_all, filters_to}
 use Rattle.phase_c.proofs.in_place.filter_in_place.Goals as goal
 
@@ -17,8 +18,8 @@ returns-then-done-block-clause-refused c =
     let made = c.in-Ok.ensures in
     let went = c.steps_in_place.ensures in
     let less : n < length block = omega (arith, c.if-done-block.true) in
-    filters_to c.args.taps.now c.args.shift state block block new n
-    c.in-Ok.fir made.of_filter made.taps made.shift made.stands made.room went.few went.written
+    filters_to c.args.taps.now (by_shift c.args.shift) state block block new n
+    c.in-Ok.fir made.of_filter made.taps made.form made.stands made.room went.few went.written
     went.fits went.behind less went.too_big
 
 -- it went through the whole block, and the state has the last samples
@@ -34,6 +35,6 @@ returns-clause-done c =
     let kept = c.copy_from_slice-2.ensures.after
     ∙ (c.keep.ensures ∙ ap (λ xs. drop (length block) (xs ++ block)) c.copy_from_slice.ensures.after)
     in
-    filters_all c.args.taps.now c.args.shift state block block new n
-    c.in-Ok.fir made.of_filter made.taps made.shift made.stands made.room went.few went.written
+    filters_all c.args.taps.now (by_shift c.args.shift) state block block new n
+    c.in-Ok.fir made.of_filter made.taps made.form made.stands made.room went.few went.written
     went.fits went.behind c.copy_from_slice-2.new.self all kept

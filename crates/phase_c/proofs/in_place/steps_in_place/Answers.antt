@@ -17,7 +17,7 @@ returns-in-Err-clause-too_big c before s less is =
     let x : ℤ = get_or block n (pos 0) in
     let fits : FitsSigned w64 x = search rules in
     let next = to_z-of_z w64 x fits ∙ same_behind block was n (pos 0) l.behind in
-    step_fails c.args.fir.now c.loop-n.fir before was n less _ next c.step.result l.taps l.shift
+    step_fails c.args.fir.now c.loop-n.fir before was n less _ next c.step.result l.taps l.form
     (c.step.ensures.answer _ (l.stands before s)) c.in-Err.field-0 c.in-Err.is is
 
 -- one more output was written
@@ -37,15 +37,15 @@ loop-n-preserved c =
     let less : n < length was = omega (arith, c.loop-n-test.true, l.long) in
     let room : n < length block = omega (arith, less, l.long) in
     let gives : (before : List ℤ) → StandsFor old before
-    → (v ≡ output_behind old.taps old.shift before was n) × IsSend v =
-    λ before s. step_gives old now before was n less _ next c.step.result l.taps l.shift
+    → (v ≡ output_behind old.taps old.form before was n) × IsSend v =
+    λ before s. step_gives old now before was n less _ next c.step.result l.taps l.form
     (c.step.ensures.answer _ (l.stands before s)) v c.in-Ok.is in
     rw (to_z-of_z w64 v fitting) record {
       stands = λ before s. step_stands c.step.new.self before was n less _ next
           (c.step.ensures.stands _ (l.stands before s));
       taps = c.step.ensures.taps ∙ l.taps;
-      shift = c.step.ensures.shift ∙ l.shift;
-      written = λ before s. written_more old.taps old.shift before was block n v room
+      form = c.step.ensures.form ∙ l.form;
+      written = λ before s. written_more old.taps old.form before was block n v room
           (l.written before s) (gives before s).0;
       fits = λ before s. fits_more block n v room (l.fits before s) (gives before s).1;
       behind = behind_more block was n v l.behind;

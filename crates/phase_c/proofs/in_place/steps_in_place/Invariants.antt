@@ -10,9 +10,9 @@ invariant-loop-n l = record {
   stands : (before : List ℤ) → StandsFor l.fn.fir before
       → StandsFor l.fir (before ++ take l.n l.fn.block);
   taps : l.fir.taps ≡ l.fn.fir.taps;
-  shift : l.fir.shift ≡ l.fn.fir.shift;
+  form : l.fir.form ≡ l.fn.fir.form;
   written : (before : List ℤ) → StandsFor l.fn.fir before
-      → take l.n l.block ≡ first_outputs l.fn.fir.taps l.fn.fir.shift before l.fn.block l.n;
+      → take l.n l.block ≡ first_outputs l.fn.fir.taps l.fn.fir.form before l.fn.block l.n;
   fits : (before : List ℤ) → StandsFor l.fn.fir before → AreSends (take l.n l.block);
   behind : drop l.n l.block ≡ drop l.n l.fn.block;
   long : length l.block ≡ length l.fn.block;
