@@ -15,11 +15,13 @@ class Maker:
     def __init__(self, seed, with_children):
         self.random, self.phasers, self.tasks, self.files = random.Random(seed), [], [], {}
         self.singles, self.bounds = set(), []
-        self.is_second = with_children and self.random.random() < 0.5
+        self.version = self.random.choice([1, 1, 2, 3]) if with_children else 1
         for _ in range(self.random.randint(1, 3)):
             self.sources(self.phaser())
         for _ in range(self.random.randint(0, 4)):
             self.random.choice([self.filter, self.filter, self.splitter, self.joiner, self.peers])()
+            if self.version == 3 and self.random.random() < 0.5:
+                self.delay()
         self.sinks()
         self.random.shuffle(self.tasks)
         if with_children:
@@ -56,10 +58,10 @@ class Maker:
         )
 
     def block(self, kind, phasers):
-        """In a graph of text 2, the block of a task on these phasers."""
+        """In a graph of text 2 or 3, the block of a task on these phasers."""
         if (
-            not self.is_second
-            or kind not in ("source", "fir", "sink")
+            self.version == 1
+            or kind not in ("source", "fir", "delay", "sink")
             or self.random.random() < 0.4
         ):
             return ""
@@ -67,7 +69,10 @@ class Maker:
 
     def taps(self):
         taps = [self.random.randint(-3, 3) for _ in range(self.random.randint(1, 4))]
-        return f"shift {self.random.choice([0, 0, 1, 2])} taps {' '.join(map(str, taps))}"
+        shift, plus = self.random.choice([0, 0, 1, 2]), ""
+        if self.version == 3 and self.random.random() < 0.5:
+            plus = f" plus {self.random.choice([1, 2, -3, 1 << shift >> 1])}"
+        return f"shift {shift}{plus} taps {' '.join(map(str, taps))}"
 
     def file(self):
         name = f"s{len(self.files)}.csv"
@@ -88,6 +93,15 @@ class Maker:
         x = self.input()
         y = self.output([x])
         self.task("fir", [x], [y], f"X{x} -> X{y} {self.taps()}")
+
+    def steps(self):
+        """The steps of a delay."""
+        return self.random.choice([0, 1, 1, 2, 3, 7, 64, 65536])
+
+    def delay(self):
+        x = self.input()
+        y = self.output([x])
+        self.task("delay", [x], [y], f"X{x} -> X{y} of {self.steps()}")
 
     def splitter(self):
         x = self.input()
@@ -123,22 +137,28 @@ class Maker:
         parents = [
             task
             for task in self.tasks
-            if task[0] in ("source", "fir", "sink") and not task[5].endswith(" now")
+            if task[0] in ("source", "fir", "delay", "sink") and not task[5].endswith(" now")
         ]
         if not parents:
             return
         kind, parent, waits, signals, *_ = self.random.choice(parents)
-        kinds = {"source": ["source"], "fir": ["fir", "source", "sink"], "sink": ["sink"]}[kind]
+        kinds = {"source": ["source"], "sink": ["sink"]}.get(kind, ["fir", "source", "sink"])
         kind = self.random.choice(kinds)
-        text = {"source": lambda: f"{self.file()} -> X{signals[0]}", "sink": lambda: f"X{waits[0]}"}
+        if self.version == 3 and kind == "fir" and self.random.random() < 0.5:
+            kind = "delay"
+        text = {
+            "source": lambda: f"{self.file()} -> X{signals[0]}",
+            "delay": lambda: f"X{waits[0]} -> X{signals[0]} of {self.steps()}",
+            "sink": lambda: f"X{waits[0]}",
+        }
         text = text.get(kind, lambda: f"X{waits[0]} -> X{signals[0]} {self.taps()}")()
         self.task(kind, waits if kind != "source" else [], signals if kind != "sink" else [], text)
-        now = " now" if self.is_second and kind == "sink" and self.random.random() < 0.6 else ""
+        now = " now" if self.version > 1 and kind == "sink" and self.random.random() < 0.6 else ""
         self.tasks[-1][5] = f" by {parent} at {self.random.randint(0, 6)}{now}"
 
     def text(self):
         lines = (
-            ["graph 2"] * self.is_second
+            [f"graph {self.version}"] * (self.version > 1)
             + self.phasers
             + [
                 f"{kind} {name} {text}{by}{until}"

@@ -76,14 +76,20 @@ class Task:
             self.samples = [int(line) for line in text.split()]
         if "mul" in rest:
             self.mul = int(rest[rest.index("mul") + 1])
+        self.shift, self.plus, self.delay, self.taps = 0, 0, 0, [1]
+        if "plus" in rest:
+            self.plus = int(rest.pop(rest.index("plus") + 1))
+            rest.remove("plus")
         if "shift" in rest:
             self.shift = int(rest[rest.index("shift") + 1])
             self.taps = [int(tap) for tap in rest[rest.index("taps") + 1 :]]
+        if self.kind == "delay":
+            self.delay = int(rest[-1])
         ends = [word for word in rest if word not in ("->", "<->")]
         arrow = rest.index("->") if "->" in rest else len(rest)
         inputs = len([word for word in rest[:arrow] if word != "<->"])
         outputs = len(rest[arrow + 1 :])
-        if self.kind in ("fir", "peer"):
+        if self.kind in ("fir", "delay", "peer"):
             outputs = 1
         self.inputs, self.outputs = ends[:inputs], ends[inputs : inputs + outputs]
         self.steps, self.values, self.window = 0, [], []
@@ -157,9 +163,13 @@ class Task:
         if self.kind == "sink":
             self.values.append(value)
             return None
-        if self.kind == "fir":
-            self.window = [value] + self.window[: len(self.taps) - 1]
-            value = sum(tap * old for tap, old in zip(self.taps, self.window)) >> self.shift
+        if self.kind in ("fir", "delay"):
+            self.window.append(value)
+            weighed = self.window[len(self.window) - self.delay - 1 :: -1]
+            if self.delay >= len(self.window):
+                weighed = []
+            total = sum(tap * old for tap, old in zip(self.taps, weighed))
+            value = (total + self.plus) >> self.shift
         if self.kind == "peer":
             exchange = phasers[self.inputs[1]]
             yield from self.put(exchange, value)
@@ -174,7 +184,7 @@ class Graph:
         self.phasers, self.tasks, self.running, self.starts = {}, [], [], starts
         for line in open(file):
             words = line.split()
-            if not words or words[0].startswith("#") or words == ["graph", "2"]:
+            if not words or words[0].startswith("#") or words[0] == "graph":
                 continue
             if words[0] == "phaser":
                 bound = int(words[3]) if with_bounds else None

@@ -139,8 +139,8 @@ fn shift_of(word: &[u8]) -> Option<u32>
 /// its limit.
 fn plus_of(word: Option<&[u8]>) -> Option<i64>
     requires { IfSome (word_of word) (λ word. IsTrue (is_int word)) }
-    ensures { result ≡ (if is_plus_within (word_of word.entry) then Some (plus_of (word_of word.entry))
-        else None) }
+    ensures { result ≡ (if is_plus_within (word_of word.entry)
+        then Some (plus_of (word_of word.entry)) else None) }
 {
     match word {
         None => Some(0),

@@ -153,8 +153,8 @@ IsBody version (delay input output steps) = IsTrue (is_name input) × IsTrue (is
     × IsTrue (is_nat steps) × IsTrue (has_third version)
 IsBody version (split input outputs) = IsTrue (is_name input) × AreSome is_name outputs
 IsBody version (join inputs output) = AreSome is_name inputs × IsTrue (is_name output)
-IsBody version (peer input exchange output factor) = IsTrue (is_name input) × IsTrue (is_name exchange)
-    × IsTrue (is_name output) × IsTrue (is_int factor)
+IsBody version (peer input exchange output factor) = IsTrue (is_name input)
+    × IsTrue (is_name exchange) × IsTrue (is_name output) × IsTrue (is_int factor)
 IsBody version (sink input) = IsTrue (is_name input)
 
 -- whether a line of this version, of this kind, may say that its task joins now

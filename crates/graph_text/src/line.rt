@@ -86,7 +86,7 @@ pub struct By<'a> {
     pub parent: &'a [u8],
     /// How many steps that task makes before.
     pub at: &'a [u8],
-    /// Whether `now` stands behind it, in a text of version 2 or 3: the child joins at the first phase
-    /// that is not complete then.
+    /// Whether `now` stands behind it, in a text of version 2 or 3: the child joins at the first
+    /// phase that is not complete then.
     pub now: bool,
 }

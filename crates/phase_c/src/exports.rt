@@ -177,8 +177,8 @@ pub extern "C" fn phase_fir(
     out: &mut [i64],
     done: &mut usize,
 ) -> i32
-    ensures all { result ≡ pos 0 → FiltersAll taps.now (by_shift shift) state.old state.new block.now
-        out.old out.new done.new }
+    ensures all { result ≡ pos 0 → FiltersAll taps.now (by_shift shift) state.old state.new
+        block.now out.old out.new done.new }
     ensures stops { result ≢ pos 0 → FilterStops taps.now (by_shift shift) state.old block.now
         out.old out.new done.new result }
     ensures same { result ≢ pos 0 → state.new ≡ state.old }
@@ -204,8 +204,8 @@ pub extern "C" fn phase_fir_in_place(
     block: &mut [i64],
     done: &mut usize,
 ) -> i32
-    ensures all { result ≡ pos 0 → FiltersAll taps.now (by_shift shift) state.old state.new block.old
-        block.old block.new done.new }
+    ensures all { result ≡ pos 0 → FiltersAll taps.now (by_shift shift) state.old state.new
+        block.old block.old block.new done.new }
     ensures stops { result ≢ pos 0 → FilterStops taps.now (by_shift shift) state.old block.old
         block.old block.new done.new result }
     ensures same { result ≢ pos 0 → state.new ≡ state.old }

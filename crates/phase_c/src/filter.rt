@@ -130,10 +130,10 @@ pub(crate) fn filter_block(
     out: &mut [i64],
     done: &mut usize,
 ) -> Result<(), FilterRefusal>
-    ensures done { OnOk result (FiltersAll taps.now (by_shift shift) state.old state.new block.now
-        out.old out.new done.new) }
-    ensures refused { IfErr result (λ why. RefusesBlock taps.now (by_shift shift) state.old block.now
-        out.old out.new done.new why) }
+    ensures done { OnOk result (FiltersAll taps.now (by_shift shift) state.old state.new
+        block.now out.old out.new done.new) }
+    ensures refused { IfErr result (λ why. RefusesBlock taps.now (by_shift shift) state.old
+        block.now out.old out.new done.new why) }
     ensures same { OnErr result (state.new ≡ state.old) }
 {
     *done = 0;

@@ -39,10 +39,10 @@ pub(crate) fn filter_in_place(
     block: &mut [i64],
     done: &mut usize,
 ) -> Result<(), FilterRefusal>
-    ensures done { OnOk result (FiltersAll taps.now (by_shift shift) state.old state.new block.old
-        block.old block.new done.new) }
-    ensures refused { IfErr result (λ why. RefusesBlock taps.now (by_shift shift) state.old block.old
-        block.old block.new done.new why) }
+    ensures done { OnOk result (FiltersAll taps.now (by_shift shift) state.old state.new
+        block.old block.old block.new done.new) }
+    ensures refused { IfErr result (λ why. RefusesBlock taps.now (by_shift shift) state.old
+        block.old block.old block.new done.new why) }
     ensures same { OnErr result (state.new ≡ state.old) }
 {
     *done = 0;

@@ -1,5 +1,5 @@
 -- Weighted sums of many windows at once.
-use Rattle.std.proofs.Common.{◌≡◌, ℕ, zero, suc, ◌+◌, ◌-◌, ◌^◌, ◌<◌, ◌≤◌, List, [], ◌∷◌, length, map, take, drop, get_or, ℤ, pos, ◌+ℤ◌, ◌*ℤ◌, w64, of_z, to_z, refl, sym, ap, ◌∙◌, zero-add, arith}
+use Rattle.std.proofs.Common.{◌≡◌, ℕ, zero, suc, ◌+◌, ◌-◌, ◌^◌, ◌<◌, ◌≤◌, List, [], ◌∷◌, length, map, take, drop, get_or, ℤ, pos, ◌+ℤ◌, ◌*ℤ◌, w64, of_z, to_z, refl, sym, ap, subst, ◌∙◌, zero-add, arith}
 use Rattle.std.specs.Prelude.{unsigned_abs, replicate}
 use Rattle.std.specs.List.{range_with_len}
 use Rattle.std.specs.Simd.Lanes.{zip2, Each1, Each2}
@@ -221,7 +221,8 @@ pub sums_after-added-fit : (taps : List ℤ) (plus : ℤ) (samples : List ℤ) (
     → IsNarrow taps plus samples → length taps ≤ j
     → Each1 (λ z. unsigned_abs z + unsigned_abs plus < 2 ^ 63) (sums_after taps samples j)
 sums_after-added-fit taps plus samples j narrow le =
-    rw (sums_after-all taps samples j le)
+    subst (Each1 (λ z. unsigned_abs z + unsigned_abs plus < 2 ^ 63))
+    (sym (sums_after-all taps samples j le))
     (Each1-maps (λ z. unsigned_abs z + unsigned_abs plus < 2 ^ 63)
     (λ k. weighted (before samples (length taps - 1 + k)) taps) (range_with_len 0 16)
     (λ k. before-added-fits taps plus samples narrow (length taps - 1 + k)))

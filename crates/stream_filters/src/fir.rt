@@ -73,14 +73,14 @@ fn put_all(list: &mut Vec<i64>, values: &[i64])
 /// are zeros.
 ///
 /// **Answers.** What the form adds is added to the sum, which is then divided by 2 to the power of
-/// the shift and rounded down, so -1 shifted by one bit is -1. Where that is out of range the answer
-/// is `TooBigValue`, and the window has taken the sample all the same.
+/// the shift and rounded down, so -1 shifted by one bit is -1. Where that is out of range the
+/// answer is `TooBigValue`, and the window has taken the sample all the same.
 ///
 /// **Speed.** While each sample in the window is small enough for the taps, sums are accumulated in
 /// 64 bits, and else in 128. The answers are the same.
 ///
-/// **Example.** With the taps 1, 2 and 1 and a shift of 2, the samples -1, -1 and 0 give -1 each, and
-/// 0, -1 and -1 where 2 is added, which rounds to the nearest.
+/// **Example.** With the taps 1, 2 and 1 and a shift of 2, the samples -1, -1 and 0 give -1 each,
+/// and 0, -1 and -1 where 2 is added, which rounds to the nearest.
 #[derive(Drop)]
 pub struct Fir {
     taps: Vec<i64>,

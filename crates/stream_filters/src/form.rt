@@ -8,8 +8,8 @@ ghost use Rattle.stream_filters.specs.Filter.{by_shift};
 pub struct Form {
     /// By how many bits each sum is shifted down, up to `SHIFT_MAX`.
     pub shift: u32,
-    /// What is added to each sum before it is shifted, up to a magnitude of `PLUS_MAX`. Half of what
-    /// the shift divides by rounds to the nearest.
+    /// What is added to each sum before it is shifted, up to a magnitude of `PLUS_MAX`. Half of
+    /// what the shift divides by rounds to the nearest.
     pub plus: i64,
     /// How many samples before the newest one the first tap weighs, up to `DELAY_MAX`.
     pub delay: usize,

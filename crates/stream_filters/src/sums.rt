@@ -19,7 +19,8 @@ pub(crate) fn product(x: i64, y: i64) -> i128
 /// last.
 fn wide_sum_back(taps: &[i64], samples: &[i64]) -> i128
     requires { weight taps.now ≤ 2 ^ 37 }
-    ensures { result ≡ weighted (back samples.now) taps.now }
+    ensures sum { result ≡ weighted (back samples.now) taps.now }
+    ensures small { unsigned_abs result ≤ 2 ^ 100 }
 {
     let mut sum = 0;
     for j in 0..taps.len().min(samples.len()) {

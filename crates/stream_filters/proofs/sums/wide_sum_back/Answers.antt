@@ -63,7 +63,14 @@ loop-j-preserved c =
     rw (to_z-of_z w128 _ fits, added c) (more c)
 
 -- each tap weighs its sample, or there is none
-pub returns : goal.returns
-returns c =
+pub returns-clause-sum : goal.returns-clause-sum
+returns-clause-sum c =
     IsSumOf-enough _ _ _ _ _ c.loop-j.invariant
     (omega (arith, c.min-j-end.ensures, c.loop-j-test.false, length-reverse c.args.samples.now))
+
+-- which is not large
+pub returns-clause-small : goal.returns-clause-small
+returns-clause-small c =
+    let small = IsSumOf-small _ _ _ _ _ c.loop-j.invariant in
+    let light = light_taps (weight c.args.taps.now) c.requires in
+    omega (arith, small, light)

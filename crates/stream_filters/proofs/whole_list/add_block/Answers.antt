@@ -1,4 +1,4 @@
-use Rattle.std.proofs.Common.{◌+◌}
+use Rattle.std.proofs.Common.{arith, ◌+◌, ◌-◌}
 use Rattle.stream_filters.specs.Filter.{outputs}
 use Rattle.stream_filters.specs.FilterFields.{MadeSoFar}
 use Rattle.stream_filters.proofs.WholeLists.{IsNarrow-shown, block-made, OnOk-extended}
@@ -7,8 +7,9 @@ use Rattle.stream_filters.proofs.whole_list.add_block.Goals as goal
 -- the samples are small
 pub block_outputs-outputs-requires-clause-narrow : goal.block_outputs-outputs-requires-clause-narrow
 block_outputs-outputs-requires-clause-narrow c =
-    IsNarrow-shown _ _ c.args.form c.args.at c.requires.taps c.requires.small c.requires.within.0
-    c.requires.within.1
+    let some = c.requires.taps.some in
+    IsNarrow-shown _ _ c.args.form (c.args.at - c.args.form.delay) c.requires.taps c.requires.small
+    (omega (arith, c.requires.within, some)) (omega (arith, c.requires.within))
 
 -- the next 16 outputs, which are in range
 pub returns : goal.returns

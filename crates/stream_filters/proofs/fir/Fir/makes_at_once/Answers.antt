@@ -47,26 +47,26 @@ small c =
     c.requires.many (held c) (recent c) (within c)
 
 -- the part of the line that is read
-read : (c : After-deref-2)
-    → take (length c.deref-2.result.now - (c.len-2.result + 1 - 16 - c.len-3.result))
-    (drop (c.len-2.result + 1 - 16 - c.len-3.result) c.deref-2.result.now)
+read : (c : After-deref-2) → let end = c.len-2.result - c.self.inside.form.delay in
+    take (end - (end + 1 - 16 - c.len-3.result)) (drop (end + 1 - 16 - c.len-3.result) c.deref.result.now)
     ≡ shown c.self.inside.taps.items (c.make_room.new.line.items ++ c.args.samples.now)
-    (length c.make_room.new.line.items)
+    (length c.make_room.new.line.items - c.self.inside.form.delay)
 read c =
     shown_is c.self.inside.taps.items c.make_room.new.line.items c.args.samples.now
-    c.deref-2.result.now c.len-2.result c.len-3.result
-    (c.deref-2.ensures.value ∙ c.put_all.ensures.items) c.requires.many
-    (omega (arith, c.len-2.ensures, c.deref-2.ensures.len)) (omega (arith, c.len-3.ensures)) (held c)
+    c.deref.result.now c.self.inside.form (c.len-2.result - c.self.inside.form.delay) c.len-3.result
+    (c.deref.ensures.value ∙ c.put_all.ensures.items) c.requires.many
+    (omega (arith, c.len-2.ensures, c.deref.ensures.len)) (omega (arith, c.len-3.ensures)) (held c)
 
 pub block_outputs-outputs-requires-clause-narrow :
     goal.block_outputs-outputs-requires-clause-narrow
 block_outputs-outputs-requires-clause-narrow c =
     let here = (goal.at.block_outputs-outputs-requires-clause-narrow c).After-deref-2 in
     let line = c.make_room.new.line.items in
-    rw (c.deref.ensures.value, read here) (IsNarrow-shown c.self.inside.taps.items
-    (line ++ c.args.samples.now) c.self.inside.form (length line) c.self.invariant.are_taps
-    (small here) (omega (arith, held here))
-    (omega (arith, length-append line c.args.samples.now, c.requires.many)))
+    let some = c.self.invariant.are_taps.some in
+    rw (c.deref-2.ensures.value, read here) (IsNarrow-shown c.self.inside.taps.items
+    (line ++ c.args.samples.now) c.self.inside.form (length line - c.self.inside.form.delay)
+    c.self.invariant.are_taps (small here) (omega (arith, held here, some))
+    (omega (arith, length-append line c.args.samples.now, c.requires.many, held here)))
 
 pub invariant_of-self : goal.invariant_of-self
 invariant_of-self c =
@@ -99,16 +99,16 @@ returns-clause-steps c =
     let taps = c.self.inside.taps.items in
     let line = c.make_room.new.line.items in
     let form = c.self.inside.form in
+    let end = c.len-2.result - form.delay in
     let outputs_are : c.block_outputs-outputs.result
-    ≡ map (output_shown taps form (shown taps (line ++ c.args.samples.now) (length line)))
-    (range_with_len 0 16) =
+    ≡ map (output_shown taps form (shown taps (line ++ c.args.samples.now)
+    (length line - form.delay))) (range_with_len 0 16) =
     c.block_outputs-outputs.ensures
-    ∙ (ap (λ t. map (output_shown t shift (take (length c.deref-2.result.now
-    - (c.len-2.result + 1 - 16 - c.len-3.result))
-    (drop (c.len-2.result + 1 - 16 - c.len-3.result) c.deref-2.result.now))) (range_with_len 0 16))
-    c.deref.ensures.value
+    ∙ (ap (λ t. map (output_shown t form (take (end - (end + 1 - 16 - c.len-3.result))
+    (drop (end + 1 - 16 - c.len-3.result) c.deref.result.now))) (range_with_len 0 16))
+    c.deref-2.ensures.value
     ∙ ap (λ l. map (output_shown taps form l) (range_with_len 0 16)) (read here)) in
     λ yes. rw (← c.self.view_is, c.put_all.ensures.items, c.put_all-2.ensures.items)
     (HasStepped-block taps line c.self.inside.line.items c.args.samples.now
-    c.block_outputs-outputs.result c.args.made.now.items shift c.self.invariant.are_taps
+    c.block_outputs-outputs.result c.args.made.now.items form c.self.invariant.are_taps
     (small here) (held here) c.requires.many (kept here) outputs_are)

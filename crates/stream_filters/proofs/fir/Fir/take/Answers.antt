@@ -1,4 +1,4 @@
-use Rattle.std.proofs.Common.{◌≡◌, ◌≤◌, ◌-◌, ◌++◌, ◌∷◌, [], ◌⊎◌, inl, inr, length, ap, subst, sym, ◌∙◌, arith, w64}
+use Rattle.std.proofs.Common.{◌≡◌, ◌≤◌, ◌+◌, ◌-◌, ◌++◌, ◌∷◌, [], ◌⊎◌, inl, inr, length, ap, subst, sym, ◌∙◌, arith, w64}
 use Rattle.std.specs.Prelude.{unsigned_abs}
 use Rattle.std.proofs.lemmas.Int.{to_z-of_z}
 use Rattle.std.proofs.lemmas.List.{length_push}
@@ -34,7 +34,7 @@ next c =
     let size : c.unsigned_abs.result ≡ unsigned_abs c.args.x =
     c.unsigned_abs.ensures.value ∙ ap unsigned_abs (to_z-of_z w64 c.args.x c.ranges.x) in
     elim c.if-unsigned_abs-self.branch [
-      | then-unsigned_abs-self w ↦ inr (omega (arith, w.self-is, w.len-self-inside.ensures))
+      | then-unsigned_abs-self w ↦ inr (omega (arith, w.self-is, c.len.ensures))
       | else-unsigned_abs-self w ↦ inl (
         omega (arith, w.if-unsigned_abs-self.false, size),
         omega (
