@@ -165,10 +165,10 @@ class Task:
             return None
         if self.kind in ("fir", "delay"):
             self.window.append(value)
-            weighed = self.window[len(self.window) - self.delay - 1 :: -1]
-            if self.delay >= len(self.window):
-                weighed = []
-            total = sum(tap * old for tap, old in zip(self.taps, weighed))
+            at = len(self.window) - 1 - self.delay
+            total = sum(
+                tap * self.window[at - back] for back, tap in enumerate(self.taps) if at >= back
+            )
             value = (total + self.plus) >> self.shift
         if self.kind == "peer":
             exchange = phasers[self.inputs[1]]
