@@ -227,13 +227,14 @@ sums_after-added-fit taps plus samples j narrow le =
     (λ k. weighted (before samples (length taps - 1 + k)) taps) (range_with_len 0 16)
     (λ k. before-added-fits taps plus samples narrow (length taps - 1 + k)))
 
--- it is added
-pub sums-added : (taps : List ℤ) (plus : ℤ) (samples : List ℤ) (j : ℕ) (bits : List ℕ)
+-- it is added, as the code hands it on
+pub sums-added : (taps : List ℤ) (plus given : ℤ) (samples : List ℤ) (j : ℕ) (bits : List ℕ)
     (result : List ℤ) → IsNarrow taps plus samples → length taps ≤ j
-    → bits ≡ map (of_z w64) (sums_after taps samples j)
-    → result ≡ map (λ sum. sum +ℤ plus) (map (to_z w64) bits) → result ≡ sums_added taps plus samples
-sums-added taps plus samples j bits result narrow le bits_are is =
-    is ∙ (ap (map (λ sum. sum +ℤ plus))
+    → bits ≡ map (of_z w64) (sums_after taps samples j) → given ≡ plus
+    → result ≡ map (λ sum. sum +ℤ given) (map (to_z w64) bits)
+    → result ≡ sums_added taps plus samples
+sums-added taps plus given samples j bits result narrow le bits_are given_is is =
+    is ∙ ap (λ p. map (λ sum. sum +ℤ p) (map (to_z w64) bits)) given_is ∙ (ap (map (λ sum. sum +ℤ plus))
     (sums-back taps plus samples j bits narrow bits_are ∙ sums_after-all taps samples j le)
     ∙ map-map (λ sum. sum +ℤ plus) (λ k. weighted (before samples (length taps - 1 + k)) taps)
     (range_with_len 0 16))
@@ -244,6 +245,14 @@ sums_added-fit taps plus samples narrow =
     Each1-maps (λ z. unsigned_abs z < 2 ^ 63)
     (λ k. weighted (before samples (length taps - 1 + k)) taps +ℤ plus) (range_with_len 0 16)
     (λ k. before-added-small taps plus samples narrow (length taps - 1 + k))
+
+-- and it comes back as it was
+pub sums_added-back : (taps : List ℤ) (plus : ℤ) (samples result : List ℤ)
+    → IsNarrow taps plus samples → result ≡ sums_added taps plus samples
+    → map (to_z w64) (map (of_z w64) result) ≡ sums_added taps plus samples
+sums_added-back taps plus samples result narrow is =
+    ap (λ l. map (to_z w64) (map (of_z w64) l)) is
+    ∙ lanes-64 (sums_added taps plus samples) (sums_added-fit taps plus samples narrow)
 
 pub shifted-all : (taps : List ℤ) (form : Form) (samples : List ℤ)
     → map (λ sum. shifted_down sum form.shift) (sums_added taps form.plus samples)
@@ -263,12 +272,13 @@ output_shown-small taps form samples narrow k =
 
 pub outputs-handed : (taps : List ℤ) (form : Form) (samples sums result : List ℤ)
     → IsNarrow taps form.plus samples → sums ≡ sums_added taps form.plus samples
-    → result ≡ map (λ sum. shifted_down sum form.shift) sums
+    → result ≡ map (λ sum. shifted_down sum form.shift) (map (to_z w64) (map (of_z w64) sums))
     → map (to_z w64) (map (of_z w64) result)
     ≡ map (output_shown taps form samples) (range_with_len 0 16)
 outputs-handed taps form samples sums result narrow sums_are is =
     let outputs_are : result ≡ map (output_shown taps form samples) (range_with_len 0 16) =
-    is ∙ (ap (map (λ sum. shifted_down sum form.shift)) sums_are ∙ shifted-all taps form samples) in
+    is ∙ (ap (map (λ sum. shifted_down sum form.shift))
+    (sums_added-back taps form.plus samples sums narrow sums_are) ∙ shifted-all taps form samples) in
     ap (λ r. map (to_z w64) (map (of_z w64) r)) outputs_are
     ∙ lanes-64 (map (output_shown taps form samples) (range_with_len 0 16))
     (Each1-maps (λ z. unsigned_abs z < 2 ^ 63) (output_shown taps form samples)

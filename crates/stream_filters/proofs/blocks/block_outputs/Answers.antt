@@ -1,8 +1,9 @@
-use Rattle.std.proofs.Common.{rules, arith, ◌≡◌, ◌+◌, ◌+ℤ◌, suc, map, w64, FitsSigned, to_z, of_z, ap, subst, ◌∙◌}
+use Rattle.std.proofs.Common.{rules, arith, ◌≡◌, ◌+◌, ◌^◌, ◌<◌, suc, map, w64, FitsSigned, of_z, ap, subst, sym, ◌∙◌}
+use Rattle.std.specs.Prelude.{unsigned_abs}
+use Rattle.std.specs.Simd.Lanes.{Each1}
 use Rattle.std.proofs.lemmas.Int.{to_z-of_z}
-use Rattle.stream_filters.specs.Filter.{shifted_down}
-use Rattle.stream_filters.proofs.Lanes.{lanes-64, short-handed, sums-handed, added-handed}
-use Rattle.stream_filters.proofs.ManySums.{sums_after, products_at, lanes_at, lanes-read, lanes_at-short, products-made, sums_after-fit, products_at-fit, lanes-add_up, sums_after-more, sums-back, sums_after-added-fit, sums_added, sums-added, sums_added-fit, outputs-handed}
+use Rattle.stream_filters.proofs.Lanes.{short-handed, sums-handed, added-handed}
+use Rattle.stream_filters.proofs.ManySums.{sums_after, products_at, lanes_at, lanes-read, lanes_at-short, products-made, sums_after-fit, products_at-fit, lanes-add_up, sums_after-more, sums-back, sums_after-added-fit, sums-added, sums_added-back, sums_added-fit, outputs-handed}
 use Rattle.stream_filters.proofs.blocks.block_outputs.Goals as goal
 
 -- samples of 32 bits
@@ -68,34 +69,28 @@ with_added-requires-clause-fits c =
     )
     (sums_after-added-fit taps plus samples c.loop-j.j c.requires.narrow c.loop-j-test.false)
 
--- the sums with it
-with_plus : (c : goal.After-with_added)
-    → c.with_added.result ≡ sums_added c.args.taps.now c.args.form.plus c.args.samples.now
-with_plus c =
-    let plus = c.args.form.plus in
-    let fits : FitsSigned w64 plus = search rules in
-    sums-added c.args.taps.now plus c.args.samples.now c.loop-j.j c.loop-j.sums c.with_added.result
-    c.requires.narrow c.loop-j-test.false c.loop-j.invariant
-    (subst (λ p. c.with_added.result ≡ map (λ sum. sum +ℤ p) (map (to_z w64) c.loop-j.sums))
-    (to_z-of_z w64 plus fits) c.with_added.ensures)
-
 pub lanes_shifted-requires-clause-fits : goal.lanes_shifted-requires-clause-fits
 lanes_shifted-requires-clause-fits c =
-    let fit = sums_added-fit c.args.taps.now c.args.form.plus c.args.samples.now c.requires.narrow in
-    rw (
-      with_plus c,
-      lanes-64 (sums_added c.args.taps.now c.args.form.plus c.args.samples.now) fit,
-    ) fit
+    let taps = c.args.taps.now in
+    let plus = c.args.form.plus in
+    let samples = c.args.samples.now in
+    let fits : FitsSigned w64 plus = search rules in
+    let sums = sums-added taps plus _ samples c.loop-j.j c.loop-j.sums c.with_added.result
+    c.requires.narrow c.loop-j-test.false c.loop-j.invariant (to_z-of_z w64 plus fits)
+    c.with_added.ensures in
+    subst (Each1 (λ sum. unsigned_abs sum < 2 ^ 63))
+    (sym (sums_added-back taps plus samples c.with_added.result c.requires.narrow sums))
+    (sums_added-fit taps plus samples c.requires.narrow)
 
 -- and these shifted down
 pub returns : goal.returns
 returns c =
-    let sums = with_plus ((goal.at.returns c).After-with_added) in
-    let fit = sums_added-fit c.args.taps.now c.args.form.plus c.args.samples.now c.requires.narrow in
-    let back : map (to_z w64) (map (of_z w64) c.with_added.result) ≡ c.with_added.result =
-    rw sums (lanes-64 (sums_added c.args.taps.now c.args.form.plus c.args.samples.now) fit) in
-    let shifted : c.lanes_shifted.result
-    ≡ map (λ sum. shifted_down sum c.args.form.shift) c.with_added.result =
-    c.lanes_shifted.ensures ∙ ap (map (λ sum. shifted_down sum c.args.form.shift)) back in
-    outputs-handed c.args.taps.now c.args.form c.args.samples.now c.with_added.result
-    c.lanes_shifted.result c.requires.narrow sums shifted
+    let taps = c.args.taps.now in
+    let plus = c.args.form.plus in
+    let samples = c.args.samples.now in
+    let fits : FitsSigned w64 plus = search rules in
+    outputs-handed taps c.args.form samples c.with_added.result c.lanes_shifted.result
+    c.requires.narrow
+    (sums-added taps plus _ samples c.loop-j.j c.loop-j.sums c.with_added.result c.requires.narrow
+    c.loop-j-test.false c.loop-j.invariant (to_z-of_z w64 plus fits) c.with_added.ensures)
+    c.lanes_shifted.ensures

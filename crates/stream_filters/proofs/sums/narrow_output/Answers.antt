@@ -1,4 +1,4 @@
-use Rattle.std.proofs.Common.{rules, ◌≡◌, ◌+ℤ◌, w64, FitsSigned, sym, ap, ◌∙◌}
+use Rattle.std.proofs.Common.{rules, ◌≡◌, ◌+ℤ◌, w64, FitsSigned, to_z, of_z, sym, ap, ◌∙◌}
 use Rattle.std.proofs.lemmas.Int.{fits_signed_from_abs, to_z-of_z}
 use Rattle.stream_filters.specs.Filter.{back, shifted_down, weighted}
 use Rattle.stream_filters.proofs.Weighted.{IsNarrowBack-added, ranged-shifted_down}
@@ -20,10 +20,13 @@ returns c =
     let shifted : FitsSigned w64 c.narrow_shifted.result = search rules in
     let form = c.args.form in
     let added = weighted (back c.args.samples.now) c.args.taps.now +ℤ form.plus in
-    let fits = overflow_add-narrow_sum_back ((goal.at.returns c).After-struct_told-1) in
+    let fits : FitsSigned w64 (to_z w64 (of_z w64 c.narrow_sum_back.result)
+    +ℤ to_z w64 (of_z w64 form.plus)) =
+    rw (to_z-of_z w64 _ sum, to_z-of_z w64 _ plus, c.narrow_sum_back.ensures)
+    (fits_signed_from_abs w64 _ (IsNarrowBack-added _ _ _ c.requires.narrow)) in
     let shifted_is : c.narrow_shifted.result ≡ shifted_down added form.shift =
     c.narrow_shifted.ensures ∙ ap (λ z. shifted_down z form.shift) (to_z-of_z w64 _ fits
-    ∙ (ap (λ z. z +ℤ _) (to_z-of_z w64 _ sum ∙ c.narrow_sum_back.ensures)
+    ∙ (ap (λ z. z +ℤ to_z w64 (of_z w64 form.plus)) (to_z-of_z w64 _ sum ∙ c.narrow_sum_back.ensures)
     ∙ ap (λ z. weighted (back c.args.samples.now) c.args.taps.now +ℤ z) (to_z-of_z w64 _ plus))) in
     rw (to_z-of_z w64 _ shifted, shifted_is)
     (sym (ranged-shifted_down added form.shift (IsNarrowBack-added _ _ _ c.requires.narrow)))

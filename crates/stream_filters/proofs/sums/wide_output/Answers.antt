@@ -31,10 +31,18 @@ pub returns : goal.returns
 returns c =
     let sum : FitsSigned w128 c.wide_sum_back.result = search rules in
     let shifted : FitsSigned w128 c.wide_shifted.result = search rules in
-    let here = (goal.at.returns c).After-from in
-    let fits = overflow_add-wide_sum_back here in
+    let plus : FitsSigned w64 c.args.form.plus = search rules in
+    let from : FitsSigned w128 c.from.result = search rules in
+    let plus_is = to_z-of_z w128 _ from ∙ (c.from.ensures ∙ to_z-of_z w64 _ plus) in
+    let small = c.wide_sum_back.ensures.small in
+    let little : unsigned_abs c.args.form.plus ≤ 4611686018427387904 = c.requires.plus_small in
+    let both = abs_add c.wide_sum_back.result c.args.form.plus in
+    let fits : FitsSigned w128 (to_z w128 (of_z w128 c.wide_sum_back.result)
+    +ℤ to_z w128 (of_z w128 c.from.result)) =
+    rw (to_z-of_z w128 _ sum, plus_is)
+    (fits_signed_from_abs w128 _ (omega (arith, small, little, both))) in
     let form = c.args.form in
     to_z-of_z w128 _ shifted ∙ (c.wide_shifted.ensures
     ∙ ap (λ z. shifted_down z form.shift) (to_z-of_z w128 _ fits
-    ∙ (ap (λ z. z +ℤ _) (to_z-of_z w128 _ sum ∙ c.wide_sum_back.ensures.sum)
-    ∙ ap (λ z. weighted (back c.args.samples.now) c.args.taps.now +ℤ z) (plus_is here))))
+    ∙ (ap (λ z. z +ℤ to_z w128 (of_z w128 c.from.result)) (to_z-of_z w128 _ sum ∙ c.wide_sum_back.ensures.sum)
+    ∙ ap (λ z. weighted (back c.args.samples.now) c.args.taps.now +ℤ z) plus_is)))
