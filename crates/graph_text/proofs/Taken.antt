@@ -469,12 +469,12 @@ unfolding body_at
 body_takes version kind ws x e =
     by_kind version true kind (codes "source") ws x _ _ (λ yes. source_takes version ws x)
     (by_kind version true kind (codes "fir") ws x _ _ (λ yes. fir_takes version ws x)
-    (by_kind version (has_third version) kind (codes "delay") ws x _ _
-    (λ third. delay_takes version ws x third)
     (by_kind version true kind (codes "split") ws x _ _ (λ yes. split_takes version ws x)
     (by_kind version true kind (codes "join") ws x _ _ (λ yes. join_takes version ws x)
     (by_kind version true kind (codes "peer") ws x _ _ (λ yes. peer_takes version ws x)
     (by_kind version true kind (codes "sink") ws x _ _ (λ yes. sink_takes version ws x)
+    (by_kind version (has_third version) kind (codes "delay") ws x _ _
+    (λ third. delay_takes version ws x third)
     (λ none. absurd (cc)))))))) e
 
 -- ---- a line

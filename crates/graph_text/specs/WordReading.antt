@@ -229,11 +229,11 @@ unfoldable pub body_at : Bool → Word → List Word → Option (Found BodyWords
 body_at adds kind words =
     if bytes_eq kind (codes "source") then source_at words
     else if bytes_eq kind (codes "fir") then fir_at adds words
-    else if adds && bytes_eq kind (codes "delay") then delay_at words
     else if bytes_eq kind (codes "split") then split_at words
     else if bytes_eq kind (codes "join") then join_at words
     else if bytes_eq kind (codes "peer") then peer_at words
     else if bytes_eq kind (codes "sink") then sink_at words
+    else if adds && bytes_eq kind (codes "delay") then delay_at words
     else None
 
 -- ---- a line

@@ -418,8 +418,6 @@ fn body_at<'w, 'a>(
         source_at(words)
     } else if kind == b"fir".as_slice() {
         fir_at(adds, words)
-    } else if adds && kind == b"delay".as_slice() {
-        delay_at(words)
     } else if kind == b"split".as_slice() {
         split_at(words)
     } else if kind == b"join".as_slice() {
@@ -428,6 +426,8 @@ fn body_at<'w, 'a>(
         peer_at(words)
     } else if kind == b"sink".as_slice() {
         sink_at(words)
+    } else if adds && kind == b"delay".as_slice() {
+        delay_at(words)
     } else {
         None
     }
