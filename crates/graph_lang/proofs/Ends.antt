@@ -8,7 +8,7 @@ use Rattle.graph_text.specs.Decls.{EndWords, BodyWords, source, fir, delay, spli
 use Rattle.graph_text.specs.declared.version.Version.{Version}
 use Rattle.graph_text.specs.declared.version.Version.TheVariants.{Three}
 use Rattle.graph_base.specs.stream_filters.declared.form.Form.{Form}
-use Rattle.graph_lang.specs.WordValues.{inputs_of, outputs_of, task_line, kind_of_body, phaser_numbers, parent_of, taps_of, form_of, factor_of, block_of, joins_now}
+use Rattle.graph_lang.specs.WordValues.{inputs_of, outputs_of, task_line, kind_of_body, phaser_numbers, parent_of, taps_of, filter_form, factor_of, block_of, joins_now}
 use Rattle.graph_lang.specs.Faults.{phasers_of}
 use Rattle.graph_lang.proofs.Grown.{weaken_some}
 
@@ -56,7 +56,7 @@ pub task-built : (names : List Named) (n : ℕ) (body : BodyWords) (ends : EndWo
     (mul : ℤ) (block : ℕ) (now : Bool) → kind ≡ kind_of_body body
     → inputs ≡ phaser_numbers names (inputs_of body) → outputs ≡ phaser_numbers names (outputs_of body)
     → parent ≡ option_map (parent_of names) ends.by
-    → until ≡ option_map nat_value ends.until → taps ≡ taps_of body → form ≡ form_of body
+    → until ≡ option_map nat_value ends.until → taps ≡ taps_of body → form ≡ filter_form body
     → mul ≡ factor_of body → block ≡ block_of ends.block → now ≡ joins_now ends.by
     → record {
       line = n;

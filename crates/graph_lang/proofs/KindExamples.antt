@@ -82,7 +82,7 @@ limit_twice : kind_of before (phaser (codes "A") Sum (codes "0") None) ≡ Some 
 limit_twice = refl
 
 limit_twice_task : kind_of before
-    (task (codes "f") (fir (codes "A") (codes "A") (codes "63") (codes "1" ∷ [])) no_ends)
+    (task (codes "f") (fir (codes "A") (codes "A") (codes "63") None (codes "1" ∷ [])) no_ends)
     ≡ Some Limit
 limit_twice_task = refl
 
@@ -94,12 +94,12 @@ unknown_order : kind_of before (task (codes "j") (join (codes "D" ∷ codes "C" 
 unknown_order = refl
 
 unknown_parent : kind_of before
-    (task (codes "f") (fir (codes "C") (codes "B") (codes "0") (codes "1" ∷ [])) by_none)
+    (task (codes "f") (fir (codes "C") (codes "B") (codes "0") None (codes "1" ∷ [])) by_none)
     ≡ Some Unknown
 unknown_parent = refl
 
 order_parent : kind_of before
-    (task (codes "f") (fir (codes "C") (codes "B") (codes "0") (codes "1" ∷ [])) by_splitter)
+    (task (codes "f") (fir (codes "C") (codes "B") (codes "0") None (codes "1" ∷ [])) by_splitter)
     ≡ Some OutBeforeIn
 order_parent = refl
 

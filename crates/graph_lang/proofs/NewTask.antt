@@ -1,5 +1,5 @@
 -- The line of a task that has no fault is a line of the graph.
-use Rattle.std.proofs.Common.{ℕ, suc, ◌≡◌, ◌<◌, ◌≤◌, ◌==◌, ◌&&◌, ◌||◌, not, List, [], ◌∷◌, ◌++◌, length, get_or, Bool, true, false, Option, Some, None, is_some, option_map, IfSome, IsSome, IsTrue, nat_lt, nat_le, unsigned_abs, refl, sym, ap, ◌∙◌, subst, arith, bytes_eq, ne_eqb, eqb-true, ltb-true, leb-true, All, Contains, inl, inr, ◌⊎◌}
+use Rattle.std.proofs.Common.{ℕ, ℤ, pos, suc, ◌≡◌, ◌<◌, ◌≤◌, ◌==◌, ◌&&◌, ◌||◌, not, List, [], ◌∷◌, ◌++◌, length, get_or, Bool, true, false, Option, Some, None, is_some, option_map, IfSome, IsSome, IsTrue, nat_lt, nat_le, unsigned_abs, refl, sym, ap, ◌∙◌, subst, arith, bytes_eq, ne_eqb, eqb-true, ltb-true, leb-true, All, Contains, inl, inr, ◌⊎◌}
 use Rattle.std.specs.List.{list_all, list_any}
 use Rattle.std.specs.Option.{option_map_or}
 use Rattle.std.proofs.lemmas.Bool.{or_parts, or_from, or_cases, not-true, not-false, and_parts}
@@ -17,7 +17,7 @@ use Rattle.graph_text.specs.declared.version.Version.TheVariants.{Three}
 use Rattle.graph_base.specs.stream_filters.declared.fir.TheConstants.{DELAY_MAX, PLUS_MAX, TAPS_MAX, TAP_MAX, SHIFT_MAX}
 use Rattle.graph_base.specs.Graphs.{Graph, Task, Named, IsPlace, task_at, phaser_at}
 use Rattle.graph_base.specs.Names.{place_of, phaser_number, task_number, phaser_named, task_named}
-use Rattle.graph_lang.specs.WordValues.{or_zero, phaser_numbers, parent_of, task_line, kind_of_body, inputs_of, outputs_of, taps_of, plus_of, form_of, factor_of, block_of, joins_now}
+use Rattle.graph_lang.specs.WordValues.{or_zero, phaser_numbers, parent_of, task_line, kind_of_body, inputs_of, outputs_of, taps_of, plus_of, filter_form, factor_of, block_of, joins_now}
 use Rattle.graph_lang.specs.Faults.{kind_of, is_body_within, are_ends_within, is_count_within, is_tap_within, is_plus_within, phasers_of, are_distinct, is_phaser, is_parent_known, is_in_order, is_exchange_below, may_be_parent, is_number_in, holds_for, is_plain, is_held, is_bound_within, is_within_bound, is_block_within}
 use Rattle.graph_base.specs.TaskLines.{IsGraph, IsTaskLine, IsParent, AreNames, HasEnds, HasTaps, HasFactor, IsExchangeBelow, has_children, has_blocks, AreAmong}
 use Rattle.graph_text.specs.phase_base.Lists.{is_distinct}
@@ -247,7 +247,7 @@ exchange-below kind.Peer inputs e = ltb-true (get_or inputs 0 0) (get_or inputs 
 exchange-below kind.Sink inputs e = tt
 
 has-taps : (body : BodyWords) → IsBody Three body → is_body_within body ≡ true
-    → HasTaps (kind_of_body body) (taps_of body) (form_of body)
+    → HasTaps (kind_of_body body) (taps_of body) (filter_form body)
 has-taps (source file output) is e = (refl, refl)
 has-taps (fir input output shift plus taps) is e =
     let each = both (nat_le (nat_value shift) SHIFT_MAX && is_plus_within plus

@@ -9,7 +9,7 @@ use Rattle.graph_text.specs.declared.version.Version.TheVariants.{One}
 use Rattle.graph_text.specs.phase_base.Words.{Word}
 use Rattle.graph_text.specs.phase_base.Lists.{first_row}
 use Rattle.graph_base.specs.Graphs.{Graph, Task}
-use Rattle.graph_lang.specs.WordValues.{taps_of, form_of, factor_of, block_of}
+use Rattle.graph_lang.specs.WordValues.{taps_of, filter_form, factor_of, block_of}
 use Rattle.graph_lang.specs.declared.within.Numbers.{Numbers}
 use Rattle.graph_lang.specs.declared.within.EndNumbers.{EndNumbers}
 use Rattle.graph_lang.specs.Faults.{is_in_order, may_be_parent, is_held, is_block_within, kind_of}
@@ -23,7 +23,7 @@ use Rattle.graph_lang.specs.declared.fault.GraphRefusal.TheVariants as refusal
 -- the numbers are those that the words of a task write
 pub record AreNumbersOf (numbers : Numbers) (body : BodyWords) : Type 0 where
   pub taps : numbers.taps.items ≡ taps_of body
-  pub form : numbers.form ≡ form_of body
+  pub form : numbers.form ≡ filter_form body
   pub factor : numbers.factor ≡ factor_of body
 
 -- the numbers that the words behind a task's phasers write

@@ -81,11 +81,11 @@ plus_of None = pos 0
 plus_of (Some plus) = int_value plus
 
 -- the form of a filter or a delay, and none of another task
-abbrev pub form_of : BodyWords → Form
-form_of (fir input output shift plus taps) =
+abbrev pub filter_form : BodyWords → Form
+filter_form (fir input output shift plus taps) =
     record { shift = nat_value shift; plus = plus_of plus; delay = 0 }
-form_of (delay input output steps) = record no_form { delay = nat_value steps }
-form_of body = no_form
+filter_form (delay input output steps) = record no_form { delay = nat_value steps }
+filter_form body = no_form
 
 -- the factor of a peer, or 0
 abbrev pub factor_of : BodyWords → ℤ
@@ -128,7 +128,7 @@ task_line names n body ends = record {
   parent = option_map (parent_of names) ends.by;
   until = option_map nat_value ends.until;
   taps = taps_of body;
-  form = form_of body;
+  form = filter_form body;
   mul = factor_of body;
   block = block_of ends.block;
   joins_now = joins_now ends.by;

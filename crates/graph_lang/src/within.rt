@@ -10,7 +10,7 @@ ghost use Rattle.graph_text.specs.declared.version.Version.TheVariants.{Three};
 ghost use Rattle.graph_base.specs.stream_filters.Filter.{no_form};
 ghost use Rattle.graph_base.specs.stream_filters.declared.fir.TheConstants.{DELAY_MAX};
 ghost use Rattle.graph_text.specs.Lines.{single_of as function_words, function_of, body_of, ends_of, by_of, word_of};
-ghost use Rattle.graph_lang.specs.WordValues.{single_of, phaser_line, taps_of, plus_of, form_of, factor_of, block_of};
+ghost use Rattle.graph_lang.specs.WordValues.{single_of, phaser_line, taps_of, plus_of, filter_form, factor_of, block_of};
 ghost use Rattle.graph_lang.specs.Reading.{AreNumbersOf, steps_in};
 ghost use Rattle.graph_lang.specs.Faults.{is_function_within, is_bound_within, is_body_within, is_tap_within, is_plus_within, is_number_of_ends, is_count_within, are_ends_within, is_phaser_within};
 

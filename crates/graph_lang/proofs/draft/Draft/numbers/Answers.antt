@@ -1,7 +1,7 @@
 use Rattle.std.proofs.Common.{◌≡◌, ◌≤◌, ◌<◌, ◌∙◌, sym, ap, arith, not, length, true, is_some, nat_lt, ◌&&◌}
 use Rattle.std.proofs.lemmas.List.{length-map}
 use Rattle.std.proofs.lemmas.Option.{cond_some}
-use Rattle.graph_text.specs.declared.version.Version.TheVariants.{Two}
+use Rattle.graph_text.specs.declared.version.Version.TheVariants.{Three}
 use Rattle.graph_text.specs.Lines.{body_of, ends_of}
 use Rattle.graph_base.specs.Graphs.{Graph}
 use Rattle.graph_base.specs.GraphFields.{task_of}
@@ -15,14 +15,14 @@ use Rattle.graph_lang.proofs.draft.Draft.numbers.Goals as goal
 -- the ends are those of a line of some version
 pub steps_of-requires-clause-by : goal.steps_of-requires-clause-by
 steps_of-requires-clause-by c =
-    ends-by Two (body_of c.args.words.body) (ends_of c.args.words.ends) c.requires.2
+    ends-by Three (body_of c.args.words.body) (ends_of c.args.words.ends) c.requires.2
 
 pub steps_of-requires-clause-until : goal.steps_of-requires-clause-until
 steps_of-requires-clause-until c = c.requires.2.until
 
 pub steps_of-requires-clause-block : goal.steps_of-requires-clause-block
 steps_of-requires-clause-block c =
-    ends-block Two (body_of c.args.words.body) (ends_of c.args.words.ends) c.requires.2
+    ends-block Three (body_of c.args.words.body) (ends_of c.args.words.ends) c.requires.2
 
 -- there is no room
 pub returns-then-len-ge-TASKS_MAX-clause-within : goal.returns-then-len-ge-TASKS_MAX-clause-within
