@@ -4,12 +4,10 @@ use Rattle.graph_base.specs.Graphs.{Named}
 use Rattle.graph_base.specs.declared.line.Kind.{Kind}
 use Rattle.graph_base.specs.declared.line.Parent.{Parent}
 use Rattle.graph_text.specs.phase_base.Numbers.{is_nat, nat_value}
-use Rattle.graph_text.specs.Decls.{EndWords, BodyWords, source, fir, delay, split, join, peer, sink, IsBody, IsBy, AreEnds, MayHaveBy, may_have_blocks}
+use Rattle.graph_text.specs.Decls.{EndWords, BodyWords, IsBy, AreEnds, MayHaveBy, may_have_blocks}
 use Rattle.graph_text.specs.declared.version.Version.{Version}
-use Rattle.graph_text.specs.declared.version.Version.TheVariants.{Three}
 use Rattle.graph_base.specs.stream_filters.declared.form.Form.{Form}
 use Rattle.graph_lang.specs.WordValues.{inputs_of, outputs_of, task_line, kind_of_body, phaser_numbers, parent_of, taps_of, filter_form, factor_of, block_of, joins_now}
-use Rattle.graph_lang.specs.Faults.{phasers_of}
 use Rattle.graph_lang.proofs.Grown.{weaken_some}
 
 -- the parent is a name, and its steps a number
@@ -25,30 +23,6 @@ ends-block version body ends are =
     weaken_some ends.block
     (λ steps. IsTrue (is_nat steps) × IsTrue (may_have_blocks version body))
     (λ steps. IsTrue (is_nat steps)) (λ steps is. is.0) are.block
-
--- the inputs and the outputs are names
-pub inputs-names : (body : BodyWords) → IsBody Three body → list_all is_name (inputs_of body) ≡ true
-inputs-names (source file output) is = refl
-inputs-names (fir input output shift plus taps) is = rw is.0 refl
-inputs-names (delay input output steps) is = rw is.0 refl
-inputs-names (split input outputs) is = rw is.0 refl
-inputs-names (join inputs output) is = is.0.1
-inputs-names (peer input exchange output factor) is = rw (is.0, is.1) refl
-inputs-names (sink input) is = rw is refl
-
-pub outputs-names : (body : BodyWords) → IsBody Three body → list_all is_name (outputs_of body) ≡ true
-outputs-names (source file output) is = rw is.1 refl
-outputs-names (fir input output shift plus taps) is = rw is.1 refl
-outputs-names (delay input output steps) is = rw is.1 refl
-outputs-names (split input outputs) is = is.1.1
-outputs-names (join inputs output) is = rw is.1 refl
-outputs-names (peer input exchange output factor) is = rw is.2 refl
-outputs-names (sink input) is = refl
-
-pub phasers-names : (body : BodyWords) → IsBody Three body → list_all is_name (phasers_of body) ≡ true
-phasers-names body is = list_all-append is_name (inputs_of body) (outputs_of body)
-    ∙ ap (λ b. b && list_all is_name (outputs_of body)) (inputs-names body is)
-    ∙ outputs-names body is
 
 -- the task of a line, by its fields
 pub task-built : (names : List Named) (n : ℕ) (body : BodyWords) (ends : EndWords) (kind : Kind)

@@ -250,11 +250,11 @@ has-taps : (body : BodyWords) → IsBody Three body → is_body_within body ≡ 
     → HasTaps (kind_of_body body) (taps_of body) (filter_form body)
 has-taps (source file output) is e = (refl, refl)
 has-taps (fir input output shift plus taps) is e =
-    let each = both (nat_le (nat_value shift) SHIFT_MAX && is_plus_within plus
+    let each = and_parts (nat_le (nat_value shift) SHIFT_MAX && is_plus_within plus
     && nat_le (length taps) TAPS_MAX) (list_all is_tap_within taps) e in
-    let counts = both (nat_le (nat_value shift) SHIFT_MAX && is_plus_within plus)
+    let counts = and_parts (nat_le (nat_value shift) SHIFT_MAX && is_plus_within plus)
     (nat_le (length taps) TAPS_MAX) each.0 in
-    let limits = both (nat_le (nat_value shift) SHIFT_MAX) (is_plus_within plus) counts.0 in
+    let limits = and_parts (nat_le (nat_value shift) SHIFT_MAX) (is_plus_within plus) counts.0 in
     let same = length-map taps int_value in
     let some = is.4.0 in
     let few = leb-true (length taps) TAPS_MAX counts.1 in

@@ -10,10 +10,8 @@ use Rattle.graph_text.specs.Versions.{heading_of}
 use Rattle.graph_text.specs.declared.version.Version.{Version}
 use Rattle.graph_text.specs.declared.version.Version.TheVariants.{One}
 use Rattle.graph_base.specs.Graphs.{Graph}
-use Rattle.graph_lang.specs.Reads.{or_one, version_of, emptied, without_heading, Steps, Reads, ReadsText, Tells, fault_at, line_outcome}
-use Rattle.graph_lang.specs.Reading.{TellsDecl, TellsFault, version_in, version_behind, version_at, line_read, ReadsOn}
-use Rattle.graph_lang.specs.Faults.{kind_of}
-use Rattle.graph_lang.specs.declared.fault.FaultKind.TheVariants.{Syntax}
+use Rattle.graph_lang.specs.Reads.{or_one, version_of, emptied, without_heading, Steps, Reads, ReadsText, Tells}
+use Rattle.graph_lang.specs.Reading.{TellsFault, version_in, version_behind, version_at, line_read, ReadsOn}
 use Rattle.graph_lang.specs.declared.fault.GraphFault.{GraphFault}
 use Rattle.graph_lang.specs.declared.fault.GraphRefusal.{GraphRefusal}
 use Rattle.graph_lang.specs.declared.fault.GraphRefusal.TheVariants as refusal
@@ -124,20 +122,6 @@ known-version None line version going e = at (heading_of (words_of_line line)) e
         × (Some version ≡ (if is_ignored line then None else Some (or_one heading)))
     at (Some other) none = absurd (cc)
     at None e = let same : version ≡ One = cc in (sym same, refl, rw going e)
-
--- a line that is read in no version is the heading, where none is known above it
-pub heading-steps : (known : Option Version) (n : ℕ) (before : Graph) (line : List ℕ)
-    → is_ignored line ≡ false → None ≡ version_in known (words_of_line line)
-    → (heading_of (words_of_line line) ≡ version_behind known line)
-    × Steps (version_at known) n before (line_read known line) (Ok before)
-heading-steps (Some version) n before line going e = absurd (cc)
-heading-steps None n before line going e = at (heading_of (words_of_line line)) e
-  where
-    at : (heading : Option Version) → None ≡ (if is_some heading then None else Some One)
-        → (heading ≡ (if is_ignored line then None else Some (or_one heading)))
-        × Steps One n before (if is_some heading then [] else line) (Ok before)
-    at (Some version) e = (rw going refl, inl (refl, refl))
-    at None e = absurd (cc)
 
 -- ---- line after line
 

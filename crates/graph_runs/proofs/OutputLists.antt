@@ -6,6 +6,7 @@ use mathlib.Core.List.{IsPrefix}
 use Rattle.std.proofs.lemmas.List.FromFn.{length-map-range_with_len, get_or-map-range_with_len}
 use Rattle.std.proofs.lemmas.Bool.{le-leb}
 use Rattle.std.proofs.lemmas.Nat.{mod_below}
+use Rattle.phase_history.proofs.Streams.{IsPrefix-trans}
 use Rattle.stream_lists.specs.stream_filters.declared.form.Form.{Form}
 use Rattle.stream_lists.specs.stream_filters.Filter.{outputs, output_at, output_after}
 use Rattle.stream_lists.specs.graph_base.declared.line.Kind.{Kind}

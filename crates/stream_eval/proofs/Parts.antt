@@ -1,11 +1,12 @@
 -- Parts of the list of a filter.
-use Rattle.std.proofs.Common.{◌≡◌, ◌≤◌, ◌<◌, ◌⊎◌, inl, inr, ℕ, ◌+◌, ◌-◌, ◌++◌, ◌∷◌, [], List, length, take, drop, get_or, ℤ, pos, ◌+ℤ◌, None, Some, refl, sym, ap, subst, ◌∙◌, true, false, arith}
-use Rattle.std.specs.Prelude.{Option, IfSome, unsigned_abs, nat_le}
+use Rattle.std.proofs.Common.{◌≡◌, ◌≤◌, ◌<◌, ◌⊎◌, inl, inr, ℕ, ◌+◌, ◌-◌, ◌++◌, [], List, length, take, drop, get_or, ℤ, pos, ◌+ℤ◌, None, Some, sym, ap, subst, ◌∙◌, arith}
+use Rattle.std.specs.Prelude.{Option, IfSome}
 use Rattle.std.specs.List.{position_from}
 use Rattle.std.proofs.lemmas.Bool.{cases_lt}
 use Rattle.std.proofs.lemmas.List.{drop-drop, take_all, get_or-take, get_or-drop, length-take-le, length-drop, same_lists}
 use Rattle.std.proofs.lemmas.Simd.{length-chunk, get_or-chunk}
-use Rattle.stream_lists.specs.phase_accum.Sends.{AreSends, IsSend, value_max}
+use Rattle.std.proofs.Math.Seq.{take-add}
+use Rattle.stream_lists.specs.phase_accum.Sends.{AreSends}
 use Rattle.stream_lists.specs.stream_filters.Filter.{back, output_after, outputs, reach, shifted_down}
 use Rattle.stream_lists.specs.stream_filters.declared.form.Form.{Form}
 use Rattle.stream_lists.specs.Ranges.{is_out_of_range}
@@ -141,7 +142,7 @@ pub filter-part : (taps samples made : List ℤ) (form : Form) (lead from to : �
 filter-part taps samples made form lead from to front order within enough is fits = record {
   values_are = ap (drop lead) is
       ∙ outputs-behind taps samples form lead from to front order within enough;
-  sends = AreSends-drop lead made (subst AreSends (sym is) (AreSends-in_range 0 _ fits));
+  sends = AreSends-drop lead made (subst AreSends (sym is) (all_sends 0 _ fits));
 }
 
 -- of what is there, if anything is
