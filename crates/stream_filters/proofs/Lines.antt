@@ -5,7 +5,7 @@ use Rattle.std.specs.List.{All, copy_within}
 use Rattle.std.proofs.lemmas.Bool.{cases_lt}
 use Rattle.std.proofs.lemmas.List.{get_or-take, get_or_append_left, get_or-append-add, get_or-reverse, length_push, length-drop, length-reverse, reverse-append, take_all, take-append-drop, take-append-le}
 use Rattle.std.proofs.lemmas.List.Elements.{All-weaker}
-use Rattle.stream_filters.specs.Filter.{AreTaps, FirState, StandsFor, after_sample, at_place, back, output_after, reach, shifted_down, summed, weight}
+use Rattle.stream_filters.specs.Filter.{AreTaps, FirState, StandsFor, after_sample, at_place, back, output_after, reach, shifted_down, weight}
 use Rattle.stream_filters.specs.declared.form.Form.{Form}
 use Rattle.stream_filters.specs.FilterFields.{AreSmall, IsNarrowBack, answer_at, window_of}
 use Rattle.stream_filters.specs.Range.{ranged}

@@ -7,7 +7,7 @@ use Rattle.std.proofs.lemmas.List.Sums.{take_while-cons}
 use Rattle.std.proofs.Math.Seq.{take-append-add}
 use Rattle.stream_filters.specs.Filter.{AreTaps, FirState, StandsFor, output_after, outputs, outputs_of_block, reach, shifted_down, weight}
 use Rattle.stream_filters.specs.declared.form.Form.{Form}
-use Rattle.stream_filters.specs.FilterFields.{AreSmall, AreSmallAt, HasStepped, window_of}
+use Rattle.stream_filters.specs.FilterFields.{AreSmallAt, HasStepped, window_of}
 use Rattle.stream_filters.specs.Lanes.{output_shown}
 use Rattle.stream_filters.specs.Range.{before_out_of_range, is_out_of_range, ranged}
 use Rattle.stream_filters.proofs.Lines.{AreRecent, AreSmall-behind, Agree, Agree-append, Agree-push, Agree-stands, StandsFor-agree, fir_of}

@@ -3,7 +3,7 @@ use Rattle.std.proofs.Common.{◌≡◌, ℕ, zero, suc, ◌+◌, ◌*◌, ◌^�
 use Rattle.std.specs.Prelude.{unsigned_abs}
 use Rattle.std.proofs.lemmas.List.{get_or-take, reverse-append}
 use Rattle.std.proofs.lemmas.List.Sums.{sum_by-le}
-use Rattle.stream_filters.specs.Filter.{reach, summed, weighted, at_place, back, weight, shifted_down, output_after, AreTaps, StandsFor, FirState, after_sample}
+use Rattle.stream_filters.specs.Filter.{reach, summed, at_place, back, weight, shifted_down, output_after, AreTaps, StandsFor, FirState, after_sample}
 use Rattle.stream_filters.specs.FilterFields.{answer_at}
 use Rattle.stream_filters.specs.declared.form.Form.{Form}
 use Rattle.stream_filters.specs.Range.{ranged}

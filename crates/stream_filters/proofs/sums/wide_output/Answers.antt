@@ -1,4 +1,4 @@
-use Rattle.std.proofs.Common.{rules, arith, ◌≡◌, ◌+ℤ◌, ◌^◌, ◌<◌, ◌≤◌, unsigned_abs, w64, FitsSigned, to_z, of_z, ap, ◌∙◌}
+use Rattle.std.proofs.Common.{rules, arith, ◌≡◌, ◌+ℤ◌, ◌≤◌, unsigned_abs, w64, FitsSigned, to_z, of_z, ap, ◌∙◌}
 use Rattle.std.specs.Int.{w128}
 use Rattle.std.proofs.lemmas.Int.{fits_signed_from_abs, to_z-of_z}
 use Rattle.stream_filters.specs.Filter.{back, shifted_down, weighted}

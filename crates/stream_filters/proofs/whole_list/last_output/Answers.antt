@@ -1,4 +1,4 @@
-use Rattle.std.proofs.Common.{rules, ◌+ℤ◌, w64, FitsSigned, ap, ◌∙◌}
+use Rattle.std.proofs.Common.{rules, ◌+ℤ◌, FitsSigned, ap, ◌∙◌}
 use Rattle.std.specs.Int.{w128}
 use Rattle.std.proofs.lemmas.Int.{to_z-of_z}
 use Rattle.stream_filters.specs.Filter.{shifted_down}
