@@ -21,7 +21,7 @@ fn form_of(word: &[u8]) -> &'static str
         return "fir NAME X -> Y shift S [plus C] taps T1 T2 .. [by P at N] [until M] [block=B]";
     }
     if word == b"delay".as_slice() {
-        return "delay NAME X -> Y of N [by P at N] [until M] [block=B]";
+        return "delay NAME X -> Y of D [by P at N] [until M] [block=B]";
     }
     if word == b"split".as_slice() {
         return "split NAME X -> Y0 Y1 .. [until M]";
