@@ -75,6 +75,18 @@ DRAWN = [
         ['"Y\\nsum 65536\\nneg"', '"Z\\nany 4"', '"f\\nfir\\nshift 2\\ntaps 1 -2 1"', '"X" -> "f";', '"f" -> "Z";'],
     ),
     (
+        "a filter that adds, a delay and one of 0 steps",
+        (
+            "graph 3\nphaser X sum 4\nphaser Y sum 4\nsource s s.csv -> X\n"
+            "fir f X -> Y shift 2 plus -3 taps 1 2\ndelay d X -> Y of 65536 until 7 block=3\n"
+            "delay e X -> Y of 0 by d at 2\nsink out Y"
+        ),
+        [
+            '"f\\nfir\\nshift 2\\nplus -3\\ntaps 1 2"', '"d\\ndelay\\nof 65536\\nuntil 7\\nblock 3"',
+            '"e\\nfir\\nshift 0\\ntaps 1"', '"d" -> "e" [style=dashed, label="at 2"];',
+        ],
+    ),
+    (
         "a peer has its inputs in order, its exchange a clamp",
         (
             "# peers\r\n\r\nphaser X least 2\r\nphaser E sum 2 single clamp -5 7\r\nphaser P product 2\r\n"
@@ -121,6 +133,15 @@ CUTS = [
         "sink out X| block=2|",
         "sink late X| by out at 1|2| now| until 3| block=1|6|",
     ],
+    [
+        "graph 3|",
+        "phaser X sum 1|6|",
+        "phaser Z sum 4|",
+        "source s s.csv -> X|",
+        "fir f X -> Z shift 1 plus -23 taps 1| -2|3| until 1|",
+        "delay d X -> Z of 1|2| until 1|0| block=4|",
+        "delay e X -> Z of 1|2| by d at 1|2| block=4|",
+    ],
 ]
 
 
@@ -158,7 +179,8 @@ def of_samples(wanted):
 FORMS = {
     "phaser": "phaser NAME OP BOUND [single FN]",
     "source": "source NAME FILE -> Y [by P at N] [until M] [block=B]",
-    "fir": "fir NAME X -> Y shift S taps T1 T2 .. [by P at N] [until M] [block=B]",
+    "fir": "fir NAME X -> Y shift S [plus C] taps T1 T2 .. [by P at N] [until M] [block=B]",
+    "delay": "delay NAME X -> Y of D [by P at N] [until M] [block=B]",
     "split": "split NAME X -> Y0 Y1 .. [until M]",
     "join": "join NAME X0 X1 .. -> Y [until M]",
     "peer": "peer NAME X <-> E -> Y mul A [until M]",

@@ -54,6 +54,46 @@ def ways_of_values(bound):
     yield (
         "a filter leaves", filters + " until 130\nsink out Y\n", files, pairs[:130], None,
     )
+    third = f"graph 3\n{first}\nphaser Y sum {bound}\n"
+    for steps in 0, 1, 2, 15, 16, 17, 63, 64, 65, 199, 200, 201, 65536:
+        yield (
+            f"a delay of {steps}", f"{third}delay d X -> Y of {steps}\nsink out Y\n", files,
+            ([0] * steps + a)[:200], None,
+        )
+    late = [0] * 103 + a[100:197]
+    yield (
+        "a delay of the same samples joins, with zeros of its own first",
+        f"{third}delay d X -> Y of 2\ndelay e X -> Y of 3 by d at 100\nsink out Y\n", files,
+        [x + y for x, y in zip([0, 0] + a, late)], None,
+    )
+    yield (
+        "a delay leaves, and keeps its last values", f"{third}delay d X -> Y of 5 until 90\nsink out Y\n",
+        files, [0] * 5 + a[:85], None,
+    )
+    # Of each x and the one before it.
+    for shift, plus, taps in (
+        (2, 2, (1, 0)), (2, -2, (1, 0)), (2, 8, (1, -3)), (1, 1, (-1, 0)), (62, 2 ** 62, (0, 0)),
+        (0, -(2 ** 62), (-1, 2)),
+    ):
+        yield (
+            f"a filter that shifts by {shift} what it adds {plus} to",
+            f"{third}fir f X -> Y shift {shift} plus {plus} taps {taps[0]} {taps[1]}\nsink out Y\n",
+            files,
+            [(taps[0] * x + taps[1] * y + plus) // 2 ** shift for x, y in zip(a, [0] + a)], None,
+        )
+    # What is added leaves the range by itself, and comes back into it before it is shifted.
+    for step in 0, 1, 15, 16, 64:
+        big = {"a.csv": numbers(step, 1) + f"{2 ** 62}\n" + numbers(40, 1)}
+        adds = f"{third}fir f X -> Y shift 0 plus {2 ** 62} taps 1\nsink out Y\n"
+        yield (
+            f"an answer out of range by what is added at step {step}", adds, big,
+            [x + 2 ** 62 for x in a[:step]], (3, f"phase: too big at f {step}\n"),
+        )
+        values = [*a[:step], 2 ** 62, *range(1, 41)]
+        yield (
+            f"a sum out of range at step {step} that is shifted into it",
+            adds.replace("shift 0", "shift 1"), big, [(x + 2 ** 62) // 2 for x in values], None,
+        )
     # The sum of this one, twice, and the one before it is past the greatest value.
     for step in 0, 1, 15, 16, 63, 64, 100:
         big = {"a.csv": numbers(step, 1) + f"{2 ** 62}\n" + numbers(40, 1)}
