@@ -133,6 +133,43 @@ no_samples-line = refl
 no_samples-answer : answer_of no_samples ≡ Ok ((2, []) ∷ [])
 no_samples-answer = refl
 
+-- phaser X sum / phaser Y sum / source s s.csv -> X / fir f X -> Y shift 2 plus 2 taps 1
+-- / sink out Y, on the samples 3, 1, 4, 1, 5, 9
+abbrev rounds_to_nearest : Job
+rounds_to_nearest =
+    job_of
+    (plain Sum ∷ plain Sum ∷ [])
+    (source 3 0
+    ∷ record (fir 4 0 1 2 (these (1 ∷ []))) { form = record no_form { shift = 2; plus = pos 2 } }
+    ∷ sink 5 1
+    ∷ [])
+    ((these (3 ∷ 1 ∷ 4 ∷ 1 ∷ 5 ∷ 9 ∷ [])) ∷ [])
+
+rounds_to_nearest-line : meeting_line rounds_to_nearest ≡ None
+rounds_to_nearest-line = refl
+
+rounds_to_nearest-answer : answer_of rounds_to_nearest
+    ≡ Ok ((2, these (1 ∷ 0 ∷ 1 ∷ 0 ∷ 1 ∷ 2 ∷ [])) ∷ [])
+rounds_to_nearest-answer = refl
+
+-- phaser X sum / phaser Y sum / source s s.csv -> X / delay d X -> Y of 2 / sink out Y, on the
+-- samples 3, 1, 4
+abbrev comes_late : Job
+comes_late =
+    job_of
+    (plain Sum ∷ plain Sum ∷ [])
+    (source 3 0
+    ∷ record (fir 4 0 1 0 (these (1 ∷ []))) { form = record no_form { delay = 2 } }
+    ∷ sink 5 1
+    ∷ [])
+    ((these (3 ∷ 1 ∷ 4 ∷ [])) ∷ [])
+
+comes_late-line : meeting_line comes_late ≡ None
+comes_late-line = refl
+
+comes_late-answer : answer_of comes_late ≡ Ok ((2, these (0 ∷ 0 ∷ 3 ∷ [])) ∷ [])
+comes_late-answer = refl
+
 -- phasers X, A, B, S sum / source s s.csv -> X / split d X -> A B
 -- / fir f A -> S shift 0 taps 1 / fir g X -> S shift 0 taps 1 / sink out S
 abbrev split_to_one_bus_6 : Job
