@@ -14,7 +14,7 @@ use stream_lists::stream_filters::{Fir, FirFault, TooBigValue};
 
 /// Makes the filter of task number `t`, where it is one, before its first sample.
 ///
-/// It takes memory for the taps and for a window of as many samples.
+/// It takes memory for the taps, and for a window of as many samples as the filter looks back to.
 pub fn first_filter(alloc: Global, job: &Job, t: usize) -> Result<Option<Fir>, AllocError>
     requires { t < length job.now.graph.tasks }
     ensures { IfOk result (λ filter. HasFilter (task_at job.now.graph t) filter []) }
