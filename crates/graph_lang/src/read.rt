@@ -229,6 +229,18 @@ fn version_in(known: Option<Version>, words: &[&[u8]]) -> Option<Version>
 /// sink late X by out at 2 now task 2, which joins now
 /// sink wide X block=5         Fault(GraphFault { line: 6, kind: FaultKind::OverBound })
 /// ```
+///
+/// One of the third version begins with `graph 3`. It may have all of these, filters that add to
+/// their sums before they shift, and delays, which are filters.
+///
+/// ```text
+/// graph 3
+/// phaser X sum 4
+/// phaser Y sum 4
+/// fir f X -> Y shift 2 plus 2 taps 1
+/// delay d X -> Y of 1000      task 1, a filter of one tap
+/// delay of X -> Y of 2        Fault(GraphFault { line: 6, kind: FaultKind::Syntax })
+/// ```
 pub fn read_graph(alloc: Global, text: &[u8]) -> Result<Graph, GraphRefusal>
     ensures { Tells (lines_of text.now) result }
 {
