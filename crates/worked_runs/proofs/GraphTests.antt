@@ -100,7 +100,7 @@ has_taps Fir taps form =
     (both (test.is_at_most 1 (length taps))
     (both (test.is_at_most (length taps) 64)
     (both (all_of (λ tap. unsigned_abs tap ≤ 2147483647) taps
-    (λ tap. test.is_at_most (unsigned_abs tap) 2147483647)) 
+    (λ tap. test.is_at_most (unsigned_abs tap) 2147483647))
     (both (test.is_at_most form.shift 62)
     (both (test.is_at_most (unsigned_abs form.plus) 4611686018427387904)
     (test.is_at_most form.delay 65536))))))
