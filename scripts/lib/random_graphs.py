@@ -21,7 +21,7 @@ class Maker:
         for _ in range(self.random.randint(0, 4)):
             self.random.choice([self.filter, self.filter, self.splitter, self.joiner, self.peers])()
             if self.version == 3 and self.random.random() < 0.5:
-                self.delay()
+                self.random.choice([self.delay, self.decimator])()
         self.sinks()
         self.random.shuffle(self.tasks)
         if with_children:
@@ -102,6 +102,12 @@ class Maker:
         x = self.input()
         y = self.output([x])
         self.task("delay", [x], [y], f"X{x} -> X{y} of {self.steps()}")
+
+    def decimator(self):
+        x = self.input()
+        y = self.output([x])
+        every = self.random.choice([1, 2, 2, 3, 4, 64, 65536])
+        self.task("decimate", [x], [y], f"X{x} -> X{y} every {every}")
 
     def splitter(self):
         x = self.input()

@@ -76,7 +76,7 @@ class Task:
             self.samples = [int(line) for line in text.split()]
         if "mul" in rest:
             self.mul = int(rest[rest.index("mul") + 1])
-        self.shift, self.plus, self.delay, self.taps = 0, 0, 0, [1]
+        self.shift, self.plus, self.delay, self.taps, self.every = 0, 0, 0, [1], 1
         if "plus" in rest:
             self.plus = int(rest.pop(rest.index("plus") + 1))
             rest.remove("plus")
@@ -85,11 +85,13 @@ class Task:
             self.taps = [int(tap) for tap in rest[rest.index("taps") + 1 :]]
         if self.kind == "delay":
             self.delay = int(rest[-1])
+        if self.kind == "decimate":
+            self.every = int(rest[-1])
         ends = [word for word in rest if word not in ("->", "<->")]
         arrow = rest.index("->") if "->" in rest else len(rest)
         inputs = len([word for word in rest[:arrow] if word != "<->"])
         outputs = len(rest[arrow + 1 :])
-        if self.kind in ("fir", "delay", "peer"):
+        if self.kind in ("fir", "delay", "decimate", "peer"):
             outputs = 1
         self.inputs, self.outputs = ends[:inputs], ends[inputs : inputs + outputs]
         self.steps, self.values, self.window = 0, [], []
@@ -174,6 +176,8 @@ class Task:
             exchange = phasers[self.inputs[1]]
             yield from self.put(exchange, value)
             value = self.mul * value - (yield from self.take(exchange))
+        if self.kind == "decimate" and self.steps % self.every != 0:
+            return None
         turn = self.steps % len(self.outputs) if self.kind == "split" else 0
         yield from self.put(phasers[self.outputs[turn]], value)
         return None

@@ -10,7 +10,7 @@ use Rattle.phase_accum.specs.declared.single.Single.{Single}
 use Rattle.graph_base.specs.TaskLines.{HasEnds, IsTaskLine}
 use Rattle.graph_base.specs.Registrations.{HasItsMode, as_input, as_output, as_exchange, ends_of, registrations_of, no_registration, signalled_by, inputs_among, outputs_among}
 use Rattle.graph_base.specs.declared.line.Kind.{Kind}
-use Rattle.graph_base.specs.declared.line.Kind.TheVariants.{Source, Fir, Split, Join, Peer, Sink}
+use Rattle.graph_base.specs.declared.line.Kind.TheVariants.{Source, Fir, Split, Decimate, Join, Peer, Sink}
 use Rattle.graph_base.specs.declared.registration.Registration.{Registration}
 
 -- ---- of a task that is no peer
@@ -22,6 +22,7 @@ registrations-plain graph task other = by task.kind refl
     by Source e = rw e refl
     by Fir e = rw e refl
     by Split e = rw e refl
+    by Decimate e = rw e refl
     by Join e = rw e refl
     by Peer e = absurd (other e)
     by Sink e = rw e refl
@@ -95,6 +96,7 @@ length-registrations graph task ends = by task.kind refl
     by Source e = many (λ peer. absurd (let no = sym e ∙ peer in cc))
     by Fir e = many (λ peer. absurd (let no = sym e ∙ peer in cc))
     by Split e = many (λ peer. absurd (let no = sym e ∙ peer in cc))
+    by Decimate e = many (λ peer. absurd (let no = sym e ∙ peer in cc))
     by Join e = many (λ peer. absurd (let no = sym e ∙ peer in cc))
     by Peer e =
         let two : (length task.inputs ≡ 2) × (length task.outputs ≡ 1) = rw e at ends in
@@ -114,6 +116,7 @@ few-registrations task ends = by task.kind refl
     by Source e = let is = subst Ends e ends in omega (arith, is)
     by Fir e = let is = subst Ends e ends in omega (arith, is)
     by Split e = let is = subst Ends e ends in omega (arith, is)
+    by Decimate e = let is = subst Ends e ends in omega (arith, is)
     by Join e = let is = subst Ends e ends in omega (arith, is)
     by Peer e = let is = subst Ends e ends in omega (arith, is)
     by Sink e = let is = subst Ends e ends in omega (arith, is)
@@ -182,6 +185,7 @@ module _ (graph : Graph) (t : ℕ) (task : Task) (line : IsTaskLine graph t task
       by Source e = plain (rw e refl)
       by Fir e = plain (rw e refl)
       by Split e = plain (rw e refl)
+      by Decimate e = plain (rw e refl)
       by Join e = plain (rw e refl)
       by Peer e =
           let ends : (length task.inputs ≡ 2) × (length task.outputs ≡ 1) = subst Ends e line.ends in
@@ -210,6 +214,7 @@ module _ (graph : Graph) (t : ℕ) (task : Task) (line : IsTaskLine graph t task
       by Source e = plain (rw e refl)
       by Fir e = plain (rw e refl)
       by Split e = plain (rw e refl)
+      by Decimate e = plain (rw e refl)
       by Join e = plain (rw e refl)
       by Peer e =
           let ends : (length task.inputs ≡ 2) × (length task.outputs ≡ 1) = subst Ends e line.ends in
@@ -237,6 +242,7 @@ module _ (graph : Graph) (t : ℕ) (task : Task) (line : IsTaskLine graph t task
       by Source e = plain (rw e refl) (rw e refl)
       by Fir e = plain (rw e refl) (rw e refl)
       by Split e = plain (rw e refl) (rw e refl)
+      by Decimate e = plain (rw e refl) (rw e refl)
       by Join e = plain (rw e refl) (rw e refl)
       by Peer e = rw e refl
       by Sink e = plain (rw e refl) (rw e refl)
@@ -276,6 +282,7 @@ registrations-modes graph task = by task.kind refl
     by Source e = plain (rw e refl)
     by Fir e = plain (rw e refl)
     by Split e = plain (rw e refl)
+    by Decimate e = plain (rw e refl)
     by Join e = plain (rw e refl)
     by Peer e =
         let x = as_input (0, get_or task.inputs 0 0) in

@@ -21,6 +21,7 @@ task_of line = record {
   taps = line.taps.items;
   form = line.form;
   mul = line.mul;
+  every = line.every;
   block = line.block;
   joins_now = line.joins_now;
 }

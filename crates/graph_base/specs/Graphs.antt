@@ -3,7 +3,7 @@ use Rattle.std.specs.Prelude.{ℕ, ◌<◌, ◌==◌, List, [], ◌∷◌, lengt
 use Rattle.std.specs.List.{count_by}
 use Rattle.phase_accum.specs.phase_base.declared.operation.Op.TheVariants.{Sum}
 use Rattle.graph_base.specs.declared.line.Kind.{Kind}
-use Rattle.graph_base.specs.declared.line.Kind.TheVariants.{Source, Fir, Split, Join, Peer, Sink}
+use Rattle.graph_base.specs.declared.line.Kind.TheVariants.{Source, Fir, Split, Decimate, Join, Peer, Sink}
 use Rattle.graph_base.specs.declared.line.Parent.{Parent}
 use Rattle.graph_base.specs.declared.line.PhaserLine.{PhaserLine}
 use Rattle.graph_base.specs.declared.place.Place.{Place}
@@ -22,6 +22,7 @@ pub record Task : Type 0 where
   pub taps : List ℤ
   pub form : Form
   pub mul : ℤ
+  pub every : ℕ
   pub block : ℕ
   pub joins_now : Bool
 
@@ -53,6 +54,7 @@ no_task = record {
   taps = [];
   form = no_form;
   mul = pos 0;
+  every = 1;
   block = 1;
   joins_now = false;
 }
@@ -100,6 +102,7 @@ abbrev pub is_source : Kind → Bool
 is_source Source = true
 is_source Fir = false
 is_source Split = false
+is_source Decimate = false
 is_source Join = false
 is_source Peer = false
 is_source Sink = false
@@ -109,6 +112,7 @@ abbrev pub is_sink : Kind → Bool
 is_sink Source = false
 is_sink Fir = false
 is_sink Split = false
+is_sink Decimate = false
 is_sink Join = false
 is_sink Peer = false
 is_sink Sink = true

@@ -9,9 +9,9 @@ use Rattle.stream_filters.specs.declared.form.Form.{Form}
 use Rattle.phase_accum.specs.phase_base.Words.{Word, is_name, is_file}
 use Rattle.graph_base.specs.Graphs.{Task, Graph, IsPlace, task_at, phaser_at, name_at, sources_of}
 use Rattle.graph_base.specs.Names.{place_of}
-use Rattle.graph_base.specs.declared.limits.TheConstants.{PHASERS_MAX, TASKS_MAX, ENDS_MAX, STEPS_MAX, FACTOR_MAX}
+use Rattle.graph_base.specs.declared.limits.TheConstants.{PHASERS_MAX, TASKS_MAX, ENDS_MAX, STEPS_MAX, FACTOR_MAX, EVERY_MAX}
 use Rattle.graph_base.specs.declared.line.Kind.{Kind}
-use Rattle.graph_base.specs.declared.line.Kind.TheVariants.{Source, Fir, Split, Join, Peer, Sink}
+use Rattle.graph_base.specs.declared.line.Kind.TheVariants.{Source, Fir, Split, Decimate, Join, Peer, Sink}
 use Rattle.graph_base.specs.declared.line.Parent.{Parent}
 use Rattle.graph_base.specs.declared.line.PhaserLine.{PhaserLine}
 use Rattle.graph_base.specs.declared.place.Place.{Place}
@@ -21,6 +21,7 @@ abbrev pub HasEnds : Kind → ℕ → ℕ → Type 0
 HasEnds Source inputs outputs = (inputs ≡ 0) × (outputs ≡ 1)
 HasEnds Fir inputs outputs = (inputs ≡ 1) × (outputs ≡ 1)
 HasEnds Split inputs outputs = (inputs ≡ 1) × (2 ≤ outputs) × (outputs ≤ ENDS_MAX)
+HasEnds Decimate inputs outputs = (inputs ≡ 1) × (outputs ≡ 1)
 HasEnds Join inputs outputs = (2 ≤ inputs) × (inputs ≤ ENDS_MAX) × (outputs ≡ 1)
 HasEnds Peer inputs outputs = (inputs ≡ 2) × (outputs ≡ 1)
 HasEnds Sink inputs outputs = (inputs ≡ 1) × (outputs ≡ 0)
@@ -40,11 +41,17 @@ abbrev pub HasFactor : Kind → ℤ → Type 0
 HasFactor Peer mul = unsigned_abs mul ≤ FACTOR_MAX
 HasFactor kind mul = mul ≡ pos 0
 
+-- a decimator puts one of at least one value, and at most of so many; of any other kind this is 1
+abbrev pub HasEvery : Kind → ℕ → Type 0
+HasEvery Decimate every = (1 ≤ every) × (every ≤ EVERY_MAX)
+HasEvery kind every = every ≡ 1
+
 -- whether a task of the kind may be a child, and may have children
 abbrev pub has_children : Kind → Bool
 has_children Source = true
 has_children Fir = true
 has_children Split = false
+has_children Decimate = false
 has_children Join = false
 has_children Peer = false
 has_children Sink = true
@@ -54,6 +61,7 @@ abbrev pub has_blocks : Kind → Bool
 has_blocks Source = true
 has_blocks Fir = true
 has_blocks Split = false
+has_blocks Decimate = false
 has_blocks Join = false
 has_blocks Peer = false
 has_blocks Sink = true
@@ -101,6 +109,7 @@ pub record IsTaskLine (graph : Graph) (t : ℕ) (task : Task) : Type 0 where
   -- the numbers of its kind
   pub taps : HasTaps task.kind task.taps task.form
   pub factor : HasFactor task.kind task.mul
+  pub every : HasEvery task.kind task.every
   pub until : IfSome task.until (λ steps. steps ≤ STEPS_MAX)
   pub parent : IfSome task.parent (λ parent. IsParent graph t task parent)
   pub block : HasBlock graph task

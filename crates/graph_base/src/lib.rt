@@ -10,7 +10,7 @@ mod place;
 mod registration;
 
 pub use graph::Graph;
-pub use limits::{ENDS_MAX, FACTOR_MAX, PHASERS_MAX, STEPS_MAX, TASKS_MAX};
+pub use limits::{ENDS_MAX, EVERY_MAX, FACTOR_MAX, PHASERS_MAX, STEPS_MAX, TASKS_MAX};
 pub use line::{Kind, Parent, PhaserLine, TaskLine};
 pub use phase_accum;
 pub use phase_accum::Op;

@@ -12,6 +12,8 @@ pub enum Kind {
     Fir,
     /// Waits for its input, and signals its outputs in turn.
     Split,
+    /// Waits for its input, and signals its output with the first of each so many values.
+    Decimate,
     /// Waits for its inputs in turn, and signals its output.
     Join,
     /// Waits for X, exchanges its sample on E, and signals its output with the sample times a
@@ -63,6 +65,8 @@ pub struct TaskLine {
     pub form: Form,
     /// The factor of a peer, of a magnitude of at most `FACTOR_MAX`.
     pub mul: i64,
+    /// Of how many values a decimator puts one, up to `EVERY_MAX`, and 1 of any other task.
+    pub every: u64,
     /// The most steps that it makes in a block, 1 where the line names none.
     pub block: u64,
     /// Whether it is a sink that joins at the phase that is next to complete, where its parent

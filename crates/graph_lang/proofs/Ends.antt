@@ -7,7 +7,7 @@ use Rattle.graph_text.specs.phase_base.Numbers.{is_nat, nat_value}
 use Rattle.graph_text.specs.Decls.{EndWords, BodyWords, IsBy, AreEnds, MayHaveBy, may_have_blocks}
 use Rattle.graph_text.specs.declared.version.Version.{Version}
 use Rattle.graph_base.specs.stream_filters.declared.form.Form.{Form}
-use Rattle.graph_lang.specs.WordValues.{inputs_of, outputs_of, task_line, kind_of_body, phaser_numbers, parent_of, taps_of, filter_form, factor_of, block_of, joins_now}
+use Rattle.graph_lang.specs.WordValues.{inputs_of, outputs_of, task_line, kind_of_body, phaser_numbers, parent_of, taps_of, filter_form, factor_of, every_of, block_of, joins_now}
 use Rattle.graph_lang.proofs.Grown.{weaken_some}
 
 -- the parent is a name, and its steps a number
@@ -27,11 +27,12 @@ ends-block version body ends are =
 -- the task of a line, by its fields
 pub task-built : (names : List Named) (n : ℕ) (body : BodyWords) (ends : EndWords) (kind : Kind)
     (inputs outputs : List ℕ) (parent : Option Parent) (until : Option ℕ) (taps : List ℤ) (form : Form)
-    (mul : ℤ) (block : ℕ) (now : Bool) → kind ≡ kind_of_body body
+    (mul : ℤ) (every block : ℕ) (now : Bool) → kind ≡ kind_of_body body
     → inputs ≡ phaser_numbers names (inputs_of body) → outputs ≡ phaser_numbers names (outputs_of body)
     → parent ≡ option_map (parent_of names) ends.by
     → until ≡ option_map nat_value ends.until → taps ≡ taps_of body → form ≡ filter_form body
-    → mul ≡ factor_of body → block ≡ block_of ends.block → now ≡ joins_now ends.by
+    → mul ≡ factor_of body → every ≡ every_of body → block ≡ block_of ends.block
+    → now ≡ joins_now ends.by
     → record {
       line = n;
       kind = kind;
@@ -42,9 +43,10 @@ pub task-built : (names : List Named) (n : ℕ) (body : BodyWords) (ends : EndWo
       taps = taps;
       form = form;
       mul = mul;
+      every = every;
       block = block;
       joins_now = now;
     } ≡ task_line names n body ends
-task-built names n body ends kind inputs outputs parent until taps form mul block now a b c d e f g
-    h i j =
-    rw (a, b, c, d, e, f, g, h, i, j) refl
+task-built names n body ends kind inputs outputs parent until taps form mul every block now a b c d e
+    f g h i j k =
+    rw (a, b, c, d, e, f, g, h, i, j, k) refl

@@ -66,6 +66,7 @@ IsTaskLine-stays before after t task grows few is =
           ∙ is.plain k d lt;
       taps = is.taps;
       factor = is.factor;
+      every = is.every;
       until = is.until;
       parent = weaken_some task.parent (IsParent before t task) (IsParent after t task)
           (λ parent. IsParent-stays before after t task parent grows few) is.parent;

@@ -11,17 +11,17 @@ use Rattle.std.proofs.lemmas.Slice.Eq.{bytes_eq-Decides}
 use Rattle.graph_text.specs.phase_base.Words.{Word}
 use Rattle.graph_text.specs.phase_base.declared.limits.TheConstants.{BOUND_MAX}
 use Rattle.graph_text.specs.phase_base.Numbers.{is_nat, nat_value, int_value}
-use Rattle.graph_text.specs.Decls.{task, BodyWords, source, fir, delay, split, join, peer, sink, ByWords, EndWords, IsBody, IsBy, AreEnds, MayHaveBy, may_have_parent, may_join_now, may_have_blocks}
+use Rattle.graph_text.specs.Decls.{task, BodyWords, source, fir, delay, decimate, split, join, peer, sink, ByWords, EndWords, IsBody, IsBy, AreEnds, MayHaveBy, may_have_parent, may_join_now, may_have_blocks}
 use Rattle.graph_text.specs.declared.version.Version.{Version}
 use Rattle.graph_text.specs.declared.version.Version.TheVariants.{Three}
 use Rattle.graph_base.specs.stream_filters.declared.fir.TheConstants.{DELAY_MAX, PLUS_MAX, TAPS_MAX, TAP_MAX, SHIFT_MAX}
 use Rattle.graph_base.specs.Graphs.{Graph, Task, Named, IsPlace, task_at, phaser_at}
 use Rattle.graph_base.specs.Names.{place_of, phaser_number, task_number, phaser_named, task_named}
-use Rattle.graph_lang.specs.WordValues.{or_zero, phaser_numbers, parent_of, task_line, kind_of_body, inputs_of, outputs_of, taps_of, plus_of, filter_form, factor_of, block_of, joins_now}
+use Rattle.graph_lang.specs.WordValues.{or_zero, phaser_numbers, parent_of, task_line, kind_of_body, inputs_of, outputs_of, taps_of, plus_of, filter_form, factor_of, every_of, block_of, joins_now}
 use Rattle.graph_lang.specs.Faults.{kind_of, is_body_within, are_ends_within, is_count_within, is_tap_within, is_plus_within, phasers_of, are_distinct, is_phaser, is_parent_known, is_in_order, is_exchange_below, may_be_parent, is_number_in, holds_for, is_plain, is_held, is_bound_within, is_within_bound, is_block_within}
-use Rattle.graph_base.specs.TaskLines.{IsGraph, IsTaskLine, IsParent, AreNames, HasEnds, HasTaps, HasFactor, IsExchangeBelow, has_children, has_blocks, AreAmong}
+use Rattle.graph_base.specs.TaskLines.{IsGraph, IsTaskLine, IsParent, AreNames, HasEnds, HasTaps, HasFactor, HasEvery, IsExchangeBelow, has_children, has_blocks, AreAmong}
 use Rattle.graph_text.specs.phase_base.Lists.{is_distinct}
-use Rattle.graph_base.specs.declared.limits.TheConstants.{TASKS_MAX, ENDS_MAX, STEPS_MAX, FACTOR_MAX}
+use Rattle.graph_base.specs.declared.limits.TheConstants.{TASKS_MAX, ENDS_MAX, STEPS_MAX, FACTOR_MAX, EVERY_MAX}
 use Rattle.graph_base.specs.declared.line.Kind.{Kind}
 use Rattle.graph_base.specs.declared.line.Kind.TheVariants as kind
 use Rattle.graph_lang.specs.declared.fault.FaultKind.TheVariants.{Limit, Twice, Unknown, OutBeforeIn, BadParent, NotHeld, OverBound}
@@ -220,6 +220,7 @@ count-ends : (before : List Named) (body : BodyWords) → is_body_within body �
 count-ends names (source file output) e = (refl, refl)
 count-ends names (fir input output shift plus taps) e = (refl, refl)
 count-ends names (delay input output steps) e = (refl, refl)
+count-ends names (decimate input output every) e = (refl, refl)
 count-ends names (split input outputs) e =
     let within = and_parts (nat_le 2 (length outputs)) (nat_le (length outputs) ENDS_MAX) e in
     let same = length-map outputs (number_in names) in (
@@ -242,6 +243,7 @@ exchange-below : (k : Kind) (inputs : List ℕ) → is_exchange_below k inputs �
 exchange-below kind.Source inputs e = tt
 exchange-below kind.Fir inputs e = tt
 exchange-below kind.Split inputs e = tt
+exchange-below kind.Decimate inputs e = tt
 exchange-below kind.Join inputs e = tt
 exchange-below kind.Peer inputs e = ltb-true (get_or inputs 0 0) (get_or inputs 1 0) e
 exchange-below kind.Sink inputs e = tt
@@ -280,6 +282,7 @@ has-taps (delay input output steps) is e = record {
     one-small : All (λ tap. unsigned_abs tap ≤ 2147483647) (pos 1 ∷ [])
     one-small = All-cons (λ tap. unsigned_abs tap ≤ 2147483647) (pos 1) [] (omega arith)
         (All-nil (λ tap. unsigned_abs tap ≤ 2147483647))
+has-taps (decimate input output every) is e = (refl, refl)
 has-taps (split input outputs) is e = (refl, refl)
 has-taps (join inputs output) is e = (refl, refl)
 has-taps (peer input exchange output factor) is e = (refl, refl)
@@ -290,11 +293,25 @@ has-factor : (body : BodyWords) → is_body_within body ≡ true
 has-factor (source file output) e = refl
 has-factor (fir input output shift plus taps) e = refl
 has-factor (delay input output steps) e = refl
+has-factor (decimate input output every) e = refl
 has-factor (split input outputs) e = refl
 has-factor (join inputs output) e = refl
 has-factor (peer input exchange output factor) e =
     leb-true (unsigned_abs (int_value factor)) FACTOR_MAX e
 has-factor (sink input) e = refl
+
+has-every : (body : BodyWords) → is_body_within body ≡ true
+    → HasEvery (kind_of_body body) (every_of body)
+has-every (source file output) e = refl
+has-every (fir input output shift plus taps) e = refl
+has-every (delay input output steps) e = refl
+has-every (decimate input output every) e =
+    let within = and_parts (nat_le 1 (nat_value every)) (nat_le (nat_value every) EVERY_MAX) e in
+    (leb-true 1 (nat_value every) within.0, leb-true (nat_value every) EVERY_MAX within.1)
+has-every (split input outputs) e = refl
+has-every (join inputs output) e = refl
+has-every (peer input exchange output factor) e = refl
+has-every (sink input) e = refl
 
 has-until : (until : Option Word) → option_map_or is_count_within until true ≡ true
     → IfSome (option_map nat_value until) (λ steps. steps ≤ STEPS_MAX)
@@ -307,6 +324,7 @@ parents-are : (body : BodyWords) → may_have_parent body ≡ has_children (kind
 parents-are (source file output) = refl
 parents-are (fir input output shift plus taps) = refl
 parents-are (delay input output steps) = refl
+parents-are (decimate input output every) = refl
 parents-are (split input outputs) = refl
 parents-are (join inputs output) = refl
 parents-are (peer input exchange output factor) = refl
@@ -349,6 +367,7 @@ blocks-are : (version : Version) (body : BodyWords) → may_have_blocks version 
 blocks-are version (source file output) may = refl
 blocks-are version (fir input output shift plus taps) may = refl
 blocks-are version (delay input output steps) may = refl
+blocks-are version (decimate input output every) may = let clash : false ≡ true = may in absurd (cc)
 blocks-are version (split input outputs) may = let clash : false ≡ true = may in absurd (cc)
 blocks-are version (join inputs output) may = let clash : false ≡ true = may in absurd (cc)
 blocks-are version (peer input exchange output factor) may =
@@ -379,6 +398,7 @@ joins-are version (source file output) may = let clash : false ≡ true = may in
 joins-are version (fir input output shift plus taps) may =
     let clash : false ≡ true = may in absurd (cc)
 joins-are version (delay input output steps) may = let clash : false ≡ true = may in absurd (cc)
+joins-are version (decimate input output every) may = let clash : false ≡ true = may in absurd (cc)
 joins-are version (split input outputs) may = let clash : false ≡ true = may in absurd (cc)
 joins-are version (join inputs output) may = let clash : false ≡ true = may in absurd (cc)
 joins-are version (peer input exchange output factor) may =
@@ -447,6 +467,7 @@ IsTaskLine-new version before n name body ends is is_body are_ends sound =
           (phaser_numbers names (outputs_of body)) sound.plain;
       taps = has-taps body is_body sound.within;
       factor = has-factor body sound.within;
+      every = has-every body sound.within;
       until = has-until ends.until sound.until;
       parent = numbered before n body ends
           (new-parent before are (task_line names 0 body ends) ends.by sound.known sound.at sound.may

@@ -12,7 +12,7 @@ use Rattle.graph_base.specs.phase_accum.Singles.{CanBeNamed}
 use Rattle.graph_text.specs.phase_base.Words.{Word, is_name, is_file}
 use Rattle.graph_text.specs.phase_base.Numbers.{nat_value, int_value}
 use Rattle.graph_text.specs.phase_base.declared.operation.Op.{Op}
-use Rattle.graph_text.specs.Decls.{Decl, phaser, task, FunctionWords, neg, abs, halve, clamp, BodyWords, source, fir, delay, split, join, peer, sink, EndWords, IsBody, IsWellFormed, IsWellFormedBy}
+use Rattle.graph_text.specs.Decls.{Decl, phaser, task, FunctionWords, neg, abs, halve, clamp, BodyWords, source, fir, delay, decimate, split, join, peer, sink, EndWords, IsBody, IsWellFormed, IsWellFormedBy}
 use Rattle.graph_text.specs.declared.version.Version.{Version}
 use Rattle.graph_text.specs.declared.version.Version.TheVariants.{Three}
 use Rattle.graph_text.proofs.Spelled.{well_formed_later}
@@ -227,6 +227,7 @@ files-more : (body : BodyWords)
 files-more (source file output) = refl
 files-more (fir input output shift plus taps) = refl
 files-more (delay input output steps) = refl
+files-more (decimate input output every) = refl
 files-more (split input outputs) = refl
 files-more (join inputs output) = refl
 files-more (peer input exchange output factor) = refl
@@ -238,6 +239,7 @@ files-are (source file output) is =
     All-cons (λ file. is_file file ≡ true) file [] is.0 (All-nil (λ file. is_file file ≡ true))
 files-are (fir input output shift plus taps) is = All-nil (λ file. is_file file ≡ true)
 files-are (delay input output steps) is = All-nil (λ file. is_file file ≡ true)
+files-are (decimate input output every) is = All-nil (λ file. is_file file ≡ true)
 files-are (split input outputs) is = All-nil (λ file. is_file file ≡ true)
 files-are (join inputs output) is = All-nil (λ file. is_file file ≡ true)
 files-are (peer input exchange output factor) is = All-nil (λ file. is_file file ≡ true)

@@ -9,12 +9,12 @@ use Rattle.graph_text.specs.phase_base.declared.limits.TheConstants.{BOUND_MAX}
 use Rattle.graph_base.specs.phase_accum.Sends.{value_max}
 use Rattle.graph_text.specs.phase_base.Words.{Word}
 use Rattle.graph_text.specs.phase_base.Numbers.{nat_value, int_value}
-use Rattle.graph_text.specs.Decls.{Decl, phaser, task, FunctionWords, neg, abs, halve, clamp, ByWords, EndWords, BodyWords, source, fir, delay, split, join, peer, sink}
+use Rattle.graph_text.specs.Decls.{Decl, phaser, task, FunctionWords, neg, abs, halve, clamp, ByWords, EndWords, BodyWords, source, fir, delay, decimate, split, join, peer, sink}
 use Rattle.graph_base.specs.Graphs.{Graph, Task, Named, task_at, phaser_at}
 use Rattle.graph_base.specs.Names.{place_of, phaser_named, task_named}
 use Rattle.graph_lang.specs.WordValues.{inputs_of, outputs_of, plus_of, task_line}
 use Rattle.graph_base.specs.TaskLines.{has_children}
-use Rattle.graph_base.specs.declared.limits.TheConstants.{PHASERS_MAX, TASKS_MAX, ENDS_MAX, STEPS_MAX, FACTOR_MAX}
+use Rattle.graph_base.specs.declared.limits.TheConstants.{PHASERS_MAX, TASKS_MAX, ENDS_MAX, STEPS_MAX, FACTOR_MAX, EVERY_MAX}
 use Rattle.graph_base.specs.declared.line.Kind.{Kind}
 use Rattle.graph_base.specs.declared.line.Kind.TheVariants as kind
 use Rattle.graph_base.specs.declared.line.Parent.{Parent}
@@ -60,6 +60,8 @@ is_body_within (fir input output shift plus taps) =
     nat_le (nat_value shift) SHIFT_MAX && is_plus_within plus && nat_le (length taps) TAPS_MAX
     && list_all is_tap_within taps
 is_body_within (delay input output steps) = nat_le (nat_value steps) DELAY_MAX
+is_body_within (decimate input output every) =
+    nat_le 1 (nat_value every) && nat_le (nat_value every) EVERY_MAX
 is_body_within (split input outputs) = is_number_of_ends (length outputs)
 is_body_within (join inputs output) = is_number_of_ends (length inputs)
 is_body_within (peer input exchange output factor) =

@@ -9,7 +9,7 @@ use Rattle.graph_text.specs.declared.version.Version.TheVariants.{One}
 use Rattle.graph_text.specs.phase_base.Words.{Word}
 use Rattle.graph_text.specs.phase_base.Lists.{first_row}
 use Rattle.graph_base.specs.Graphs.{Graph, Task}
-use Rattle.graph_lang.specs.WordValues.{taps_of, filter_form, factor_of, block_of}
+use Rattle.graph_lang.specs.WordValues.{taps_of, filter_form, factor_of, every_of, block_of}
 use Rattle.graph_lang.specs.declared.within.Numbers.{Numbers}
 use Rattle.graph_lang.specs.declared.within.EndNumbers.{EndNumbers}
 use Rattle.graph_lang.specs.Faults.{is_in_order, may_be_parent, is_held, is_block_within, kind_of}
@@ -25,6 +25,7 @@ pub record AreNumbersOf (numbers : Numbers) (body : BodyWords) : Type 0 where
   pub taps : numbers.taps.items ≡ taps_of body
   pub form : numbers.form ≡ filter_form body
   pub factor : numbers.factor ≡ factor_of body
+  pub every : numbers.every ≡ every_of body
 
 -- the numbers that the words behind a task's phasers write
 abbrev pub steps_in : EndWords → EndNumbers

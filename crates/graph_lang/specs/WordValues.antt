@@ -4,7 +4,7 @@ use Rattle.graph_base.specs.phase_accum.declared.single.Single.{Single}
 use Rattle.graph_base.specs.phase_accum.declared.single.Single.TheVariants.{Neg, Abs, Halve, Clamp}
 use Rattle.graph_text.specs.phase_base.Words.{Word}
 use Rattle.graph_text.specs.phase_base.Numbers.{nat_value, int_value}
-use Rattle.graph_text.specs.Decls.{FunctionWords, neg, abs, halve, clamp, ByWords, EndWords, BodyWords, source, fir, delay, split, join, peer, sink}
+use Rattle.graph_text.specs.Decls.{FunctionWords, neg, abs, halve, clamp, ByWords, EndWords, BodyWords, source, fir, delay, decimate, split, join, peer, sink}
 use Rattle.graph_base.specs.Graphs.{Task, Named}
 use Rattle.graph_base.specs.Names.{phaser_named, task_named}
 use Rattle.graph_text.specs.phase_base.declared.operation.Op.{Op}
@@ -44,6 +44,7 @@ abbrev pub kind_of_body : BodyWords → Kind
 kind_of_body (source file output) = kind.Source
 kind_of_body (fir input output shift plus taps) = kind.Fir
 kind_of_body (delay input output steps) = kind.Fir
+kind_of_body (decimate input output every) = kind.Decimate
 kind_of_body (split input outputs) = kind.Split
 kind_of_body (join inputs output) = kind.Join
 kind_of_body (peer input exchange output factor) = kind.Peer
@@ -54,6 +55,7 @@ abbrev pub inputs_of : BodyWords → List Word
 inputs_of (source file output) = []
 inputs_of (fir input output shift plus taps) = input ∷ []
 inputs_of (delay input output steps) = input ∷ []
+inputs_of (decimate input output every) = input ∷ []
 inputs_of (split input outputs) = input ∷ []
 inputs_of (join inputs output) = inputs
 inputs_of (peer input exchange output factor) = input ∷ exchange ∷ []
@@ -64,6 +66,7 @@ abbrev pub outputs_of : BodyWords → List Word
 outputs_of (source file output) = output ∷ []
 outputs_of (fir input output shift plus taps) = output ∷ []
 outputs_of (delay input output steps) = output ∷ []
+outputs_of (decimate input output every) = output ∷ []
 outputs_of (split input outputs) = outputs
 outputs_of (join inputs output) = output ∷ []
 outputs_of (peer input exchange output factor) = output ∷ []
@@ -91,6 +94,11 @@ filter_form body = no_form
 abbrev pub factor_of : BodyWords → ℤ
 factor_of (peer input exchange output factor) = int_value factor
 factor_of body = pos 0
+
+-- of how many values a decimator puts one, and 1 of any other task
+abbrev pub every_of : BodyWords → ℕ
+every_of (decimate input output every) = nat_value every
+every_of body = 1
 
 -- the file of a source
 abbrev pub files_in : BodyWords → List (List ℕ)
@@ -130,6 +138,7 @@ task_line names n body ends = record {
   taps = taps_of body;
   form = filter_form body;
   mul = factor_of body;
+  every = every_of body;
   block = block_of ends.block;
   joins_now = joins_now ends.by;
 }

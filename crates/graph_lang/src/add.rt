@@ -99,6 +99,7 @@ impl Draft {
             taps: numbers.taps,
             form: numbers.form,
             mul: numbers.factor,
+            every: numbers.every,
             block: steps.block,
             joins_now: joins_now(words.ends.by),
         }))

@@ -23,6 +23,7 @@ pub(crate) fn kind_of(body: Body<'_, '_>) -> Kind
         Body::Source(..) => Kind::Source,
         Body::Fir(..) | Body::Delay(..) => Kind::Fir,
         Body::Split(..) => Kind::Split,
+        Body::Decimate(..) => Kind::Decimate,
         Body::Join(..) => Kind::Join,
         Body::Peer(..) => Kind::Peer,
         Body::Sink(..) => Kind::Sink,
@@ -39,6 +40,7 @@ pub(crate) fn input_words<'a>(
     match body {
         Body::Source(..) => Ok(Vec::new(alloc)),
         Body::Fir(input, ..) | Body::Delay(input, ..) => Vec::from_slice(alloc, &[input]),
+        Body::Decimate(input, ..) => Vec::from_slice(alloc, &[input]),
         Body::Split(input, _) => Vec::from_slice(alloc, &[input]),
         Body::Join(inputs, _) => Vec::from_slice(alloc, inputs),
         Body::Peer(input, exchange, ..) => Vec::from_slice(alloc, &[input, exchange]),
@@ -58,6 +60,7 @@ pub(crate) fn output_words<'a>(
         Body::Fir(_, output, ..) | Body::Delay(_, output, _) => {
             Vec::from_slice(alloc, &[output])
         }
+        Body::Decimate(_, output, _) => Vec::from_slice(alloc, &[output]),
         Body::Split(_, outputs) => Vec::from_slice(alloc, outputs),
         Body::Join(_, output) => Vec::from_slice(alloc, &[output]),
         Body::Peer(_, _, output, _) => Vec::from_slice(alloc, &[output]),

@@ -27,7 +27,7 @@ pub use fault::{FaultKind, GraphFault, GraphRefusal};
 pub use file::read_sample_file;
 pub use graph_base;
 pub use graph_base::{
-    ENDS_MAX, FACTOR_MAX, Graph, Kind, Mode, Op, PHASERS_MAX, Parent, PhaserLine, Place,
+    ENDS_MAX, EVERY_MAX, FACTOR_MAX, Graph, Kind, Mode, Op, PHASERS_MAX, Parent, PhaserLine, Place,
     Registration, STEPS_MAX, TASKS_MAX, TaskLine, phase_accum, stream_filters,
 };
 pub use graph_text;

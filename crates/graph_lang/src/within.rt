@@ -16,7 +16,7 @@ ghost use Rattle.graph_lang.specs.Faults.{is_function_within, is_bound_within, i
 
 use graph_base::phase_accum::{MAGNITUDE_MAX, Single};
 use graph_base::stream_filters::{DELAY_MAX, Form, PLUS_MAX, SHIFT_MAX, TAP_MAX, TAPS_MAX};
-use graph_base::{ENDS_MAX, FACTOR_MAX, PhaserLine, STEPS_MAX};
+use graph_base::{ENDS_MAX, EVERY_MAX, FACTOR_MAX, PhaserLine, STEPS_MAX};
 use graph_text::phase_base::BOUND_MAX;
 use graph_text::{Body, Ends, Function, PhaserWords, int_within, nat_within};
 use std::alloc::{AllocError, Global};
@@ -83,12 +83,14 @@ pub(crate) fn phaser_line(words: PhaserWords<'_>) -> Option<PhaserLine>
 
 // ---- tasks
 
-/// The numbers of what a task does: the taps and the form of a filter, and the factor of a peer.
+/// The numbers of what a task does: the taps and the form of a filter, the factor of a peer, and of
+/// how many values a decimator puts one.
 #[derive(Drop)]
 pub(crate) struct Numbers {
     pub(crate) taps: Vec<i64>,
     pub(crate) form: Form,
     pub(crate) factor: i64,
+    pub(crate) every: u64,
 }
 
 /// The numbers of a task's ends: after how many steps of its parent it is registered, after how
@@ -203,7 +205,7 @@ fn filter_numbers(
           shift = nat_value shift.now;
           plus = plus_of (word_of plus.entry);
           delay = 0;
-        }) × (numbers.factor ≡ pos 0))) }
+        }) × (numbers.factor ≡ pos 0) × (numbers.every ≡ 1))) }
 {
     let Some(form) = form_of(shift, plus) else {
         return Ok(None);
@@ -217,6 +219,7 @@ fn filter_numbers(
             taps,
             form,
             factor: 0,
+            every: 1,
         })),
     }
 }
@@ -229,7 +232,7 @@ fn delay_numbers(alloc: Global, steps: &[u8]) -> Result<Option<Numbers>, AllocEr
     ensures numbers { IfOk result (λ found. IfSome found (λ numbers.
         (numbers.taps.items ≡ pos 1 ∷ [])
         × (numbers.form ≡ record no_form { delay = nat_value steps.now })
-        × (numbers.factor ≡ pos 0))) }
+        × (numbers.factor ≡ pos 0) × (numbers.every ≡ 1))) }
 {
     let Some(steps) = nat_within(steps, DELAY_MAX as u64) else {
         return Ok(None);
@@ -243,18 +246,38 @@ fn delay_numbers(alloc: Global, steps: &[u8]) -> Result<Option<Numbers>, AllocEr
         taps: Vec::from_slice(alloc, &[1])?,
         form,
         factor: 0,
+        every: 1,
     }))
 }
 
-/// The numbers of a task that is no filter, and a peer's factor or 0.
-fn numbers_with(alloc: Global, factor: i64) -> Numbers
-    ensures { (result.taps.items ≡ []) × (result.form ≡ no_form) × (result.factor ≡ factor) }
+/// The numbers of a task that is no filter: a peer's factor or 0, and of how many values a decimator
+/// puts one, or 1.
+fn numbers_with(alloc: Global, factor: i64, every: u64) -> Numbers
+    ensures { (result.taps.items ≡ []) × (result.form ≡ no_form) × (result.factor ≡ factor)
+        × (result.every ≡ every) }
 {
     Numbers {
         taps: Vec::new(alloc),
         form: Form::by_shift(0),
         factor,
+        every,
     }
+}
+
+/// The numbers of a decimator, where that of the values of which it puts one is within its limits.
+fn decimator_numbers(alloc: Global, every: &[u8]) -> Option<Numbers>
+    requires { IsTrue (is_nat every.now) }
+    ensures within { is_some result
+        ≡ (nat_le 1 (nat_value every.now) && nat_le (nat_value every.now) EVERY_MAX) }
+    ensures numbers { IfSome result (λ numbers. (numbers.taps.items ≡ [])
+        × (numbers.form ≡ no_form) × (numbers.factor ≡ pos 0)
+        × (numbers.every ≡ nat_value every.now)) }
+{
+    let every = nat_within(every, EVERY_MAX)?;
+    if every < 1 {
+        return None;
+    }
+    Some(numbers_with(alloc, 0, every))
 }
 
 /// The numbers of what a task does, where each, and how many ends it has, is within its limits.
@@ -267,6 +290,7 @@ pub(crate) fn numbers_of(alloc: Global, body: Body<'_, '_>) -> Result<Option<Num
     let factor = match body {
         Body::Fir(_, _, shift, plus, taps) => return filter_numbers(alloc, shift, plus, taps),
         Body::Delay(_, _, steps) => return delay_numbers(alloc, steps),
+        Body::Decimate(_, _, every) => return Ok(decimator_numbers(alloc, every)),
         Body::Split(_, outputs) if !is_number_of_ends(outputs.len()) => None,
         Body::Join(inputs, _) if !is_number_of_ends(inputs.len()) => None,
         Body::Peer(_, _, _, factor) => factor_of(factor),
@@ -274,7 +298,7 @@ pub(crate) fn numbers_of(alloc: Global, body: Body<'_, '_>) -> Result<Option<Num
     };
     match factor {
         None => Ok(None),
-        Some(factor) => Ok(Some(numbers_with(alloc, factor))),
+        Some(factor) => Ok(Some(numbers_with(alloc, factor, 1))),
     }
 }
 

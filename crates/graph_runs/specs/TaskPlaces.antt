@@ -5,7 +5,7 @@ use Rattle.stream_lists.specs.stream_filters.declared.fault.TooBigValue.{TooBigV
 use Rattle.stream_lists.specs.stream_filters.Range.{ranged}
 pub use Rattle.stream_lists.specs.stream_filters.Filter.{outputs_of_block}
 use Rattle.stream_lists.specs.graph_base.declared.line.Kind.{Kind}
-use Rattle.stream_lists.specs.graph_base.declared.line.Kind.TheVariants.{Source, Fir, Split, Join, Peer, Sink}
+use Rattle.stream_lists.specs.graph_base.declared.line.Kind.TheVariants.{Source, Fir, Split, Decimate, Join, Peer, Sink}
 use Rattle.stream_lists.specs.graph_base.declared.registration.Registration.{Registration}
 use Rattle.stream_lists.specs.graph_base.Graphs.{Task, task_at}
 use Rattle.stream_lists.specs.graph_base.Registrations.{no_registration, signalled_by}
@@ -102,6 +102,7 @@ owed_after_wait task begun taken xs = of task.kind
     of : Kind → Owed
     of Fir = values 0 (map ranged (outputs_of_block task.taps task.form taken xs))
     of Split = values (begun % length task.outputs) (map (λ x. Ok x) xs)
+    of Decimate = if begun % task.every == 0 then values 0 (map (λ x. Ok x) xs) else nothing
     of Join = values 0 (map (λ x. Ok x) xs)
     of Peer = values 0 (map (λ x. Ok x) xs)
     of Source = nothing

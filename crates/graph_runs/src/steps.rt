@@ -30,7 +30,8 @@ pub fn owed_after_wait(job: &Job, t: usize, begun: u64, filter: &mut Option<Fir>
             output: output_in_turn(job, t, begun),
             value: Ok(x),
         },
-        Kind::Join | Kind::Peer => Owed::Value {
+        Kind::Decimate if begun % job.graph().task(t).every != 0 => Owed::Nothing,
+        Kind::Decimate | Kind::Join | Kind::Peer => Owed::Value {
             output: 0,
             value: Ok(x),
         },

@@ -8,7 +8,7 @@ use Rattle.graph_lang.specs.phase_accum.declared.single.Single.TheVariants as si
 use Rattle.graph_lang.specs.graph_base.Graphs.{Graph, Task, name_at, phaser_at, task_at, file_at, source_number}
 use Rattle.graph_lang.specs.graph_base.Registrations.{signalled_by}
 use Rattle.graph_lang.specs.graph_base.declared.line.Kind.{Kind}
-use Rattle.graph_lang.specs.graph_base.declared.line.Kind.TheVariants.{Source, Fir, Split, Join, Peer, Sink}
+use Rattle.graph_lang.specs.graph_base.declared.line.Kind.TheVariants.{Source, Fir, Split, Decimate, Join, Peer, Sink}
 use Rattle.graph_lang.specs.graph_base.declared.line.Parent.{Parent}
 use Rattle.graph_lang.specs.graph_base.stream_filters.declared.form.Form.{Form}
 use Rattle.graph_lang.specs.graph_base.declared.line.PhaserLine.{PhaserLine}
@@ -19,6 +19,7 @@ abbrev pub kind_word : Kind → List ℕ
 kind_word Source = codes "source"
 kind_word Fir = codes "fir"
 kind_word Split = codes "split"
+kind_word Decimate = codes "decimate"
 kind_word Join = codes "join"
 kind_word Peer = codes "peer"
 kind_word Sink = codes "sink"
@@ -90,6 +91,10 @@ abbrev pub filter_note : Form → List ℤ → List ℕ
 filter_note form taps =
     if is_delay form then note (codes "of " ++ decimal form.delay) else taps_note form taps
 
+-- of how many values a decimator puts one
+abbrev pub every_note : ℕ → List ℕ
+every_note every = note (codes "every " ++ decimal every)
+
 -- the factor of a peer
 abbrev pub peer_note : ℤ → List ℕ
 peer_note factor = note (codes "mul " ++ signed_decimal factor)
@@ -99,6 +104,7 @@ abbrev pub kind_notes : Graph → ℕ → Kind → List ℕ
 kind_notes graph t Source = file_note graph t
 kind_notes graph t Fir = filter_note (task_at graph t).form (task_at graph t).taps
 kind_notes graph t Split = []
+kind_notes graph t Decimate = every_note (task_at graph t).every
 kind_notes graph t Join = []
 kind_notes graph t Peer = peer_note (task_at graph t).mul
 kind_notes graph t Sink = []

@@ -39,6 +39,8 @@ pub(crate) enum Part {
     Taps,
     /// The steps of a delay.
     Delay,
+    /// Of how many values a decimator puts one.
+    Every,
     Factor,
     Parent,
     Steps,
@@ -58,7 +60,7 @@ fn is_of_grammar(word: &[u8]) -> bool {
 /// The kind of a line that this word is but for capital letters.
 fn kind_in_capitals(word: &[u8]) -> Option<&'static str> {
     for kind in [
-        "phaser", "source", "fir", "delay", "split", "join", "peer", "sink",
+        "phaser", "source", "fir", "delay", "decimate", "split", "join", "peer", "sink",
     ] {
         if word.eq_ignore_ascii_case(kind.as_bytes()) {
             return Some(kind);
@@ -93,7 +95,11 @@ impl Part {
     pub(crate) fn fits(self, word: &[u8]) -> bool {
         match self {
             Part::Kind => is_kind_word(word),
-            Part::LaterKind => is_kind_word(word) || word == b"delay".as_slice(),
+            Part::LaterKind => {
+                is_kind_word(word)
+                    || word == b"delay".as_slice()
+                    || word == b"decimate".as_slice()
+            }
             Part::Version => word == b"2".as_slice() || word == b"3".as_slice(),
             Part::Own | Part::Parent => is_name(word),
             Part::Input | Part::Inputs | Part::Exchange => is_name(word),
@@ -101,7 +107,7 @@ impl Part {
             Part::Operation => Op::read(word).is_some(),
             Part::File => is_file(word),
             Part::Function => is_function(word),
-            Part::Bound | Part::Shift | Part::Delay | Part::Steps => is_nat(word),
+            Part::Bound | Part::Shift | Part::Delay | Part::Every | Part::Steps => is_nat(word),
             Part::Block => is_block(word),
             Part::Low | Part::High | Part::Plus | Part::Taps | Part::Factor => is_int(word),
             Part::Sign(sign) => word == sign.as_bytes(),
@@ -148,13 +154,13 @@ impl Part {
         match self {
             Part::Kind => "`phaser`, `source`, `fir`, `split`, `join`, `peer` or `sink`",
             Part::LaterKind => {
-                "`phaser`, `source`, `fir`, `delay`, `split`, `join`, `peer` or `sink`"
+                "`phaser`, `source`, `fir`, `delay`, `decimate`, `split`, `join`, `peer` or `sink`"
             }
             Part::Version => "`2` or `3`",
             Part::Operation => "`sum`, `product`, `least`, `greatest` or `any`",
             Part::Function => "`neg`, `abs`, `halve` or `clamp`",
             Part::File => "the name of a file, of at most 255 bytes",
-            Part::Bound | Part::Shift | Part::Delay | Part::Steps => {
+            Part::Bound | Part::Shift | Part::Delay | Part::Every | Part::Steps => {
                 "a whole number without a sign"
             }
             Part::Block => "`block=` and, without a space, a whole number without a sign",

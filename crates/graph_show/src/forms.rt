@@ -23,6 +23,9 @@ fn form_of(word: &[u8]) -> &'static str
     if word == b"delay".as_slice() {
         return "delay NAME X -> Y of D [by P at N] [until M] [block=B]";
     }
+    if word == b"decimate".as_slice() {
+        return "decimate NAME X -> Y every N [until M]";
+    }
     if word == b"split".as_slice() {
         return "split NAME X -> Y0 Y1 .. [until M]";
     }

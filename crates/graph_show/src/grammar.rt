@@ -98,6 +98,10 @@ impl<'w, 'a> Reading<'w, 'a> {
             let ends = self.follow(&[Part::Own, Part::Input, arrow, Part::Output])?;
             return Ok(ends && self.follow(&[Part::Sign("of"), Part::Delay])?);
         }
+        if kind == b"decimate".as_slice() {
+            let ends = self.follow(&[Part::Own, Part::Input, arrow, Part::Output])?;
+            return Ok(ends && self.follow(&[Part::Sign("every"), Part::Every])?);
+        }
         if kind == b"peer".as_slice() {
             let meets = self.follow(&[Part::Own, Part::Input, Part::Sign("<->"), Part::Exchange])?;
             return Ok(meets && self.follow_factor()?);
@@ -173,7 +177,7 @@ impl<'w, 'a> Reading<'w, 'a> {
     pub(crate) fn wants_three(&self) -> bool {
         let word = self.next();
         match self.wanted {
-            Part::Kind => word == b"delay".as_slice(),
+            Part::Kind => word == b"delay".as_slice() || word == b"decimate".as_slice(),
             Part::Sign("taps") => !self.is_of_three() && word == b"plus".as_slice(),
             _ => false,
         }

@@ -5,7 +5,7 @@ use crate::explain_parts::Part;
 use graph_lang::phase_accum::MAGNITUDE_MAX;
 use graph_lang::phase_base::{BOUND_MAX, nat};
 use graph_lang::stream_filters::{DELAY_MAX, PLUS_MAX, SHIFT_MAX, TAP_MAX, TAPS_MAX};
-use graph_lang::{ENDS_MAX, FACTOR_MAX, STEPS_MAX};
+use graph_lang::{ENDS_MAX, EVERY_MAX, FACTOR_MAX, STEPS_MAX};
 
 /// The digits of a number, which stand behind `block=` or a minus where that is there.
 fn digits_in(word: &[u8]) -> &[u8] {
@@ -41,6 +41,7 @@ pub(crate) fn limit_passed(part: Part, word: &[u8]) -> Option<&'static str> {
             "a number of a magnitude of at most 4611686018427387904",
         ),
         Part::Delay => (0, DELAY_MAX as u64, "a delay of at most 65536 steps"),
+        Part::Every => (1, EVERY_MAX, "one of 1 to 65536 values"),
         Part::Taps => (0, TAP_MAX, "a tap of a magnitude of at most 2147483647"),
         Part::Factor => (
             0,

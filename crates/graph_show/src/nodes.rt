@@ -35,6 +35,7 @@ fn kind_word(kind: Kind) -> &'static str
         Kind::Source => "source",
         Kind::Fir => "fir",
         Kind::Split => "split",
+        Kind::Decimate => "decimate",
         Kind::Join => "join",
         Kind::Peer => "peer",
         Kind::Sink => "sink",

@@ -2,7 +2,7 @@
 ghost use Rattle.std.specs.Prelude.{◌≡◌, ◌++◌, ◌<◌, length, Some, None, OnOk};
 ghost use Rattle.std.specs.List.{flat_map};
 ghost use Rattle.graph_lang.specs.graph_base.Graphs.{task_at};
-ghost use Rattle.graph_show.specs.Drawings.{block_note, clamp_ends, clamp_note, file_note, filter_note, is_delay, kind_notes, note, now_note, peer_note, plus_note, quoted, single_note, tap_text, taps_note, until_note};
+ghost use Rattle.graph_show.specs.Drawings.{block_note, clamp_ends, clamp_note, every_note, file_note, filter_note, is_delay, kind_notes, note, now_note, peer_note, plus_note, quoted, single_note, tap_text, taps_note, until_note};
 
 use crate::parts::put;
 use graph_lang::phase_accum::Single;
@@ -135,6 +135,14 @@ fn put_filter_note(text: &mut Vec<u8>, form: Form, taps: &[i64]) -> Result<(), A
     put(text, ["\\nof ", buffer.format(form.delay)].as_slice())
 }
 
+/// Puts of how many values a decimator puts one behind the text.
+fn put_every_note(text: &mut Vec<u8>, every: u64) -> Result<(), AllocError>
+    ensures ok { OnOk result (text.new.items ≡ text.old.items ++ every_note every) }
+{
+    let mut buffer = Buffer::new();
+    put(text, ["\\nevery ", buffer.format(every)].as_slice())
+}
+
 /// Puts the factor of a peer behind the text.
 fn put_peer_note(text: &mut Vec<u8>, factor: i64) -> Result<(), AllocError>
     ensures ok { OnOk result (text.new.items ≡ text.old.items ++ peer_note factor) }
@@ -153,6 +161,7 @@ pub(crate) fn put_kind_notes(text: &mut Vec<u8>, graph: &Graph, t: usize) -> Res
     match task.kind {
         Kind::Source => put_file_note(text, graph, t),
         Kind::Fir => put_filter_note(text, task.form, &task.taps),
+        Kind::Decimate => put_every_note(text, task.every),
         Kind::Peer => put_peer_note(text, task.mul),
         Kind::Split | Kind::Join | Kind::Sink => Ok(()),
     }

@@ -4,10 +4,10 @@ use Rattle.std.specs.List.{list_all, list_any}
 use Rattle.graph_text.specs.Texts.{words_of_line, are_printable, is_ignored}
 use Rattle.phase_base.specs.declared.operation.Op.TheVariants.{Sum}
 use Rattle.phase_base.specs.Numbers.{is_nat, is_int}
-use Rattle.graph_text.specs.Decls.{phaser, task, source, fir, delay, sink, neg, abs, halve, clamp, EndWords}
+use Rattle.graph_text.specs.Decls.{phaser, task, source, fir, delay, decimate, sink, neg, abs, halve, clamp, EndWords}
 use Rattle.graph_text.specs.Versions.{heading_of}
 use Rattle.graph_text.specs.declared.version.Version.TheVariants.{One, Two, Three}
-use Rattle.graph_text.specs.WordReading.{decl_at, decl_by, phaser_words_at, task_words_at, body_at, source_at, fir_at, plus_at, delay_at, split_at, sink_at, word_at, some_at, after, begins, single_at, operation_at, function_at, function_named, clamp_at, now_at, by_at, until_at, block_number, block_at, ends_at}
+use Rattle.graph_text.specs.WordReading.{decl_at, decl_by, phaser_words_at, task_words_at, body_at, source_at, fir_at, plus_at, delay_at, decimate_at, split_at, sink_at, word_at, some_at, after, begins, single_at, operation_at, function_at, function_named, clamp_at, now_at, by_at, until_at, block_number, block_at, ends_at}
 
 -- ---- words
 
@@ -185,6 +185,29 @@ delayed : decl_at Three (words_of_line (codes "delay d X -> Y of 1000"))
     ≡ Some (task (codes "d") (delay (codes "X") (codes "Y") (codes "1000")) no_ends)
 unfolding decl_by task_words_at body_at delay_at word_at ends_at by_at until_at begins after block_at
 delayed = refl
+
+decimated : decl_at Three (words_of_line (codes "decimate d X -> Y every 16 until 3"))
+    ≡ Some (task (codes "d") (decimate (codes "X") (codes "Y") (codes "16"))
+    (record no_ends { until = Some (codes "3") }))
+unfolding decl_by task_words_at body_at decimate_at word_at ends_at by_at until_at begins after
+    block_at
+decimated = refl
+
+decimated_in_two : decl_at Two (words_of_line (codes "decimate d X -> Y every 16")) ≡ None
+unfolding decl_by task_words_at body_at word_at
+decimated_in_two = refl
+
+-- a decimator has neither a parent nor a block
+decimated_by : decl_at Three (words_of_line (codes "decimate d X -> Y every 16 by s at 1")) ≡ None
+unfolding decl_by task_words_at body_at decimate_at word_at ends_at by_at until_at begins after
+    block_at
+decimated_by = refl
+
+decimated_in_blocks : decl_at Three (words_of_line (codes "decimate d X -> Y every 16 block=2"))
+    ≡ None
+unfolding decl_by task_words_at body_at decimate_at word_at ends_at by_at until_at begins after
+    block_at
+decimated_in_blocks = refl
 
 -- in the second version neither is a line
 rounded_in_two : decl_at Two (words_of_line (codes "fir f X -> Y shift 2 plus 2 taps 1 -1")) ≡ None

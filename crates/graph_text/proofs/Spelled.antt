@@ -11,11 +11,11 @@ use Rattle.phase_base.specs.OperationWords.{operation_word}
 use Rattle.phase_base.specs.declared.operation.Op.{Op}
 use Rattle.phase_base.specs.declared.operation.Op.TheVariants.{Sum, Product, Least, Greatest, Any}
 use Rattle.phase_base.specs.Numbers.{is_nat, is_int}
-use Rattle.graph_text.specs.Decls.{Decl, phaser, task, FunctionWords, neg, abs, halve, clamp, ByWords, EndWords, BodyWords, source, fir, delay, split, join, peer, sink, decl_spelling, function_words, single_words, now_words, by_words, until_words, block_words, end_words, body_word, body_words, plus_words, IsFunction, IsBody, IsBy, MayHaveBy, AreEnds, AreSome, IsWellFormed, IsWellFormedBy, may_have_parent, may_join_now, may_have_blocks, Spells}
+use Rattle.graph_text.specs.Decls.{Decl, phaser, task, FunctionWords, neg, abs, halve, clamp, ByWords, EndWords, BodyWords, source, fir, delay, decimate, split, join, peer, sink, decl_spelling, function_words, single_words, now_words, by_words, until_words, block_words, end_words, body_word, body_words, plus_words, IsFunction, IsBody, IsBy, MayHaveBy, AreEnds, AreSome, IsWellFormed, IsWellFormedBy, may_have_parent, may_join_now, may_have_blocks, Spells}
 use Rattle.graph_text.specs.Versions.{has_third, is_third_word}
 use Rattle.graph_text.specs.declared.version.Version.{Version}
 use Rattle.graph_text.specs.declared.version.Version.TheVariants.{Three}
-use Rattle.graph_text.specs.WordReading.{word_at, after, begins, some_at, operation_at, clamp_at, function_named, function_at, single_at, now_at, by_at, until_at, block_number, block_at, ends_at, source_at, plus_at, fir_at, delay_at, split_at, join_at, peer_at, sink_at, body_at, phaser_words_at, task_words_at, decl_by}
+use Rattle.graph_text.specs.WordReading.{word_at, after, begins, some_at, operation_at, clamp_at, function_named, function_at, single_at, now_at, by_at, until_at, block_number, block_at, ends_at, source_at, plus_at, fir_at, delay_at, decimate_at, split_at, join_at, peer_at, sink_at, body_at, phaser_words_at, task_words_at, decl_by}
 
 -- ---- words
 
@@ -166,7 +166,7 @@ plus_again allowed (Some plus) ws is = rw (is.1, is.0) refl
 body_again : (version : Version) (body : BodyWords) (ws : List Word) → IsBody version body
     → Stops is_int ws → Stops is_name ws
     → body_at (has_third version) (body_word body) (body_words body ++ ws) ≡ Some (body, ws)
-unfolding body_at source_at fir_at delay_at split_at join_at peer_at sink_at after word_at
+unfolding body_at source_at fir_at delay_at decimate_at split_at join_at peer_at sink_at after word_at
 body_again version (source file output) ws is ints names = rw (is.0, is.1) refl
 body_again version (fir input output shift plus taps) ws is ints names =
     rw (
@@ -178,6 +178,7 @@ body_again version (fir input output shift plus taps) ws is ints names =
       some_again is_int taps ws is.4 ints,
     ) refl
 body_again version (delay input output steps) ws is ints names = rw (is.3, is.0, is.1, is.2) refl
+body_again version (decimate input output every) ws is ints names = rw (is.3, is.0, is.1, is.2) refl
 body_again version (split input outputs) ws is ints names =
     rw (is.0, some_again is_name outputs ws is.1 names) refl
 body_again version (join inputs output) ws is ints names =
@@ -194,6 +195,7 @@ is_no_phaser : (body : BodyWords) → bytes_eq (body_word body) (codes "phaser")
 is_no_phaser (source file output) = refl
 is_no_phaser (fir input output shift plus taps) = refl
 is_no_phaser (delay input output steps) = refl
+is_no_phaser (decimate input output every) = refl
 is_no_phaser (split input outputs) = refl
 is_no_phaser (join inputs output) = refl
 is_no_phaser (peer input exchange output factor) = refl
@@ -228,6 +230,7 @@ may_join_later : (version : Version) (body : BodyWords) → may_join_now version
 may_join_later version (source file output) may = may
 may_join_later version (fir input output shift plus taps) may = may
 may_join_later version (delay input output steps) may = may
+may_join_later version (decimate input output every) may = may
 may_join_later version (split input outputs) may = may
 may_join_later version (join inputs output) may = may
 may_join_later version (peer input exchange output factor) may = may
@@ -238,6 +241,7 @@ may_have_later : (version : Version) (body : BodyWords) → may_have_blocks vers
 may_have_later version (source file output) may = refl
 may_have_later version (fir input output shift plus taps) may = refl
 may_have_later version (delay input output steps) may = refl
+may_have_later version (decimate input output every) may = may
 may_have_later version (split input outputs) may = may
 may_have_later version (join inputs output) may = may
 may_have_later version (peer input exchange output factor) may = may
@@ -249,6 +253,7 @@ body_later version (fir input output shift None taps) is = is
 body_later version (fir input output shift (Some plus) taps) is =
     (is.0, is.1, is.2, (is.3.0, refl), is.4)
 body_later version (delay input output steps) is = (is.0, is.1, is.2, refl)
+body_later version (decimate input output every) is = (is.0, is.1, is.2, refl)
 body_later version (split input outputs) is = is
 body_later version (join inputs output) is = is
 body_later version (peer input exchange output factor) is = is

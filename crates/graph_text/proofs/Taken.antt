@@ -16,7 +16,7 @@ use Rattle.graph_text.specs.Decls.{Decl, phaser, task, FunctionWords, neg, abs, 
 use Rattle.graph_text.specs.Versions.{has_third, may_declare}
 use Rattle.graph_text.specs.declared.version.Version.{Version}
 use Rattle.std.proofs.lemmas.Bool.{and_parts}
-use Rattle.graph_text.specs.WordReading.{Found, ◌>>=◌, word_at, after, begins, some_at, operation_at, clamp_at, function_named, function_at, single_at, now_at, by_with, by_at, until_at, block_number, block_at, ends_at, source_at, plus_at, fir_at, delay_at, split_at, join_at, peer_at, sink_at, body_at, phaser_words_at, task_words_at, decl_by, decl_at}
+use Rattle.graph_text.specs.WordReading.{Found, ◌>>=◌, word_at, after, begins, some_at, operation_at, clamp_at, function_named, function_at, single_at, now_at, by_with, by_at, until_at, block_number, block_at, ends_at, source_at, plus_at, fir_at, delay_at, decimate_at, split_at, join_at, peer_at, sink_at, body_at, phaser_words_at, task_words_at, decl_by, decl_at}
 
 -- ---- words
 
@@ -380,6 +380,28 @@ delay_takes version ws x third e =
           (followed (codes "of") counted number.1))),
     )
 
+decimate_takes : (version : Version) (ws : List Word) (x : Found BodyWords)
+    → IsTrue (has_third version) → decimate_at ws ≡ Some x
+    → TakesBody version (codes "decimate") ws (Some x)
+unfolding decimate_at TakesBody
+decimate_takes version ws x third e =
+    let i = steps _ (word_at is_name ws) x e in
+    let s = steps _ (after (codes "->") i.0.1) x i.2 in
+    let o = steps _ (word_at is_name s.0) x s.2 in
+    let c = steps _ (after (codes "every") o.0.1) x o.2 in
+    let n = steps _ (word_at is_nat c.0) x c.2 in
+    let input = word_takes is_name ws i.0 i.1 in
+    let sent = after_takes (codes "->") i.0.1 s.0 s.1 in
+    let output = word_takes is_name s.0 o.0 o.1 in
+    let counted = after_takes (codes "every") o.0.1 c.0 c.1 in
+    let number = word_takes is_nat c.0 n.0 n.1 in
+    subst (TakesBody version (codes "decimate") ws) n.2 (
+      (input.0, output.0, number.0, third),
+      refl,
+      followed i.0.0 input.1 (followed (codes "->") sent (followed o.0.0 output.1
+          (followed (codes "every") counted number.1))),
+    )
+
 split_takes : (version : Version) (ws : List Word) (x : Found BodyWords) → split_at ws ≡ Some x
     → TakesBody version (codes "split") ws (Some x)
 unfolding split_at TakesBody
@@ -475,7 +497,9 @@ body_takes version kind ws x e =
     (by_kind version true kind (codes "sink") ws x _ _ (λ yes. sink_takes version ws x)
     (by_kind version (has_third version) kind (codes "delay") ws x _ _
     (λ third. delay_takes version ws x third)
-    (λ none. absurd (cc)))))))) e
+    (by_kind version (has_third version) kind (codes "decimate") ws x _ _
+    (λ third. decimate_takes version ws x third)
+    (λ none. absurd (cc))))))))) e
 
 -- ---- a line
 

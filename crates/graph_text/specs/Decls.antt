@@ -1,6 +1,6 @@
 -- What a line declares, and the one way in which its words spell it. Names, files and numbers stand
 -- as they are written. A text of the second version may have more ends, and one of the third also
--- delays and filters that add.
+-- delays, decimators and filters that add.
 use Rattle.std.specs.Prelude.{ℕ, ◌≡◌, ◌≤◌, Bool, true, false, List, [], ◌∷◌, ◌++◌, length, Option, Some, None, IsTrue, IfSome, codes, if◌then◌else◌}
 use Rattle.std.specs.List.{list_all}
 use Rattle.phase_base.specs.Words.{Word, is_name, is_file}
@@ -38,6 +38,7 @@ pub data BodyWords : Type 0 where
   source : (file output : Word) → BodyWords
   fir : (input output shift : Word) (plus : Option Word) (taps : List Word) → BodyWords
   delay : (input output steps : Word) → BodyWords
+  decimate : (input output every : Word) → BodyWords
   split : (input : Word) (outputs : List Word) → BodyWords
   join : (inputs : List Word) (output : Word) → BodyWords
   peer : (input exchange output factor : Word) → BodyWords
@@ -95,6 +96,7 @@ abbrev pub body_word : BodyWords → Word
 body_word (source file output) = codes "source"
 body_word (fir input output shift plus taps) = codes "fir"
 body_word (delay input output steps) = codes "delay"
+body_word (decimate input output every) = codes "decimate"
 body_word (split input outputs) = codes "split"
 body_word (join inputs output) = codes "join"
 body_word (peer input exchange output factor) = codes "peer"
@@ -107,6 +109,8 @@ body_words (fir input output shift plus taps) =
     input ∷ codes "->" ∷ output ∷ codes "shift" ∷ shift ∷ (plus_words plus ++ codes "taps" ∷ taps)
 body_words (delay input output steps) =
     input ∷ codes "->" ∷ output ∷ codes "of" ∷ steps ∷ []
+body_words (decimate input output every) =
+    input ∷ codes "->" ∷ output ∷ codes "every" ∷ every ∷ []
 body_words (split input outputs) = input ∷ codes "->" ∷ outputs
 body_words (join inputs output) = inputs ++ codes "->" ∷ output ∷ []
 body_words (peer input exchange output factor) =
@@ -133,6 +137,7 @@ abbrev pub may_have_parent : BodyWords → Bool
 may_have_parent (source file output) = true
 may_have_parent (fir input output shift plus taps) = true
 may_have_parent (delay input output steps) = true
+may_have_parent (decimate input output every) = false
 may_have_parent (split input outputs) = false
 may_have_parent (join inputs output) = false
 may_have_parent (peer input exchange output factor) = false
@@ -151,6 +156,8 @@ IsBody version (fir input output shift plus taps) = IsTrue (is_name input)
     × AreSome is_int taps
 IsBody version (delay input output steps) = IsTrue (is_name input) × IsTrue (is_name output)
     × IsTrue (is_nat steps) × IsTrue (has_third version)
+IsBody version (decimate input output every) = IsTrue (is_name input) × IsTrue (is_name output)
+    × IsTrue (is_nat every) × IsTrue (has_third version)
 IsBody version (split input outputs) = IsTrue (is_name input) × AreSome is_name outputs
 IsBody version (join inputs output) = AreSome is_name inputs × IsTrue (is_name output)
 IsBody version (peer input exchange output factor) = IsTrue (is_name input)
@@ -162,6 +169,7 @@ abbrev pub may_join_now : Version → BodyWords → Bool
 may_join_now version (source file output) = false
 may_join_now version (fir input output shift plus taps) = false
 may_join_now version (delay input output steps) = false
+may_join_now version (decimate input output every) = false
 may_join_now version (split input outputs) = false
 may_join_now version (join inputs output) = false
 may_join_now version (peer input exchange output factor) = false
@@ -172,6 +180,7 @@ abbrev pub may_have_blocks : Version → BodyWords → Bool
 may_have_blocks version (source file output) = has_second version
 may_have_blocks version (fir input output shift plus taps) = has_second version
 may_have_blocks version (delay input output steps) = has_second version
+may_have_blocks version (decimate input output every) = false
 may_have_blocks version (split input outputs) = false
 may_have_blocks version (join inputs output) = false
 may_have_blocks version (peer input exchange output factor) = false

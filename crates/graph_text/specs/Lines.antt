@@ -3,7 +3,7 @@ use Rattle.std.specs.Prelude.{ℕ, List, Option, Some, None}
 use Rattle.std.specs.Borrow.{Bor}
 use Rattle.phase_base.specs.Words.{Word}
 use Rattle.graph_text.specs.Plain.{plain as words_in}
-use Rattle.graph_text.specs.Decls.{Decl, phaser, task, FunctionWords, neg, abs, halve, clamp, ByWords, EndWords, BodyWords, source, fir, delay, split, join, peer, sink}
+use Rattle.graph_text.specs.Decls.{Decl, phaser, task, FunctionWords, neg, abs, halve, clamp, ByWords, EndWords, BodyWords, source, fir, delay, decimate, split, join, peer, sink}
 use Rattle.graph_text.specs.declared.line.By.{By}
 use Rattle.graph_text.specs.declared.line.Ends.{Ends}
 use Rattle.graph_text.specs.declared.line.Function.{Function}
@@ -49,6 +49,7 @@ body_of (body.Source file output) = source file.now output.now
 body_of (body.Fir input output shift plus taps) =
     fir input.now output.now shift.now (word_of plus) (words_in taps.now)
 body_of (body.Delay input output steps) = delay input.now output.now steps.now
+body_of (body.Decimate input output every) = decimate input.now output.now every.now
 body_of (body.Split input outputs) = split input.now (words_in outputs.now)
 body_of (body.Join inputs output) = join (words_in inputs.now) output.now
 body_of (body.Peer input exchange output factor) =

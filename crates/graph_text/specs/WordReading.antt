@@ -8,7 +8,7 @@ use Rattle.phase_base.specs.Words.{Word, is_name, is_file}
 use Rattle.phase_base.specs.OperationWords.{operation_of}
 use Rattle.phase_base.specs.declared.operation.Op.{Op}
 use Rattle.phase_base.specs.Numbers.{is_nat, is_int}
-use Rattle.graph_text.specs.Decls.{Decl, phaser, task, FunctionWords, neg, abs, halve, clamp, ByWords, EndWords, BodyWords, source, fir, delay, split, join, peer, sink, may_have_parent, may_join_now, may_have_blocks}
+use Rattle.graph_text.specs.Decls.{Decl, phaser, task, FunctionWords, neg, abs, halve, clamp, ByWords, EndWords, BodyWords, source, fir, delay, decimate, split, join, peer, sink, may_have_parent, may_join_now, may_have_blocks}
 use Rattle.graph_text.specs.Versions.{has_third, may_declare}
 use Rattle.graph_text.specs.declared.version.Version.{Version}
 use Rattle.graph_text.specs.Lines.{function_of, single_of, by_of, word_of, body_of}
@@ -189,6 +189,16 @@ delay_at words = do
   steps ← word_at is_nat counted
   Some (delay input.0 output.0 steps.0, steps.1)
 
+-- what a decimator does
+unfoldable pub decimate_at : List Word → Option (Found BodyWords)
+decimate_at words = do
+  input ← word_at is_name words
+  sent ← after (codes "->") input.1
+  output ← word_at is_name sent
+  counted ← after (codes "every") output.1
+  every ← word_at is_nat counted
+  Some (decimate input.0 output.0 every.0, every.1)
+
 -- what a splitter does
 unfoldable pub split_at : List Word → Option (Found BodyWords)
 split_at words = do
@@ -223,8 +233,8 @@ sink_at words = do
   input ← word_at is_name words
   Some (sink input.0, input.1)
 
--- what a task does, by the first word of its line, where a delay and a filter that adds may be
--- allowed
+-- what a task does, by the first word of its line, where a delay, a decimator and a filter that adds
+-- may be allowed
 unfoldable pub body_at : Bool → Word → List Word → Option (Found BodyWords)
 body_at adds kind words =
     if bytes_eq kind (codes "source") then source_at words
@@ -234,6 +244,7 @@ body_at adds kind words =
     else if bytes_eq kind (codes "peer") then peer_at words
     else if bytes_eq kind (codes "sink") then sink_at words
     else if adds && bytes_eq kind (codes "delay") then delay_at words
+    else if adds && bytes_eq kind (codes "decimate") then decimate_at words
     else None
 
 -- ---- a line

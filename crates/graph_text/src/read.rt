@@ -5,7 +5,7 @@ ghost use Rattle.phase_base.specs.Words.{is_name as is_name_word, is_file as is_
 ghost use Rattle.phase_base.specs.Numbers.{is_nat as is_nat_word, is_int as is_int_word};
 ghost use Rattle.graph_text.specs.Decls.{Decl, Spells, may_have_parent, may_join_now, may_have_blocks};
 ghost use Rattle.std.specs.List.{prefix_len};
-ghost use Rattle.graph_text.specs.WordReading.{found_word, found_words, found_operation, found_function, found_single, found_now, found_by, found_until, found_plus, found_body, word_at, after, begins, some_at, operation_at, clamp_at, function_named, function_at, single_at, now_at, by_at, until_at, block_number, block_at, ends_at, source_at, plus_at, fir_at, delay_at, split_at, join_at, peer_at, sink_at, body_at, phaser_words_at, task_words_at, decl_at};
+ghost use Rattle.graph_text.specs.WordReading.{found_word, found_words, found_operation, found_function, found_single, found_now, found_by, found_until, found_plus, found_body, word_at, after, begins, some_at, operation_at, clamp_at, function_named, function_at, single_at, now_at, by_at, until_at, block_number, block_at, ends_at, source_at, plus_at, fir_at, delay_at, decimate_at, split_at, join_at, peer_at, sink_at, body_at, phaser_words_at, task_words_at, decl_at};
 ghost use Rattle.graph_text.specs.Versions.{may_declare};
 ghost use Rattle.graph_text.specs.Lines.{word_of, body_of, ends_of, decl_of};
 
@@ -358,6 +358,19 @@ fn delay_at<'w, 'a>(words: &'w [&'a [u8]]) -> Option<(Body<'w, 'a>, &'w [&'a [u8
     Some((Body::Delay(input, output, steps), rest))
 }
 
+/// `X -> Y every N`, and the words after it.
+#[tactic(auto, unfolding(crate::specs::WordReading::decimate_at))]
+fn decimate_at<'w, 'a>(words: &'w [&'a [u8]]) -> Option<(Body<'w, 'a>, &'w [&'a [u8]])>
+    ensures { option_map found_body result ≡ decimate_at (plain words.now) }
+{
+    let (input, rest) = name_at(words)?;
+    let rest = after(b"->", rest)?;
+    let (output, rest) = name_at(rest)?;
+    let rest = after(b"every", rest)?;
+    let (every, rest) = nat_at(rest)?;
+    Some((Body::Decimate(input, output, every), rest))
+}
+
 /// `X -> Y0 Y1 ..`, and the words after it.
 #[tactic(auto, unfolding(crate::specs::WordReading::split_at))]
 fn split_at<'w, 'a>(words: &'w [&'a [u8]]) -> Option<(Body<'w, 'a>, &'w [&'a [u8]])>
@@ -404,8 +417,8 @@ fn sink_at<'w, 'a>(words: &'w [&'a [u8]]) -> Option<(Body<'w, 'a>, &'w [&'a [u8]
     Some((Body::Sink(input), rest))
 }
 
-/// What a task does, by the first word of its line, and the words after it; a delay and a filter
-/// that adds where they are allowed.
+/// What a task does, by the first word of its line, and the words after it; a delay, a decimator and
+/// a filter that adds where they are allowed.
 #[tactic(auto, unfolding(crate::specs::WordReading::body_at))]
 fn body_at<'w, 'a>(
     adds: bool,
@@ -428,6 +441,8 @@ fn body_at<'w, 'a>(
         sink_at(words)
     } else if adds && kind == b"delay".as_slice() {
         delay_at(words)
+    } else if adds && kind == b"decimate".as_slice() {
+        decimate_at(words)
     } else {
         None
     }

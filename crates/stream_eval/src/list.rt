@@ -9,7 +9,7 @@ ghost use Rattle.stream_eval.specs.declared.list.ListFault.TheVariants as fault;
 
 use crate::filter_lists::FilterLists;
 use std::alloc::{AllocError, Global};
-use stream_lists::graph_base::ENDS_MAX;
+use stream_lists::graph_base::EVERY_MAX;
 use stream_lists::stream_filters::{FilterFault, Form, Peer};
 
 /// Why no list was made.
@@ -58,7 +58,7 @@ pub fn fir_list<L: FilterLists>(
 /// Takes the entries `j`, `j + m`, `j + 2 * m`, .. of a list.
 pub fn every_list(alloc: Global, m: usize, j: usize, values: &[i64]) -> Result<Vec<i64>, AllocError>
     requires turn { j < m }
-    requires few { m ≤ ENDS_MAX }
+    requires few { m ≤ EVERY_MAX }
     requires sends { AreSends values.now }
     ensures ok { IfOk result (λ list. list.items ≡ every m j values.now) }
     ensures sends { IfOk result (λ list. AreSends list.items) }

@@ -94,6 +94,7 @@ pub(crate) fn list_put<L: FilterLists>(
         Kind::Source => copy_of(alloc, samples, steps),
         Kind::Fir => fir_list(alloc, filters, &task.taps, task.form, list_of(taken, 0)),
         Kind::Split => Ok(every_list(alloc, task.outputs.len(), j, list_of(taken, 0))?),
+        Kind::Decimate => Ok(every_list(alloc, task.every as usize, 0, list_of(taken, 0))?),
         Kind::Join => Ok(in_turn_list(alloc, taken, steps)?),
         Kind::Peer => peer_list(alloc, task.mul, list_of(taken, 0), list_of(taken, 1), j),
         Kind::Sink => Ok(Vec::new(alloc)),

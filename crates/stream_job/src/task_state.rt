@@ -88,7 +88,7 @@ impl TaskState {
                 filter_all(job, t, &mut self.filter, outcomes, values, &mut self.made);
             }
             Kind::Source | Kind::Sink => {}
-            Kind::Split | Kind::Join | Kind::Peer => {
+            Kind::Split | Kind::Decimate | Kind::Join | Kind::Peer => {
                 let x = number_taken(outcomes[0]);
                 self.owed = owed_after_wait(job, t, self.begun, &mut self.filter, x);
             }

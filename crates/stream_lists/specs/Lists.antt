@@ -12,7 +12,7 @@ use Rattle.stream_lists.specs.Jobs.{Job, samples_at, index_in}
 use Rattle.stream_lists.specs.Spans.{nowhere, span_in, turns_below, signalled_by, takes_from, Schedule, schedule_of}
 use Rattle.stream_lists.specs.declared.span.Span.{Span}
 use Rattle.graph_base.specs.declared.line.Kind.{Kind}
-use Rattle.graph_base.specs.declared.line.Kind.TheVariants.{Source, Fir, Split, Join, Peer, Sink}
+use Rattle.graph_base.specs.declared.line.Kind.TheVariants.{Source, Fir, Split, Decimate, Join, Peer, Sink}
 
 -- ---- what a task puts out
 
@@ -60,6 +60,7 @@ output_list samples taken task steps j = of task.kind
     of Source = take steps samples
     of Fir = outputs task.taps task.form (get_or taken 0 [])
     of Split = every (length task.outputs) j (get_or taken 0 [])
+    of Decimate = every task.every 0 (get_or taken 0 [])
     of Join = in_turn taken steps
     of Peer =
         if nat_lt 0 j then mixed task.mul (get_or taken 0 []) (get_or taken 1 [])

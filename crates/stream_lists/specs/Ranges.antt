@@ -11,7 +11,7 @@ use Rattle.stream_lists.specs.Spans.{nowhere, signalled_by, takes_from, Schedule
 use Rattle.stream_lists.specs.Lists.{Contribution, contributions_on, output_on, sends_in, value_by, numbers_above, lines_of}
 use Rattle.stream_lists.specs.declared.span.Span.{Span}
 use Rattle.graph_base.specs.declared.line.Kind.{Kind}
-use Rattle.graph_base.specs.declared.line.Kind.TheVariants.{Source, Fir, Split, Join, Peer, Sink}
+use Rattle.graph_base.specs.declared.line.Kind.TheVariants.{Source, Fir, Split, Decimate, Join, Peer, Sink}
 use Rattle.graph_base.specs.declared.place.Place.{Place}
 use Rattle.graph_base.specs.declared.place.Place.TheVariants as place
 
@@ -38,6 +38,7 @@ are_made Fir j = true
 are_made Peer j = nat_lt 0 j
 are_made Source j = false
 are_made Split j = false
+are_made Decimate j = false
 are_made Join j = false
 are_made Sink j = false
 

@@ -8,7 +8,7 @@ use Rattle.stream_lists.specs.Jobs.{Job, samples_at, start_at, index_in}
 use Rattle.stream_lists.specs.declared.span.Span.{Span}
 use Rattle.graph_base.specs.declared.line.Parent.{Parent}
 use Rattle.graph_base.specs.declared.line.Kind.{Kind}
-use Rattle.graph_base.specs.declared.line.Kind.TheVariants.{Source, Split, Join, Peer}
+use Rattle.graph_base.specs.declared.line.Kind.TheVariants.{Source, Split, Decimate, Join, Peer}
 
 -- of a task that is not live
 abbrev pub nowhere : Span
@@ -28,12 +28,13 @@ LooksAt Peer (suc j) k = Unit {0}
 LooksAt kind j k = Unit {0}
 
 -- how many values so many steps put on (produce at) output number j: of a splitter's outputs each
--- has its turn
+-- has its turn, and a decimator puts one at each so many steps, from the first on
 abbrev pub puts_on : Task → ℕ → ℕ → ℕ
 puts_on task steps j = of task.kind
   where
     of : Kind → ℕ
     of Split = turns_below (length task.outputs) j steps
+    of Decimate = turns_below task.every 0 steps
     of kind = steps
 
 -- how many values so many steps take from (consume at) input number k: of a joiner's inputs each

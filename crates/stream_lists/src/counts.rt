@@ -1,16 +1,16 @@
 //! How many values the steps of a task put and take.
 ghost use Rattle.std.specs.Prelude.{◌≡◌, ◌≤◌, length};
 ghost use Rattle.graph_base.specs.GraphFields.{task_of};
-ghost use Rattle.graph_base.specs.TaskLines.{HasEnds};
+ghost use Rattle.graph_base.specs.TaskLines.{HasEnds, HasEvery};
 ghost use Rattle.stream_lists.specs.Spans.{puts_on, takes_from, turns_below};
 
 use crate::span::LENGTH_MAX;
-use graph_base::{ENDS_MAX, Kind, TaskLine};
+use graph_base::{EVERY_MAX, Kind, TaskLine};
 
 /// How many of the steps below `n` are step `k`, `k + m`, `k + 2 * m`, ..
 fn turns(m: usize, k: usize, n: u128) -> u128
     requires some { 1 ≤ m }
-    requires few { m ≤ ENDS_MAX }
+    requires few { m ≤ EVERY_MAX }
     requires short { n ≤ LENGTH_MAX }
     ensures turns { result ≡ turns_below m k n }
     ensures short { result ≤ n }
@@ -22,12 +22,16 @@ fn turns(m: usize, k: usize, n: u128) -> u128
 pub(crate) fn put_count(task: &TaskLine, steps: u128, j: usize) -> u128
     requires ends { HasEnds task.now.kind (length task.now.inputs.items)
         (length task.now.outputs.items) }
+    requires every { HasEvery task.now.kind task.now.every }
     requires short { steps ≤ LENGTH_MAX }
     ensures count { result ≡ puts_on (task_of task.now) steps j }
     ensures short { result ≤ steps }
 {
     if task.kind == Kind::Split {
         return turns(task.outputs.len(), j, steps);
+    }
+    if task.kind == Kind::Decimate {
+        return turns(task.every as usize, 0, steps);
     }
     steps
 }

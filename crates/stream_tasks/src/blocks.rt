@@ -43,7 +43,7 @@ pub fn own_steps(job: &Job, task: usize) -> u64
             steps_within(least_bound(job, task))
         }
         Kind::Split => split_steps(job, task),
-        Kind::Peer => 1,
+        Kind::Decimate | Kind::Peer => 1,
     }
 }
 
@@ -137,7 +137,7 @@ pub fn places_for(alloc: Global, job: &Job, task: usize, most: usize) -> Result<
             let (_, phaser) = output_of(job, task, 0);
             Places::new(alloc, job.graph().phaser(phaser).op, most)
         }
-        Kind::Peer | Kind::Sink => Places::new(alloc, Op::Sum, 0),
+        Kind::Decimate | Kind::Peer | Kind::Sink => Places::new(alloc, Op::Sum, 0),
     }
 }
 
@@ -176,7 +176,7 @@ impl<'a> TaskState<'a> {
                 self.holds[k].room().clamp(1, self.own)
             }
             Kind::Split => self.dealt_steps(job),
-            Kind::Join | Kind::Peer | Kind::Sink => self.own,
+            Kind::Decimate | Kind::Join | Kind::Peer | Kind::Sink => self.own,
         }
     }
 }

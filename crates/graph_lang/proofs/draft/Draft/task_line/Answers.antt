@@ -58,11 +58,11 @@ returns-clause-line c =
     c.in-Some-3.is c.in_ok-outputs.ensures.numbers in
     let fits : FitsSigned w64 c.args.numbers.factor = search rules in
     task-built c.args.self.now.names c.args.number body ends c.kind_of.result _ _ c.in-Some.parent
-    c.args.steps.until _ _ _ c.args.steps.block c.joins_now.result
+    c.args.steps.until _ _ _ c.args.numbers.every c.args.steps.block c.joins_now.result
     c.kind_of.ensures
     (ins ∙ ap (λ ns. phaser_numbers ns (inputs_of body)) same)
     (outs ∙ ap (λ ns. phaser_numbers ns (outputs_of body)) same)
     (sym parent.1 ∙ ap (λ ns. option_map (parent_of ns) ends.by) same)
     (ap (λ steps. steps.until) c.requires.steps) c.requires.numbers.taps c.requires.numbers.form
-    (to_z-of_z fits ∙ c.requires.numbers.factor) (ap (λ steps. steps.block) c.requires.steps)
+    (to_z-of_z fits ∙ c.requires.numbers.factor) c.requires.numbers.every (ap (λ steps. steps.block) c.requires.steps)
     c.joins_now.ensures
