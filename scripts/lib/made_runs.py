@@ -181,6 +181,7 @@ FORMS = {
     "source": "source NAME FILE -> Y [by P at N] [until M] [block=B]",
     "fir": "fir NAME X -> Y shift S [plus C] taps T1 T2 .. [by P at N] [until M] [block=B]",
     "delay": "delay NAME X -> Y of D [by P at N] [until M] [block=B]",
+    "decimate": "decimate NAME X -> Y every V [until M]",
     "split": "split NAME X -> Y0 Y1 .. [until M]",
     "join": "join NAME X0 X1 .. -> Y [until M]",
     "peer": "peer NAME X <-> E -> Y mul A [until M]",

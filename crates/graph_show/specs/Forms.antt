@@ -16,7 +16,7 @@ form_of word =
     else if bytes_eq word (codes "delay")
     then codes "delay NAME X -> Y of D [by P at N] [until M] [block=B]"
     else if bytes_eq word (codes "decimate")
-    then codes "decimate NAME X -> Y every N [until M]"
+    then codes "decimate NAME X -> Y every V [until M]"
     else if bytes_eq word (codes "split") then codes "split NAME X -> Y0 Y1 .. [until M]"
     else if bytes_eq word (codes "join") then codes "join NAME X0 X1 .. -> Y [until M]"
     else if bytes_eq word (codes "peer") then codes "peer NAME X <-> E -> Y mul A [until M]"

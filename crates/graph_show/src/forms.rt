@@ -24,7 +24,7 @@ fn form_of(word: &[u8]) -> &'static str
         return "delay NAME X -> Y of D [by P at N] [until M] [block=B]";
     }
     if word == b"decimate".as_slice() {
-        return "decimate NAME X -> Y every N [until M]";
+        return "decimate NAME X -> Y every V [until M]";
     }
     if word == b"split".as_slice() {
         return "split NAME X -> Y0 Y1 .. [until M]";
