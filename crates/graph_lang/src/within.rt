@@ -250,8 +250,8 @@ fn delay_numbers(alloc: Global, steps: &[u8]) -> Result<Option<Numbers>, AllocEr
     }))
 }
 
-/// The numbers of a task that is no filter: a peer's factor or 0, and of how many values a decimator
-/// puts one, or 1.
+/// The numbers of a task that is no filter: a peer's factor or 0, and of how many values a
+/// decimator puts one, or 1.
 fn numbers_with(alloc: Global, factor: i64, every: u64) -> Numbers
     ensures { (result.taps.items ≡ []) × (result.form ≡ no_form) × (result.factor ≡ factor)
         × (result.every ≡ every) }

@@ -233,8 +233,8 @@ sink_at words = do
   input ← word_at is_name words
   Some (sink input.0, input.1)
 
--- what a task does, by the first word of its line, where a delay, a decimator and a filter that adds
--- may be allowed
+-- what a task does, by the first word of its line, where a delay, a decimator and a filter that
+-- adds may be allowed
 unfoldable pub body_at : Bool → Word → List Word → Option (Found BodyWords)
 body_at adds kind words =
     if bytes_eq kind (codes "source") then source_at words

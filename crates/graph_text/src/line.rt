@@ -58,8 +58,8 @@ pub enum Body<'w, 'a> {
     Fir(&'a [u8], &'a [u8], &'a [u8], Option<&'a [u8]>, &'w [&'a [u8]]),
     /// `X -> Y of N`, in a text of version 3: the input, the output and the number of steps.
     Delay(&'a [u8], &'a [u8], &'a [u8]),
-    /// `X -> Y every N`, in a text of version 3: the input, the output and of how many values one is
-    /// put.
+    /// `X -> Y every N`, in a text of version 3: the input, the output, and of how many values one
+    /// is put.
     Decimate(&'a [u8], &'a [u8], &'a [u8]),
     /// `X -> Y0 Y1 ..`: the input, and the outputs.
     Split(&'a [u8], &'w [&'a [u8]]),

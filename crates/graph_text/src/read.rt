@@ -417,8 +417,8 @@ fn sink_at<'w, 'a>(words: &'w [&'a [u8]]) -> Option<(Body<'w, 'a>, &'w [&'a [u8]
     Some((Body::Sink(input), rest))
 }
 
-/// What a task does, by the first word of its line, and the words after it; a delay, a decimator and
-/// a filter that adds where they are allowed.
+/// What a task does, by the first word of its line, and the words after it; a delay, a decimator
+/// and a filter that adds where they are allowed.
 #[tactic(auto, unfolding(crate::specs::WordReading::body_at))]
 fn body_at<'w, 'a>(
     adds: bool,
