@@ -70,6 +70,21 @@ def ways_of_values(bound):
         "a delay leaves, and keeps its last values", f"{third}delay d X -> Y of 5 until 90\nsink out Y\n",
         files, [0] * 5 + a[:85], None,
     )
+    # A decimator puts the first of each so many values, and counts its own steps.
+    for steps in 1, 2, 3, 7, 64, 199, 200, 201, 65536:
+        yield (
+            f"one value of {steps}", f"{third}decimate d X -> Y every {steps}\nsink out Y\n", files,
+            a[::steps], None,
+        )
+    yield (
+        "a decimator leaves between two values",
+        f"{third}decimate d X -> Y every 4 until 90\nsink out Y\n", files, a[:90:4], None,
+    )
+    yield (
+        "two decimators of one stream add up",
+        f"{third}decimate d X -> Y every 3\ndecimate e X -> Y every 3 until 7\nsink out Y\n", files,
+        [2, 8, 14, *a[9::3]], None,
+    )
     # Of each x and the one before it.
     for shift, plus, taps in (
         (2, 2, (1, 0)), (2, -2, (1, 0)), (2, 8, (1, -3)), (1, 1, (-1, 0)), (62, 2 ** 62, (0, 0)),
