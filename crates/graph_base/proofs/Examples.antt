@@ -3,7 +3,7 @@ use Rattle.std.proofs.Common.{ℕ, ◌≡◌, ◌<◌, ◌≤◌, [], ◌∷◌,
 use Rattle.std.specs.List.{All, Contains}
 use Rattle.std.proofs.lemmas.List.Elements.{All-cons, All-nil}
 use Rattle.phase_accum.specs.phase_base.declared.operation.Op.TheVariants.{Sum}
-use Rattle.graph_base.specs.declared.line.Kind.TheVariants.{Source, Peer, Sink}
+use Rattle.graph_base.specs.declared.line.Kind.TheVariants.{Source, Decimate, Peer, Sink}
 use Rattle.graph_base.specs.declared.place.Place.TheVariants as place
 use Rattle.graph_base.specs.Graphs.{Graph, no_task, no_phaser, no_graph, name_at, sources_of, source_number, task_at, phaser_at}
 use Rattle.graph_base.specs.TaskLines.{IsTaskLine}
@@ -58,6 +58,7 @@ late_sink-first = record {
   plain = one (λ y. (phaser_at late_sink y).single ≡ None) 0 refl;
   taps = (refl, refl);
   factor = refl;
+  every = refl;
   until = tt;
   parent = tt;
   block = record {
@@ -81,6 +82,7 @@ late_sink-child = record {
   plain = All-nil (λ y. (phaser_at late_sink y).single ≡ None);
   taps = (refl, refl);
   factor = refl;
+  every = refl;
   until = tt;
   parent = record {
     above = omega arith;
@@ -98,6 +100,41 @@ late_sink-child = record {
     outputs = All-nil (λ p. 1 ≤ (phaser_at late_sink p).bound);
   };
   now = λ e. (refl, refl);
+}
+
+-- phaser X sum 4 / phaser Y sum 4 / source s s.csv -> X / decimate d X -> Y every 3 / sink out Y
+abbrev thinned : Graph
+thinned = record no_graph {
+  phasers = record { op = Sum; bound = 4; single = None }
+      ∷ record { op = Sum; bound = 4; single = None } ∷ [];
+  tasks = record no_task { line = 3; kind = Source; outputs = 0 ∷ [] }
+      ∷ record no_task { line = 4; kind = Decimate; inputs = 0 ∷ []; outputs = 1 ∷ []; every = 3 }
+      ∷ record no_task { line = 5; kind = Sink; inputs = 1 ∷ [] }
+      ∷ [];
+}
+
+-- the decimator takes from X, signals Y, and has no taps, no factor, no parent and no block
+thinned-line : IsTaskLine thinned 1 (task_at thinned 1)
+thinned-line = record {
+  ends = (refl, refl);
+  inputs = one (λ p. p < 2) 0 (omega arith);
+  outputs = one (λ p. p < 2) 1 (omega arith);
+  distinct = refl;
+  in_order = one (λ x. All (λ y. x < y) (1 ∷ [])) 0 (one (λ y. 0 < y) 1 (omega arith));
+  exchange = tt;
+  plain = one (λ y. (phaser_at thinned y).single ≡ None) 1 refl;
+  taps = (refl, refl);
+  factor = refl;
+  every = (omega arith, omega arith);
+  until = tt;
+  parent = tt;
+  block = record {
+    some = omega arith;
+    kind = λ e. refl;
+    inputs = one (λ p. 1 ≤ (phaser_at thinned p).bound) 0 (omega arith);
+    outputs = one (λ p. 1 ≤ (phaser_at thinned p).bound) 1 (omega arith);
+  };
+  now = λ e. absurd (cc);
 }
 
 -- ---- registrations
@@ -137,3 +174,10 @@ sink_registrations = refl
 source_registrations : registrations_of late_sink (task_at late_sink 0)
     ≡ record { phaser = 0; mode = mode.Sig; input = None; output = Some 0 } ∷ []
 source_registrations = refl
+
+-- a decimator waits on X and signals Y
+decimator_registrations : registrations_of thinned (task_at thinned 1)
+    ≡ record { phaser = 0; mode = mode.Wait; input = Some 0; output = None }
+    ∷ record { phaser = 1; mode = mode.Sig; input = None; output = Some 0 }
+    ∷ []
+decimator_registrations = refl

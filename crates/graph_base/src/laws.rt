@@ -5,13 +5,14 @@ ghost use Rattle.graph_base.specs.Graphs.{Graph, Task};
 ghost use Rattle.graph_base.specs.TaskLines.{IsTaskLine};
 ghost use Rattle.graph_base.specs.Registrations.{registrations_of, signalled_by, inputs_among, outputs_among, HasItsMode};
 
-use crate::limits::{ENDS_MAX, FACTOR_MAX, PHASERS_MAX, STEPS_MAX, TASKS_MAX};
+use crate::limits::{ENDS_MAX, EVERY_MAX, FACTOR_MAX, PHASERS_MAX, STEPS_MAX, TASKS_MAX};
 
 /// The limits of a graph, as numbers.
 pub fn limits_are()
     ensures phasers { PHASERS_MAX ≡ 64 }
     ensures tasks { TASKS_MAX ≡ 64 }
     ensures ends { ENDS_MAX ≡ 8 }
+    ensures every { EVERY_MAX ≡ 65536 }
     ensures count { STEPS_MAX ≡ 2 ^ 62 }
     ensures factor { FACTOR_MAX ≡ 2147483647 }
 {}
