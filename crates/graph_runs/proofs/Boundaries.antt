@@ -1,12 +1,12 @@
 -- A task that owes no value: what it has taken and put, and whether it may begin its next step.
-use Rattle.std.proofs.Common.{◌≡◌, ℕ, zero, suc, ◌+◌, ◌<◌, ◌≤◌, Bool, true, false, not, ◌&&◌, ◌||◌, eqb, List, [], ◌∷◌, Option, Some, None, is_some, length, refl, sym, ap, subst, ◌∙◌, arith, ◌⊎◌, inl, inr}
+use Rattle.std.proofs.Common.{◌≡◌, ℕ, zero, suc, ◌+◌, ◌<◌, ◌≤◌, Bool, true, false, not, ◌&&◌, eqb, List, [], ◌∷◌, Option, Some, None, is_some, length, refl, sym, ap, subst, ◌∙◌, arith, ◌⊎◌, inl, inr}
 use Rattle.std.specs.Prelude.{nat_le}
 use Rattle.std.proofs.lemmas.Bool.{ltb-false, leb-false, le-leb, eq-eqb, cases_lt}
 use Rattle.phase_history.specs.phase_base.Members.{signal_phases, least}
 use Rattle.phase_history.specs.Histories.{members_of, done_of}
 use Rattle.phase_history.proofs.Received.{none_from}
 use Rattle.stream_lists.specs.graph_base.declared.line.Kind.{Kind}
-use Rattle.stream_lists.specs.graph_base.declared.line.Kind.TheVariants.{Source, Fir, Split, Join, Peer, Sink}
+use Rattle.stream_lists.specs.graph_base.declared.line.Kind.TheVariants.{Source, Fir, Split, Decimate, Join, Peer, Sink}
 use Rattle.stream_lists.specs.graph_base.Graphs.{task_at}
 use Rattle.stream_lists.specs.graph_base.TaskLines.{IsGraph}
 use Rattle.stream_lists.proofs.graph_base_lemmas.Registered.{registrations-phasers}
@@ -93,6 +93,7 @@ all_taken job m t is ran there none k lt = by (task_at job.graph t).kind k refl 
     by Source i e at = exact (rw e tt)
     by Fir i e at = exact (rw e tt)
     by Split i e at = exact (rw e tt)
+    by Decimate i e at = exact (rw e tt)
     by Join i e at = exact (rw e tt)
     by Sink i e at = exact (rw e tt)
     by Peer zero e at = exact (rw e at)
@@ -154,6 +155,7 @@ more_samples job m t Source e =
     omega (arith, leb-false (length (samples_at job t)) (m.begun t) e)
 more_samples job m t Fir e = tt
 more_samples job m t Split e = tt
+more_samples job m t Decimate e = tt
 more_samples job m t Join e = tt
 more_samples job m t Peer e = tt
 more_samples job m t Sink e = tt
@@ -189,6 +191,7 @@ ended_true : (job : Job) (m : Moment) (t : ℕ) (kind : Kind) → (kind ≡ Sour
 ended_true job m t Source never e = absurd (never refl)
 ended_true job m t Fir never e = e
 ended_true job m t Split never e = e
+ended_true job m t Decimate never e = e
 ended_true job m t Join never e = e
 ended_true job m t Peer never e = e
 ended_true job m t Sink never e = e

@@ -18,7 +18,7 @@ use Rattle.phase_history.specs.Replies.{wait_reply, wait_block_reply, refused_or
 use Rattle.phase_history.proofs.BlockAnswers.{block_tells, wait_refusal-fewer}
 use Rattle.phase_history.proofs.LawProofs.{answers_law, reply_tells}
 use Rattle.stream_lists.specs.graph_base.declared.line.Kind.{Kind}
-use Rattle.stream_lists.specs.graph_base.declared.line.Kind.TheVariants.{Source, Fir, Split, Join, Peer, Sink}
+use Rattle.stream_lists.specs.graph_base.declared.line.Kind.TheVariants.{Source, Fir, Split, Decimate, Join, Peer, Sink}
 use Rattle.stream_lists.specs.graph_base.declared.registration.Registration.{Registration}
 use Rattle.stream_lists.specs.graph_base.Graphs.{task_at}
 use Rattle.stream_lists.specs.graph_base.Registrations.{no_registration}
@@ -170,6 +170,7 @@ no_samples : (kind : Kind) (steps many : ℕ) → (kind ≡ Source → ⊥) → 
 no_samples Source steps many never = absurd (never refl)
 no_samples Fir steps many never = tt
 no_samples Split steps many never = tt
+no_samples Decimate steps many never = tt
 no_samples Join steps many never = tt
 no_samples Peer steps many never = tt
 no_samples Sink steps many never = tt
@@ -181,6 +182,7 @@ block_is Source block many one some few = tt
 block_is Fir block many one some few = tt
 block_is Sink block many one some few = tt
 block_is Split block many one some few = let is : block ≡ 1 = one refl in omega arith
+block_is Decimate block many one some few = let is : block ≡ 1 = one refl in omega arith
 block_is Join block many one some few = let is : block ≡ 1 = one refl in omega arith
 block_is Peer block many one some few = let is : block ≡ 1 = one refl in omega arith
 
@@ -241,6 +243,7 @@ waits_as_peer Peer zero put taken e = absurd (cc)
 waits_as_peer Source j put taken e = absurd (cc)
 waits_as_peer Fir j put taken e = absurd (cc)
 waits_as_peer Split j put taken e = absurd (cc)
+waits_as_peer Decimate j put taken e = absurd (cc)
 waits_as_peer Join j put taken e = absurd (cc)
 waits_as_peer Sink j put taken e = absurd (cc)
 
@@ -382,6 +385,7 @@ may_end job m t e =
         no_sample e (leb-true (length (samples_at job t)) (m.begun t) over)
     input Fir e over = out (other Fir e (λ s. (cc))) over
     input Split e over = out (other Split e (λ s. (cc))) over
+    input Decimate e over = out (other Decimate e (λ s. (cc))) over
     input Join e over = out (other Join e (λ s. (cc))) over
     input Peer e over = out (other Peer e (λ s. (cc))) over
     input Sink e over = out (other Sink e (λ s. (cc))) over

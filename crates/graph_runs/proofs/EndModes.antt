@@ -4,7 +4,7 @@ use Rattle.phase_history.specs.phase_base.Modes.{mode_signals, mode_waits, is_si
 use Rattle.phase_history.specs.phase_base.declared.mode.Mode.{Mode}
 use Rattle.phase_history.specs.phase_base.declared.mode.Mode.TheVariants as mode
 use Rattle.stream_lists.specs.graph_base.declared.line.Kind.{Kind}
-use Rattle.stream_lists.specs.graph_base.declared.line.Kind.TheVariants.{Source, Fir, Split, Join, Peer, Sink}
+use Rattle.stream_lists.specs.graph_base.declared.line.Kind.TheVariants.{Source, Fir, Split, Decimate, Join, Peer, Sink}
 use Rattle.stream_lists.specs.graph_base.declared.registration.Registration.{Registration}
 use Rattle.stream_lists.specs.graph_base.Graphs.{task_at, phaser_at}
 use Rattle.stream_lists.specs.graph_base.Registrations.{as_input, as_output, as_exchange, exchange_mode, no_registration}
@@ -174,6 +174,7 @@ signal_mode job t j is there lt = by (task_at job.graph t).kind refl
     by Source e = plain (apart Source e (λ s. (cc))) (rw e refl)
     by Fir e = plain (apart Fir e (λ s. (cc))) (rw e refl)
     by Split e = plain (apart Split e (λ s. (cc))) (rw e refl)
+    by Decimate e = plain (apart Decimate e (λ s. (cc))) (rw e refl)
     by Join e = plain (apart Join e (λ s. (cc))) (rw e refl)
     by Sink e = plain (apart Sink e (λ s. (cc))) (rw e refl)
     by Peer e = peer e j refl
@@ -232,6 +233,7 @@ wait_mode job t k is there lt = by (task_at job.graph t).kind refl
     by Source e = plain Source e (λ s. (cc))
     by Fir e = plain Fir e (λ s. (cc))
     by Split e = plain Split e (λ s. (cc))
+    by Decimate e = plain Decimate e (λ s. (cc))
     by Join e = plain Join e (λ s. (cc))
     by Sink e = plain Sink e (λ s. (cc))
     by Peer e = peer e k refl

@@ -6,7 +6,7 @@ use Rattle.phase_history.specs.Histories.{has_dropped}
 use Rattle.stream_lists.specs.graph_base.Graphs.{task_at}
 use Rattle.stream_lists.specs.graph_base.TaskLines.{IsGraph}
 use Rattle.stream_lists.specs.graph_base.declared.line.Kind.{Kind}
-use Rattle.stream_lists.specs.graph_base.declared.line.Kind.TheVariants.{Source, Fir, Split, Join, Peer, Sink}
+use Rattle.stream_lists.specs.graph_base.declared.line.Kind.TheVariants.{Source, Fir, Split, Decimate, Join, Peer, Sink}
 use Rattle.stream_lists.specs.Jobs.{Job, samples_at, samples_in, with_samples}
 use Rattle.stream_lists.specs.Ranges.{Where, are_made}
 use Rattle.graph_runs.specs.Answers.{Answer, Ended, Moved, TooBig, after_answer, has_made, is_blocked, is_gone, is_refused, makes, output_at, signal_turn, told_event, word_of_answer, answer_up_to, turn_up_to, values_up_to, samples_up_to, tells_up_to}
@@ -105,6 +105,7 @@ never_samples job m t not = by (is_live job m t) (first_owed job m t)
     step steps Source never = absurd (never refl)
     step steps Fir never = λ e. (cc)
     step steps Split never = λ e. (cc)
+    step steps Decimate never = λ e. (cc)
     step steps Join never = λ e. (cc)
     step steps Peer never = λ e. (cc)
     step steps Sink never = λ e. (cc)

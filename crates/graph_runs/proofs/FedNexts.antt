@@ -1,11 +1,11 @@
 -- Where a task stands and what it does next stay with other samples, but for a source that was starved
 -- and has samples now.
-use Rattle.std.proofs.Common.{◌≡◌, ℕ, ℤ, cond, List, [], Option, Some, None, length, map, take, drop, refl, ap, ◌∙◌}
+use Rattle.std.proofs.Common.{◌≡◌, ℕ, ℤ, cond, List, Option, Some, None, length, map, take, drop, refl, ap, ◌∙◌}
 use Rattle.std.specs.Prelude.{nat_le, nat_lt, ◌||◌}
 use Rattle.std.specs.List.{range_with_len}
 use Rattle.stream_lists.specs.graph_base.Graphs.{task_at}
 use Rattle.stream_lists.specs.graph_base.declared.line.Kind.{Kind}
-use Rattle.stream_lists.specs.graph_base.declared.line.Kind.TheVariants.{Source, Fir, Split, Join, Peer, Sink}
+use Rattle.stream_lists.specs.graph_base.declared.line.Kind.TheVariants.{Source, Fir, Split, Decimate, Join, Peer, Sink}
 use Rattle.stream_lists.specs.stream_filters.Range.{ranged}
 use Rattle.stream_lists.specs.Jobs.{Job, samples_at, samples_in, with_samples}
 use Rattle.stream_lists.specs.Spans.{signalled_by}
@@ -71,6 +71,7 @@ next_fed job m more t may stays =
     ended_by Source same = same refl
     ended_by Fir same = refl
     ended_by Split same = refl
+    ended_by Decimate same = refl
     ended_by Join same = refl
     ended_by Peer same = refl
     ended_by Sink same = refl

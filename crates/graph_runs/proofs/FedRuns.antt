@@ -4,7 +4,7 @@ use mathlib.Core.List.{IsPrefix}
 use Rattle.phase_history.specs.Histories.{has_dropped}
 use Rattle.stream_lists.specs.graph_base.Graphs.{Task, task_at}
 use Rattle.stream_lists.specs.graph_base.declared.line.Kind.{Kind}
-use Rattle.stream_lists.specs.graph_base.declared.line.Kind.TheVariants.{Source, Fir, Split, Join, Peer, Sink}
+use Rattle.stream_lists.specs.graph_base.declared.line.Kind.TheVariants.{Source, Fir, Split, Decimate, Join, Peer, Sink}
 use Rattle.stream_lists.specs.graph_base.TaskLines.{IsGraph}
 use Rattle.graph_runs.proofs.OnLines.{on_phaser}
 use Rattle.stream_lists.specs.Jobs.{index_in, Job, samples_at, with_samples}
@@ -25,6 +25,7 @@ output_same xs ys taken task steps j same = by_kind task.kind refl
     by_kind Source e = rw e (same e)
     by_kind Fir e = rw e refl
     by_kind Split e = rw e refl
+    by_kind Decimate e = rw e refl
     by_kind Join e = rw e refl
     by_kind Peer e = rw e refl
     by_kind Sink e = rw e refl
@@ -107,6 +108,7 @@ samples_fed : (job : Job) (m : Moment) (samples : List (List ℤ)) (t : ℕ) (ki
 samples_fed job m samples t Source may = (may refl).enough
 samples_fed job m samples t Fir may = tt
 samples_fed job m samples t Split may = tt
+samples_fed job m samples t Decimate may = tt
 samples_fed job m samples t Join may = tt
 samples_fed job m samples t Peer may = tt
 samples_fed job m samples t Sink may = tt

@@ -1,6 +1,6 @@
 -- The place of a task after the first wait of a step.
 use Rattle.std.proofs.Common.{◌≡◌, ◌≢◌, ℕ, zero, suc, ◌+◌, ◌-◌, ◌*◌, ◌/◌, ◌%◌, ◌<◌, ◌≤◌, Bool, true, false, cond, eqb, List, [], ◌∷◌, ◌++◌, None, length, get_or, map, ℤ, pos, refl, sym, ap, subst, ◌∙◌, arith}
-use Rattle.std.specs.Prelude.{Result, Ok, nat_le, unsigned_abs, drop}
+use Rattle.std.specs.Prelude.{Result, Ok, nat_le, unsigned_abs, drop, ◌==◌, if◌then◌else◌}
 use Rattle.std.specs.List.{range_with_len}
 use Rattle.std.proofs.lemmas.Bool.{eq-eqb, eqb-true, ne_eqb, not-false}
 use Rattle.std.proofs.lemmas.Nat.{mod_below, div-add-mod', div-mul-add}
@@ -19,7 +19,7 @@ use Rattle.phase_history.specs.Histories.{History, members_of, positions_of}
 use Rattle.phase_history.specs.Refusals.{wait_refusal, wait_rows, is_bad_block}
 use Rattle.phase_history.proofs.Refused.{Passes, passes_from}
 use Rattle.stream_lists.specs.graph_base.declared.line.Kind.{Kind}
-use Rattle.stream_lists.specs.graph_base.declared.line.Kind.TheVariants.{Source, Fir, Split, Join, Peer, Sink}
+use Rattle.stream_lists.specs.graph_base.declared.line.Kind.TheVariants.{Source, Fir, Split, Decimate, Join, Peer, Sink}
 use Rattle.stream_lists.specs.graph_base.Graphs.{task_at}
 use Rattle.stream_lists.specs.graph_base.TaskLines.{IsGraph, HasEnds, has_blocks}
 use Rattle.stream_lists.specs.Jobs.{Job}
@@ -299,61 +299,105 @@ join_owes job m after t k x w e =
       lacks,
     )
 
-split_owes : {most : ℕ} (job : Job) (m after : Moment) (t k : ℕ) (x : ℤ)
-    → FirstWait most job m after t k (x ∷ []) → (task_at job.graph t).kind ≡ Split
-    → LeavesOwed most job after t
-    (values (m.begun t % length (task_at job.graph t).outputs) (Ok x ∷ []))
-split_owes job m after t k x w e =
+-- the steps of task t take one value each, and those of each so many steps are put on output j
+record HasTurns (job : Job) (t n j : ℕ) : Type 0 where
+  some : 0 < n
+  output : j < length (signalled_by (task_at job.graph t))
+  one_input : length (task_at job.graph t).inputs ≡ 1
+  takes : (b k : ℕ) → takes_from (task_at job.graph t) b k ≡ b
+  puts : (b : ℕ) → puts_on (task_at job.graph t) b j ≡ turns_below n j b
+  made : (m : Moment)
+      → made_now job m t j ≡ every n j (get_or (taken_now m (task_at job.graph t) t) 0 [])
+
+-- a step that is a turn of output j owes there what it took
+turn_owes : {most : ℕ} (job : Job) (m after : Moment) (t k n j : ℕ) (x : ℤ)
+    → FirstWait most job m after t k (x ∷ []) → HasTurns job t n j → j ≡ m.begun t % n
+    → ((i : ℕ) → i < length (signalled_by (task_at job.graph t))
+    → puts_on (task_at job.graph t) (suc (m.begun t)) i
+    ≡ puts_on (task_at job.graph t) (m.begun t) i
+    + lacking (task_at job.graph t).kind (values j (Ok x ∷ [])) i)
+    → ((i : ℕ) → i < j → lacking (task_at job.graph t).kind (values j (Ok x ∷ [])) i ≡ 0)
+    → ((a b : ℕ) → waits_first (task_at job.graph t).kind j a b ≡ false)
+    → LeavesOwed most job after t (values j (Ok x ∷ []))
+turn_owes job m after t k n j x w turns is grows none_before no_wait =
     let task = task_at job.graph t in
     let b = m.begun t in
-    let outs_many = length task.outputs in
-    let j = b % outs_many in
-    let ends = rw e at (w.is.tasks t w.there).ends in
-    let inputs : length task.inputs ≡ 1 = ends.0 in
-    let some : 2 ≤ outs_many = ends.1 in
-    let outs : signalled_by task ≡ task.outputs = rw e refl in
-    let many : length (signalled_by task) ≡ outs_many = ap length outs in
-    let turn : j < outs_many = mod_below b outs_many (omega arith) in
+    let q = b / n in
+    let some : 0 < n = turns.some in
+    let rest : b % n < n = mod_below b n some in
+    let inputs : length task.inputs ≡ 1 = turns.one_input in
     let few : k < length task.inputs = w.few in
     let zero_k : k ≡ 0 = omega arith in
     let now_is : get_or (taken_now after task t) 0 [] ≡ m.taken t 0 ++ x ∷ [] =
     ap (λ i. get_or (taken_now after task t) i []) (sym zero_k)
     ∙ now_taken job m after t k x w ∙ ap (λ i. m.taken t i ++ x ∷ []) zero_k in
     let taken : length (m.taken t 0) ≡ b =
-    ap (λ i. length (m.taken t i)) (sym zero_k) ∙ w.all_taken ∙ rw e refl in
+    ap (λ i. length (m.taken t i)) (sym zero_k) ∙ w.all_taken ∙ turns.takes b k in
     let longer : length (m.taken t 0 ++ x ∷ []) ≡ suc b =
     length-append (m.taken t 0) (x ∷ []) ∙ ap (λ i. i + 1) taken ∙ omega arith in
-    let made : made_now job after t j ≡ every outs_many j (m.taken t 0 ++ x ∷ []) =
-    (let is : made_now job after t j
-    ≡ every outs_many j (get_or (taken_now after task t) 0 []) = rw e refl in
-    is ∙ ap (λ l. every outs_many j l) now_is) in
-    let plain : puts_on task b j ≡ turns_below outs_many j b = rw e refl in
-    let index : length (made_now job m t j) ≡ b / outs_many =
-    made_many job m t j w.is w.ran w.there (omega arith) ∙ plain
-    ∙ turn_count outs_many b (omega arith) in
-    let q = b / outs_many in
-    let next_turns : turns_below outs_many j (suc b) ≡ suc (turns_below outs_many j b) =
-    turns-next outs_many b j turn refl in
-    let count : turns_below outs_many j b ≡ q = turn_count outs_many b (omega arith) in
-    let room : turns_below outs_many j (length (m.taken t 0 ++ x ∷ []))
-    ≡ turns_below outs_many j (suc b) = ap (λ i. turns_below outs_many j i) longer in
-    let below : q < turns_below outs_many j (length (m.taken t 0 ++ x ∷ [])) = omega arith in
+    let made : made_now job after t j ≡ every n j (m.taken t 0 ++ x ∷ []) =
+    turns.made after ∙ ap (λ l. every n j l) now_is in
+    let count : turns_below n j b ≡ q = ap (λ i. turns_below n i b) is ∙ turn_count n b some in
+    let index : length (made_now job m t j) ≡ q =
+    made_many job m t j w.is w.ran w.there turns.output ∙ turns.puts b ∙ count in
+    let next : turns_below n j (suc b) ≡ suc (turns_below n j b) =
+    turns-next n b j (omega arith) is in
+    let room : turns_below n j (length (m.taken t 0 ++ x ∷ [])) ≡ turns_below n j (suc b) =
+    ap (λ i. turns_below n j i) longer in
+    let below : q < turns_below n j (length (m.taken t 0 ++ x ∷ [])) = omega arith in
     let from : 0 + q ≡ q = omega arith in
-    let whole : q * outs_many + j ≡ b = div-add-mod' b outs_many in
-    let at : j + q * outs_many ≡ length (m.taken t 0) = omega arith in
+    let whole : q * n + b % n ≡ b = div-add-mod' b n in
+    let at : j + q * n ≡ length (m.taken t 0) = omega arith in
     let lacks : Lacks job after t (values j (Ok x ∷ [])) =
-    wait_lacks job m after t k x (values j (Ok x ∷ [])) w
-    (λ i lt. grows (omega arith) i lt (eqb i j) refl) in (
-      wait_owes job m after t k j x w lacks (omega arith)
-          (λ i lt. other_lacks i (λ same. omega arith)) (λ a b. rw e refl)
+    wait_lacks job m after t k x (values j (Ok x ∷ [])) w grows in (
+      wait_owes job m after t k j x w lacks turns.output none_before no_wait
           (ap (λ l. get_or l (length (made_now job m t j)) (pos 0)) made
-          ∙ ap (λ i. get_or (every outs_many j (m.taken t 0 ++ x ∷ [])) i (pos 0)) index
-          ∙ get_or-map-range_with_len
-          (λ i. entry (m.taken t 0 ++ x ∷ []) (j + i * outs_many)) 0
-          (turns_below outs_many j (length (m.taken t 0 ++ x ∷ []))) q q (pos 0) below from
-          ∙ behind (m.taken t 0) x (j + q * outs_many) at),
+          ∙ ap (λ i. get_or (every n j (m.taken t 0 ++ x ∷ [])) i (pos 0)) index
+          ∙ get_or-map-range_with_len (λ i. entry (m.taken t 0 ++ x ∷ []) (j + i * n)) 0
+          (turns_below n j (length (m.taken t 0 ++ x ∷ []))) q q (pos 0) below from
+          ∙ behind (m.taken t 0) x (j + q * n) at),
       lacks,
     )
+
+-- of the outputs in turn a step gives one value to that which has its turn
+turns_grow : (n b i : ℕ) → i < n
+    → turns_below n i (suc b) ≡ turns_below n i b + (if i == b % n then 1 else 0)
+turns_grow n b i lt = by (eqb i (b % n)) refl
+  where
+    by : (d : Bool) → eqb i (b % n) ≡ d
+        → turns_below n i (suc b) ≡ turns_below n i b + (if d then 1 else 0)
+    by true e =
+        let next : turns_below n i (suc b) ≡ suc (turns_below n i b) =
+        turns-next n b i lt (eqb-true i (b % n) e) in
+        omega arith
+    by false e =
+        let stay : turns_below n i (suc b) ≡ turns_below n i b =
+        turns-stay n b i lt
+        (λ same. (let clash : true ≡ false = sym (eq-eqb i (b % n) same) ∙ e in cc)) in
+        omega arith
+
+split_owes : {most : ℕ} (job : Job) (m after : Moment) (t k : ℕ) (x : ℤ)
+    → FirstWait most job m after t k (x ∷ []) → (task_at job.graph t).kind ≡ Split
+    → LeavesOwed most job after t
+    (values (m.begun t % length (task_at job.graph t).outputs) (Ok x ∷ []))
+split_owes job m after t k x w e =
+    let task = task_at job.graph t in
+    let n = length task.outputs in
+    let ends = rw e at (w.is.tasks t w.there).ends in
+    let two : 2 ≤ n = ends.1 in
+    let outs : signalled_by task ≡ task.outputs = rw e refl in
+    let many : length (signalled_by task) ≡ n = ap length outs in
+    let turn : m.begun t % n < n = mod_below (m.begun t) n (omega arith) in
+    turn_owes job m after t k n (m.begun t % n) x w
+    (record {
+      some = omega arith;
+      output = omega arith;
+      one_input = ends.0;
+      takes = λ b k. rw e refl;
+      puts = λ b. rw e refl;
+      made = λ m. rw e refl;
+    }) refl (λ i lt. rw e (turns_grow n (m.begun t) i (omega arith)))
+    (λ i lt. other_lacks i (λ same. omega arith)) (λ a b. rw e refl)
   where
     other_lacks : (i : ℕ) → i ≢ m.begun t % length (task_at job.graph t).outputs
         → lacking (task_at job.graph t).kind
@@ -363,46 +407,78 @@ split_owes job m after t k x w e =
         ne_eqb i (m.begun t % length (task_at job.graph t).outputs) apart in
         rw no_turn (rw e refl)
 
-    grows : 0 < length (task_at job.graph t).outputs → (i : ℕ)
-        → i < length (signalled_by (task_at job.graph t)) → (d : Bool)
-        → eqb i (m.begun t % length (task_at job.graph t).outputs) ≡ d
+-- a decimator owes the first value of each so many, and no other
+decimate_owes : {most : ℕ} (job : Job) (m after : Moment) (t k : ℕ) (x : ℤ)
+    → FirstWait most job m after t k (x ∷ []) → (task_at job.graph t).kind ≡ Decimate
+    → LeavesOwed most job after t
+    (if m.begun t % (task_at job.graph t).every == 0 then values 0 (Ok x ∷ []) else nothing)
+decimate_owes {most} job m after t k x w e =
+    by (eqb (m.begun t % (task_at job.graph t).every) 0) refl
+  where
+    some : 0 < (task_at job.graph t).every
+    some =
+        let every_is : (1 ≤ (task_at job.graph t).every) × ((task_at job.graph t).every ≤ 65536) =
+        rw e at (w.is.tasks t w.there).every in
+        omega (arith, every_is.0)
+
+    one_output : (i : ℕ) → i < length (signalled_by (task_at job.graph t)) → i ≡ 0
+    one_output i lt =
+        let ends : (length (task_at job.graph t).inputs ≡ 1)
+        × (length (task_at job.graph t).outputs ≡ 1) =
+        rw e at (w.is.tasks t w.there).ends in
+        let outs : signalled_by (task_at job.graph t) ≡ (task_at job.graph t).outputs =
+        rw e refl in
+        single_output i _ (ap length outs ∙ ends.1) lt
+
+    -- what its output has more after this step than before
+    grows : (o : Owed) (d : ℕ) → lacking (task_at job.graph t).kind o 0 ≡ d
+        → turns_below (task_at job.graph t).every 0 (suc (m.begun t))
+        ≡ turns_below (task_at job.graph t).every 0 (m.begun t) + d
+        → (i : ℕ) → i < length (signalled_by (task_at job.graph t))
         → puts_on (task_at job.graph t) (suc (m.begun t)) i
-        ≡ puts_on (task_at job.graph t) (m.begun t) i
-        + lacking (task_at job.graph t).kind
-        (values (m.begun t % length (task_at job.graph t).outputs) (Ok x ∷ [])) i
-    grows some i lt true f =
-        let task = task_at job.graph t in
-        let outs : signalled_by task ≡ task.outputs = rw e refl in
-        let many : length (signalled_by task) ≡ length task.outputs = ap length outs in
-        let next : puts_on task (suc (m.begun t)) i
-        ≡ turns_below (length task.outputs) i (suc (m.begun t)) = rw e refl in
-        let last : puts_on task (m.begun t) i
-        ≡ turns_below (length task.outputs) i (m.begun t) = rw e refl in
-        let more : turns_below (length task.outputs) i (suc (m.begun t))
-        ≡ suc (turns_below (length task.outputs) i (m.begun t)) =
-        turns-next (length task.outputs) (m.begun t) i (omega arith)
-        (eqb-true i (m.begun t % length task.outputs) f) in
-        let one : lacking task.kind
-        (values (m.begun t % length task.outputs) (Ok x ∷ [])) i ≡ 1 = rw f refl in
+        ≡ puts_on (task_at job.graph t) (m.begun t) i + lacking (task_at job.graph t).kind o i
+    grows o d lack more i lt =
+        let at : i ≡ 0 = one_output i lt in
+        let here : lacking (task_at job.graph t).kind o i ≡ d =
+        ap (λ i. lacking (task_at job.graph t).kind o i) at ∙ lack in
+        let after_is : puts_on (task_at job.graph t) (suc (m.begun t)) i
+        ≡ turns_below (task_at job.graph t).every 0 (suc (m.begun t)) = rw e refl in
+        let before_is : puts_on (task_at job.graph t) (m.begun t) i
+        ≡ turns_below (task_at job.graph t).every 0 (m.begun t) = rw e refl in
         omega arith
-    grows some i lt false f =
+
+    by : (d : Bool) → eqb (m.begun t % (task_at job.graph t).every) 0 ≡ d
+        → LeavesOwed most job after t (if d then values 0 (Ok x ∷ []) else nothing)
+    by true turn =
         let task = task_at job.graph t in
+        let is : 0 ≡ m.begun t % task.every = sym (eqb-true (m.begun t % task.every) 0 turn) in
+        let next : turns_below task.every 0 (suc (m.begun t))
+        ≡ suc (turns_below task.every 0 (m.begun t)) =
+        turns-next task.every (m.begun t) 0 some is in
+        let ends : (length task.inputs ≡ 1) × (length task.outputs ≡ 1) =
+        rw e at (w.is.tasks t w.there).ends in
         let outs : signalled_by task ≡ task.outputs = rw e refl in
-        let many : length (signalled_by task) ≡ length task.outputs = ap length outs in
-        let next : puts_on task (suc (m.begun t)) i
-        ≡ turns_below (length task.outputs) i (suc (m.begun t)) = rw e refl in
-        let last : puts_on task (m.begun t) i
-        ≡ turns_below (length task.outputs) i (m.begun t) = rw e refl in
-        let apart : i ≢ m.begun t % length task.outputs =
-        λ same. (let clash : true ≡ false =
-        sym (eq-eqb i (m.begun t % length task.outputs) same) ∙ f in cc) in
-        let stay : turns_below (length task.outputs) i (suc (m.begun t))
-        ≡ turns_below (length task.outputs) i (m.begun t) =
-        turns-stay (length task.outputs) (m.begun t) i (omega arith) apart in
-        let none : lacking task.kind
-        (values (m.begun t % length task.outputs) (Ok x ∷ [])) i ≡ 0 =
-        other_lacks i apart in
-        omega arith
+        turn_owes job m after t k task.every 0 x w
+        (record {
+          some = some;
+          output = omega (arith, ap length outs, ends.1);
+          one_input = ends.0;
+          takes = λ b k. rw e refl;
+          puts = λ b. rw e refl;
+          made = λ m. rw e refl;
+        }) is
+        (grows (values 0 (Ok x ∷ [])) 1 (lacks_here task.kind 0 (Ok x ∷ [])) (omega arith))
+        (none_below task.kind (Ok x)) (λ a b. rw e refl)
+    by false turn =
+        let task = task_at job.graph t in
+        let stay : turns_below task.every 0 (suc (m.begun t))
+        ≡ turns_below task.every 0 (m.begun t) =
+        turns-stay task.every (m.begun t) 0 some
+        (λ same. (let clash : true ≡ false =
+        sym (eq-eqb (m.begun t % task.every) 0 (sym same)) ∙ turn in cc)) in
+        let lacks : Lacks job after t nothing =
+        wait_lacks job m after t k x nothing w (grows nothing 0 refl (omega arith)) in
+        (first_none job after t lacks, lacks)
 
 -- a sink owes nothing
 sink_owes : {most : ℕ} (job : Job) (m after : Moment) (t k : ℕ) (xs : List ℤ)
@@ -460,6 +536,12 @@ wait_leaves {most} job m after t k xs w = by (task_at job.graph t).kind refl
         (let left : owed_after_wait (task_at job.graph t) (m.begun t) (m.taken t 0) (x ∷ [])
         ≡ values (m.begun t % length (task_at job.graph t).outputs) (Ok x ∷ []) = rw e refl in
         subst Left (sym left) (split_owes job m after t k x v e)))
+    by Decimate e =
+        single Decimate e (λ one. one) (λ x v.
+        (let left : owed_after_wait (task_at job.graph t) (m.begun t) (m.taken t 0) (x ∷ [])
+        ≡ (if m.begun t % (task_at job.graph t).every == 0 then values 0 (Ok x ∷ [])
+        else nothing) = rw e refl in
+        subst Left (sym left) (decimate_owes job m after t k x v e)))
     by Join e =
         single Join e (λ one. one) (λ x v.
         (let left : owed_after_wait (task_at job.graph t) (m.begun t) (m.taken t 0) (x ∷ [])
@@ -511,6 +593,7 @@ waits_room steps most job t sizes is there into out = by (task_at job.graph t).k
     by Source e = absurd (omega (arith, (ends Source e).0, into))
     by Fir e = sizes.few e
     by Split e = single (ap has_blocks e)
+    by Decimate e = single (ap has_blocks e)
     by Join e = single (ap has_blocks e)
     by Peer e = single (ap has_blocks e)
     by Sink e =

@@ -5,7 +5,7 @@ use Rattle.phase_history.specs.Histories.{greatest_used}
 use Rattle.phase_history.specs.Phases.{stream_of}
 use Rattle.phase_history.specs.Refusals.{register_refusal, register_now_refusal, drop_refusal}
 use Rattle.stream_lists.specs.graph_base.declared.line.Kind.{Kind}
-use Rattle.stream_lists.specs.graph_base.declared.line.Kind.TheVariants.{Source, Fir, Split, Join, Peer, Sink}
+use Rattle.stream_lists.specs.graph_base.declared.line.Kind.TheVariants.{Source, Fir, Split, Decimate, Join, Peer, Sink}
 use Rattle.stream_lists.specs.graph_base.declared.registration.Registration.{Registration}
 use Rattle.stream_lists.specs.graph_base.Graphs.{task_at}
 use Rattle.stream_lists.specs.Jobs.{Job}
@@ -100,6 +100,7 @@ step_owes : (steps most : ℕ) (job : Job) (m : Moment) (t : ℕ) (event : TaskE
 step_owes steps most job m t event none Source e = sample_owes steps most job m t event none e
 step_owes steps most job m t event none Fir e = wait_owes steps most job m t _ event none e
 step_owes steps most job m t event none Split e = wait_owes steps most job m t _ event none e
+step_owes steps most job m t event none Decimate e = wait_owes steps most job m t _ event none e
 step_owes steps most job m t event none Join e = wait_owes steps most job m t _ event none e
 step_owes steps most job m t event none Peer e = wait_owes steps most job m t _ event none e
 step_owes steps most job m t event none Sink e = wait_owes steps most job m t _ event none e

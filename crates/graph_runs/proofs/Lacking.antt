@@ -2,6 +2,7 @@
 use Rattle.std.proofs.Common.{◌≡◌, ℕ, zero, suc, ◌+◌, ◌-◌, ◌<◌, ◌≤◌, ◌*◌, ◌/◌, Bool, true, false, cond, eqb, List, [], ◌∷◌, Some, None, length, get_or, ℤ, pos, refl, ap, ◌∙◌, arith, ◌⊎◌, inl, inr}
 use Rattle.std.specs.Prelude.{Result, take, drop}
 use Rattle.std.specs.List.{find, range_with_len}
+use Rattle.std.proofs.Math.Nat.{div-zero}
 use Rattle.std.proofs.Math.Seq.{drop-cons, take-nil}
 use Rattle.std.proofs.Math.ListN.{drop_of_length-le}
 use Rattle.std.proofs.lemmas.Bool.{cases_lt, lt-ltb, le-ltb, eq-eqb}
@@ -9,7 +10,7 @@ use Rattle.std.proofs.lemmas.List.{length-drop}
 use Rattle.std.proofs.lemmas.Nat.{div-mul-add}
 use Rattle.stream_lists.specs.stream_filters.declared.fault.TooBigValue.{TooBigValue}
 use Rattle.stream_lists.specs.graph_base.declared.line.Kind.{Kind}
-use Rattle.stream_lists.specs.graph_base.declared.line.Kind.TheVariants.{Source, Fir, Split, Join, Peer, Sink}
+use Rattle.stream_lists.specs.graph_base.declared.line.Kind.TheVariants.{Source, Fir, Split, Decimate, Join, Peer, Sink}
 use Rattle.stream_lists.specs.graph_base.Graphs.{Task, task_at}
 use Rattle.stream_lists.specs.graph_base.TaskLines.{IsGraph}
 use Rattle.stream_lists.specs.Jobs.{Job}
@@ -132,10 +133,11 @@ next_one most job m t j some one =
 
 -- ---- what lacks at the start
 
-no_turn : (m k : ℕ) → k < m → turns_below m k 0 ≡ 0
-no_turn m k less =
-    let is : 0 + (m - 1 - k) ≡ 0 * m + (m - 1 - k) = omega arith in
-    ap (λ x. x / m) is ∙ div-mul-add 0 m (m - 1 - k) (omega arith)
+no_turn : (m k : ℕ) → turns_below m k 0 ≡ 0
+no_turn zero k = div-zero (0 + (0 - 1 - k))
+no_turn (suc m) k =
+    let is : 0 + (suc m - 1 - k) ≡ 0 * suc m + (suc m - 1 - k) = omega arith in
+    ap (λ x. x / suc m) is ∙ div-mul-add 0 (suc m) (suc m - 1 - k) (omega arith)
 
 -- before its first step a task has made nothing
 pub none_put : (task : Task) (j : ℕ) → j < length (signalled_by task) → puts_on task 0 j ≡ 0
@@ -147,10 +149,8 @@ none_put task j lt = by task.kind refl
     by Join e = rw e refl
     by Peer e = rw e refl
     by Sink e = rw e refl
-    by Split e =
-        let same : signalled_by task ≡ task.outputs = rw e refl in
-        let is : puts_on task 0 j ≡ turns_below (length task.outputs) j 0 = rw e refl in
-        is ∙ no_turn (length task.outputs) j (omega (arith, ap length same))
+    by Split e = rw e (no_turn (length task.outputs) j)
+    by Decimate e = rw e (no_turn task.every 0)
 
 -- a task that has begun no step and put nothing lacks nothing
 pub nothing_lacks : (job : Job) (m : Moment) (t : ℕ) → IsGraph job.graph → TaskRan job m t

@@ -3,7 +3,7 @@ use Rattle.std.proofs.Common.{◌≡◌, ℕ, zero, suc, ◌+◌, ◌-◌, ◌*�
 use Rattle.std.proofs.lemmas.Bool.{cases_lt}
 use Rattle.std.proofs.lemmas.Nat.{mod_below, div-add-mod', div-mul-add}
 use Rattle.stream_lists.specs.graph_base.declared.line.Kind.{Kind}
-use Rattle.stream_lists.specs.graph_base.declared.line.Kind.TheVariants.{Source, Fir, Split, Join, Peer, Sink}
+use Rattle.stream_lists.specs.graph_base.declared.line.Kind.TheVariants.{Source, Fir, Split, Decimate, Join, Peer, Sink}
 use Rattle.stream_lists.specs.graph_base.Graphs.{Task}
 use Rattle.stream_lists.specs.graph_base.TaskLines.{HasEnds}
 use Rattle.stream_lists.specs.Spans.{turns_below, takes_from}
@@ -75,6 +75,8 @@ has_taken-next task b k n ends lt first count = by task.kind refl
         let c : takes_from task b k ≡ b = rw e refl in let r : suc n ≡ suc b = omega arith in rw e r
     by Split e =
         let c : takes_from task b k ≡ b = rw e refl in let r : suc n ≡ suc b = omega arith in rw e r
+    by Decimate e =
+        let c : takes_from task b k ≡ b = rw e refl in let r : suc n ≡ suc b = omega arith in rw e r
     by Sink e =
         let c : takes_from task b k ≡ b = rw e refl in let r : suc n ≡ suc b = omega arith in rw e r
     by Join e =
@@ -105,6 +107,8 @@ has_taken-stay task b k n ends lt not count = by task.kind k refl refl
         (let both : (length task.inputs ≡ 1) × (length task.outputs ≡ 1) = rw e at ends in
         absurd (one_input both.0 (rw e refl)))
     by Split i e at =
+        (let both = rw e at ends in absurd (one_input both.0 (rw e refl)))
+    by Decimate i e at =
         (let both = rw e at ends in absurd (one_input both.0 (rw e refl)))
     by Sink i e at =
         (let both : (length task.inputs ≡ 1) × (length task.outputs ≡ 0) = rw e at ends in
@@ -160,6 +164,7 @@ has_taken-block task b c k n ends lt first block count = by task.kind refl
     by Sink e = (let t : takes_from task b k ≡ b = rw e refl in
         let r : n + c ≡ b + c = omega arith in rw e r)
     by Split e = one_step (subst (λ kind. IsBlock kind c) e block)
+    by Decimate e = one_step (subst (λ kind. IsBlock kind c) e block)
     by Join e = one_step (subst (λ kind. IsBlock kind c) e block)
     by Peer e = one_step (subst (λ kind. IsBlock kind c) e block)
 
@@ -187,5 +192,6 @@ has_taken-else task b c k n ends lt not block count = by task.kind refl
         (let both : (length task.inputs ≡ 1) × (length task.outputs ≡ 0) = rw e at ends in
         absurd (one_input both.0 (rw e refl)))
     by Split e = one_step (subst (λ kind. IsBlock kind c) e block)
+    by Decimate e = one_step (subst (λ kind. IsBlock kind c) e block)
     by Join e = one_step (subst (λ kind. IsBlock kind c) e block)
     by Peer e = one_step (subst (λ kind. IsBlock kind c) e block)

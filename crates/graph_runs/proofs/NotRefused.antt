@@ -17,7 +17,7 @@ use Rattle.phase_history.specs.Refusals.{signal_refusal, wait_refusal, drop_refu
 use Rattle.phase_history.specs.Replies.{wait_reply, wait_block_reply}
 use Rattle.phase_history.proofs.Alive.{alive_law}
 use Rattle.stream_lists.specs.graph_base.declared.line.Kind.{Kind}
-use Rattle.stream_lists.specs.graph_base.declared.line.Kind.TheVariants.{Source, Fir, Split, Join, Peer, Sink}
+use Rattle.stream_lists.specs.graph_base.declared.line.Kind.TheVariants.{Source, Fir, Split, Decimate, Join, Peer, Sink}
 use Rattle.stream_lists.specs.graph_base.declared.registration.Registration.{Registration}
 use Rattle.stream_lists.specs.graph_base.Graphs.{task_at, phaser_at}
 use Rattle.stream_lists.specs.graph_base.Registrations.{ends_of, as_input, as_output, no_registration}
@@ -128,6 +128,7 @@ block_fits {most} job t j block is there lt pp = by (task_at job.graph t).kind r
     by Source e = other (λ peer. (let wrong = sym e ∙ peer in cc))
     by Fir e = other (λ peer. (let wrong = sym e ∙ peer in cc))
     by Split e = other (λ peer. (let wrong = sym e ∙ peer in cc))
+    by Decimate e = other (λ peer. (let wrong = sym e ∙ peer in cc))
     by Join e = other (λ peer. (let wrong = sym e ∙ peer in cc))
     by Sink e = other (λ peer. (let wrong = sym e ∙ peer in cc))
     by Peer e =

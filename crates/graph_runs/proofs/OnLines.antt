@@ -1,7 +1,7 @@
 -- The phasers on a task's line are phasers of the graph.
 use Rattle.std.proofs.Common.{◌≡◌, ℕ, zero, suc, ◌<◌, [], ◌∷◌, Some, length, get_or, refl, ap, arith, inl, inr}
 use Rattle.stream_lists.specs.graph_base.declared.line.Kind.{Kind}
-use Rattle.stream_lists.specs.graph_base.declared.line.Kind.TheVariants.{Source, Fir, Split, Join, Peer, Sink}
+use Rattle.stream_lists.specs.graph_base.declared.line.Kind.TheVariants.{Source, Fir, Split, Decimate, Join, Peer, Sink}
 use Rattle.stream_lists.specs.graph_base.Graphs.{task_at}
 use Rattle.stream_lists.specs.graph_base.TaskLines.{IsGraph}
 use Rattle.stream_lists.specs.Jobs.{Job, index_in}
@@ -35,6 +35,7 @@ signalled_within job t p j is there place =
     by Source e lt = plain (rw e refl) lt
     by Fir e lt = plain (rw e refl) lt
     by Split e lt = plain (rw e refl) lt
+    by Decimate e lt = plain (rw e refl) lt
     by Join e lt = plain (rw e refl) lt
     by Sink e lt = plain (rw e refl) lt
     by Peer e lt =

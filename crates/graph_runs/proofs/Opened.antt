@@ -19,7 +19,7 @@ use Rattle.phase_history.proofs.Refused.{Registers as MayRegister, registers_fro
 use Rattle.phase_history.proofs.Steps.{member_entry_is}
 use Rattle.phase_history.proofs.Used.{start_from}
 use Rattle.stream_lists.specs.graph_base.declared.line.Kind.{Kind}
-use Rattle.stream_lists.specs.graph_base.declared.line.Kind.TheVariants.{Source, Fir, Split, Join, Peer, Sink}
+use Rattle.stream_lists.specs.graph_base.declared.line.Kind.TheVariants.{Source, Fir, Split, Decimate, Join, Peer, Sink}
 use Rattle.stream_lists.specs.graph_base.declared.line.Parent.{Parent}
 use Rattle.stream_lists.specs.graph_base.Graphs.{Task, task_at, phaser_at}
 use Rattle.stream_lists.specs.graph_base.TaskLines.{IsGraph}
@@ -169,6 +169,7 @@ taken_none task k lt = by task.kind k refl refl
     by Source i e at = rw e tt
     by Fir i e at = rw e refl
     by Split i e at = rw e refl
+    by Decimate i e at = rw e refl
     by Sink i e at = rw e refl
     by Join i e at =
         let m = length task.inputs in
@@ -189,6 +190,7 @@ samples_none : (kind : Kind) (n : ℕ) → HasSamples kind 0 n
 samples_none Source n = omega arith
 samples_none Fir n = tt
 samples_none Split n = tt
+samples_none Decimate n = tt
 samples_none Join n = tt
 samples_none Peer n = tt
 samples_none Sink n = tt
@@ -197,6 +199,7 @@ exchanged_none : (kind : Kind) (j n : ℕ) → HasExchanged kind j 0 n
 exchanged_none Source j n = tt
 exchanged_none Fir j n = tt
 exchanged_none Split j n = tt
+exchanged_none Decimate j n = tt
 exchanged_none Join j n = tt
 exchanged_none Sink j n = tt
 exchanged_none Peer zero n = tt

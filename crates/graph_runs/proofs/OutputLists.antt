@@ -10,9 +10,9 @@ use Rattle.phase_history.proofs.Streams.{IsPrefix-trans}
 use Rattle.stream_lists.specs.stream_filters.declared.form.Form.{Form}
 use Rattle.stream_lists.specs.stream_filters.Filter.{outputs, output_at, output_after}
 use Rattle.stream_lists.specs.graph_base.declared.line.Kind.{Kind}
-use Rattle.stream_lists.specs.graph_base.declared.line.Kind.TheVariants.{Source, Fir, Split, Join, Peer, Sink}
+use Rattle.stream_lists.specs.graph_base.declared.line.Kind.TheVariants.{Source, Fir, Split, Decimate, Join, Peer, Sink}
 use Rattle.stream_lists.specs.graph_base.Graphs.{Task}
-use Rattle.stream_lists.specs.graph_base.TaskLines.{HasEnds, has_children}
+use Rattle.stream_lists.specs.graph_base.TaskLines.{HasEnds, HasEvery, has_children}
 use Rattle.stream_lists.specs.Spans.{turns_below, takes_from, puts_on, signalled_by, LooksAt}
 use Rattle.stream_lists.specs.Lists.{entry, every, turn_at, in_turn, mixed_at, mixed, output_list}
 use Rattle.stream_lists.proofs.ListLengths.{steps_long}
@@ -90,8 +90,8 @@ mixed_begins mul xs es ys fs put a b fits is =
 -- over what was taken, in b steps; over what is there, in all
 pub outputs_begin : (samples : List ℤ) (task : Task) (now all : List (List ℤ)) (b steps j : ℕ)
     (put : List ℤ)
-    → HasEnds task.kind (length task.inputs) (length task.outputs) → j < length (signalled_by task)
-    → b ≤ steps
+    → HasEnds task.kind (length task.inputs) (length task.outputs) → HasEvery task.kind task.every
+    → j < length (signalled_by task) → b ≤ steps
     → length now ≡ length task.inputs → length all ≡ length task.inputs
     → ((k : ℕ) → k < length task.inputs → LooksAt task.kind j k
     → IsPrefix (get_or now k []) (get_or all k []))
@@ -100,8 +100,8 @@ pub outputs_begin : (samples : List ℤ) (task : Task) (now all : List (List ℤ
     → HasExchanged task.kind j (length put) (length (get_or now 1 []))
     → IsPrefix put (output_list samples now task b j)
     → IsPrefix put (output_list samples all task steps j)
-outputs_begin samples task now all b steps j put ends lt le long_now long_all each counts exchanged
-    is = by task.kind j refl refl
+outputs_begin samples task now all b steps j put ends every_is lt le long_now long_all each counts
+    exchanged is = by task.kind j refl refl
   where
     one : (task.kind ≡ Source → ⊥) → LooksAt task.kind j 0
         → IsPrefix (get_or now 0 []) (get_or all 0 [])
@@ -112,6 +112,14 @@ outputs_begin samples task now all b steps j put ends lt le long_now long_all ea
         → IsPrefix put (output_list samples all task steps j)
     after xs ys now_is all_is begins =
         rw all_is (IsPrefix-trans put xs ys (rw now_is at is) begins)
+
+    turns : (m i : ℕ) → i < m → (task.kind ≡ Source → ⊥) → LooksAt task.kind j 0
+        → output_list samples now task b j ≡ every m i (get_or now 0 [])
+        → output_list samples all task steps j ≡ every m i (get_or all 0 [])
+        → IsPrefix put (output_list samples all task steps j)
+    turns m i few not looks now_is all_is =
+        after (every m i (get_or now 0 [])) (every m i (get_or all 0 [])) now_is all_is
+        (every_begins m i (get_or now 0 []) (get_or all 0 []) few (one not looks))
 
     by : (kind : Kind) (i : ℕ) → task.kind ≡ kind → j ≡ i
         → IsPrefix put (output_list samples all task steps j)
@@ -124,11 +132,12 @@ outputs_begin samples task now all b steps j put ends lt le long_now long_all ea
         (fir_begins task.taps task.form (get_or now 0 []) (get_or all 0 [])
         (one (λ s. (let no : Fir ≡ Source = sym e ∙ s in cc)) (rw e tt)))
     by Split i e at =
-        let few : j < length task.outputs = rw e at lt in
-        after (every (length task.outputs) j (get_or now 0 []))
-        (every (length task.outputs) j (get_or all 0 [])) (rw e refl) (rw e refl)
-        (every_begins (length task.outputs) j (get_or now 0 []) (get_or all 0 []) few
-        (one (λ s. (let no : Split ≡ Source = sym e ∙ s in cc)) (rw e tt)))
+        turns (length task.outputs) j (rw e at lt)
+        (λ s. (let no : Split ≡ Source = sym e ∙ s in cc)) (rw e tt) (rw e refl) (rw e refl)
+    by Decimate i e at =
+        let some : (1 ≤ task.every) × (task.every ≤ 65536) = rw e at every_is in
+        turns task.every 0 (omega (arith, some.0))
+        (λ s. (let no : Decimate ≡ Source = sym e ∙ s in cc)) (rw e tt) (rw e refl) (rw e refl)
     by Join i e at =
         let some : 0 < length task.inputs =
         has_inputs task.kind _ _ ends (λ s. (let no : Join ≡ Source = sym e ∙ s in cc)) in
@@ -184,5 +193,8 @@ puts-few task b j ends plain = by task.kind refl
     by Join e = rw e refl
     by Peer e = rw e refl
     by Split e =
+        absurd (let b : true ≡ false =
+        sym plain ∙ ap has_children e in cc)
+    by Decimate e =
         absurd (let b : true ≡ false =
         sym plain ∙ ap has_children e in cc)

@@ -20,7 +20,7 @@ use Rattle.stream_lists.specs.Jobs.{Job, samples_at, index_in}
 use Rattle.stream_lists.specs.Lists.{output_list, number}
 use Rattle.stream_lists.specs.Spans.{signalled_by}
 use Rattle.stream_lists.specs.graph_base.declared.line.Kind.{Kind}
-use Rattle.stream_lists.specs.graph_base.declared.line.Kind.TheVariants.{Source, Fir, Split, Join, Peer, Sink}
+use Rattle.stream_lists.specs.graph_base.declared.line.Kind.TheVariants.{Source, Fir, Split, Decimate, Join, Peer, Sink}
 use Rattle.stream_lists.proofs.Growing.{map-same}
 use Rattle.stream_lists.proofs.SpansAbove.{parent-is}
 use Rattle.stream_lists.proofs.Ordered.{place-at, place_of_input}
@@ -341,6 +341,7 @@ exchanged_more : (kind : Kind) (j put a b : ℕ) → a ≤ b → HasExchanged ki
 exchanged_more Source j put a b le x = tt
 exchanged_more Fir j put a b le x = tt
 exchanged_more Split j put a b le x = tt
+exchanged_more Decimate j put a b le x = tt
 exchanged_more Join j put a b le x = tt
 exchanged_more Sink j put a b le x = tt
 exchanged_more Peer zero put a b le x = tt
@@ -359,7 +360,7 @@ made_more job before after t j put line ran lt le grows exchanged begins =
     let now = taken_now before task t in
     let all = taken_now after task t in
     outputs_begin (samples_at job t) task now all (before.begun t) (after.begun t) j put line.ends
-    lt le
+    line.every lt le
     (length-map-range_with_len (before.taken t) 0 (length task.inputs))
     (length-map-range_with_len (after.taken t) 0 (length task.inputs))
     (λ k below looks. (rw (now_at before task t k below)

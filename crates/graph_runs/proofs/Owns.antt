@@ -4,7 +4,7 @@ use Rattle.std.proofs.lemmas.Option.{slice_get-get_or}
 use Rattle.std.proofs.lemmas.List.{length-map, get_or-map, length-append}
 use Rattle.phase_history.specs.Others.{IsUsed}
 use Rattle.stream_lists.specs.graph_base.declared.line.Kind.{Kind}
-use Rattle.stream_lists.specs.graph_base.declared.line.Kind.TheVariants.{Source, Fir, Split, Join, Peer, Sink}
+use Rattle.stream_lists.specs.graph_base.declared.line.Kind.TheVariants.{Source, Fir, Split, Decimate, Join, Peer, Sink}
 use Rattle.stream_lists.specs.graph_base.Graphs.{task_at}
 use Rattle.stream_lists.specs.graph_base.Registrations.{no_registration}
 use Rattle.stream_lists.specs.graph_base.TaskLines.{IsGraph, HasEnds}
@@ -65,6 +65,7 @@ has_some job t is there =
     some_end Source ins outs e = (let one : outs ≡ 1 = e.1 in omega arith)
     some_end Fir ins outs e = (let one : outs ≡ 1 = e.1 in omega arith)
     some_end Split ins outs e = (let one : ins ≡ 1 = e.0 in omega arith)
+    some_end Decimate ins outs e = (let one : ins ≡ 1 = e.0 in omega arith)
     some_end Join ins outs e = (let one : outs ≡ 1 = e.2 in omega arith)
     some_end Peer ins outs e = (let one : outs ≡ 1 = e.1 in omega arith)
     some_end Sink ins outs e = (let one : ins ≡ 1 = e.0 in omega arith)

@@ -10,7 +10,7 @@ use Rattle.stream_lists.specs.graph_base.TaskLines.{IsTaskLine}
 use Rattle.phase_history.specs.phase_base.Lists.{is_distinct}
 use Rattle.stream_lists.specs.graph_base.Registrations.{no_registration}
 use Rattle.stream_lists.specs.graph_base.declared.line.Kind.{Kind}
-use Rattle.stream_lists.specs.graph_base.declared.line.Kind.TheVariants.{Source, Fir, Split, Join, Peer, Sink}
+use Rattle.stream_lists.specs.graph_base.declared.line.Kind.TheVariants.{Source, Fir, Split, Decimate, Join, Peer, Sink}
 use Rattle.stream_lists.specs.Jobs.{Job, index_in}
 use Rattle.stream_lists.specs.Spans.{signalled_by}
 use Rattle.stream_lists.proofs.Ordered.{place-at, place-distinct}
@@ -48,6 +48,7 @@ distinct-signalled graph t task line = by task.kind refl
     by Source e = plain (rw e refl)
     by Fir e = plain (rw e refl)
     by Split e = plain (rw e refl)
+    by Decimate e = plain (rw e refl)
     by Join e = plain (rw e refl)
     by Sink e = plain (rw e refl)
     by Peer e =
@@ -149,6 +150,7 @@ on_ends graph t task p line (inl out) = by task.kind refl
     by Source e = plain (rw e refl)
     by Fir e = plain (rw e refl)
     by Split e = plain (rw e refl)
+    by Decimate e = plain (rw e refl)
     by Join e = plain (rw e refl)
     by Sink e = plain (rw e refl)
     by Peer e =

@@ -21,7 +21,7 @@ use Rattle.phase_history.specs.Legal.{IsLegal}
 use Rattle.phase_history.proofs.InRange.{value_of_phase-in_range}
 use Rattle.phase_history.proofs.Left.{received_law}
 use Rattle.stream_lists.specs.graph_base.declared.line.Kind.{Kind}
-use Rattle.stream_lists.specs.graph_base.declared.line.Kind.TheVariants.{Source, Fir, Split, Join, Peer, Sink}
+use Rattle.stream_lists.specs.graph_base.declared.line.Kind.TheVariants.{Source, Fir, Split, Decimate, Join, Peer, Sink}
 use Rattle.stream_lists.specs.graph_base.Graphs.{Task, task_at, phaser_at}
 use Rattle.stream_lists.specs.graph_base.TaskLines.{IsGraph}
 use Rattle.stream_lists.specs.Jobs.{Job, samples_at}
@@ -181,17 +181,19 @@ made_ranged job m t j is ran there samples plain = by (task_at job.graph t).kind
     clash kind e made =
         (let no : true ≡ false = sym made ∙ ap (λ k. are_made k j) (sym e) ∙ plain in cc)
 
+    turns : (n i : ℕ)
+        → made_now job m t j ≡ every n i (get_or (taken_now m (task_at job.graph t) t) 0 [])
+        → AreRanged (made_now job m t j)
+    turns n i same = subst Are (sym same) (map_ranged _ _ (λ k. (taken.at 0).at _))
+
     by : (kind : Kind) → (task_at job.graph t).kind ≡ kind → AreRanged (made_now job m t j)
     by Source e =
         let same : made_now job m t j ≡ take (m.begun t) (samples_at job t) = rw e refl in
         subst Are (sym same)
         (take_ranged (m.begun t) (samples_at job t) (sends_ranged (samples_at job t) samples))
     by Fir e = absurd (clash Fir e refl)
-    by Split e =
-        let xs = get_or (taken_now m (task_at job.graph t) t) 0 [] in
-        let same : made_now job m t j ≡ every (length (task_at job.graph t).outputs) j xs =
-        rw e refl in
-        subst Are (sym same) (map_ranged _ _ (λ k. (taken.at 0).at _))
+    by Split e = turns (length (task_at job.graph t).outputs) j (rw e refl)
+    by Decimate e = turns (task_at job.graph t).every 0 (rw e refl)
     by Join e =
         let same : made_now job m t j
         ≡ in_turn (taken_now m (task_at job.graph t) t) (m.begun t) = rw e refl in

@@ -20,7 +20,7 @@ use Rattle.phase_history.proofs.Refused.{Registers as MayRegister, registers_fro
 use Rattle.phase_history.proofs.Sendings.{length-sent_by}
 use Rattle.phase_history.proofs.Steps.{member_entry_is}
 use Rattle.stream_lists.specs.graph_base.declared.line.Kind.{Kind}
-use Rattle.stream_lists.specs.graph_base.declared.line.Kind.TheVariants.{Source, Fir, Split, Join, Peer, Sink}
+use Rattle.stream_lists.specs.graph_base.declared.line.Kind.TheVariants.{Source, Fir, Split, Decimate, Join, Peer, Sink}
 use Rattle.stream_lists.specs.graph_base.declared.line.Parent.{Parent}
 use Rattle.stream_lists.specs.graph_base.Graphs.{task_at}
 use Rattle.stream_lists.specs.graph_base.TaskLines.{IsGraph, IsTaskLine, has_children}
@@ -95,6 +95,7 @@ read_not_signalled job t k j line plain lt place =
     by Fir e = outs (rw e refl)
     by Sink e = outs (rw e refl)
     by Split e = outs (rw e refl)
+    by Decimate e = outs (rw e refl)
     by Join e = outs (rw e refl)
     by Peer e = absurd (let b : true ≡ false = sym plain ∙ ap has_children e in cc)
 

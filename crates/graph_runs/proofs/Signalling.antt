@@ -14,7 +14,7 @@ use Rattle.phase_history.specs.Histories.{has_dropped}
 use Rattle.phase_history.specs.Refusals.{signal_refusal}
 use Rattle.phase_history.specs.Legal.{AreLists}
 use Rattle.stream_lists.specs.graph_base.declared.line.Kind.{Kind}
-use Rattle.stream_lists.specs.graph_base.declared.line.Kind.TheVariants.{Source, Fir, Split, Join, Peer, Sink}
+use Rattle.stream_lists.specs.graph_base.declared.line.Kind.TheVariants.{Source, Fir, Split, Decimate, Join, Peer, Sink}
 use Rattle.stream_lists.specs.graph_base.declared.place.Place.TheVariants as place
 use Rattle.stream_lists.specs.graph_base.Graphs.{task_at, phaser_at}
 use Rattle.stream_lists.specs.graph_base.TaskLines.{IsGraph, has_blocks}
@@ -152,6 +152,7 @@ pub may_put : (kind : Kind) (j put taken many : ℕ) → (kind ≡ Peer → many
 may_put Source j put taken many one e = tt
 may_put Fir j put taken many one e = tt
 may_put Split j put taken many one e = tt
+may_put Decimate j put taken many one e = tt
 may_put Join j put taken many one e = tt
 may_put Sink j put taken many one e = tt
 may_put Peer zero put taken many one e = tt

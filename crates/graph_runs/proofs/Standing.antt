@@ -9,7 +9,7 @@ use Rattle.stream_lists.proofs.graph_base_lemmas.Registered.{registrations-phase
 use Rattle.stream_lists.specs.graph_base.Graphs.{Task, task_at}
 use Rattle.stream_lists.specs.graph_base.Registrations.{no_registration, signalled_by}
 use Rattle.stream_lists.specs.graph_base.declared.line.Kind.{Kind}
-use Rattle.stream_lists.specs.graph_base.declared.line.Kind.TheVariants.{Source, Fir, Split, Join, Peer, Sink}
+use Rattle.stream_lists.specs.graph_base.declared.line.Kind.TheVariants.{Source, Fir, Split, Decimate, Join, Peer, Sink}
 use Rattle.stream_lists.specs.Jobs.{Job}
 use Rattle.graph_runs.specs.Moments.{Moment, input_at}
 use Rattle.graph_runs.specs.Nexts.{registrations_at, first_missing, first_kept, has_registered, has_left}
@@ -148,6 +148,7 @@ of_output job t j is there lt = by (task_at job.graph t).kind refl
     by Source e = plain (rw e refl) (rw e refl)
     by Fir e = plain (rw e refl) (rw e refl)
     by Split e = plain (rw e refl) (rw e refl)
+    by Decimate e = plain (rw e refl) (rw e refl)
     by Join e = plain (rw e refl) (rw e refl)
     by Sink e = plain (rw e refl) (rw e refl)
     by Peer e =

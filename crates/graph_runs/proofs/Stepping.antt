@@ -6,7 +6,7 @@ use Rattle.std.proofs.lemmas.Option.{same_Some}
 use Rattle.std.proofs.lemmas.List.{length-append, length-map}
 use Rattle.phase_history.specs.declared.event.Event.TheVariants.{Signalled}
 use Rattle.stream_lists.specs.graph_base.declared.line.Kind.{Kind}
-use Rattle.stream_lists.specs.graph_base.declared.line.Kind.TheVariants.{Source, Fir, Split, Join, Peer, Sink}
+use Rattle.stream_lists.specs.graph_base.declared.line.Kind.TheVariants.{Source, Fir, Split, Decimate, Join, Peer, Sink}
 use Rattle.stream_lists.specs.graph_base.Graphs.{task_at, phaser_at}
 use Rattle.stream_lists.specs.graph_base.TaskLines.{IsGraph, HasBlock, has_blocks}
 use Rattle.stream_lists.specs.Jobs.{Job}
@@ -294,6 +294,7 @@ sizes_most {steps} {most} job t sizes =
     by Source e = tt
     by Fir e = tt
     by Split e = sizes.owed.kind (ap has_blocks e)
+    by Decimate e = sizes.owed.kind (ap has_blocks e)
     by Join e = sizes.owed.kind (ap has_blocks e)
     by Peer e = sizes.owed.kind (ap has_blocks e)
     by Sink e = tt
@@ -397,6 +398,9 @@ puts_stand {most} job m after t j vs at is there allowed ran in_turn puts keeps 
         (rw e refl)
     by Split i e same =
         alone Split e
+        (λ x apart. (let other : eqb x j ≡ false = ne_eqb x j apart in rw other refl)) (rw e refl)
+    by Decimate i e same =
+        alone Decimate e
         (λ x apart. (let other : eqb x j ≡ false = ne_eqb x j apart in rw other refl)) (rw e refl)
     by Join i e same =
         alone Join e

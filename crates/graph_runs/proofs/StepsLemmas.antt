@@ -5,7 +5,7 @@ use Rattle.std.proofs.lemmas.List.FromFn.{length-map-range_with_len, get_or-map-
 use Rattle.std.proofs.lemmas.Nat.{mod_below}
 use Rattle.std.proofs.lemmas.Option.{same_Some}
 use Rattle.stream_lists.specs.graph_base.declared.line.Kind.{Kind}
-use Rattle.stream_lists.specs.graph_base.declared.line.Kind.TheVariants.{Source, Fir, Split, Join, Peer, Sink}
+use Rattle.stream_lists.specs.graph_base.declared.line.Kind.TheVariants.{Source, Fir, Split, Decimate, Join, Peer, Sink}
 use Rattle.stream_lists.specs.graph_base.Graphs.{Task}
 use Rattle.stream_lists.specs.graph_base.TaskLines.{HasEnds}
 use Rattle.stream_lists.specs.Spans.{turns_below, takes_from, run_out, first_run_out, enough_for, cut_at, LooksAt}
@@ -95,6 +95,7 @@ pub has_inputs : (kind : Kind) (inputs outputs : ℕ) → HasEnds kind inputs ou
 has_inputs Source inputs outputs ends not = absurd (not refl)
 has_inputs Fir inputs outputs ends not = omega (arith, ends.0)
 has_inputs Split inputs outputs ends not = omega (arith, ends.0)
+has_inputs Decimate inputs outputs ends not = omega (arith, ends.0)
 has_inputs Join inputs outputs ends not = omega (arith, ends.0)
 has_inputs Peer inputs outputs ends not = omega (arith, ends.0)
 has_inputs Sink inputs outputs ends not = omega (arith, ends.0)
@@ -129,6 +130,8 @@ enough-above task samples values b ends long has each = by task.kind refl
         first (λ s. (let no : Fir ≡ Source = sym e ∙ s in cc)) (rw e tt) (rw e refl) (rw e refl)
     by Split e =
         first (λ s. (let no : Split ≡ Source = sym e ∙ s in cc)) (rw e tt) (rw e refl) (rw e refl)
+    by Decimate e =
+        first (λ s. (let no : Decimate ≡ Source = sym e ∙ s in cc)) (rw e tt) (rw e refl) (rw e refl)
     by Peer e =
         first (λ s. (let no : Peer ≡ Source = sym e ∙ s in cc)) (rw e refl) (rw e refl) (rw e refl)
     by Sink e =
@@ -167,6 +170,7 @@ enough-below task samples values b ends long not le = by task.kind refl
     by Source e = absurd (not e)
     by Fir e = first (rw e refl) (rw e refl) (rw e refl)
     by Split e = first (rw e refl) (rw e refl) (rw e refl)
+    by Decimate e = first (rw e refl) (rw e refl) (rw e refl)
     by Peer e = first (rw e refl) (rw e refl) (rw e refl)
     by Sink e = first (rw e refl) (rw e refl) (rw e refl)
     by Join e =
@@ -194,6 +198,7 @@ takes-mono task a b k lt le = by task.kind refl
     by Source e = rw e le
     by Fir e = rw e le
     by Split e = rw e le
+    by Decimate e = rw e le
     by Peer e = rw e le
     by Sink e = rw e le
     by Join e = rw e (turns-mono (length task.inputs) k a b (omega arith) le)
@@ -211,6 +216,8 @@ taken_count task b k n ends lt looks has = by task.kind k refl refl
         (let r : n ≡ takes_from (record task { kind = Fir }) b k = rw e at has in r ∙ rw e refl)
     by Split i e at =
         (let r : n ≡ takes_from (record task { kind = Split }) b k = rw e at has in r ∙ rw e refl)
+    by Decimate i e at =
+        (let r : n ≡ takes_from (record task { kind = Decimate }) b k = rw e at has in r ∙ rw e refl)
     by Join i e at =
         (let r : n ≡ takes_from (record task { kind = Join }) b k = rw e at has in r ∙ rw e refl)
     by Sink i e at =
@@ -236,6 +243,7 @@ taken_most task b k n ends lt has = by task.kind k refl refl
     by Source i e at = exact (rw e tt)
     by Fir i e at = exact (rw e tt)
     by Split i e at = exact (rw e tt)
+    by Decimate i e at = exact (rw e tt)
     by Join i e at = exact (rw e tt)
     by Sink i e at = exact (rw e tt)
     by Peer zero e at = exact (rw e at)

@@ -14,7 +14,7 @@ use Rattle.phase_history.proofs.Left.{received_law}
 use Rattle.phase_history.proofs.Streams.{prefix_of_values}
 use Rattle.phase_history.proofs.Received.{part_of_longer}
 use Rattle.stream_lists.specs.graph_base.declared.line.Kind.{Kind}
-use Rattle.stream_lists.specs.graph_base.declared.line.Kind.TheVariants.{Source, Fir, Split, Join, Peer, Sink}
+use Rattle.stream_lists.specs.graph_base.declared.line.Kind.TheVariants.{Source, Fir, Split, Decimate, Join, Peer, Sink}
 use Rattle.stream_lists.specs.graph_base.declared.line.Parent.{Parent}
 use Rattle.stream_lists.specs.graph_base.Graphs.{Task, task_at}
 use Rattle.stream_lists.specs.graph_base.TaskLines.{IsGraph, IsTaskLine, HasEnds}
@@ -163,6 +163,7 @@ first_looks task b ends not = by task.kind refl
     by Source e = absurd (not e)
     by Fir e = rw e (some, tt)
     by Split e = rw e (some, tt)
+    by Decimate e = rw e (some, tt)
     by Join e = rw e (mod_below b (length task.inputs) some, tt)
     by Peer e = rw e (some, refl)
     by Sink e = rw e (some, tt)
@@ -258,6 +259,7 @@ pub exchanged_as : (kind : Kind) (j put a b : ℕ) → (kind ≡ Peer → a ≡ 
 exchanged_as Source j put a b same x = tt
 exchanged_as Fir j put a b same x = tt
 exchanged_as Split j put a b same x = tt
+exchanged_as Decimate j put a b same x = tt
 exchanged_as Join j put a b same x = tt
 exchanged_as Sink j put a b same x = tt
 exchanged_as Peer zero put a b same x = tt
@@ -320,7 +322,7 @@ made_begins job m t j put is there ran stands lt reads exchanged begins =
     let span = span_in job t in
     let now = taken_now m task t in
     let all = taken_by (numbers_of job) task span in
-    outputs_begin (samples_at job t) task now all (m.begun t) span.steps j put line.ends lt
+    outputs_begin (samples_at job t) task now all (m.begun t) span.steps j put line.ends line.every lt
     stands.within
     (length-map-range_with_len (m.taken t) 0 (length task.inputs))
     (length-map-range_with_len (taken_from (numbers_of job) task span) 0 (length task.inputs))

@@ -11,7 +11,7 @@ use Rattle.phase_history.specs.Histories.{members_of, done_of, HasNoSignaller}
 use Rattle.phase_history.specs.Phases.{stream_of}
 use Rattle.phase_history.proofs.Signallers.{all_dropped}
 use Rattle.stream_lists.specs.graph_base.declared.line.Kind.{Kind}
-use Rattle.stream_lists.specs.graph_base.declared.line.Kind.TheVariants.{Source, Fir, Split, Join, Peer, Sink}
+use Rattle.stream_lists.specs.graph_base.declared.line.Kind.TheVariants.{Source, Fir, Split, Decimate, Join, Peer, Sink}
 use Rattle.stream_lists.specs.graph_base.Graphs.{task_at}
 use Rattle.stream_lists.specs.graph_base.TaskLines.{IsGraph}
 use Rattle.stream_lists.specs.Jobs.{Job, samples_at, index_in}
@@ -267,6 +267,9 @@ step_told steps most job m t sizes is samples reached live uncut more = by (task
     by Split e =
         waits_told steps most job m t sizes is reached live (no_source Split e (λ s. (cc))) uncut more
         (ended Split e)
+    by Decimate e =
+        waits_told steps most job m t sizes is reached live (no_source Decimate e (λ s. (cc))) uncut more
+        (ended Decimate e)
     by Join e =
         waits_told steps most job m t sizes is reached live (no_source Join e (λ s. (cc))) uncut more (ended Join e)
     by Peer e =

@@ -8,7 +8,7 @@ use Rattle.stream_lists.specs.stream_filters.Range.{ranged}
 use Rattle.stream_lists.specs.stream_filters.declared.fault.TooBigValue.{TooBigValue}
 use Rattle.phase_history.specs.Histories.{has_dropped}
 use Rattle.stream_lists.specs.graph_base.declared.line.Kind.{Kind}
-use Rattle.stream_lists.specs.graph_base.declared.line.Kind.TheVariants.{Source, Fir, Split, Join, Peer, Sink}
+use Rattle.stream_lists.specs.graph_base.declared.line.Kind.TheVariants.{Source, Fir, Split, Decimate, Join, Peer, Sink}
 use Rattle.stream_lists.specs.graph_base.Graphs.{task_at}
 use Rattle.stream_lists.specs.graph_base.Registrations.{no_registration}
 use Rattle.stream_lists.specs.graph_base.TaskLines.{IsGraph}
@@ -245,6 +245,7 @@ no_samples : (kind : Kind) (b n : ℕ) → (kind ≡ Source → ⊥) → HasSamp
 no_samples Source b n never = absurd (never refl)
 no_samples Fir b n never = tt
 no_samples Split b n never = tt
+no_samples Decimate b n never = tt
 no_samples Join b n never = tt
 no_samples Peer b n never = tt
 no_samples Sink b n never = tt
@@ -272,6 +273,7 @@ block_within Source steps most some few is = tt
 block_within Fir steps most some few is = tt
 block_within Sink steps most some few is = tt
 block_within Split steps most some few is = let one : most ≡ 1 = is in omega arith
+block_within Decimate steps most some few is = let one : most ≡ 1 = is in omega arith
 block_within Join steps most some few is = let one : most ≡ 1 = is in omega arith
 block_within Peer steps most some few is = let one : most ≡ 1 = is in omega arith
 

@@ -25,7 +25,7 @@ use Rattle.phase_history.proofs.Received.{counted}
 use Rattle.phase_history.proofs.Steps.{Steps, steps, sound_of}
 use Rattle.phase_history.proofs.Used.{start_from}
 use Rattle.stream_lists.specs.graph_base.declared.line.Kind.{Kind}
-use Rattle.stream_lists.specs.graph_base.declared.line.Kind.TheVariants.{Source, Fir, Split, Join, Peer, Sink}
+use Rattle.stream_lists.specs.graph_base.declared.line.Kind.TheVariants.{Source, Fir, Split, Decimate, Join, Peer, Sink}
 use Rattle.stream_lists.specs.graph_base.declared.place.Place.TheVariants as place
 use Rattle.stream_lists.specs.graph_base.declared.registration.Registration.{Registration}
 use Rattle.stream_lists.specs.graph_base.Graphs.{task_at}
@@ -306,6 +306,7 @@ not_step steps most job m t at Source is e =
     cc
 not_step steps most job m t at Fir is e = not_block _ _ at e
 not_step steps most job m t at Split is e = not_block _ _ at e
+not_step steps most job m t at Decimate is e = not_block _ _ at e
 not_step steps most job m t at Join is e = not_block _ _ at e
 not_step steps most job m t at Peer is e = not_block _ _ at e
 not_step steps most job m t at Sink is e = not_block _ _ at e

@@ -19,7 +19,7 @@ use Rattle.phase_history.specs.Legal.{AreLists}
 use Rattle.phase_history.proofs.Left.{received_law}
 use Rattle.phase_history.proofs.Sendable.{sent_are_lists}
 use Rattle.stream_lists.specs.graph_base.declared.line.Kind.{Kind}
-use Rattle.stream_lists.specs.graph_base.declared.line.Kind.TheVariants.{Source, Fir, Split, Join, Peer, Sink}
+use Rattle.stream_lists.specs.graph_base.declared.line.Kind.TheVariants.{Source, Fir, Split, Decimate, Join, Peer, Sink}
 use Rattle.stream_lists.specs.graph_base.Graphs.{task_at, phaser_at}
 use Rattle.stream_lists.specs.graph_base.TaskLines.{IsGraph, IsTaskLine}
 use Rattle.stream_lists.specs.Jobs.{Job, samples_at, index_in}
@@ -172,6 +172,7 @@ taken_all job m t k ready ran over there lt registered =
     by e Source i is at = exact (rw is tt)
     by e Fir i is at = exact (rw is tt)
     by e Split i is at = exact (rw is tt)
+    by e Decimate i is at = exact (rw is tt)
     by e Join i is at = exact (rw is tt)
     by e Sink i is at = exact (rw is tt)
     by e Peer zero is at = exact (rw is at)

@@ -8,7 +8,7 @@ use Rattle.phase_history.specs.phase_base.declared.mode.Mode.{Mode}
 use Rattle.phase_history.specs.phase_base.declared.mode.Mode.TheVariants.{Wait}
 use Rattle.phase_history.specs.Refusals.{register_refusal, register_now_refusal}
 use Rattle.stream_lists.specs.graph_base.declared.line.Kind.{Kind}
-use Rattle.stream_lists.specs.graph_base.declared.line.Kind.TheVariants.{Source, Fir, Split, Join, Peer, Sink}
+use Rattle.stream_lists.specs.graph_base.declared.line.Kind.TheVariants.{Source, Fir, Split, Decimate, Join, Peer, Sink}
 use Rattle.stream_lists.specs.graph_base.declared.line.Parent.{Parent}
 use Rattle.stream_lists.specs.graph_base.declared.registration.Registration.{Registration}
 use Rattle.phase_history.specs.phase_accum.declared.single.Single.{Single}
@@ -51,6 +51,7 @@ no_peer Source e = λ p. (cc)
 no_peer Fir e = λ p. (cc)
 no_peer Sink e = λ p. (cc)
 no_peer Split e = absurd (cc)
+no_peer Decimate e = absurd (cc)
 no_peer Join e = absurd (cc)
 no_peer Peer e = absurd (cc)
 
@@ -63,6 +64,7 @@ plain_outputs job c plain = by (task_at job.graph c).kind refl
     by Source e = rw e refl
     by Fir e = rw e refl
     by Split e = rw e refl
+    by Decimate e = rw e refl
     by Join e = rw e refl
     by Sink e = rw e refl
     by Peer e = absurd (plain e)
@@ -76,6 +78,7 @@ plain_takes job t b k plain = by (task_at job.graph t).kind refl
     by Source e = rw e refl
     by Fir e = rw e refl
     by Split e = rw e refl
+    by Decimate e = rw e refl
     by Peer e = rw e refl
     by Sink e = rw e refl
     by Join e =
@@ -267,6 +270,7 @@ is_for job c i is there lt = by (task_at job.graph c).kind refl
     by Source f = for_plain job c i is there (λ p. (let no = sym f ∙ p in cc)) lt
     by Fir f = for_plain job c i is there (λ p. (let no = sym f ∙ p in cc)) lt
     by Split f = for_plain job c i is there (λ p. (let no = sym f ∙ p in cc)) lt
+    by Decimate f = for_plain job c i is there (λ p. (let no = sym f ∙ p in cc)) lt
     by Join f = for_plain job c i is there (λ p. (let no = sym f ∙ p in cc)) lt
     by Sink f = for_plain job c i is there (λ p. (let no = sym f ∙ p in cc)) lt
     by Peer f = for_peer job c i is there f lt

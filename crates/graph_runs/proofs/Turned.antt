@@ -9,7 +9,7 @@ use Rattle.phase_history.specs.phase_base.declared.mode.Mode.{Mode}
 use Rattle.phase_history.proofs.Streams.{IsPrefix-trans}
 use Rattle.stream_lists.specs.graph_base.declared.line.Parent.{Parent}
 use Rattle.stream_lists.specs.graph_base.declared.line.Kind.{Kind}
-use Rattle.stream_lists.specs.graph_base.declared.line.Kind.TheVariants.{Source, Fir, Split, Join, Peer, Sink}
+use Rattle.stream_lists.specs.graph_base.declared.line.Kind.TheVariants.{Source, Fir, Split, Decimate, Join, Peer, Sink}
 use Rattle.stream_lists.specs.graph_base.Graphs.{task_at, phaser_at}
 use Rattle.stream_lists.specs.graph_base.TaskLines.{IsGraph}
 use Rattle.stream_lists.specs.Jobs.{Job, samples_at}
@@ -188,6 +188,7 @@ pub one_step : (kind : Kind) → IsBlock kind 1
 one_step Source = tt
 one_step Fir = tt
 one_step Split = refl
+one_step Decimate = refl
 one_step Join = refl
 one_step Peer = refl
 one_step Sink = tt

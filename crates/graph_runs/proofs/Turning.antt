@@ -2,7 +2,7 @@
 use Rattle.std.proofs.Common.{◌≡◌, ℕ, Bool, true, false, ◌||◌, cond, Option, Some, None, length, refl, sym, ◌∙◌}
 use Rattle.std.proofs.lemmas.Bool.{or_parts}
 use Rattle.stream_lists.specs.graph_base.declared.line.Kind.{Kind}
-use Rattle.stream_lists.specs.graph_base.declared.line.Kind.TheVariants.{Source, Fir, Split, Join, Peer, Sink}
+use Rattle.stream_lists.specs.graph_base.declared.line.Kind.TheVariants.{Source, Fir, Split, Decimate, Join, Peer, Sink}
 use Rattle.stream_lists.specs.graph_base.Graphs.{task_at}
 use Rattle.stream_lists.specs.graph_base.TaskLines.{IsGraph}
 use Rattle.stream_lists.specs.Jobs.{Job}
@@ -52,6 +52,9 @@ stepping steps most job m t event sizes is ran live none due uncut more answer =
         answer
     by Split e answer =
         first_wait_next steps most job m t event sizes is ran live (other Split e (λ s. (cc))) none due uncut more
+        answer
+    by Decimate e answer =
+        first_wait_next steps most job m t event sizes is ran live (other Decimate e (λ s. (cc))) none due uncut more
         answer
     by Join e answer =
         first_wait_next steps most job m t event sizes is ran live (other Join e (λ s. (cc))) none due uncut more

@@ -7,7 +7,7 @@ use Rattle.std.proofs.lemmas.List.Sums.{count_by_more_yes, length-filter}
 use Rattle.std.proofs.lemmas.Option.{same_Some}
 use Rattle.graph_base.specs.Graphs.{Graph, Task, no_task, task_at, is_sink, is_source, source_number, sources_of}
 use Rattle.graph_base.specs.declared.line.Kind.{Kind}
-use Rattle.graph_base.specs.declared.line.Kind.TheVariants.{Source, Fir, Split, Join, Peer, Sink}
+use Rattle.graph_base.specs.declared.line.Kind.TheVariants.{Source, Fir, Split, Decimate, Join, Peer, Sink}
 use Rattle.stream_lists.specs.Jobs.{Job}
 use Rattle.stream_lists.specs.Ranges.{Fits, Where, answer_of, first_too_big}
 use Rattle.stream_lists.specs.Spans.{cut_at}
@@ -19,6 +19,7 @@ sink_kind Sink e = refl
 sink_kind Source e = absurd (cc)
 sink_kind Fir e = absurd (cc)
 sink_kind Split e = absurd (cc)
+sink_kind Decimate e = absurd (cc)
 sink_kind Join e = absurd (cc)
 sink_kind Peer e = absurd (cc)
 
@@ -26,6 +27,7 @@ pub source_kind : (kind : Kind) → is_source kind ≡ true → kind ≡ Source
 source_kind Source is = refl
 source_kind Fir is = absurd (cc)
 source_kind Split is = absurd (cc)
+source_kind Decimate is = absurd (cc)
 source_kind Join is = absurd (cc)
 source_kind Peer is = absurd (cc)
 source_kind Sink is = absurd (cc)

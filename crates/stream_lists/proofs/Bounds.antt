@@ -8,13 +8,13 @@ use Rattle.std.proofs.lemmas.Bool.{cases_lt, and_parts}
 use Rattle.std.proofs.lemmas.Bool.Decides.{nat_tests}
 use Rattle.std.proofs.lemmas.List.{length-map, get_or-map, get_or_default}
 use Rattle.std.proofs.lemmas.Nat.{div-add-mod', mul-le}
-use Rattle.std.proofs.Math.Nat.{add-mul}
+use Rattle.std.proofs.Math.Nat.{add-mul, div-zero}
 use native.Mathlib.Nat.{zero-max}
 use Rattle.graph_base.specs.Graphs.{Graph, Task, task_at, source_number}
 use Rattle.graph_base.specs.TaskLines.{IsGraph, IsTaskLine, IsParent, HasEnds, has_children}
 use Rattle.graph_base.specs.phase_base.Lists.{is_distinct}
 use Rattle.graph_base.specs.declared.line.Kind.{Kind}
-use Rattle.graph_base.specs.declared.line.Kind.TheVariants.{Source, Fir, Split, Join, Peer, Sink}
+use Rattle.graph_base.specs.declared.line.Kind.TheVariants.{Source, Fir, Split, Decimate, Join, Peer, Sink}
 use Rattle.graph_base.specs.declared.line.Parent.{Parent}
 use Rattle.stream_lists.specs.Jobs.{Job, counted, samples_at, start_at}
 use Rattle.stream_lists.specs.Spans.{nowhere, turns_below, puts_on, run_out, first_run_out, enough_for, offset_of, values_from, span_at, span_of, spans_up_to, spans_over, end_on, end_of, length_on, lengths_up_to}
@@ -213,6 +213,7 @@ enough_reach task samples offset n t lengths are ends distinct few root at = by 
         omega arith
     by Fir e = first (rw e refl)
     by Split e = first (rw e refl)
+    by Decimate e = first (rw e refl)
     by Peer e = first (rw e refl)
     by Sink e = first (rw e refl)
     by Join e =
@@ -331,9 +332,8 @@ span_reach job lengths n is are (suc limit) t below there =
 
 -- ---- lengths
 
--- turns are at most the steps
-turns-most : (m k n : ℕ) → 0 < m → turns_below m k n ≤ n
-turns-most m k n some = by (cases_lt n (turns_below m k n))
+some-most : (m k n : ℕ) → 0 < m → turns_below m k n ≤ n
+some-most m k n some = by (cases_lt n (turns_below m k n))
   where
     by : (n < turns_below m k n) ⊎ (turns_below m k n ≤ n) → turns_below m k n ≤ n
     by (inr le) = le
@@ -348,12 +348,19 @@ turns-most m k n some = by (cases_lt n (turns_below m k n))
         let same : n * 1 ≡ n = omega arith in
         absurd (omega arith)
 
-puts-most : (task : Task) (steps j : ℕ)
-    → HasEnds task.kind (length task.inputs) (length task.outputs) → puts_on task steps j ≤ steps
-puts-most task steps j ends = by task.kind refl
+-- turns are at most the steps
+turns-most : (m k n : ℕ) → turns_below m k n ≤ n
+turns-most zero k n = omega (arith, div-zero (n + (0 - 1 - k)))
+turns-most (suc m) k n = some-most (suc m) k n (omega arith)
+
+puts-most : (task : Task) (steps j : ℕ) → puts_on task steps j ≤ steps
+puts-most task steps j = by task.kind refl
   where
     same : puts_on task steps j ≡ steps → puts_on task steps j ≤ steps
     same e = omega arith
+
+    turns : (m i : ℕ) → puts_on task steps j ≡ turns_below m i steps → puts_on task steps j ≤ steps
+    turns m i e = let few = turns-most m i steps in omega arith
 
     by : (kind : Kind) → task.kind ≡ kind → puts_on task steps j ≤ steps
     by Source e = same (rw e refl)
@@ -361,22 +368,17 @@ puts-most task steps j ends = by task.kind refl
     by Join e = same (rw e refl)
     by Peer e = same (rw e refl)
     by Sink e = same (rw e refl)
-    by Split e =
-        let both : (length task.inputs ≡ 1) × (2 ≤ length task.outputs)
-        × (length task.outputs ≤ 8) = rw e at ends in
-        let is : puts_on task steps j ≡ turns_below (length task.outputs) j steps = rw e refl in
-        let two : 2 ≤ length task.outputs = both.1 in
-        let few = turns-most (length task.outputs) j steps (omega arith) in omega arith
+    by Split e = turns (length task.outputs) j (rw e refl)
+    by Decimate e = turns task.every 0 (rw e refl)
 
-end_reach : (task : Task) (span : Span) (place : Option ℕ) (most : ℕ)
-    → HasEnds task.kind (length task.inputs) (length task.outputs) → Reaches span most
+end_reach : (task : Task) (span : Span) (place : Option ℕ) (most : ℕ) → Reaches span most
     → end_on task span place ≤ most
-end_reach task span None most ends reaches = omega arith
-end_reach task span (Some j) most ends reaches = by span.live
+end_reach task span None most reaches = omega arith
+end_reach task span (Some j) most reaches = by span.live
   where
     by : (b : Bool) → (if b then span.offset + puts_on task span.steps j else 0) ≤ most
     by false = omega arith
-    by true = let few = puts-most task span.steps j ends in omega arith
+    by true = let few = puts-most task span.steps j in omega arith
 
 fold-max : (f : ℕ → ℕ) (a from many most : ℕ) → a ≤ most
     → ((t : ℕ) → t < from + many → f t ≤ most)
@@ -414,7 +416,7 @@ length_bound job lengths n is are =
     let span = span_at_reach job lengths n t is are there in
     let most = reach-bound n (suc t) (omega arith) in
     end_reach (task_at job.graph t) (get_or (spans_over job lengths) t nowhere) _ (bound n)
-    (is.graph.tasks t there).ends (omega arith)))
+    (omega arith)))
 
 pub lengths_bounded : (job : Job) (n : ℕ) → IsGiven job → AreBounded (lengths_up_to job n) n
 lengths_bounded job n is = record {

@@ -10,7 +10,7 @@ use Rattle.std.proofs.lemmas.List.FromFn.{length-map-range_with_len}
 use Rattle.graph_base.specs.Graphs.{Graph, Task, task_at, phaser_at}
 use Rattle.graph_base.specs.TaskLines.{IsGraph, IsTaskLine, IsParent, has_children}
 use Rattle.graph_base.specs.declared.line.Kind.{Kind}
-use Rattle.graph_base.specs.declared.line.Kind.TheVariants.{Source, Fir, Split, Join, Peer, Sink}
+use Rattle.graph_base.specs.declared.line.Kind.TheVariants.{Source, Fir, Split, Decimate, Join, Peer, Sink}
 use Rattle.graph_base.specs.phase_base.declared.operation.Op.TheVariants.{Any}
 use Rattle.graph_base.specs.declared.line.Parent.{Parent}
 use Rattle.stream_lists.specs.Jobs.{Job, samples_at, start_at, index_in}
@@ -123,6 +123,7 @@ one_a_step task steps j may = by task.kind refl
     by Join e = rw e refl
     by Peer e = rw e refl
     by Split e = absurd (let b : true ≡ false = sym may ∙ ap has_children e in cc)
+    by Decimate e = absurd (let b : true ≡ false = sym may ∙ ap has_children e in cc)
 
 -- a child begins where its parent has come to, at most at its end
 pub record Begins (job : Job) (t : ℕ) (u : Parent) : Type 0 where

@@ -4,7 +4,7 @@ use Rattle.graph_base.specs.phase_accum.declared.single.Single.{Single}
 use Rattle.graph_base.specs.phase_accum.declared.single.Single.TheVariants.{Neg}
 use Rattle.graph_base.specs.phase_base.declared.operation.Op.{Op}
 use Rattle.graph_base.specs.phase_base.declared.operation.Op.TheVariants.{Sum, Any}
-use Rattle.graph_base.specs.declared.line.Kind.TheVariants.{Source, Fir, Split, Join, Peer}
+use Rattle.graph_base.specs.declared.line.Kind.TheVariants.{Source, Fir, Split, Decimate, Join, Peer}
 use Rattle.graph_base.specs.declared.place.Place.TheVariants as place
 use Rattle.graph_base.specs.declared.line.PhaserLine.{PhaserLine}
 use Rattle.graph_base.specs.Graphs.{Task, no_graph, no_task}
@@ -40,6 +40,15 @@ fir line x y bits taps = record no_task {
 
 abbrev pub splitter : ℕ → ℕ → List ℕ → Task
 splitter line x ys = record no_task { line = line; kind = Split; inputs = x ∷ []; outputs = ys }
+
+abbrev pub decimator : ℕ → ℕ → ℕ → ℕ → Task
+decimator line x y every = record no_task {
+  line = line;
+  kind = Decimate;
+  inputs = x ∷ [];
+  outputs = y ∷ [];
+  every = every;
+}
 
 abbrev pub joiner : ℕ → List ℕ → ℕ → Task
 joiner line xs y = record no_task { line = line; kind = Join; inputs = xs; outputs = y ∷ [] }
@@ -169,6 +178,64 @@ comes_late-line = refl
 
 comes_late-answer : answer_of comes_late ≡ Ok ((2, these (0 ∷ 0 ∷ 3 ∷ [])) ∷ [])
 comes_late-answer = refl
+
+-- phaser X sum / phaser Y sum / source s s.csv -> X / decimate d X -> Y every 3 / sink out Y, on the
+-- samples 3, 1, 4, 1, 5, 9
+abbrev pub one_of_three_6 : Job
+one_of_three_6 =
+    job_of
+    (plain Sum ∷ plain Sum ∷ [])
+    (source 3 0
+    ∷ decimator 4 0 1 3
+    ∷ sink 5 1
+    ∷ [])
+    ((these (3 ∷ 1 ∷ 4 ∷ 1 ∷ 5 ∷ 9 ∷ [])) ∷ [])
+
+one_of_three_6-line : meeting_line one_of_three_6 ≡ None
+one_of_three_6-line = refl
+
+one_of_three_6-answer : answer_of one_of_three_6 ≡ Ok ((2, these (3 ∷ 1 ∷ [])) ∷ [])
+one_of_three_6-answer = refl
+
+-- the same on one sample more
+abbrev pub one_of_three_7 : Job
+one_of_three_7 =
+    job_of
+    (plain Sum ∷ plain Sum ∷ [])
+    (source 3 0
+    ∷ decimator 4 0 1 3
+    ∷ sink 5 1
+    ∷ [])
+    ((these (3 ∷ 1 ∷ 4 ∷ 1 ∷ 5 ∷ 9 ∷ 2 ∷ [])) ∷ [])
+
+one_of_three_7-line : meeting_line one_of_three_7 ≡ None
+one_of_three_7-line = refl
+
+one_of_three_7-answer : answer_of one_of_three_7 ≡ Ok ((2, these (3 ∷ 1 ∷ 2 ∷ [])) ∷ [])
+one_of_three_7-answer = refl
+
+-- phasers X, Y, Z sum / source s s.csv -> X / decimate d X -> Y every 1 until 4
+-- / decimate e Y -> Z every 4 / sink outy Y / sink outz Z
+abbrev one_of_one : Job
+one_of_one =
+    job_of
+    (plain Sum ∷ plain Sum ∷ plain Sum ∷ [])
+    (source 4 0
+    ∷ stops_at 4 (decimator 5 0 1 1)
+    ∷ decimator 6 1 2 4
+    ∷ sink 7 1
+    ∷ sink 8 2
+    ∷ [])
+    ((these (3 ∷ 1 ∷ 4 ∷ 1 ∷ 5 ∷ 9 ∷ [])) ∷ [])
+
+one_of_one-line : meeting_line one_of_one ≡ None
+one_of_one-line = refl
+
+one_of_one-answer : answer_of one_of_one
+    ≡ Ok ((3, these (3 ∷ 1 ∷ 4 ∷ 1 ∷ []))
+    ∷ (4, these (3 ∷ []))
+    ∷ [])
+one_of_one-answer = refl
 
 -- phasers X, A, B, S sum / source s s.csv -> X / split d X -> A B
 -- / fir f A -> S shift 0 taps 1 / fir g X -> S shift 0 taps 1 / sink out S

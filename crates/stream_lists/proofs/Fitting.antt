@@ -11,7 +11,7 @@ use Rattle.graph_base.specs.phase_accum.declared.outcome.Outcome.TheVariants.{Va
 use Rattle.graph_base.specs.Graphs.{Task, task_at, phaser_at}
 use Rattle.graph_base.specs.TaskLines.{IsGraph, IsTaskLine, HasEnds}
 use Rattle.graph_base.specs.declared.line.Kind.{Kind}
-use Rattle.graph_base.specs.declared.line.Kind.TheVariants.{Source, Fir, Split, Join, Peer, Sink}
+use Rattle.graph_base.specs.declared.line.Kind.TheVariants.{Source, Fir, Split, Decimate, Join, Peer, Sink}
 use Rattle.graph_base.specs.declared.place.Place.TheVariants as place
 use Rattle.stream_lists.specs.Jobs.{Job, samples_at, index_in}
 use Rattle.stream_lists.specs.Spans.{lengths_of, span_in, signalled_by, takes_from, schedule_of}
@@ -219,6 +219,7 @@ made_on job t j is makes = by (task_at job.graph t).kind j refl refl
         × (index_in (signalled_by (task_at job.graph t)) p ≡ Some j)
     by Source i e at = absurd (never Source e refl)
     by Split i e at = absurd (never Split e refl)
+    by Decimate i e at = absurd (never Decimate e refl)
     by Join i e at = absurd (never Join e refl)
     by Sink i e at = absurd (never Sink e refl)
     by Fir i e at =

@@ -9,7 +9,7 @@ use Rattle.stream_lists.specs.Exact.{exact_lines, exact_lists}
 use Rattle.stream_lists.specs.Ranges.{answer_of}
 use Rattle.stream_lists.specs.Spans.{nowhere, signalled_by, LooksAt, puts_on, lengths_of, spans_of, span_at, span_in, span_of, schedule_of}
 use Rattle.stream_lists.specs.Lists.{list_of_phaser, list_over, contributions_on, numbers_of, numbers_above, output_list, output_on, ends_on}
-use Rattle.stream_lists.proofs.Examples.{minus, plain, source, fir, sink, added_by, stops_at, job_of, these, nothing, split_to_one_bus_7, any_hands_over_2, any_hands_over_3, any_hands_over_4, peers, peers_with_single, too_big_phase}
+use Rattle.stream_lists.proofs.Examples.{minus, plain, source, fir, sink, added_by, stops_at, job_of, these, nothing, split_to_one_bus_7, one_of_three_6, one_of_three_7, any_hands_over_2, any_hands_over_3, any_hands_over_4, peers, peers_with_single, too_big_phase}
 
 -- ---- places
 
@@ -167,6 +167,23 @@ split-less : output_list [] (these (1 ∷ 2 ∷ []) ∷ []) (task_at split_to_on
     ≡ these (1 ∷ [])
 split-less = refl
 
+-- six steps of a decimator every 3 put two values, those of steps 0 and 3, and seven put three
+decimate-six : output_list [] (these (3 ∷ 1 ∷ 4 ∷ 1 ∷ 5 ∷ 9 ∷ []) ∷ [])
+    (task_at one_of_three_6.graph 1) 6 0 ≡ these (3 ∷ 1 ∷ [])
+decimate-six = refl
+
+decimate-puts_none : puts_on (task_at one_of_three_6.graph 1) 0 0 ≡ 0
+decimate-puts_none = refl
+
+decimate-puts_first : puts_on (task_at one_of_three_6.graph 1) 1 0 ≡ 1
+decimate-puts_first = refl
+
+decimate-puts_six : puts_on (task_at one_of_three_6.graph 1) 6 0 ≡ 2
+decimate-puts_six = refl
+
+decimate-puts_seven : puts_on (task_at one_of_three_6.graph 1) 7 0 ≡ 3
+decimate-puts_seven = refl
+
 -- the filter would end there at phase 3, and the list does so at phase 1
 output_above-ends : ends_on output_above 0 ≡ 0 ∷ 1 ∷ 3 ∷ []
 output_above-ends = refl
@@ -200,6 +217,13 @@ split-second = refl
 
 split-ends : ends_on split_to_one_bus_7 2 ≡ 0 ∷ 3 ∷ 0 ∷ 0 ∷ 0 ∷ []
 split-ends = refl
+
+-- a decimator takes a value in each step, and ends where its values do
+decimate-steps : (span_in one_of_three_7 1).steps ≡ 7
+decimate-steps = refl
+
+decimate-ends : ends_on one_of_three_7 1 ≡ 0 ∷ 3 ∷ 0 ∷ []
+decimate-ends = refl
 
 -- a sink has no output: its steps say seven, and it puts nothing anywhere
 sink-puts : puts_on (task_at split_to_one_bus_7.graph 4) (span_in split_to_one_bus_7 4).steps 0 ≡ 7

@@ -5,7 +5,7 @@ use Rattle.std.proofs.lemmas.List.{get_or-map}
 use Rattle.graph_base.specs.Graphs.{Task, task_at}
 use Rattle.graph_base.specs.TaskLines.{IsGraph, IsTaskLine, IsParent, HasEnds}
 use Rattle.graph_base.specs.declared.line.Kind.{Kind}
-use Rattle.graph_base.specs.declared.line.Kind.TheVariants.{Source, Fir, Split, Join, Peer, Sink}
+use Rattle.graph_base.specs.declared.line.Kind.TheVariants.{Source, Fir, Split, Decimate, Join, Peer, Sink}
 use Rattle.stream_lists.specs.Jobs.{Job, samples_at, start_at, index_in}
 use Rattle.stream_lists.specs.Spans.{nowhere, signalled_by, LooksAt, offset_of, cut_at, span_at, spans_over, spans_of, lengths_of, enough_for, values_from, greatest, length_on, end_on, end_of}
 use Rattle.stream_lists.specs.declared.span.Span.{Span}
@@ -45,6 +45,7 @@ same_enough task samples offset xs ys ends same = by task.kind refl
     by Source e = whole (λ k. rw e tt)
     by Fir e = whole (λ k. rw e tt)
     by Split e = whole (λ k. rw e tt)
+    by Decimate e = whole (λ k. rw e tt)
     by Join e = whole (λ k. rw e tt)
     by Sink e = whole (λ k. rw e tt)
     by Peer e =

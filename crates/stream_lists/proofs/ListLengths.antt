@@ -6,10 +6,10 @@ use Rattle.std.proofs.lemmas.List.FromFn.{length-map-range_with_len}
 use Rattle.graph_base.specs.Graphs.{Task, task_at}
 use Rattle.graph_base.specs.TaskLines.{IsGraph, IsTaskLine, HasEnds}
 use Rattle.graph_base.specs.declared.line.Kind.{Kind}
-use Rattle.graph_base.specs.declared.line.Kind.TheVariants.{Source, Fir, Split, Join, Peer, Sink}
+use Rattle.graph_base.specs.declared.line.Kind.TheVariants.{Source, Fir, Split, Decimate, Join, Peer, Sink}
 use Rattle.stream_lists.specs.Jobs.{Job, samples_at, start_at, index_in}
 use Rattle.stream_lists.specs.Spans.{signalled_by, LooksAt, puts_on, takes_from, turns_below, offset_of, span_at, spans_of, lengths_of, span_in, enough_for, values_from, greatest, end_on, end_of, schedule_of}
-use Rattle.stream_lists.specs.Lists.{turn_at, mixed, mixed_at, taken_by, output_list, output_on, contribution_at, contribution_by, list_over, number, numbers_of, end_of_contribution, ends_on}
+use Rattle.stream_lists.specs.Lists.{every, turn_at, mixed, mixed_at, taken_by, output_list, output_on, contribution_at, contribution_by, list_over, number, numbers_of, end_of_contribution, ends_on}
 use Rattle.stream_lists.proofs.Growing.{map-same}
 use Rattle.stream_lists.proofs.Ordered.{place-at}
 use Rattle.stream_lists.proofs.SpansAbove.{spans_all}
@@ -53,6 +53,7 @@ one_enough task samples values one = by task.kind refl
     by Join e = absurd (let b : false ≡ true = sym (ap takes_one e) ∙ one in cc)
     by Fir e = rw e refl
     by Split e = rw e refl
+    by Decimate e = rw e refl
     by Peer e = rw e refl
     by Sink e = rw e refl
 
@@ -65,6 +66,7 @@ one_each task steps k one = by task.kind refl
     by Source e = rw e refl
     by Fir e = rw e refl
     by Split e = rw e refl
+    by Decimate e = rw e refl
     by Peer e = rw e refl
     by Sink e = rw e refl
 
@@ -74,6 +76,7 @@ has_input Source inputs outputs ends one = absurd (cc)
 has_input Join inputs outputs ends one = absurd (cc)
 has_input Fir inputs outputs ends one = omega (arith, ends.0)
 has_input Split inputs outputs ends one = omega (arith, ends.0)
+has_input Decimate inputs outputs ends one = omega (arith, ends.0)
 has_input Peer inputs outputs ends one = omega (arith, ends.0)
 has_input Sink inputs outputs ends one = omega (arith, ends.0)
 
@@ -130,16 +133,20 @@ length-output samples taken task steps j ends lt enough one = by task.kind refl
         length-map-range_with_len (mixed_at task.mul (get_or taken 0 []) (get_or taken 1 [])) 0
         (length (get_or taken 0 [])) ∙ all
 
+    turns : (m i : ℕ) → length (get_or taken 0 []) ≡ steps
+        → length (every m i (get_or taken 0 [])) ≡ turns_below m i steps
+    turns m i all =
+        length-map-range_with_len _ 0 (turns_below m i (length (get_or taken 0 [])))
+        ∙ ap (turns_below m i) all
+
     by : (kind : Kind) → task.kind ≡ kind
         → length (output_list samples taken task steps j) ≡ puts_on task steps j
     by Source e = rw e (length-take-le steps samples (enough e))
     by Fir e =
         rw e (length-map-range_with_len _ 0 (length (get_or taken 0 []))
         ∙ one (ap takes_one e))
-    by Split e =
-        rw e (length-map-range_with_len _ 0
-        (turns_below (length task.outputs) j (length (get_or taken 0 [])))
-        ∙ ap (turns_below (length task.outputs) j) (one (ap takes_one e)))
+    by Split e = rw e (turns (length task.outputs) j (one (ap takes_one e)))
+    by Decimate e = rw e (turns task.every 0 (one (ap takes_one e)))
     by Join e = rw e (length-map-range_with_len (turn_at taken) 0 steps)
     by Peer e = rw e (peer (nat_lt 0 j) (one (ap takes_one e)))
     by Sink e =
@@ -152,6 +159,7 @@ looks_first : (kind : Kind) → LooksAt kind 0 0
 looks_first Source = tt
 looks_first Fir = tt
 looks_first Split = tt
+looks_first Decimate = tt
 looks_first Join = tt
 looks_first Peer = refl
 looks_first Sink = tt

@@ -6,7 +6,7 @@ use Rattle.std.proofs.lemmas.List.FromFn.{get_or-map-range_with_len}
 use Rattle.graph_base.specs.Graphs.{Task, task_at, phaser_at}
 use Rattle.graph_base.specs.TaskLines.{IsGraph, IsTaskLine, HasEnds}
 use Rattle.graph_base.specs.declared.line.Kind.{Kind}
-use Rattle.graph_base.specs.declared.line.Kind.TheVariants.{Source, Fir, Split, Join, Peer, Sink}
+use Rattle.graph_base.specs.declared.line.Kind.TheVariants.{Source, Fir, Split, Decimate, Join, Peer, Sink}
 use Rattle.stream_lists.specs.Jobs.{Job, samples_at, index_in}
 use Rattle.stream_lists.specs.Spans.{nowhere, signalled_by, LooksAt, takes_from, spans_of, Schedule, schedule_of}
 use Rattle.stream_lists.specs.Lists.{contribution_at, contribution_by, contributions_on, output_list, output_on, taken_by, taken_from, phase_in, value_by, number, list_over, list_of_phaser, numbers_above, numbers_of}
@@ -70,6 +70,7 @@ output_by_taken samples task span xs ys j ends same = by task.kind j refl refl
     by Source i e at = whole (λ k. rw e tt)
     by Fir i e at = whole (λ k. rw e tt)
     by Split i e at = whole (λ k. rw e tt)
+    by Decimate i e at = whole (λ k. rw e tt)
     by Join i e at = whole (λ k. rw e tt)
     by Sink i e at = whole (λ k. rw e tt)
     by Peer zero e at = first e at

@@ -6,11 +6,12 @@ use Rattle.std.specs.List.{range_with_len, fold, list_any, find}
 use Rattle.std.specs.Option.{option_map}
 use Rattle.std.proofs.lemmas.Bool.{and_parts, or_parts}
 use Rattle.std.proofs.lemmas.Bool.Decides.{nat_tests}
+use Rattle.std.proofs.Math.Nat.{div-zero}
 use Rattle.std.proofs.lemmas.Nat.{div-add-mod', mul-le, le-div}
 use Rattle.graph_base.specs.Graphs.{Task, task_at, phaser_at}
-use Rattle.graph_base.specs.TaskLines.{IsGraph, IsTaskLine, IsParent, HasEnds}
+use Rattle.graph_base.specs.TaskLines.{IsGraph, IsTaskLine, IsParent}
 use Rattle.graph_base.specs.declared.line.Kind.{Kind}
-use Rattle.graph_base.specs.declared.line.Kind.TheVariants.{Source, Fir, Split, Join, Peer, Sink}
+use Rattle.graph_base.specs.declared.line.Kind.TheVariants.{Source, Fir, Split, Decimate, Join, Peer, Sink}
 use Rattle.graph_base.specs.declared.line.Parent.{Parent}
 use Rattle.stream_lists.specs.Jobs.{Job, samples_at, samples_in, start_at, index_in, with_samples}
 use Rattle.stream_lists.specs.declared.span.Span.{Span}
@@ -58,10 +59,11 @@ push_less (x ∷ xs) (y ∷ ys) a b same less le zero = less 0
 push_less (x ∷ xs) (y ∷ ys) a b same less le (suc k) =
     push_less xs ys a b (omega arith) (λ i. less (suc i)) le k
 
-div_less : (m a b : ℕ) → 0 < m → a ≤ b → a / m ≤ b / m
-div_less m a b some le =
-    let whole = div-add-mod' a m in
-    le-div (a / m) b m some (omega arith)
+div_less : (m a b : ℕ) → a ≤ b → a / m ≤ b / m
+div_less zero a b le = omega (arith, div-zero a)
+div_less (suc m) a b le =
+    let whole = div-add-mod' a (suc m) in
+    le-div (a / suc m) b (suc m) (omega arith) (omega arith)
 
 -- ---- spans
 
@@ -120,6 +122,7 @@ enough_less task n n' offset xs ys few less = by task.kind refl
         let le = few e in omega arith
     by Fir e = first (map_less (λ p. get_or xs p 0 - offset) (λ p. get_or ys p 0 - offset) task.inputs (λ p. (let one = less p in omega arith))) (rw e refl) (rw e refl)
     by Split e = first (map_less (λ p. get_or xs p 0 - offset) (λ p. get_or ys p 0 - offset) task.inputs (λ p. (let one = less p in omega arith))) (rw e refl) (rw e refl)
+    by Decimate e = first (map_less (λ p. get_or xs p 0 - offset) (λ p. get_or ys p 0 - offset) task.inputs (λ p. (let one = less p in omega arith))) (rw e refl) (rw e refl)
     by Peer e = first (map_less (λ p. get_or xs p 0 - offset) (λ p. get_or ys p 0 - offset) task.inputs (λ p. (let one = less p in omega arith))) (rw e refl) (rw e refl)
     by Sink e = first (map_less (λ p. get_or xs p 0 - offset) (λ p. get_or ys p 0 - offset) task.inputs (λ p. (let one = less p in omega arith))) (rw e refl) (rw e refl)
     by Join e =
@@ -201,15 +204,18 @@ spans_less job more xs ys is few less (suc limit) t below there =
 
 -- ---- ends and lengths
 
-turns_less : (m j n k : ℕ) → 0 < m → n ≤ k → turns_below m j n ≤ turns_below m j k
-turns_less m j n k some le = div_less m (n + (m - 1 - j)) (k + (m - 1 - j)) some (omega arith)
+turns_less : (m j n k : ℕ) → n ≤ k → turns_below m j n ≤ turns_below m j k
+turns_less m j n k le = div_less m (n + (m - 1 - j)) (k + (m - 1 - j)) (omega arith)
 
-puts_less : (task : Task) (n k j : ℕ) → HasEnds task.kind (length task.inputs) (length task.outputs)
-    → n ≤ k → puts_on task n j ≤ puts_on task k j
-puts_less task n k j ends le = by task.kind refl
+puts_less : (task : Task) (n k j : ℕ) → n ≤ k → puts_on task n j ≤ puts_on task k j
+puts_less task n k j le = by task.kind refl
   where
     plain : puts_on task n j ≡ n → puts_on task k j ≡ k → puts_on task n j ≤ puts_on task k j
     plain a b = omega arith
+
+    turns : (m i : ℕ) → puts_on task n j ≡ turns_below m i n → puts_on task k j ≡ turns_below m i k
+        → puts_on task n j ≤ puts_on task k j
+    turns m i a b = let less = turns_less m i n k le in omega arith
 
     by : (kind : Kind) → task.kind ≡ kind → puts_on task n j ≤ puts_on task k j
     by Source e = plain (rw e refl) (rw e refl)
@@ -217,21 +223,13 @@ puts_less task n k j ends le = by task.kind refl
     by Join e = plain (rw e refl) (rw e refl)
     by Peer e = plain (rw e refl) (rw e refl)
     by Sink e = plain (rw e refl) (rw e refl)
-    by Split e =
-        let H : Kind → Type 0 = λ kind. HasEnds kind (length task.inputs) (length task.outputs) in
-        let many : (length task.inputs ≡ 1) × (2 ≤ length task.outputs) × (length task.outputs ≤ 8) =
-        subst H e ends in
-        let two = many.1 in
-        let a : puts_on task n j ≡ turns_below (length task.outputs) j n = rw e refl in
-        let b : puts_on task k j ≡ turns_below (length task.outputs) j k = rw e refl in
-        let less = turns_less (length task.outputs) j n k (omega arith) le in
-        omega arith
+    by Split e = turns (length task.outputs) j (rw e refl) (rw e refl)
+    by Decimate e = turns task.every 0 (rw e refl) (rw e refl)
 
-end_less : (task : Task) (a b : Span) (place : Option ℕ)
-    → HasEnds task.kind (length task.inputs) (length task.outputs) → IsWithin a b
+end_less : (task : Task) (a b : Span) (place : Option ℕ) → IsWithin a b
     → end_on task a place ≤ end_on task b place
-end_less task a b None ends within = omega arith
-end_less task a b (Some j) ends within = by a.live refl
+end_less task a b None within = omega arith
+end_less task a b (Some j) within = by a.live refl
   where
     by : (x : Bool) → a.live ≡ x → end_on task a (Some j) ≤ end_on task b (Some j)
     by false e =
@@ -243,7 +241,7 @@ end_less task a b (Some j) ends within = by a.live refl
         let new : end_on task b (Some j) ≡ b.offset + puts_on task b.steps j =
         ap (λ x. if x then b.offset + puts_on task b.steps j else 0) (within.live e) in
         let same = within.offset e in
-        let puts = puts_less task a.steps b.steps j ends within.steps in
+        let puts = puts_less task a.steps b.steps j within.steps in
         omega arith
 
 lengths_less : (job : Job) (more : List (List ℤ)) → IsGraph job.graph → HasNoFewer job more
@@ -269,7 +267,6 @@ lengths_less job more is few (suc n) k =
     (λ t lt. end_less (task_at job.graph t) (get_or (spans_over job old) t nowhere)
     (get_or (spans_over (with_samples more job) new) t nowhere)
     (index_in (signalled_by (task_at job.graph t)) n)
-    (is.tasks t (omega arith)).ends
     (spans_less job more old new is few before (suc t) t (omega arith) (omega arith))) in
     let A : List ℕ → Type 0 =
     λ xs. get_or xs k 0 ≤ get_or (lengths_up_to (with_samples more job) (suc n)) k 0 in
@@ -323,10 +320,10 @@ meet_more job more t p u is few there there_u e =
     two.offset (live_if (task_at job.graph u) b (index_in (signalled_by (task_at job.graph u)) p) q2) in
     let ends_a : ae ≤ ae' =
     end_less (task_at job.graph t) a a' (index_in (signalled_by (task_at job.graph t)) p)
-    (is.tasks t there).ends one in
+    one in
     let ends_b : be ≤ be' =
     end_less (task_at job.graph u) b b' (index_in (signalled_by (task_at job.graph u)) p)
-    (is.tasks u there_u).ends two in
+    two in
     let l1 : a'.offset < ae' = omega arith in
     let l2 : b'.offset < be' = omega arith in
     let l3 : a'.offset < be' = omega arith in

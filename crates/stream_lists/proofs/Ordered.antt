@@ -8,7 +8,7 @@ use Rattle.graph_base.specs.Graphs.{Graph, Task, task_at}
 use Rattle.graph_base.specs.TaskLines.{IsGraph, IsTaskLine, IsParent, HasEnds, has_children}
 use Rattle.graph_base.specs.phase_base.Lists.{is_distinct}
 use Rattle.graph_base.specs.declared.line.Kind.{Kind}
-use Rattle.graph_base.specs.declared.line.Kind.TheVariants.{Source, Fir, Split, Join, Peer, Sink}
+use Rattle.graph_base.specs.declared.line.Kind.TheVariants.{Source, Fir, Split, Decimate, Join, Peer, Sink}
 use Rattle.graph_base.specs.declared.line.Parent.{Parent}
 use Rattle.stream_lists.specs.Jobs.{index_in}
 use Rattle.stream_lists.specs.Spans.{signalled_by, LooksAt}
@@ -122,6 +122,7 @@ pub looks-first : (kind : Kind) (j k : ℕ) → LooksAt kind 0 k → LooksAt kin
 looks-first Source j k e = tt
 looks-first Fir j k e = tt
 looks-first Split j k e = tt
+looks-first Decimate j k e = tt
 looks-first Join j k e = tt
 looks-first Peer zero k e = e
 looks-first Peer (suc j) k e = tt
@@ -165,6 +166,7 @@ looked_above graph t task j k p line place lt looks = by task.kind refl
     by Source e = plain (rw e refl)
     by Fir e = plain (rw e refl)
     by Split e = plain (rw e refl)
+    by Decimate e = plain (rw e refl)
     by Join e = plain (rw e refl)
     by Sink e = plain (rw e refl)
     by Peer e =
@@ -192,6 +194,7 @@ plain_ends task e = by task.kind refl
     by Fir k = rw k refl
     by Sink k = rw k refl
     by Split k = rw k refl
+    by Decimate k = rw k refl
     by Join k = rw k refl
     by Peer k = absurd (let b : true ≡ false = sym e ∙ ap has_children k in cc)
 
