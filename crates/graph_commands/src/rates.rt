@@ -73,7 +73,7 @@ fn given(task: &TaskLine, rates: &[Option<Rate>], p: usize) -> Option<Rate> {
         Kind::Decimate => least_input(task, rates, 1, task.every as usize, p),
         Kind::Join => least_input(task, rates, task.inputs.len(), 1, p),
         Kind::Peer if takes(task, p) => known(rates, *task.inputs.first()?),
-        _ => least_input(task, rates, 1, 1, p),
+        Kind::Fir | Kind::Peer | Kind::Sink => least_input(task, rates, 1, 1, p),
     }
 }
 

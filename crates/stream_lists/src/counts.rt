@@ -27,13 +27,11 @@ pub(crate) fn put_count(task: &TaskLine, steps: u128, j: usize) -> u128
     ensures count { result ≡ puts_on (task_of task.now) steps j }
     ensures short { result ≤ steps }
 {
-    if task.kind == Kind::Split {
-        return turns(task.outputs.len(), j, steps);
+    match task.kind {
+        Kind::Split => turns(task.outputs.len(), j, steps),
+        Kind::Decimate => turns(task.every as usize, 0, steps),
+        Kind::Source | Kind::Fir | Kind::Join | Kind::Peer | Kind::Sink => steps,
     }
-    if task.kind == Kind::Decimate {
-        return turns(task.every as usize, 0, steps);
-    }
-    steps
 }
 
 /// Returns how many values so many steps take from input number `k`: of a joiner's inputs each has
@@ -45,8 +43,8 @@ pub fn taken_count(task: &TaskLine, steps: u128, k: usize) -> u128
     ensures count { result ≡ takes_from (task_of task.now) steps k }
     ensures short { result ≤ steps }
 {
-    if task.kind == Kind::Join {
-        return turns(task.inputs.len(), k, steps);
+    match task.kind {
+        Kind::Join => turns(task.inputs.len(), k, steps),
+        Kind::Source | Kind::Fir | Kind::Split | Kind::Decimate | Kind::Peer | Kind::Sink => steps,
     }
-    steps
 }
