@@ -47,6 +47,6 @@ pub task-built : (names : List Named) (n : ℕ) (body : BodyWords) (ends : EndWo
       block = block;
       joins_now = now;
     } ≡ task_line names n body ends
-task-built names n body ends kind inputs outputs parent until taps form mul every block now a b c d e
-    f g h i j k =
+task-built names n body ends kind inputs outputs parent until taps form mul every block now a b c d
+    e f g h i j k =
     rw (a, b, c, d, e, f, g, h, i, j, k) refl

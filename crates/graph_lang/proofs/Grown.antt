@@ -4,7 +4,7 @@ use Rattle.std.proofs.lemmas.List.{get_or_append_left, get_or_push, length_push}
 use Rattle.std.proofs.lemmas.List.Elements.{All-weaker}
 use Rattle.std.proofs.lemmas.Bool.{cases_lt}
 use Rattle.graph_base.specs.Graphs.{Graph, Task, task_at, phaser_at}
-use Rattle.graph_base.specs.TaskLines.{IsTaskLine, IsParent, AreAmong, has_children}
+use Rattle.graph_base.specs.TaskLines.{IsTaskLine, IsParent, has_children}
 use Rattle.graph_base.specs.declared.line.Parent.{Parent}
 
 pub weaken_some : {A : Type 0} (o : Option A) (P Q : A → Type 0) → ((x : A) → P x → Q x)

@@ -2,9 +2,9 @@
 use Rattle.std.proofs.Common.{◌≡◌, [], ◌∷◌, true, false, Some, None, refl, codes}
 use Rattle.graph_text.specs.phase_base.declared.operation.Op.TheVariants.{Sum}
 use Rattle.graph_text.specs.phase_base.Words.{Word}
-use Rattle.graph_text.specs.Decls.{phaser, task, source, fir, join, peer, sink, clamp, EndWords}
+use Rattle.graph_text.specs.Decls.{phaser, task, source, fir, decimate, join, peer, sink, clamp, EndWords}
 use Rattle.graph_base.specs.Graphs.{Graph, no_phaser, no_task}
-use Rattle.graph_base.specs.declared.line.Kind.TheVariants.{Split, Sink}
+use Rattle.graph_base.specs.declared.line.Kind.TheVariants.{Split, Decimate, Sink}
 use Rattle.graph_base.specs.declared.place.Place.TheVariants as place
 use Rattle.graph_lang.specs.Faults.{kind_of}
 use Rattle.graph_lang.specs.declared.fault.FaultKind.TheVariants.{Limit, Twice, Unknown, OutBeforeIn, BadParent, NotHeld, OverBound}
@@ -75,6 +75,30 @@ parent_joins_now : kind_of (record before {
 })
     (task (codes "s") (sink (codes "B")) by_splitter) ≡ Some BadParent
 parent_joins_now = refl
+
+-- a decimator puts one of 1 to 65,536 values
+every_few : kind_of before
+    (task (codes "e") (decimate (codes "A") (codes "B") (codes "1")) no_ends) ≡ None
+every_few = refl
+
+every_many : kind_of before
+    (task (codes "e") (decimate (codes "A") (codes "B") (codes "65536")) no_ends) ≡ None
+every_many = refl
+
+every_none : kind_of before
+    (task (codes "e") (decimate (codes "A") (codes "B") (codes "0")) no_ends) ≡ Some Limit
+every_none = refl
+
+every_too_many : kind_of before
+    (task (codes "e") (decimate (codes "A") (codes "B") (codes "65537")) no_ends) ≡ Some Limit
+every_too_many = refl
+
+-- the parent is a decimator
+parent_decimates : kind_of (record before {
+  tasks = record no_task { kind = Decimate; inputs = 0 ∷ []; outputs = 1 ∷ []; every = 2 } ∷ [];
+})
+    (task (codes "s") (sink (codes "A")) by_splitter) ≡ Some BadParent
+parent_decimates = refl
 
 -- ---- two
 

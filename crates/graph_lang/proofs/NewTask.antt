@@ -1,5 +1,5 @@
 -- The line of a task that has no fault is a line of the graph.
-use Rattle.std.proofs.Common.{ℕ, ℤ, pos, suc, ◌≡◌, ◌<◌, ◌≤◌, ◌==◌, ◌&&◌, ◌||◌, not, List, [], ◌∷◌, ◌++◌, length, get_or, Bool, true, false, Option, Some, None, is_some, option_map, IfSome, IsSome, IsTrue, nat_lt, nat_le, unsigned_abs, refl, sym, ap, ◌∙◌, subst, arith, bytes_eq, ne_eqb, eqb-true, ltb-true, leb-true, All, Contains, inl, inr, ◌⊎◌}
+use Rattle.std.proofs.Common.{ℕ, pos, suc, ◌≡◌, ◌<◌, ◌≤◌, ◌==◌, ◌&&◌, ◌||◌, not, List, [], ◌∷◌, ◌++◌, length, get_or, Bool, true, false, Option, Some, None, is_some, option_map, IfSome, IsSome, IsTrue, nat_lt, nat_le, unsigned_abs, refl, sym, ap, ◌∙◌, arith, bytes_eq, ne_eqb, eqb-true, ltb-true, leb-true, All, Contains, inl, inr, ◌⊎◌}
 use Rattle.std.specs.List.{list_all, list_any}
 use Rattle.std.specs.Option.{option_map_or}
 use Rattle.std.proofs.lemmas.Bool.{or_parts, or_from, or_cases, not-true, not-false, and_parts}

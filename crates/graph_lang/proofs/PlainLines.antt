@@ -13,7 +13,7 @@ use Rattle.csv.specs.declared.parser.Action.TheVariants as act
 use Rattle.csv.proofs.ReadFacts.{run-copies, not-first}
 use Rattle.graph_base.specs.phase_accum.Sends.{AreSends, IsSend, value_max}
 use Rattle.graph_lang.specs.TextInside.{EndsLine, BeginsWithCount, BeginsWithLine, BeginsWithWord}
-use Rattle.graph_lang.specs.PlainLines.{ArePlainLines, Leads}
+use Rattle.graph_lang.specs.PlainLines.{Leads}
 use Rattle.graph_lang.specs.Samples.{AreRecordsOfValues, row_of}
 use Rattle.graph_lang.proofs.Digits.{looks_decimal}
 use lib.IntN.{pos, negsuc, neg_ℤ}

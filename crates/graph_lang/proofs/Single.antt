@@ -1,5 +1,5 @@
 -- Lines have one reading.
-use Rattle.std.proofs.Common.{ℕ, ◌≡◌, ◌+◌, List, [], ◌∷◌, ap, sym, ◌∙◌, Result, Ok, Err, true, false, inl, inr, subst}
+use Rattle.std.proofs.Common.{ℕ, ◌≡◌, ◌+◌, List, [], ◌∷◌, ap, sym, ◌∙◌, Result, Ok, Err, true, false, inl, inr}
 use Rattle.graph_text.specs.declared.version.Version.{Version}
 use Rattle.graph_base.specs.Graphs.{Graph}
 use Rattle.graph_lang.specs.Faults.{kind_of}

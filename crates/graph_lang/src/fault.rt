@@ -24,8 +24,8 @@ pub enum FaultKind {
     /// An output stands above an input; a peer wants X, then E, then Y.
     #[error("an output is declared above an input")]
     OutBeforeIn,
-    /// The parent is a splitter, a joiner, a peer, or a sink that joins now.
-    #[error("a splitter, a joiner, a peer and a sink that joins now have no children")]
+    /// The parent is a splitter, a decimator, a joiner, a peer, or a sink that joins now.
+    #[error("a splitter, a decimator, a joiner, a peer and a sink that joins now have no children")]
     BadParent,
     /// An output has a single, or the parent does not hold what its child needs.
     #[error("an output has a single, or the parent lacks a phaser of its child")]

@@ -231,7 +231,7 @@ fn version_in(known: Option<Version>, words: &[&[u8]]) -> Option<Version>
 /// ```
 ///
 /// One of the third version begins with `graph 3`. It may have all of these, filters that add to
-/// their sums before they shift, and delays, which are filters.
+/// their sums before they shift, delays, which are filters, and decimators.
 ///
 /// ```text
 /// graph 3
@@ -239,7 +239,8 @@ fn version_in(known: Option<Version>, words: &[&[u8]]) -> Option<Version>
 /// phaser Y sum 4
 /// fir f X -> Y shift 2 plus 2 taps 1
 /// delay d X -> Y of 1000      task 1, a filter of one tap
-/// delay of X -> Y of 2        Fault(GraphFault { line: 6, kind: FaultKind::Syntax })
+/// decimate e X -> Y every 3   task 2
+/// delay of X -> Y of 2        Fault(GraphFault { line: 7, kind: FaultKind::Syntax })
 /// ```
 pub fn read_graph(alloc: Global, text: &[u8]) -> Result<Graph, GraphRefusal>
     ensures { Tells (lines_of text.now) result }

@@ -1,5 +1,5 @@
 -- How many words in front pass a test.
-use Rattle.std.proofs.Common.{ℕ, suc, ◌≡◌, ◌==◌, ◌<◌, ◌≤◌, ◌+◌, List, [], ◌∷◌, Bool, true, false, Bor, length, take, drop, get_or, refl, ap, sym, ◌∙◌, arith, drop-cons, Some, None, subst, ne_eqb}
+use Rattle.std.proofs.Common.{ℕ, suc, ◌≡◌, ◌==◌, ◌<◌, ◌≤◌, ◌+◌, List, [], ◌∷◌, Bool, true, false, Bor, length, take, drop, get_or, refl, ap, sym, ◌∙◌, arith, drop-cons, Some, None, ne_eqb}
 use Rattle.std.specs.List.{take-map, drop-map, prefix_len}
 use Rattle.std.proofs.lemmas.List.{drop_all}
 use Rattle.phase_base.specs.Words.{Word}

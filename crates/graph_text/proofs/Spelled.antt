@@ -166,7 +166,8 @@ plus_again allowed (Some plus) ws is = rw (is.1, is.0) refl
 body_again : (version : Version) (body : BodyWords) (ws : List Word) → IsBody version body
     → Stops is_int ws → Stops is_name ws
     → body_at (has_third version) (body_word body) (body_words body ++ ws) ≡ Some (body, ws)
-unfolding body_at source_at fir_at delay_at decimate_at split_at join_at peer_at sink_at after word_at
+unfolding body_at source_at fir_at delay_at decimate_at split_at join_at peer_at sink_at after
+    word_at
 body_again version (source file output) ws is ints names = rw (is.0, is.1) refl
 body_again version (fir input output shift plus taps) ws is ints names =
     rw (

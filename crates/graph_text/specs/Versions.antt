@@ -19,7 +19,7 @@ has_second One = false
 has_second Two = true
 has_second Three = true
 
--- whether a text of this version may have delays, and filters that add
+-- whether a text of this version may have delays, decimators, and filters that add
 abbrev pub has_third : Version → Bool
 has_third One = false
 has_third Two = false

@@ -13,8 +13,8 @@ pub enum Version {
     /// A text whose first line that is not ignored is the heading `graph 2`: a sink may join now,
     /// and a source, a filter or a sink may make several steps at once.
     Two,
-    /// A text whose heading is `graph 3`: it may have all that one of version 2 may, delays, and
-    /// filters that add to their sums.
+    /// A text whose heading is `graph 3`: it may have all that one of version 2 may, delays,
+    /// decimators, and filters that add to their sums.
     Three,
 }
 
@@ -41,7 +41,7 @@ impl Version {
         self != Version::One
     }
 
-    /// Whether a text of this version may have delays, and filters that add.
+    /// Whether a text of this version may have delays, decimators, and filters that add.
     pub(crate) fn has_third(self) -> bool
         ensures { result ≡ has_third self }
     {

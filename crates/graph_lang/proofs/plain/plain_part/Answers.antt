@@ -1,5 +1,5 @@
 -- One more line, and the end of the part.
-use Rattle.std.proofs.Common.{ℕ, ℤ, List, ◌≡◌, ◌<◌, ◌≤◌, ◌+◌, ◌++◌, ◌∷◌, [], arith, rules, append-nil, append_assoc, length-append, drop, sym, subst}
+use Rattle.std.proofs.Common.{ℤ, List, ◌≡◌, ◌≤◌, ◌+◌, ◌++◌, ◌∷◌, [], arith, rules, append-nil, append_assoc, length-append, drop, sym, subst}
 use Rattle.std.proofs.lemmas.Int.{to_z-of_z}
 use Rattle.std.proofs.lemmas.List.{length-drop}
 use mir.Syntax.{w64}

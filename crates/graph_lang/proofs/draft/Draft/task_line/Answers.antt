@@ -64,5 +64,5 @@ returns-clause-line c =
     (outs ∙ ap (λ ns. phaser_numbers ns (outputs_of body)) same)
     (sym parent.1 ∙ ap (λ ns. option_map (parent_of ns) ends.by) same)
     (ap (λ steps. steps.until) c.requires.steps) c.requires.numbers.taps c.requires.numbers.form
-    (to_z-of_z fits ∙ c.requires.numbers.factor) c.requires.numbers.every (ap (λ steps. steps.block) c.requires.steps)
-    c.joins_now.ensures
+    (to_z-of_z fits ∙ c.requires.numbers.factor) c.requires.numbers.every
+    (ap (λ steps. steps.block) c.requires.steps) c.joins_now.ensures
