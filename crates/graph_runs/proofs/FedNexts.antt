@@ -1,6 +1,6 @@
 -- Where a task stands and what it does next stay with other samples, but for a source that was starved
 -- and has samples now.
-use Rattle.std.proofs.Common.{◌≡◌, ℕ, ℤ, cond, List, [], Option, Some, None, length, map, take, drop, refl, ap, ◌∙◌}
+use Rattle.std.proofs.Common.{◌≡◌, ℕ, ℤ, cond, List, Option, Some, None, length, map, take, drop, refl, ap, ◌∙◌}
 use Rattle.std.specs.Prelude.{nat_le, nat_lt, ◌||◌}
 use Rattle.std.specs.List.{range_with_len}
 use Rattle.stream_lists.specs.graph_base.Graphs.{task_at}

@@ -1,8 +1,7 @@
 -- By the number of the sink on its phaser.
-use Rattle.std.proofs.Common.{◌≡◌, ℕ, ◌<◌, ◌≤◌, Option, Some, None, Bool, true, false, length, get_or, refl, inr, sym, ◌∙◌, arith}
+use Rattle.std.proofs.Common.{◌≡◌, ℕ, ◌<◌, ◌≤◌, Some, None, Bool, true, false, length, get_or, refl, inr, sym, ◌∙◌}
 use Rattle.stream_lists.proofs.graph_base_lemmas.Registered.{registrations-phasers}
 use Rattle.stream_lists.specs.Jobs.{Job}
-use Rattle.stream_lists.specs.Lists.{start_in}
 use Rattle.stream_lists.specs.Spans.{lengths_of}
 use Rattle.stream_lists.specs.graph_base.Graphs.{task_at}
 use Rattle.graph_runs.specs.InTime.{BeginsInTime}
