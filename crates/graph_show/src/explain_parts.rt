@@ -96,9 +96,7 @@ impl Part {
         match self {
             Part::Kind => is_kind_word(word),
             Part::LaterKind => {
-                is_kind_word(word)
-                    || word == b"delay".as_slice()
-                    || word == b"decimate".as_slice()
+                is_kind_word(word) || word == b"delay".as_slice() || word == b"decimate".as_slice()
             }
             Part::Version => word == b"2".as_slice() || word == b"3".as_slice(),
             Part::Own | Part::Parent => is_name(word),

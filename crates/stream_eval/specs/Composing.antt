@@ -3,7 +3,7 @@
 use Rattle.std.specs.Prelude.{◌≡◌, ℕ, ◌<◌, List, length, get_or, Option, Some, None, ◌-◌, ◌==◌, ◌&&◌, ◌||◌, Bool, [], ℤ, is_some, if◌then◌else◌}
 use Rattle.std.specs.List.{range_with_len, list_any}
 use Rattle.stream_lists.specs.phase_accum.Operations.{Operation, IsPartOf}
-use Rattle.stream_lists.specs.graph_base.TaskLines.{HasEnds, HasTaps}
+use Rattle.stream_lists.specs.graph_base.TaskLines.{HasEnds, HasTaps, HasEvery}
 use Rattle.stream_lists.specs.graph_base.declared.line.Kind.TheVariants.{Split}
 use Rattle.stream_lists.specs.graph_base.declared.line.TaskLine.{TaskLine}
 use Rattle.stream_lists.specs.graph_base.Graphs.{task_at}
@@ -28,6 +28,7 @@ pub record LineMayPut (task : TaskLine) (lists j : ℕ) : Type 0 where
   pub ends : HasEnds task.kind lists (length task.outputs.items)
   pub turn : task.kind ≡ Split → j < length task.outputs.items
   pub taps : HasTaps task.kind task.taps.items task.form
+  pub every : HasEvery task.kind task.every
 
 -- each part is that of what the members send in its phase
 pub record HasParts {A : Type 0} (op : Operation A) (parts : List A) (members : List Contribution)

@@ -1,4 +1,4 @@
--- One step of a splitter or a joiner at a moment, apart from the cores of the phasers.
+-- One step of a splitter, a decimator or a joiner at a moment, apart from the cores of the phasers.
 use Rattle.std.proofs.Common.{◌≡◌, ◌≢◌, ℕ, ℤ, List, ◌+◌, ◌<◌, ◌≤◌, ◌&&◌, Bool, true, false, not, cond, [], ◌∷◌, Some, None, length, get_or, slice_get, set, map, take, refl, sym, ap, subst, ◌∙◌, arith}
 use Rattle.std.specs.Prelude.{Ok, nat_lt, slice_range, unwrap_or}
 use Rattle.std.specs.List.{position_from}
@@ -12,7 +12,7 @@ use Rattle.phase_any.specs.phase_history.Histories.{done_of, founder, wait_phase
 use Rattle.phase_any.specs.phase_history.declared.event.Event.TheVariants.{Signalled, Waited}
 use Rattle.phase_any.specs.phase_history.Phases.{stream_of}
 use Rattle.graph_lang.specs.graph_base.declared.line.Kind.{Kind}
-use Rattle.graph_lang.specs.graph_base.declared.line.Kind.TheVariants.{Source, Fir, Split, Join, Peer, Sink}
+use Rattle.graph_lang.specs.graph_base.declared.line.Kind.TheVariants.{Source, Fir, Split, Decimate, Join, Peer, Sink}
 use Rattle.graph_lang.specs.graph_base.Graphs.{Task, task_at, phaser_at, is_sink}
 use Rattle.graph_lang.specs.graph_base.Registrations.{signalled_by}
 use Rattle.graph_lang.specs.graph_base.TaskLines.{IsGraph}
@@ -74,6 +74,7 @@ nothing_after task j xs by_steps = by task.kind refl by_steps
     by : (kind : Kind) → task.kind ≡ kind → goes_by_steps kind ≡ true
         → owed_after_signal task j xs ≡ places.nothing
     by Split e by_steps = rw e refl
+    by Decimate e by_steps = rw e refl
     by Join e by_steps = rw e refl
     by Source e by_steps = absurd (let wrong : false ≡ true = by_steps in cc)
     by Fir e by_steps = absurd (let wrong : false ≡ true = by_steps in cc)
@@ -184,6 +185,7 @@ next_waits {most} job m t k p at is ran stands live owed none due uncut never fi
     begins task b Source never = absurd (never refl)
     begins task b Fir never = refl
     begins task b Split never = refl
+    begins task b Decimate never = refl
     begins task b Join never = refl
     begins task b Peer never = refl
     begins task b Sink never = refl
@@ -327,6 +329,7 @@ bare_signalled {steps} job m t j p n vs tasks state sized at found there by_step
 -- a task that goes by steps is no sink
 never_sink : (kind : Kind) → goes_by_steps kind ≡ true → is_sink kind ≡ false
 never_sink Split by_steps = refl
+never_sink Decimate by_steps = refl
 never_sink Join by_steps = refl
 never_sink Source by_steps = refl
 never_sink Fir by_steps = refl
@@ -433,6 +436,7 @@ signalled_once job m old new t j p n phase x state at found there by_steps live 
 pub one_block : (kind : Kind) (many : ℕ) → goes_by_steps kind ≡ true → many ≡ 1
     → IsBlock kind many
 one_block Split many by_steps is = is
+one_block Decimate many by_steps is = is
 one_block Join many by_steps is = is
 one_block Source many by_steps is = tt
 one_block Fir many by_steps is = tt

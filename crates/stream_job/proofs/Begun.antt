@@ -12,7 +12,7 @@ use Rattle.phase_any.proofs.phase_history_lemmas.Signallers.{below_top}
 use Rattle.phase_any.proofs.phase_history_lemmas.Steps.{done_below_top, sound_of}
 use Rattle.phase_any.proofs.phase_history_lemmas.Tops.{top_within}
 use Rattle.graph_lang.specs.graph_base.declared.line.Kind.{Kind}
-use Rattle.graph_lang.specs.graph_base.declared.line.Kind.TheVariants.{Source, Fir, Split, Join, Peer, Sink}
+use Rattle.graph_lang.specs.graph_base.declared.line.Kind.TheVariants.{Source, Fir, Split, Decimate, Join, Peer, Sink}
 use Rattle.graph_lang.specs.graph_base.Graphs.{task_at}
 use Rattle.graph_lang.specs.graph_base.TaskLines.{IsGraph}
 use Rattle.stream_eval.specs.stream_lists.Jobs.{Job, index_in}
@@ -126,6 +126,7 @@ begun_few job m t k is ran next =
     by Source e = absurd (b.kind e)
     by Fir e = took (rw e refl)
     by Split e = took (rw e refl)
+    by Decimate e = took (rw e refl)
     by Join e = joined e
     by Peer e = took (rw e refl)
     by Sink e = took (rw e refl)

@@ -10,7 +10,7 @@ use Rattle.phase_any.specs.phase_history.Histories.{members_of, has_dropped, don
 use Rattle.graph_lang.specs.graph_base.Graphs.{task_at, is_source}
 use Rattle.graph_lang.specs.graph_base.TaskLines.{IsGraph}
 use Rattle.graph_lang.specs.graph_base.declared.line.Kind.{Kind}
-use Rattle.graph_lang.specs.graph_base.declared.line.Kind.TheVariants.{Source, Fir, Split, Join, Peer, Sink}
+use Rattle.graph_lang.specs.graph_base.declared.line.Kind.TheVariants.{Source, Fir, Split, Decimate, Join, Peer, Sink}
 use Rattle.stream_eval.specs.stream_lists.Jobs.{Job, samples_at}
 use Rattle.graph_runs.specs.Moments.{Moment, HasRun, input_at, first_input}
 use Rattle.graph_runs.specs.Nexts.{is_live, is_cut, has_input_ended, has_run_out, has_signaller, number_on, has_left, registrations_at}
@@ -71,6 +71,7 @@ pub ended_by_input : (job : Job) (m : Moment) (t : ℕ) (kind : Kind) → kind �
 ended_by_input job m t Source never = absurd (never refl)
 ended_by_input job m t Fir never = refl
 ended_by_input job m t Split never = refl
+ended_by_input job m t Decimate never = refl
 ended_by_input job m t Join never = refl
 ended_by_input job m t Peer never = refl
 ended_by_input job m t Sink never = refl
@@ -174,6 +175,7 @@ pub no_source : (kind : Kind) → is_source kind ≡ false → kind ≢ Source
 no_source Source e = absurd (cc)
 no_source Fir e = λ f. absurd (cc)
 no_source Split e = λ f. absurd (cc)
+no_source Decimate e = λ f. absurd (cc)
 no_source Join e = λ f. absurd (cc)
 no_source Peer e = λ f. absurd (cc)
 no_source Sink e = λ f. absurd (cc)

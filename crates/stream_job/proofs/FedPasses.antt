@@ -1,4 +1,4 @@
--- What a stream stands for after steps of a splitter or a joiner.
+-- What a stream stands for after steps of a splitter, a decimator or a joiner.
 use Rattle.std.proofs.Common.{◌≡◌, ℕ, ℤ, List, ◌≤◌, [], ◌∷◌, ◌++◌, Bool, true, false, None, Some, length, refl, sym, ap, subst, ◌∙◌, ◌⊎◌, inl, inr, arith}
 use Rattle.std.specs.List.{All}
 use Rattle.std.proofs.lemmas.List.{length-append}

@@ -13,7 +13,7 @@ use Rattle.phase_any.specs.phase_history.Histories.{done_of}
 use Rattle.phase_any.specs.phase_base.declared.limits.TheConstants.{PHASES_MAX}
 use Rattle.phase_any.specs.phase_history.Phases.{stream_of}
 use Rattle.phase_any.specs.phase_history.Replies.{wait_block_reply}
-use Rattle.graph_lang.specs.graph_base.declared.line.Kind.TheVariants.{Source, Fir, Split, Join, Peer, Sink}
+use Rattle.graph_lang.specs.graph_base.declared.line.Kind.TheVariants.{Source, Fir, Split, Decimate, Join, Peer, Sink}
 use Rattle.graph_lang.specs.graph_base.declared.line.Kind.{Kind}
 use Rattle.graph_lang.specs.graph_base.Graphs.{Task, task_at}
 use Rattle.graph_lang.specs.graph_base.TaskLines.{IsGraph}
@@ -83,6 +83,7 @@ zero_first task b k kind is not first = first ∙ by kind is not
     by Source e never = rw e refl
     by Fir e never = rw e refl
     by Split e never = rw e refl
+    by Decimate e never = rw e refl
     by Join e never = absurd (never refl)
     by Peer e never = rw e refl
     by Sink e never = rw e refl

@@ -11,7 +11,7 @@ use Rattle.phase_any.specs.phase_accum.Sends.{AreSends}
 use Rattle.graph_lang.specs.stream_filters.Range.{ranged}
 use Rattle.graph_lang.specs.stream_filters.declared.fault.TooBigValue.{TooBigValue}
 use Rattle.graph_lang.specs.graph_base.declared.line.Kind.{Kind}
-use Rattle.graph_lang.specs.graph_base.declared.line.Kind.TheVariants.{Source, Fir, Split, Join, Peer, Sink}
+use Rattle.graph_lang.specs.graph_base.declared.line.Kind.TheVariants.{Source, Fir, Split, Decimate, Join, Peer, Sink}
 use Rattle.graph_lang.specs.graph_base.declared.place.Place.TheVariants as place
 use Rattle.graph_lang.specs.graph_base.Graphs.{task_at, Task}
 use Rattle.graph_lang.specs.graph_base.Registrations.{signalled_by}
@@ -298,6 +298,7 @@ has_made job machine m t j state next at found some =
     kind Source e = other Source e (λ f. absurd (cc))
     kind Fir e = e
     kind Split e = other Split e (λ f. absurd (cc))
+    kind Decimate e = other Decimate e (λ f. absurd (cc))
     kind Join e = other Join e (λ f. absurd (cc))
     kind Peer e = other Peer e (λ f. absurd (cc))
     kind Sink e = other Sink e (λ f. absurd (cc))
@@ -312,6 +313,7 @@ made_puts task b j e = by task.kind j refl e
     by Source j k e = absurd (cc)
     by Fir j k e = rw k refl
     by Split j k e = absurd (cc)
+    by Decimate j k e = absurd (cc)
     by Join j k e = absurd (cc)
     by Peer zero k e = absurd (cc)
     by Peer (suc j) k e = rw k refl

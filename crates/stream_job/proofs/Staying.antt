@@ -8,7 +8,7 @@ use Rattle.phase_any.specs.phase_history.Phases.{stream_of}
 use Rattle.phase_any.specs.phase_history.Refusals.{signal_refusal}
 use Rattle.phase_any.specs.phase_history.Replies.{wait_reply, wait_block_reply}
 use Rattle.graph_lang.specs.graph_base.declared.line.Kind.{Kind}
-use Rattle.graph_lang.specs.graph_base.declared.line.Kind.TheVariants.{Source, Fir, Split, Join, Peer, Sink}
+use Rattle.graph_lang.specs.graph_base.declared.line.Kind.TheVariants.{Source, Fir, Split, Decimate, Join, Peer, Sink}
 use Rattle.graph_lang.specs.graph_base.Graphs.{task_at, phaser_at}
 use Rattle.graph_lang.specs.graph_base.Registrations.{signalled_by}
 use Rattle.stream_eval.specs.stream_lists.Jobs.{Job, samples_at}
@@ -109,6 +109,7 @@ more_same job before after u q left apart = by (task_at job.graph u).kind refl
     by Source e = ap (nat_le (length (samples_at job u))) left.same.begun
     by Fir e = first (no_source Fir e (λ s. absurd (cc)))
     by Split e = first (no_source Split e (λ s. absurd (cc)))
+    by Decimate e = first (no_source Decimate e (λ s. absurd (cc)))
     by Join e = first (no_source Join e (λ s. absurd (cc)))
     by Peer e = first (no_source Peer e (λ s. absurd (cc)))
     by Sink e = first (no_source Sink e (λ s. absurd (cc)))

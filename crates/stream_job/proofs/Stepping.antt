@@ -1,7 +1,7 @@
 -- What a task's next step tells of the task.
 use Rattle.std.proofs.Common.{◌≡◌, ◌≢◌, ℕ, ◌<◌, Bool, true, false, ◌||◌, cond, Option, Some, None, length, refl, sym, ◌∙◌, arith}
 use Rattle.graph_lang.specs.graph_base.declared.line.Kind.{Kind}
-use Rattle.graph_lang.specs.graph_base.declared.line.Kind.TheVariants.{Source, Fir, Split, Join, Peer, Sink}
+use Rattle.graph_lang.specs.graph_base.declared.line.Kind.TheVariants.{Source, Fir, Split, Decimate, Join, Peer, Sink}
 use Rattle.graph_lang.specs.graph_base.Graphs.{task_at}
 use Rattle.graph_lang.specs.graph_base.Registrations.{signalled_by}
 use Rattle.graph_lang.specs.graph_base.TaskLines.{IsGraph}
@@ -39,6 +39,9 @@ stepping job m t next Fir e is =
     so job m t (waits (first_input (task_at job.graph t) (m.begun t))) next is
     ((λ source. (let wrong = sym e ∙ source in cc)), refl)
 stepping job m t next Split e is =
+    so job m t (waits (first_input (task_at job.graph t) (m.begun t))) next is
+    ((λ source. (let wrong = sym e ∙ source in cc)), refl)
+stepping job m t next Decimate e is =
     so job m t (waits (first_input (task_at job.graph t) (m.begun t))) next is
     ((λ source. (let wrong = sym e ∙ source in cc)), refl)
 stepping job m t next Join e is =

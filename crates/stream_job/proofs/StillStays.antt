@@ -14,7 +14,7 @@ use Rattle.phase_any.proofs.phase_accum_lemmas.Parts.{AreSends-append_left}
 use Rattle.graph_lang.specs.graph_base.Graphs.{task_at}
 use Rattle.graph_lang.specs.graph_base.TaskLines.{IsGraph}
 use Rattle.graph_lang.specs.graph_base.declared.line.Kind.{Kind}
-use Rattle.graph_lang.specs.graph_base.declared.line.Kind.TheVariants.{Source, Fir, Split, Join, Peer, Sink}
+use Rattle.graph_lang.specs.graph_base.declared.line.Kind.TheVariants.{Source, Fir, Split, Decimate, Join, Peer, Sink}
 use Rattle.stream_eval.specs.stream_lists.Jobs.{Job, samples_at, samples_in, with_samples}
 use Rattle.stream_eval.specs.stream_lists.Ranges.{is_out_of_range}
 use Rattle.graph_runs.specs.Answers.{output_at, signal_turn, was_blocked}
@@ -114,6 +114,7 @@ next_either job m more t may grows =
     by_kind Source is = starved (nat_le (length (samples_at job t)) (m.begun t)) is refl
     by_kind Fir is = other Fir is (λ e. absurd (cc))
     by_kind Split is = other Split is (λ e. absurd (cc))
+    by_kind Decimate is = other Decimate is (λ e. absurd (cc))
     by_kind Join is = other Join is (λ e. absurd (cc))
     by_kind Peer is = other Peer is (λ e. absurd (cc))
     by_kind Sink is = other Sink is (λ e. absurd (cc))

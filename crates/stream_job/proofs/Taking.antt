@@ -2,7 +2,8 @@
 use Rattle.std.proofs.Common.{◌≡◌, ◌≢◌, ◌⊎◌, inl, inr, ℕ, ◌+◌, ◌≤◌, ℤ, List, [], ◌∷◌, ◌++◌, length, get_or, map, refl, sym, ap, subst, ◌∙◌, arith}
 use Rattle.phase_any.specs.phase_accum.declared.outcome.Outcome.{Outcome}
 use Rattle.graph_lang.specs.stream_filters.Range.{ranged}
-use Rattle.graph_lang.specs.graph_base.declared.line.Kind.TheVariants.{Source, Fir, Split, Join, Peer, Sink}
+use Rattle.graph_lang.specs.graph_base.declared.line.Kind.{Kind}
+use Rattle.graph_lang.specs.graph_base.declared.line.Kind.TheVariants.{Source, Fir, Split, Decimate, Join, Peer, Sink}
 use Rattle.graph_lang.specs.graph_base.Graphs.{Task}
 use Rattle.stream_eval.specs.stream_lists.Lists.{number}
 use Rattle.graph_runs.specs.Moves.{IsBlock}
@@ -82,10 +83,12 @@ took_freely task xs old new (inr sink) nothing none stays =
     took_so task xs old new (λ fir. (let wrong : Sink ≡ Fir = sym sink ∙ fir in cc)) none
     (λ taken. ap owed_of nothing ∙ rw sink refl) stays
 
--- a splitter, a joiner and a peer, whose block is one step
+-- a splitter, a decimator, a joiner and a peer, whose block is one step
+abbrev pub IsSingle : Kind → Type 0
+IsSingle kind = (kind ≡ Split) ⊎ ((kind ≡ Decimate) ⊎ ((kind ≡ Join) ⊎ (kind ≡ Peer)))
+
 pub took_one : (task : Task) (os : List Outcome) (d : Outcome) (old new : TaskState)
-    → (task.kind ≡ Split) ⊎ ((task.kind ≡ Join) ⊎ (task.kind ≡ Peer))
-    → IsBlock task.kind (length os) → new.made.items ≡ []
+    → IsSingle task.kind → IsBlock task.kind (length os) → new.made.items ≡ []
     → ((taken : List ℤ) → HasFilter task old.filter taken
     → owed_of new.owed ≡ owed_after_wait task old.begun taken (number (get_or os 0 d) ∷ []))
     → StaysBeside (length (map number os)) old new → StateHasTaken task (map number os) old new
@@ -95,15 +98,17 @@ took_one task os d old new kinds block none owes stays =
     ∙ ap (λ l. owed_after_wait task old.begun taken (map number l))
     (sym (one_of os (single kinds)))) stays
   where
-    other : (task.kind ≡ Split) ⊎ ((task.kind ≡ Join) ⊎ (task.kind ≡ Peer)) → task.kind ≡ Fir → ⊥
+    other : IsSingle task.kind → task.kind ≡ Fir → ⊥
     other (inl e) fir = (let wrong : Split ≡ Fir = sym e ∙ fir in cc)
-    other (inr (inl e)) fir = (let wrong : Join ≡ Fir = sym e ∙ fir in cc)
-    other (inr (inr e)) fir = (let wrong : Peer ≡ Fir = sym e ∙ fir in cc)
+    other (inr (inl e)) fir = (let wrong : Decimate ≡ Fir = sym e ∙ fir in cc)
+    other (inr (inr (inl e))) fir = (let wrong : Join ≡ Fir = sym e ∙ fir in cc)
+    other (inr (inr (inr e))) fir = (let wrong : Peer ≡ Fir = sym e ∙ fir in cc)
 
-    single : (task.kind ≡ Split) ⊎ ((task.kind ≡ Join) ⊎ (task.kind ≡ Peer)) → length os ≡ 1
+    single : IsSingle task.kind → length os ≡ 1
     single (inl e) = subst (λ k. IsBlock k (length os)) e block
     single (inr (inl e)) = subst (λ k. IsBlock k (length os)) e block
-    single (inr (inr e)) = subst (λ k. IsBlock k (length os)) e block
+    single (inr (inr (inl e))) = subst (λ k. IsBlock k (length os)) e block
+    single (inr (inr (inr e))) = subst (λ k. IsBlock k (length os)) e block
 
     one_of : (ls : List Outcome) → length ls ≡ 1 → ls ≡ get_or ls 0 d ∷ []
     one_of [] e = absurd (let no : 0 ≡ 1 = e in omega arith)

@@ -6,7 +6,7 @@ use Rattle.phase_any.specs.phase_history.declared.refusal.SignalRefusal.TheVaria
 use Rattle.phase_any.specs.phase_history.Histories.{greatest_used}
 use Rattle.phase_any.specs.phase_history.Refusals.{register_refusal, register_now_refusal, drop_refusal, signal_refusal}
 use Rattle.graph_lang.specs.graph_base.declared.line.Kind.{Kind}
-use Rattle.graph_lang.specs.graph_base.declared.line.Kind.TheVariants.{Source, Fir, Split, Join, Peer, Sink}
+use Rattle.graph_lang.specs.graph_base.declared.line.Kind.TheVariants.{Source, Fir, Split, Decimate, Join, Peer, Sink}
 use Rattle.graph_lang.specs.graph_base.declared.registration.Registration.{Registration}
 use Rattle.graph_lang.specs.graph_base.Graphs.{task_at, phaser_at}
 use Rattle.stream_eval.specs.stream_lists.Jobs.{Job}
@@ -246,6 +246,7 @@ not_live job m t is = by (is_live job m t) refl
     step Source = λ e. (cc)
     step Fir = λ e. (cc)
     step Split = λ e. (cc)
+    step Decimate = λ e. (cc)
     step Join = λ e. (cc)
     step Peer = λ e. (cc)
     step Sink = λ e. (cc)

@@ -2,7 +2,7 @@
 use Rattle.std.proofs.Common.{◌≡◌, ◌≢◌, ℕ, Bool, true, false, cond, ◌||◌, Option, Some, None, length, refl, sym, ap, ◌∙◌, ◌⊎◌, inl, inr}
 use Rattle.std.proofs.lemmas.Bool.{or_parts}
 use Rattle.graph_lang.specs.graph_base.declared.line.Kind.{Kind}
-use Rattle.graph_lang.specs.graph_base.declared.line.Kind.TheVariants.{Source, Fir, Split, Join, Peer, Sink}
+use Rattle.graph_lang.specs.graph_base.declared.line.Kind.TheVariants.{Source, Fir, Split, Decimate, Join, Peer, Sink}
 use Rattle.graph_lang.specs.graph_base.Graphs.{task_at}
 use Rattle.stream_eval.specs.stream_lists.Jobs.{Job}
 use Rattle.graph_runs.specs.Moments.{Moment, first_input}
@@ -91,6 +91,7 @@ begins_is job m t next is = by (task_at job.graph t).kind refl is
     by Source e is = inl (e, is)
     by Fir e is = inr (other Fir e (λ s. absurd (cc)), is)
     by Split e is = inr (other Split e (λ s. absurd (cc)), is)
+    by Decimate e is = inr (other Decimate e (λ s. absurd (cc)), is)
     by Join e is = inr (other Join e (λ s. absurd (cc)), is)
     by Peer e is = inr (other Peer e (λ s. absurd (cc)), is)
     by Sink e is = inr (other Sink e (λ s. absurd (cc)), is)

@@ -1,7 +1,7 @@
--- Steps of a splitter or a joiner, several in a row.
+-- Steps of a splitter, a decimator or a joiner, several in a row.
 use Rattle.std.specs.Prelude.{◌≡◌, ◌≢◌, ℕ, ◌≤◌, ℤ, List, [], ◌∷◌, Bool, true, false, Some, None, length, slice_get}
 use Rattle.graph_lang.specs.graph_base.declared.line.Kind.{Kind}
-use Rattle.graph_lang.specs.graph_base.declared.line.Kind.TheVariants.{Split, Join}
+use Rattle.graph_lang.specs.graph_base.declared.line.Kind.TheVariants.{Split, Decimate, Join}
 use Rattle.graph_lang.specs.graph_base.Graphs.{task_at}
 use Rattle.stream_eval.specs.stream_lists.Jobs.{Job, with_samples}
 use Rattle.stream_eval.specs.stream_lists.Lists.{is_sink_at}
@@ -17,10 +17,11 @@ use Rattle.stream_job.specs.Places.{owed_in}
 use Rattle.stream_job.specs.declared.machine.Machine.{Machine}
 use Rattle.stream_job.specs.declared.task_state.TaskState.{TaskState}
 
--- whether each step of a task of this kind is a wait and a signal, and no block: of a splitter and
--- a joiner
+-- whether each step of a task of this kind is a wait and one signal at most, and no block: of a
+-- splitter, a decimator and a joiner
 abbrev pub goes_by_steps : Kind → Bool
 goes_by_steps Split = true
+goes_by_steps Decimate = true
 goes_by_steps Join = true
 goes_by_steps kind = false
 

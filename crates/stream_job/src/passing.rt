@@ -1,4 +1,5 @@
-//! Steps of a splitter or a joiner, several in a row: each is a wait and a signal of what it got.
+//! Steps of a splitter, a decimator or a joiner, several in a row: each is a wait, and a signal of
+//! what it got where it puts that.
 ghost use Rattle.std.specs.Prelude.{◌≡◌, ◌<◌, ℤ, List, IfSome, length, true, false};
 ghost use Rattle.graph_runs.specs.Moments.{Moment};
 ghost use Rattle.graph_runs.specs.Nexts.{is_live};
@@ -20,9 +21,9 @@ use stream_eval::stream_lists::Job;
 impl Machine {
     ghost use Rattle.stream_job.specs.Machines.{IsMachineAt, IsSome};
 
-    /// Lets task number `t`, where it is a splitter or a joiner, make steps one after the other, as
-    /// many as it can, and at most 64, and returns whether it made an event. It takes no value out
-    /// of range. Another task does nothing.
+    /// Lets task number `t`, where it is a splitter, a decimator or a joiner, make steps one after
+    /// the other, as many as it can, and at most 64, and returns whether it made an event. It takes
+    /// no value out of range. Another task does nothing.
     pub fn pass_on(&mut self, job: &Job, plan: &Plan, buffers: &mut Buffers, t: usize) -> bool
         requires machine { IsSome job.now self.old }
         requires task { t < length job.now.graph.tasks }
@@ -73,8 +74,9 @@ impl Machine {
         true
     }
 
-    /// The input that task number `t`, where it is a splitter or a joiner, waits for first by its
-    /// next step, where it is live and owes nothing, no child is due, and `until` allows a step.
+    /// The input that task number `t`, where it is a splitter, a decimator or a joiner, waits for
+    /// first by its next step, where it is live and owes nothing, no child is due, and `until`
+    /// allows a step.
     fn passes_from(&self, job: &Job, plan: &Plan, t: usize) -> Option<usize>
         requires machine { IsSome job.now self.now }
         requires task { t < length job.now.graph.tasks }
@@ -100,7 +102,8 @@ impl Machine {
         Some(first_input_of(job, t, begun))
     }
 
-    /// A splitter or a joiner signals the one value that it owes, where its phaser takes it.
+    /// A splitter, a decimator or a joiner signals the one value that it owes, where it owes one and
+    /// its phaser takes it.
     fn put_on(&mut self, job: &Job, buffers: &mut Buffers, t: usize)
         requires machine { IsSome job.now self.old }
         requires task { t < length job.now.graph.tasks }
@@ -128,9 +131,10 @@ impl Machine {
     }
 }
 
-/// Whether a task of this kind makes steps of a wait and a signal each: a splitter or a joiner.
+/// Whether a task of this kind makes steps of a wait and one signal at most: a splitter, a
+/// decimator or a joiner.
 fn goes_by_steps(kind: Kind) -> bool
     ensures { result ≡ goes_by_steps kind }
 {
-    matches!(kind, Kind::Split | Kind::Join)
+    matches!(kind, Kind::Split | Kind::Decimate | Kind::Join)
 }

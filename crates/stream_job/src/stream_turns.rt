@@ -205,8 +205,8 @@ impl Stream {
         Ok(true)
     }
 
-    /// Lets a splitter or a joiner make steps one after the other, and returns whether it made an
-    /// event. Another task does nothing.
+    /// Lets a splitter, a decimator or a joiner make steps one after the other, and returns whether
+    /// it made an event. Another task does nothing.
     fn pass_on(&mut self, t: usize) -> bool
         requires met { self.old.met ≡ None }
         requires task { t < length self.old.job.graph.tasks }

@@ -18,4 +18,5 @@ list_put-requires-clause-task g c =
       turn = λ split. subst (λ (of : Task). of.kind ≡ Split → c.args.j < length of.outputs)
           (sym same) c.requires.turn split;
       taps = line.taps;
+      every = line.every;
     }

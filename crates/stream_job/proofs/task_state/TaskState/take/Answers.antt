@@ -2,13 +2,13 @@
 use Rattle.std.proofs.Common.{rules, SFits, w64, to_z, of_z, pos, ◌≡◌, ◌⊎◌, ◌+◌, ◌∷◌, [], length, map, get_or, refl, sym, ap, subst, ◌∙◌, arith, to_z-of_z}
 use Rattle.std.proofs.lemmas.List.{length-map}
 use Rattle.phase_any.specs.phase_accum.declared.outcome.Outcome.TheVariants.{Value}
-use Rattle.graph_lang.specs.graph_base.declared.line.Kind.TheVariants.{Source, Fir, Split, Join, Peer, Sink}
+use Rattle.graph_lang.specs.graph_base.declared.line.Kind.TheVariants.{Source, Fir, Sink}
 use Rattle.graph_lang.specs.graph_base.Graphs.{task_at}
 use Rattle.stream_eval.specs.stream_lists.Lists.{number}
 use Rattle.graph_runs.specs.TaskPlaces.{owed_after_wait}
 use Rattle.stream_job.specs.Places.{StateHasTaken}
 use Rattle.stream_job.specs.declared.task_state.TaskState.{TaskState}
-use Rattle.stream_job.proofs.Taking.{took_values, took_freely, took_one}
+use Rattle.stream_job.proofs.Taking.{IsSingle, took_values, took_freely, took_one}
 use Rattle.stream_job.proofs.task_state.TaskState.take.Goals.{in-Fir, in-Source, in-Split}
 use Rattle.stream_job.proofs.task_state.TaskState.take.Goals as goal
 
@@ -55,7 +55,7 @@ returns-clause-taken c =
           to_z-of_z fits ∙ w.number_taken-x.ensures in
           subst S (sym w.self-is)
           (took_one task os (Value (pos 0)) old _
-          (subst (λ k. (k ≡ Split) ⊎ ((k ≡ Join) ⊎ (k ≡ Peer))) c.kind_of.ensures w.in-Split.is)
+          (subst IsSingle c.kind_of.ensures w.in-Split.is)
           c.requires.block.1 c.requires.nothing.1
           (λ taken has. w.owed_after_wait-self.ensures.owed taken has
           ∙ ap (λ y. owed_after_wait task old.begun taken (y ∷ [])) got) (record {
