@@ -80,8 +80,17 @@ is_exchange_below Decimate inputs = always tt
 is_exchange_below Join inputs = always tt
 is_exchange_below Sink inputs = always tt
 
-form_is : (form : Form) → form.shift ≡ 0 → form.plus ≡ pos 0 → form.delay ≡ 0 → form ≡ no_form
-form_is form shift plus delay = cc (shift, plus, delay)
+-- a form is known by its numbers
+form_by : (shift : ℕ) (plus : ℤ) (delay : ℕ) → shift ≡ 0 → plus ≡ pos 0 → delay ≡ 0
+    → record {
+      shift = shift;
+      plus = plus;
+      delay = delay;
+    } ≡ no_form
+form_by shift plus delay a b c = rw (a, b, c) refl
+
+pub form_is : (form : Form) → form.shift ≡ 0 → form.plus ≡ pos 0 → form.delay ≡ 0 → form ≡ no_form
+form_is form a b c = form_by form.shift form.plus form.delay a b c
 
 abbrev pub no_taps : (taps : List ℤ) (form : Form) → Test ((taps ≡ []) × (form ≡ no_form))
 no_taps taps form =
