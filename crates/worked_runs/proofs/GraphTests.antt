@@ -134,7 +134,8 @@ has_factor Sink mul = test.is_value mul (pos 0)
 
 abbrev pub has_every : (kind : Kind) (every : ℕ) → Test (HasEvery kind every)
 has_every Decimate every =
-    giving (λ b. (b.left, b.right)) (both (test.is_at_most 1 every) (test.is_at_most every EVERY_MAX))
+    giving (λ b. (b.left, b.right))
+    (both (test.is_at_most 1 every) (test.is_at_most every EVERY_MAX))
 has_every Source every = test.is_equal every 1
 has_every Fir every = test.is_equal every 1
 has_every Split every = test.is_equal every 1

@@ -102,8 +102,8 @@ thirds_end = after_all thirds after_fourth third_turns
 
 -- ---- a decimator and a filter that wait for each other
 
--- phaser X sum 1 / phaser A sum 1 / phaser S sum 1 / source s s.csv -> X / decimate d X -> A every 3
--- / fir f A -> S shift 0 taps 1 / fir g X -> S shift 0 taps 1 / sink out S
+-- phaser X sum 1 / phaser A sum 1 / phaser S sum 1 / source s s.csv -> X / decimate d X -> A every
+-- 3 / fir f A -> S shift 0 taps 1 / fir g X -> S shift 0 taps 1 / sink out S
 abbrev pub thinned_graph : Graph
 thinned_graph = record {
   names = (codes "X", place.Phaser 0) ∷ (codes "A", place.Phaser 1) ∷ (codes "S", place.Phaser 2)
