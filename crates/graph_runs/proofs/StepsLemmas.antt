@@ -131,7 +131,8 @@ enough-above task samples values b ends long has each = by task.kind refl
     by Split e =
         first (λ s. (let no : Split ≡ Source = sym e ∙ s in cc)) (rw e tt) (rw e refl) (rw e refl)
     by Decimate e =
-        first (λ s. (let no : Decimate ≡ Source = sym e ∙ s in cc)) (rw e tt) (rw e refl) (rw e refl)
+        first (λ s. (let no : Decimate ≡ Source = sym e ∙ s in cc)) (rw e tt) (rw e refl)
+        (rw e refl)
     by Peer e =
         first (λ s. (let no : Peer ≡ Source = sym e ∙ s in cc)) (rw e refl) (rw e refl) (rw e refl)
     by Sink e =
@@ -217,7 +218,8 @@ taken_count task b k n ends lt looks has = by task.kind k refl refl
     by Split i e at =
         (let r : n ≡ takes_from (record task { kind = Split }) b k = rw e at has in r ∙ rw e refl)
     by Decimate i e at =
-        (let r : n ≡ takes_from (record task { kind = Decimate }) b k = rw e at has in r ∙ rw e refl)
+        (let r : n ≡ takes_from (record task { kind = Decimate }) b k = rw e at has in
+        r ∙ rw e refl)
     by Join i e at =
         (let r : n ≡ takes_from (record task { kind = Join }) b k = rw e at has in r ∙ rw e refl)
     by Sink i e at =

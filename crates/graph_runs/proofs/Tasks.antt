@@ -322,8 +322,8 @@ made_begins job m t j put is there ran stands lt reads exchanged begins =
     let span = span_in job t in
     let now = taken_now m task t in
     let all = taken_by (numbers_of job) task span in
-    outputs_begin (samples_at job t) task now all (m.begun t) span.steps j put line.ends line.every lt
-    stands.within
+    outputs_begin (samples_at job t) task now all (m.begun t) span.steps j put line.ends
+    line.every lt stands.within
     (length-map-range_with_len (m.taken t) 0 (length task.inputs))
     (length-map-range_with_len (taken_from (numbers_of job) task span) 0 (length task.inputs))
     (λ k below looks. (rw (now_at m task t k below)

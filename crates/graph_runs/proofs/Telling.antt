@@ -268,8 +268,8 @@ step_told steps most job m t sizes is samples reached live uncut more = by (task
         waits_told steps most job m t sizes is reached live (no_source Split e (λ s. (cc))) uncut more
         (ended Split e)
     by Decimate e =
-        waits_told steps most job m t sizes is reached live (no_source Decimate e (λ s. (cc))) uncut more
-        (ended Decimate e)
+        waits_told steps most job m t sizes is reached live (no_source Decimate e (λ s. (cc))) uncut
+        more (ended Decimate e)
     by Join e =
         waits_told steps most job m t sizes is reached live (no_source Join e (λ s. (cc))) uncut more (ended Join e)
     by Peer e =

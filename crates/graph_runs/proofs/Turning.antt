@@ -54,8 +54,8 @@ stepping steps most job m t event sizes is ran live none due uncut more answer =
         first_wait_next steps most job m t event sizes is ran live (other Split e (λ s. (cc))) none due uncut more
         answer
     by Decimate e answer =
-        first_wait_next steps most job m t event sizes is ran live (other Decimate e (λ s. (cc))) none due uncut more
-        answer
+        first_wait_next steps most job m t event sizes is ran live (other Decimate e (λ s. (cc)))
+        none due uncut more answer
     by Join e answer =
         first_wait_next steps most job m t event sizes is ran live (other Join e (λ s. (cc))) none due uncut more
         answer

@@ -94,8 +94,9 @@ at_start numbers = record { numbers = numbers; left = 0; begun = 0; owed = nothi
 
 -- ---- how events change it
 
--- what a task owes after the first wait of its next steps, which got these numbers. It began so
--- many steps before it, and has taken these values from its input
+-- what a task owes after the first wait of its next steps, which got these numbers: one number
+-- where a block is a step. It began so many steps before it, and has taken these values from its
+-- input. A decimator owes the number of the first of each so many steps
 abbrev pub owed_after_wait : Task → ℕ → List ℤ → List ℤ → Owed
 owed_after_wait task begun taken xs = of task.kind
   where

@@ -179,8 +179,8 @@ comes_late-line = refl
 comes_late-answer : answer_of comes_late ≡ Ok ((2, these (0 ∷ 0 ∷ 3 ∷ [])) ∷ [])
 comes_late-answer = refl
 
--- phaser X sum / phaser Y sum / source s s.csv -> X / decimate d X -> Y every 3 / sink out Y, on the
--- samples 3, 1, 4, 1, 5, 9
+-- phaser X sum / phaser Y sum / source s s.csv -> X / decimate d X -> Y every 3 / sink out Y, on
+-- the samples 3, 1, 4, 1, 5, 9
 abbrev pub one_of_three_6 : Job
 one_of_three_6 =
     job_of

@@ -99,6 +99,10 @@ enough_less task n n' offset xs ys few less = by task.kind refl
     ws : List ℕ
     ws = values_from task ys offset
 
+    fewer : (k : ℕ) → get_or vs k 0 ≤ get_or ws k 0
+    fewer =
+        map_less (λ p. get_or xs p 0 - offset) (λ p. get_or ys p 0 - offset) task.inputs each
+
     first : ((k : ℕ) → get_or vs k 0 ≤ get_or ws k 0) → enough_for task n vs ≡ get_or vs 0 0
         → enough_for task n' ws ≡ get_or ws 0 0 → enough_for task n vs ≤ enough_for task n' ws
     first all a b = let one = all 0 in omega arith
@@ -120,17 +124,15 @@ enough_less task n n' offset xs ys few less = by task.kind refl
         let a : enough_for task n vs ≡ n = rw e refl in
         let b : enough_for task n' ws ≡ n' = rw e refl in
         let le = few e in omega arith
-    by Fir e = first (map_less (λ p. get_or xs p 0 - offset) (λ p. get_or ys p 0 - offset) task.inputs (λ p. (let one = less p in omega arith))) (rw e refl) (rw e refl)
-    by Split e = first (map_less (λ p. get_or xs p 0 - offset) (λ p. get_or ys p 0 - offset) task.inputs (λ p. (let one = less p in omega arith))) (rw e refl) (rw e refl)
-    by Decimate e = first (map_less (λ p. get_or xs p 0 - offset) (λ p. get_or ys p 0 - offset) task.inputs (λ p. (let one = less p in omega arith))) (rw e refl) (rw e refl)
-    by Peer e = first (map_less (λ p. get_or xs p 0 - offset) (λ p. get_or ys p 0 - offset) task.inputs (λ p. (let one = less p in omega arith))) (rw e refl) (rw e refl)
-    by Sink e = first (map_less (λ p. get_or xs p 0 - offset) (λ p. get_or ys p 0 - offset) task.inputs (λ p. (let one = less p in omega arith))) (rw e refl) (rw e refl)
+    by Fir e = first fewer (rw e refl) (rw e refl)
+    by Split e = first fewer (rw e refl) (rw e refl)
+    by Decimate e = first fewer (rw e refl) (rw e refl)
+    by Peer e = first fewer (rw e refl) (rw e refl)
+    by Sink e = first fewer (rw e refl) (rw e refl)
     by Join e =
         let same : length vs ≡ length ws =
         length_same (λ p. get_or xs p 0 - offset) (λ p. get_or ys p 0 - offset) task.inputs in
-        ended (run_outs vs ws same
-        (map_less (λ p. get_or xs p 0 - offset) (λ p. get_or ys p 0 - offset) task.inputs
-        (λ p. (let one = less p in omega arith)))) same (rw e refl) (rw e refl)
+        ended (run_outs vs ws same fewer) same (rw e refl) (rw e refl)
 
 -- who begins with fewer begins there with more
 offset_less : (xs ys : List Span) (start n : ℕ) (parent : Option Parent)

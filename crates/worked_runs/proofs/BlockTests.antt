@@ -3,7 +3,7 @@ use Rattle.std.proofs.Common.{ℕ, ◌+◌, List, ◌++◌, ℤ, length, take, d
 use mathlib.Core.List.{IsPrefix}
 use Rattle.graph_runs.specs.phase_accum.declared.outcome.Outcome.{Outcome}
 use Rattle.graph_runs.specs.graph_base.declared.line.Kind.{Kind}
-use Rattle.graph_runs.specs.graph_base.declared.line.Kind.TheVariants.{Source, Fir, Split, Join, Peer, Sink}
+use Rattle.graph_runs.specs.graph_base.declared.line.Kind.TheVariants.{Source, Fir, Split, Decimate, Join, Peer, Sink}
 use Rattle.graph_runs.specs.graph_base.declared.line.Parent.{Parent}
 use Rattle.graph_runs.specs.graph_base.Graphs.{task_at}
 use Rattle.graph_runs.specs.graph_base.TaskLines.{IsGraph}
@@ -25,6 +25,7 @@ is_block Source steps = always tt
 is_block Fir steps = always tt
 is_block Sink steps = always tt
 is_block Split steps = test.is_equal steps 1
+is_block Decimate steps = test.is_equal steps 1
 is_block Join steps = test.is_equal steps 1
 is_block Peer steps = test.is_equal steps 1
 

@@ -7,16 +7,16 @@ use Rattle.graph_runs.specs.phase_base.declared.limits.TheConstants.{BOUND_MAX}
 use Rattle.graph_runs.specs.phase_accum.declared.single.Single.{Single}
 use Rattle.graph_runs.specs.phase_accum.Singles.{CanBeNamed}
 use Rattle.graph_runs.specs.phase_base.Words.{Word, is_name, is_file}
-use Rattle.graph_runs.specs.graph_base.declared.limits.TheConstants.{PHASERS_MAX, TASKS_MAX, ENDS_MAX, STEPS_MAX, FACTOR_MAX}
+use Rattle.graph_runs.specs.graph_base.declared.limits.TheConstants.{PHASERS_MAX, TASKS_MAX, ENDS_MAX, STEPS_MAX, FACTOR_MAX, EVERY_MAX}
 use Rattle.graph_runs.specs.graph_base.declared.line.Kind.{Kind}
-use Rattle.graph_runs.specs.graph_base.declared.line.Kind.TheVariants.{Source, Fir, Split, Join, Peer, Sink}
+use Rattle.graph_runs.specs.graph_base.declared.line.Kind.TheVariants.{Source, Fir, Split, Decimate, Join, Peer, Sink}
 use Rattle.graph_runs.specs.graph_base.declared.line.Parent.{Parent}
 use Rattle.graph_runs.specs.graph_base.declared.line.PhaserLine.{PhaserLine}
 use Rattle.graph_runs.specs.graph_base.declared.place.Place.{Place}
 use Rattle.graph_runs.specs.graph_base.declared.place.Place.TheVariants as at_place
 use Rattle.graph_runs.specs.graph_base.Graphs.{Graph, Task, Named, IsPlace, name_at, task_at, phaser_at, sources_of}
 use Rattle.graph_runs.specs.graph_base.Names.{place_of}
-use Rattle.graph_runs.specs.graph_base.TaskLines.{IsGraph, IsTaskLine, IsPhaserLine, IsParent, AreNames, AreRising, AreAmong, HasEnds, HasTaps, HasFactor, HasBlock, MayJoinNow, IsExchangeBelow, has_children, has_blocks}
+use Rattle.graph_runs.specs.graph_base.TaskLines.{IsGraph, IsTaskLine, IsPhaserLine, IsParent, AreNames, AreRising, AreAmong, HasEnds, HasTaps, HasFactor, HasEvery, HasBlock, MayJoinNow, IsExchangeBelow, has_children, has_blocks}
 use Rattle.graph_runs.specs.phase_base.Lists.{is_distinct}
 use Rattle.graph_runs.specs.graph_base.stream_filters.Filter.{no_form}
 use Rattle.graph_runs.specs.graph_base.stream_filters.declared.form.Form.{Form}
@@ -59,6 +59,8 @@ has_ends Split inputs outputs =
     giving (λ b. (b.left, b.right.left, b.right.right))
     (both (test.is_equal inputs 1)
     (both (test.is_at_most 2 outputs) (test.is_at_most outputs ENDS_MAX)))
+has_ends Decimate inputs outputs =
+    giving (λ b. (b.left, b.right)) (both (test.is_equal inputs 1) (test.is_equal outputs 1))
 has_ends Join inputs outputs =
     giving (λ b. (b.left, b.right.left, b.right.right))
     (both (test.is_at_most 2 inputs)
@@ -74,6 +76,7 @@ is_exchange_below Peer inputs = test.is_below (get_or inputs 0 0) (get_or inputs
 is_exchange_below Source inputs = always tt
 is_exchange_below Fir inputs = always tt
 is_exchange_below Split inputs = always tt
+is_exchange_below Decimate inputs = always tt
 is_exchange_below Join inputs = always tt
 is_exchange_below Sink inputs = always tt
 
@@ -115,6 +118,7 @@ has_taps Fir taps form =
     (test.is_at_most form.delay 65536))))))
 has_taps Source taps form = no_taps taps form
 has_taps Split taps form = no_taps taps form
+has_taps Decimate taps form = no_taps taps form
 has_taps Join taps form = no_taps taps form
 has_taps Peer taps form = no_taps taps form
 has_taps Sink taps form = no_taps taps form
@@ -124,8 +128,20 @@ has_factor Peer mul = test.is_at_most (unsigned_abs mul) FACTOR_MAX
 has_factor Source mul = test.is_value mul (pos 0)
 has_factor Fir mul = test.is_value mul (pos 0)
 has_factor Split mul = test.is_value mul (pos 0)
+has_factor Decimate mul = test.is_value mul (pos 0)
 has_factor Join mul = test.is_value mul (pos 0)
 has_factor Sink mul = test.is_value mul (pos 0)
+
+abbrev pub has_every : (kind : Kind) (every : ℕ) → Test (HasEvery kind every)
+has_every Decimate every =
+    giving (λ b. (b.left, b.right))
+    (both (test.is_at_most 1 every) (test.is_at_most every EVERY_MAX))
+has_every Source every = test.is_equal every 1
+has_every Fir every = test.is_equal every 1
+has_every Split every = test.is_equal every 1
+has_every Join every = test.is_equal every 1
+has_every Peer every = test.is_equal every 1
+has_every Sink every = test.is_equal every 1
 
 abbrev pub is_parent : (graph : Graph) (t : ℕ) (task : Task) (parent : Parent)
     → Test (IsParent graph t task parent)
@@ -168,6 +184,7 @@ is_sink_kind Sink = always refl
 is_sink_kind Source = never
 is_sink_kind Fir = never
 is_sink_kind Split = never
+is_sink_kind Decimate = never
 is_sink_kind Join = never
 is_sink_kind Peer = never
 
@@ -193,10 +210,11 @@ is_task_line graph t task =
       plain = b.right.right.left;
       taps = b.right.right.right.left;
       factor = b.right.right.right.right.left;
-      until = b.right.right.right.right.right.left;
-      parent = b.right.right.right.right.right.right.left;
-      block = b.right.right.right.right.right.right.right.left;
-      now = b.right.right.right.right.right.right.right.right;
+      every = b.right.right.right.right.right.left;
+      until = b.right.right.right.right.right.right.left;
+      parent = b.right.right.right.right.right.right.right.left;
+      block = b.right.right.right.right.right.right.right.right.left;
+      now = b.right.right.right.right.right.right.right.right.right;
     })
     (both
     (both (has_ends task.kind (length task.inputs) (length task.outputs))
@@ -209,11 +227,12 @@ is_task_line graph t task =
     (both (all_of Plain task.outputs (λ y. test.is_none (phaser_at graph y).single))
     (both (has_taps task.kind task.taps task.form)
     (both (has_factor task.kind task.mul)
+    (both (has_every task.kind task.every)
     (both (if_some task.until (λ steps. steps ≤ STEPS_MAX)
     (λ steps. test.is_at_most steps STEPS_MAX))
     (both (if_some task.parent (λ parent. IsParent graph t task parent)
     (λ parent. is_parent graph t task parent))
-    (both (has_block graph task) (may_join_now task)))))))))
+    (both (has_block graph task) (may_join_now task))))))))))
 
 -- ---- the line of a phaser, without a single
 

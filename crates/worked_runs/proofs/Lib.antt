@@ -8,4 +8,5 @@ pub mod RunTests
 pub mod Stopped
 pub mod Tests
 pub mod WorkedBlocks
+pub mod WorkedDecimator
 pub mod WorkedRun

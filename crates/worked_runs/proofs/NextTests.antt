@@ -11,7 +11,7 @@ use Rattle.graph_runs.specs.phase_history.Histories.{members_of, done_of, wait_p
 use Rattle.graph_runs.specs.phase_history.Phases.{stream_of, received_by}
 use Rattle.graph_runs.specs.phase_history.Refusals.{register_refusal, signal_refusal, wait_refusal, drop_refusal}
 use Rattle.graph_runs.specs.graph_base.declared.line.Kind.{Kind}
-use Rattle.graph_runs.specs.graph_base.declared.line.Kind.TheVariants.{Source, Fir, Split, Join, Peer, Sink}
+use Rattle.graph_runs.specs.graph_base.declared.line.Kind.TheVariants.{Source, Fir, Split, Decimate, Join, Peer, Sink}
 use Rattle.graph_runs.specs.graph_base.declared.line.Parent.{Parent}
 use Rattle.graph_runs.specs.graph_base.Graphs.{Task, task_at, phaser_at, is_source}
 use Rattle.graph_runs.specs.graph_base.TaskLines.{IsGraph}
@@ -125,6 +125,7 @@ abbrev pub has_samples : (kind : Kind) (begun samples : ℕ) → Test (HasSample
 has_samples Source begun samples = test.is_at_most begun samples
 has_samples Fir begun samples = always tt
 has_samples Split begun samples = always tt
+has_samples Decimate begun samples = always tt
 has_samples Join begun samples = always tt
 has_samples Peer begun samples = always tt
 has_samples Sink begun samples = always tt
@@ -133,6 +134,7 @@ abbrev pub has_exchanged : (kind : Kind) (j put taken : ℕ) → Test (HasExchan
 has_exchanged Source j put taken = always tt
 has_exchanged Fir j put taken = always tt
 has_exchanged Split j put taken = always tt
+has_exchanged Decimate j put taken = always tt
 has_exchanged Join j put taken = always tt
 has_exchanged Sink j put taken = always tt
 has_exchanged Peer zero put taken = always tt
@@ -176,6 +178,7 @@ is_peer Peer = always refl
 is_peer Source = never
 is_peer Fir = never
 is_peer Split = never
+is_peer Decimate = never
 is_peer Join = never
 is_peer Sink = never
 

@@ -6,7 +6,7 @@ use Rattle.graph_runs.specs.phase_base.Lists.{is_in}
 use Rattle.graph_runs.specs.phase_base.declared.mode.Mode.TheVariants.{Sig, Wait}
 use Rattle.graph_runs.specs.phase_accum.declared.outcome.Outcome.{Outcome}
 use Rattle.graph_runs.specs.phase_accum.declared.outcome.Outcome.TheVariants.{Value}
-use Rattle.graph_runs.specs.phase_history.declared.event.Event.TheVariants.{Made, Registered, Signalled, Waited, Dropped}
+use Rattle.graph_runs.specs.phase_history.declared.event.Event.TheVariants.{Registered, Signalled, Waited, Dropped}
 use Rattle.graph_runs.specs.phase_history.Histories.{History, has_dropped}
 use Rattle.graph_runs.specs.phase_history.Legal.{IsLegal}
 use Rattle.graph_runs.specs.phase_history.Others.{OthersCame, children_in, events_of}

@@ -1,6 +1,7 @@
 pub mod Runs
 pub mod Worked
 pub mod WorkedBlocks
+pub mod WorkedDecimator
 pub mod WorkedFaults
 pub mod WorkedFeeds
 pub mod WorkedParts

@@ -4,7 +4,7 @@ use Rattle.graph_runs.specs.phase_accum.declared.outcome.Outcome.TheVariants.{Va
 use Rattle.graph_runs.specs.Moments.{Moment}
 use Rattle.graph_runs.specs.TaskEvents.{first_wait, after_turn}
 use Rattle.graph_runs.specs.TaskPlaces.{TaskPlace, at_start}
-use Rattle.worked_runs.specs.Worked.{worked, worked_opening, worked_sample}
+use Rattle.worked_runs.specs.Worked.{worked, worked_sample}
 
 -- the source is on X as 1
 abbrev pub source_start : TaskPlace

@@ -3,6 +3,7 @@
 #![tactic(auto)]
 
 mod worked_blocks;
+mod worked_decimator;
 mod worked_events;
 mod worked_faults;
 mod worked_feeds;
