@@ -5,7 +5,7 @@ use Rattle.std.proofs.lemmas.List.{map_push}
 use Rattle.graph_numbers.specs.graph_lang.graph_base.Graphs.{is_sink, task_at}
 use Rattle.graph_numbers.specs.graph_lang.graph_base.TaskLines.{IsGraph, HasEnds}
 use Rattle.graph_numbers.specs.graph_lang.graph_base.declared.line.Kind.{Kind}
-use Rattle.graph_numbers.specs.graph_lang.graph_base.declared.line.Kind.TheVariants.{Source, Fir, Split, Join, Peer, Sink}
+use Rattle.graph_numbers.specs.graph_lang.graph_base.declared.line.Kind.TheVariants.{Source, Fir, Split, Decimate, Join, Peer, Sink}
 use Rattle.stream_eval.specs.stream_lists.Jobs.{Job}
 use Rattle.stream_eval.specs.stream_lists.Lists.{is_sink_at, numbers_of, sink_over, sinks_of}
 use Rattle.stream_eval.specs.stream_lists.Spans.{schedule_of, span_in}
@@ -19,6 +19,7 @@ sink_takes_one Sink e = refl
 sink_takes_one Source e = absurd (cc)
 sink_takes_one Fir e = refl
 sink_takes_one Split e = refl
+sink_takes_one Decimate e = refl
 sink_takes_one Join e = absurd (cc)
 sink_takes_one Peer e = refl
 
@@ -28,6 +29,7 @@ sink_input Sink inputs outputs ends e = omega (arith, ends.0)
 sink_input Source inputs outputs ends e = absurd (cc)
 sink_input Fir inputs outputs ends e = absurd (cc)
 sink_input Split inputs outputs ends e = absurd (cc)
+sink_input Decimate inputs outputs ends e = absurd (cc)
 sink_input Join inputs outputs ends e = absurd (cc)
 sink_input Peer inputs outputs ends e = absurd (cc)
 

@@ -7,7 +7,7 @@ use Rattle.graph_commands.specs.FileJobs.{Known}
 use Rattle.stream_job.specs.Streams.{IsSourceAt}
 use Rattle.stream_job.specs.graph_base.Graphs.{is_source, no_task, source_number, task_at}
 use Rattle.stream_job.specs.graph_base.declared.Kind.{Kind}
-use Rattle.stream_job.specs.graph_base.declared.Kind.TheVariants.{Fir, Join, Peer, Sink, Source as SourceKind, Split}
+use Rattle.stream_job.specs.graph_base.declared.Kind.TheVariants.{Decimate, Fir, Join, Peer, Sink, Source as SourceKind, Split}
 use Rattle.stream_job.specs.stream_lists.Jobs.{Job}
 use Rattle.stream_job.proofs.stream_lists_lemmas.Basics.{push_found}
 use Rattle.phase_stream.specs.Sources.{AreUnopened, IsSource}
@@ -26,6 +26,7 @@ kind_is : (kind : Kind) → is_source kind ≡ true → kind ≡ SourceKind
 kind_is SourceKind e = refl
 kind_is Fir e = absurd (cc)
 kind_is Split e = absurd (cc)
+kind_is Decimate e = absurd (cc)
 kind_is Join e = absurd (cc)
 kind_is Peer e = absurd (cc)
 kind_is Sink e = absurd (cc)

@@ -498,6 +498,7 @@ pub source_is : (k : Kind) → is_source k ≡ true → k ≡ kind.Source
 source_is kind.Source e = refl
 source_is kind.Fir e = absurd (let no : false ≡ true = e in cc)
 source_is kind.Split e = absurd (let no : false ≡ true = e in cc)
+source_is kind.Decimate e = absurd (let no : false ≡ true = e in cc)
 source_is kind.Join e = absurd (let no : false ≡ true = e in cc)
 source_is kind.Peer e = absurd (let no : false ≡ true = e in cc)
 source_is kind.Sink e = absurd (let no : false ≡ true = e in cc)

@@ -12,7 +12,7 @@ use Rattle.graph_runs.specs.phase_history.Histories.{History}
 use Rattle.graph_runs.specs.graph_base.TaskLines.{IsGraph, has_children}
 use Rattle.graph_runs.specs.graph_base.Graphs.{Task, task_at}
 use Rattle.graph_runs.specs.graph_base.declared.line.Kind.{Kind}
-use Rattle.graph_runs.specs.graph_base.declared.line.Kind.TheVariants.{Source, Fir, Split, Join, Peer, Sink}
+use Rattle.graph_runs.specs.graph_base.declared.line.Kind.TheVariants.{Source, Fir, Split, Decimate, Join, Peer, Sink}
 use Rattle.graph_runs.specs.graph_base.declared.line.Parent.{Parent}
 use Rattle.graph_runs.specs.graph_base.Registrations.{signalled_by}
 use Rattle.stream_eval.specs.stream_lists.Jobs.{Job}
@@ -140,6 +140,7 @@ values_next job m t j most vs at is there part able stands none owed_is =
     by Source e = other (λ join. (let no : Source ≡ Join = sym e ∙ join in cc))
     by Fir e = other (λ join. (let no : Fir ≡ Join = sym e ∙ join in cc))
     by Split e = other (λ join. (let no : Split ≡ Join = sym e ∙ join in cc))
+    by Decimate e = other (λ join. (let no : Decimate ≡ Join = sym e ∙ join in cc))
     by Peer e = other (λ join. (let no : Peer ≡ Join = sym e ∙ join in cc))
     by Sink e = other (λ join. (let no : Sink ≡ Join = sym e ∙ join in cc))
 
@@ -167,6 +168,7 @@ values_follow job m after t j p most vs at now is there part able stands none ow
     by Source e = other (λ join. (let no : Source ≡ Join = sym e ∙ join in cc))
     by Fir e = other (λ join. (let no : Fir ≡ Join = sym e ∙ join in cc))
     by Split e = other (λ join. (let no : Split ≡ Join = sym e ∙ join in cc))
+    by Decimate e = other (λ join. (let no : Decimate ≡ Join = sym e ∙ join in cc))
     by Peer e = other (λ join. (let no : Peer ≡ Join = sym e ∙ join in cc))
     by Sink e = other (λ join. (let no : Sink ≡ Join = sym e ∙ join in cc))
 

@@ -11,7 +11,7 @@ use Rattle.stream_eval.proofs.stream_lists_lemmas.stream_filters_lemmas.Stepped.
 use Rattle.graph_runs.specs.phase_accum.declared.outcome.Outcome.{Outcome}
 use Rattle.graph_runs.specs.graph_base.Graphs.{Task}
 use Rattle.graph_runs.specs.graph_base.declared.line.Kind.{Kind}
-use Rattle.graph_runs.specs.graph_base.declared.line.Kind.TheVariants.{Source, Fir, Split, Join, Peer, Sink}
+use Rattle.graph_runs.specs.graph_base.declared.line.Kind.TheVariants.{Source, Fir, Split, Decimate, Join, Peer, Sink}
 use Rattle.graph_runs.specs.Moves.{IsBlock}
 use Rattle.graph_runs.specs.Steps.{HasFilter}
 use Rattle.graph_runs.specs.TaskPlaces as turns
@@ -133,6 +133,7 @@ others_owe task begun taken os d no_source no_filter block = by task.kind refl
     by Source e = absurd (no_source e)
     by Fir e = absurd (no_filter e)
     by Split e = one (subst (λ k. IsBlock k (length os)) e block)
+    by Decimate e = one (subst (λ k. IsBlock k (length os)) e block)
     by Join e = one (subst (λ k. IsBlock k (length os)) e block)
     by Peer e = one (subst (λ k. IsBlock k (length os)) e block)
     by Sink e = rw e refl

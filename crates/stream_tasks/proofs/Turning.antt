@@ -9,7 +9,7 @@ use Rattle.stream_eval.specs.stream_filters.Filter.{FirState}
 use Rattle.graph_runs.specs.phase_accum.declared.outcome.Outcome.{Outcome}
 use Rattle.graph_runs.specs.phase_history.Histories.{History}
 use Rattle.graph_runs.specs.graph_base.declared.line.Kind.{Kind}
-use Rattle.graph_runs.specs.graph_base.declared.line.Kind.TheVariants.{Source, Fir, Split, Join, Peer, Sink}
+use Rattle.graph_runs.specs.graph_base.declared.line.Kind.TheVariants.{Source, Fir, Split, Decimate, Join, Peer, Sink}
 use Rattle.graph_runs.specs.graph_base.Graphs.{Task, task_at, phaser_at}
 use Rattle.stream_eval.specs.stream_lists.Jobs.{Job}
 use Rattle.graph_runs.specs.Moments.{Moment}
@@ -492,6 +492,7 @@ makes_many job s whole some = by (task_at job.graph s.number).kind refl
     by Join e = rw e tt
     by Source e = absurd (some (whole.others (λ many. rw e at many)))
     by Split e = absurd (some (whole.others (λ many. rw e at many)))
+    by Decimate e = absurd (some (whole.others (λ many. rw e at many)))
     by Peer e = absurd (some (whole.others (λ many. rw e at many)))
     by Sink e = absurd (some (whole.others (λ many. rw e at many)))
 
@@ -501,6 +502,7 @@ filter_of Fir many apart = refl
 filter_of Join many apart = absurd (apart refl)
 filter_of Source many apart = absurd many
 filter_of Split many apart = absurd many
+filter_of Decimate many apart = absurd many
 filter_of Peer many apart = absurd many
 filter_of Sink many apart = absurd many
 
@@ -520,6 +522,7 @@ put_all_owes job s made whole some none =
     after task vs Join e many = rw e refl
     after task vs Source e many = absurd many
     after task vs Split e many = absurd many
+    after task vs Decimate e many = absurd many
     after task vs Peer e many = absurd many
     after task vs Sink e many = absurd many
 

@@ -205,7 +205,7 @@ impl<'a> TaskState<'a> {
         }
     }
 
-    /// Begins steps of a filter, a peer or a sink, by their first wait.
+    /// Begins steps of a filter, a decimator, a peer or a sink, by their first wait.
     fn first_wait<G: Gate>(&mut self, job: &Job, gate: &G) -> Went
         requires step { MayStep job.now self.old }
         requires kind { (task_at job.now.graph self.old.number).kind ≢ kind.Source }

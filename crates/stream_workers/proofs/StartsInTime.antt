@@ -7,7 +7,7 @@ use Rattle.std.proofs.lemmas.Bool.Decides.{nat_tests}
 use Rattle.stream_tasks.specs.graph_base.Graphs.{Task, task_at}
 use Rattle.stream_tasks.specs.graph_base.TaskLines.{HasEnds, IsGraph, IsTaskLine, IsParent, has_children}
 use Rattle.stream_tasks.specs.graph_base.declared.line.Kind.{Kind}
-use Rattle.stream_tasks.specs.graph_base.declared.line.Kind.TheVariants.{Source, Fir, Split, Join, Peer, Sink}
+use Rattle.stream_tasks.specs.graph_base.declared.line.Kind.TheVariants.{Source, Fir, Split, Decimate, Join, Peer, Sink}
 use Rattle.stream_tasks.specs.graph_base.declared.line.Parent.{Parent}
 use Rattle.stream_tasks.specs.stream_lists.Jobs.{Job, samples_at, start_at}
 use Rattle.stream_tasks.specs.stream_lists.Lists.{start_in}
@@ -33,6 +33,7 @@ one_input Fir inputs outputs one ends = ends.0
 one_input Sink inputs outputs one ends = ends.0
 one_input Source inputs outputs one ends = absurd (let b : false ≡ true = one in cc)
 one_input Split inputs outputs one ends = absurd (let b : false ≡ true = one in cc)
+one_input Decimate inputs outputs one ends = absurd (let b : false ≡ true = one in cc)
 one_input Join inputs outputs one ends = absurd (let b : false ≡ true = one in cc)
 one_input Peer inputs outputs one ends = absurd (let b : false ≡ true = one in cc)
 
@@ -45,6 +46,7 @@ enough task samples values one = by task.kind refl
     by Sink e = rw e refl
     by Source e = absurd (let b : false ≡ true = sym (ap has_one e) ∙ one in cc)
     by Split e = absurd (let b : false ≡ true = sym (ap has_one e) ∙ one in cc)
+    by Decimate e = absurd (let b : false ≡ true = sym (ap has_one e) ∙ one in cc)
     by Join e = absurd (let b : false ≡ true = sym (ap has_one e) ∙ one in cc)
     by Peer e = absurd (let b : false ≡ true = sym (ap has_one e) ∙ one in cc)
 
@@ -112,6 +114,7 @@ parent_one Source child inputs outputs may ends some = let none : inputs ≡ 0 =
 parent_one Fir child inputs outputs may ends some = refl
 parent_one Sink child inputs outputs may ends some = refl
 parent_one Split child inputs outputs may ends some = absurd (let b : false ≡ true = may in cc)
+parent_one Decimate child inputs outputs may ends some = absurd (let b : false ≡ true = may in cc)
 parent_one Join child inputs outputs may ends some = absurd (let b : false ≡ true = may in cc)
 parent_one Peer child inputs outputs may ends some = absurd (let b : false ≡ true = may in cc)
 
