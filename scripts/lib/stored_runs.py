@@ -3,6 +3,7 @@ hand."""
 import collections
 import itertools
 import os
+from pathlib import Path
 
 import project
 
@@ -124,11 +125,11 @@ def said_by(text):
 
 
 def marks():
-    """The tables of scripts/check/cases/marks, each with its name and its rows: a graph, its fault,
-    the line at fault and the mark under it, and what was expected there."""
+    """The tables of the files of scripts/check/cases/marks, each with its name and its rows: a
+    graph, its fault, the line at fault and the mark under it, and what was expected there."""
     found = []
-    with open(os.path.join(CASES, "marks"), encoding="utf-8") as it:
-        lines = (text.rstrip("\n") for text in it)
+    for path in sorted(Path(CASES, "marks").iterdir()):
+        lines = iter(path.read_text(encoding="utf-8").split("\n"))
         for text in lines:
             if text.startswith("= "):
                 found.append((text[2:], []))
