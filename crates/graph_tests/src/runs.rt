@@ -29,7 +29,7 @@ struct Case {
     lines: &'static str,
 }
 
-const CASES: [Case; 25] = [
+const CASES: [Case; 27] = [
     Case {
         name: "a filter rounds down",
         graph: "phaser X sum ?\nphaser Y sum ?\nsource s s.csv -> X\n\
@@ -214,6 +214,20 @@ const CASES: [Case; 25] = [
             fir g X -> Y shift 0 taps 1 1 by f at 2 until 1 block=4\nsink out Y\n",
         samples: &["1\n2\n3\n4\n"],
         lines: "3: 1 3 8 7\n",
+    },
+    Case {
+        name: "a decimator puts the first of each three values",
+        graph: "graph 3\nphaser X sum ?\nphaser Y sum ?\nsource s s.csv -> X\n\
+            decimate d X -> Y every 3\nsink out Y\n",
+        samples: &["3\n1\n4\n1\n5\n9\n2\n"],
+        lines: "2: 3 1 2\n",
+    },
+    Case {
+        name: "a decimator that may take six values puts two of them",
+        graph: "graph 3\nphaser X sum ?\nphaser Y sum ?\nsource s s.csv -> X\n\
+            decimate d X -> Y every 3 until 6\nsink out Y\n",
+        samples: &["3\n1\n4\n1\n5\n9\n2\n"],
+        lines: "2: 3 1\n",
     },
 ];
 

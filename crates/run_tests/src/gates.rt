@@ -254,7 +254,7 @@ struct Entries {
 // A source enters a step for each sample. Another task enters one more than it makes, in which it
 // is told that no value comes, unless `until` ends it before. A step is entered once, also where it
 // waits twice, and where the task is refused and comes again; and a block once, with its first.
-const ENTRIES: [Entries; 7] = [
+const ENTRIES: [Entries; 8] = [
     // The source enters 0, 3 and 6, and the sink also 7.
     Entries {
         name: "blocks of three",
@@ -283,6 +283,16 @@ const ENTRIES: [Entries; 7] = [
         end: 5,
         wanted: "out 5\n1\n2\n3\n4\n5\n",
         entered: [5, 6, 6, 6, 0, 0, 0, 0],
+    },
+    Entries {
+        name: "a decimator",
+        graph: "graph 3\nphaser X sum 1\nphaser Y sum 1\nsource s s.csv -> X\n\
+            decimate d X -> Y every 3\nsink out Y\n",
+        samples: &["3\n1\n4\n1\n5\n9\n2\n"],
+        block: 1,
+        end: 7,
+        wanted: "out 3\n3\n1\n2\n",
+        entered: [7, 8, 4, 0, 0, 0, 0, 0],
     },
     Entries {
         name: "two peers",

@@ -40,7 +40,7 @@ const ROOM_FOR_ONE: &str = "phaser X sum 4\nphaser Y sum 2\nphaser Z sum 2\nphas
     phaser W sum 9\nsource s s.csv -> X\nfir f X -> Y shift 0 taps 1\nsplit e Y -> Z V\n\
     join j Y Z -> W\nsink w W\n";
 
-const CASES: [Case; 27] = [
+const CASES: [Case; 30] = [
     Case {
         name: "a filter",
         graph: "phaser X sum 4\nphaser Y sum 4\nsource s s.csv -> X\n\
@@ -79,6 +79,33 @@ const CASES: [Case; 27] = [
         name: "a splitter and a filter stand still",
         graph: "phaser X sum 1\nphaser A sum 1\nphaser B sum 1\nphaser S sum 1\n\
             source s s.csv -> X\nsplit d X -> A B\nfir f A -> S shift 0 taps 1\n\
+            fir g X -> S shift 0 taps 1\nsink out S\n",
+        samples: &["1\n2\n3\n4\n5\n6\n7\n"],
+        runs: 100,
+        wanted: "stalled\n",
+    },
+    Case {
+        name: "a decimator",
+        graph: "graph 3\nphaser X sum 1\nphaser Y sum 1\nsource s s.csv -> X\n\
+            decimate d X -> Y every 3\nsink out Y\n",
+        samples: &["3\n1\n4\n1\n5\n9\n2\n"],
+        runs: 10,
+        wanted: "out 3\n3\n1\n2\n",
+    },
+    // As with the splitter above, whose other output nobody takes from.
+    Case {
+        name: "a decimator and a filter on one bus",
+        graph: "graph 3\nphaser X sum 1\nphaser A sum 1\nphaser S sum 1\n\
+            source s s.csv -> X\ndecimate d X -> A every 2\nfir f A -> S shift 0 taps 1\n\
+            fir g X -> S shift 0 taps 1\nsink out S\n",
+        samples: &["1\n2\n3\n4\n5\n6\n"],
+        runs: 1,
+        wanted: "out 6\n2\n5\n8\n4\n5\n6\n",
+    },
+    Case {
+        name: "a decimator and a filter stand still",
+        graph: "graph 3\nphaser X sum 1\nphaser A sum 1\nphaser S sum 1\n\
+            source s s.csv -> X\ndecimate d X -> A every 2\nfir f A -> S shift 0 taps 1\n\
             fir g X -> S shift 0 taps 1\nsink out S\n",
         samples: &["1\n2\n3\n4\n5\n6\n7\n"],
         runs: 100,
