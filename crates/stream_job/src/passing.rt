@@ -102,8 +102,8 @@ impl Machine {
         Some(first_input_of(job, t, begun))
     }
 
-    /// A splitter, a decimator or a joiner signals the one value that it owes, where it owes one and
-    /// its phaser takes it.
+    /// A splitter, a decimator or a joiner signals the one value that it owes, where it owes one
+    /// and its phaser takes it.
     fn put_on(&mut self, job: &Job, buffers: &mut Buffers, t: usize)
         requires machine { IsSome job.now self.old }
         requires task { t < length job.now.graph.tasks }
