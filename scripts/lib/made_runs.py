@@ -2,7 +2,7 @@
 tables here and of rules."""
 import project
 from stored_runs import Has, OneOf, Run, helps, marks, stored_runs, tables
-from value_runs import MOST, banks, joiners, long_filters, long_lists, long_texts, numbers, ways_of_values
+from value_runs import MOST, banks, doubled_lists, joiners, long_filters, long_lists, long_texts, numbers, ways_of_values
 
 # ---- checks, evaluations and drawings of graphs
 
@@ -591,6 +591,8 @@ def all_runs():
     yield Run("no counts behind a fault", "run g --counts", files, None, 3, "", "phase: too big at f 1\n")
     many = "1\n" * 2100000
     yield Run("a list of over two million values", "eval g", {"g": piped, "s.csv": many}, None, 0, "out 2100000\n" + many, "")
+    doubled, told = doubled_lists()
+    yield Run("one of 7 of a long list", "check g --explain", doubled, None, 0, Has([told]), "")
     yield Run("lists of over four and eight million values", "eval g --sink last", *long_lists(4200000))
     for name, rows in marks():
         for graph, fault, line, under, expected in rows:

@@ -71,10 +71,20 @@ def ways_of_values(bound):
         files, [0] * 5 + a[:85], None,
     )
     # A decimator puts the first of each so many values, and counts its own steps.
-    for steps in 1, 2, 3, 7, 64, 199, 200, 201, 65536:
+    for steps in 1, 2, 3, 7, 64, 65, 199, 200, 201, 65536:
         yield (
             f"one value of {steps}", f"{third}decimate d X -> Y every {steps}\nsink out Y\n", files,
             a[::steps], None,
+        )
+    for count in 0, 1, 2, 3, 4, 7:
+        few = {"a.csv": numbers(count, 1)}
+        yield (
+            f"one of 3 of {count} values", f"{third}decimate d X -> Y every 3\nsink out Y\n", few,
+            a[:count:3], None,
+        )
+        yield (
+            f"a delay of 3 of {count} values", f"{third}delay d X -> Y of 3\nsink out Y\n", few,
+            ([0] * 3 + a)[:count], None,
         )
     yield (
         "a decimator leaves between two values",
@@ -363,6 +373,22 @@ def long_filters():
 def files_of(graph, values):
     """The graph, and the samples of its source, a line each."""
     return {"g": graph, "s.csv": "".join(f"{value}\n" for value in values)}
+
+
+def doubled_lists():
+    """A graph whose lists double 25 times, from three samples on, before a decimator takes one of 7,
+    and what is told of the lengths."""
+    phasers = "".join(f"phaser X{k} sum 1\nphaser Y{k} sum 1\n" for k in range(25))
+    tasks = "".join(
+        f"fir f{k} X{k} -> Y{k} shift 0 taps 1\njoin j{k} X{k} Y{k} -> X{k + 1}\n" for k in range(25)
+    )
+    graph = (
+        f"graph 3\n{phasers}phaser X25 sum 1\nphaser D sum 1\nphaser W sum 1\nsource s s.csv -> X0\n"
+        f"{tasks}decimate d X25 -> D every 7\njoin last X25 D -> W\nsink out W\n"
+    )
+    # 3 * 2^25 is 7 * 14380470 + 6.
+    told = "  last: its inputs end at X25 100663296, D 14380471\n"
+    return {"g": graph, "s.csv": "1\n1\n1\n"}, told
 
 
 def long_lists(count):
