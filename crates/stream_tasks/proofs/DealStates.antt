@@ -38,8 +38,9 @@ use Rattle.stream_tasks.specs.declared.hold.Hold.{Hold}
 use Rattle.stream_tasks.specs.declared.hold.Hold.TheVariants.{On, Gone}
 use Rattle.stream_tasks.specs.declared.task_state.TaskState.{TaskState}
 use Rattle.stream_tasks.proofs.DealWaits.{gets_block}
-use Rattle.stream_tasks.proofs.Dealing.{deal_begins, share_goes_on, share_is_next, share_was_last, split_may_begin}
+use Rattle.stream_tasks.proofs.Dealing.{deal_begins, share_goes_on, share_is_next, share_was_last, split_takes}
 use Rattle.stream_tasks.proofs.Holding.{sees_own, on_after}
+use Rattle.stream_tasks.proofs.OneInputs.{block_may_begin}
 use Rattle.stream_tasks.proofs.Shares.{length-every, turns_few}
 use Rattle.stream_tasks.proofs.Turning.{as_it_is, FitPlaces, StayPlaces, state_moves, whole_moves, goes, held}
 use Rattle.stream_tasks.proofs.Waiting.{answered_on, makes_fewer}
@@ -79,12 +80,13 @@ state_deals job spots m s p begun allowed os old new entered outcomes deal whole
     let stands = at.place step.owed.2 in
     let sees = sees_own job spots m t p (wait_event (length os)) old new w.before on w.made in
     let answer = answered_on job spots m t p os old new on w in
-    let begins = split_may_begin job m t s.most (length os) (place_of_state s) whole.graph
-    whole.there at.part split stands left owed_is
+    let takes = split_takes job t whole.graph whole.there split in
+    let begins = block_may_begin job m t s.most (length os) (place_of_state s) whole.graph
+    whole.there at.part takes stands left owed_is
     (makes_fewer job t s.begun allowed 1 (omega arith) may)
     (makes_fewer job t s.begun allowed (length os) less may) (step.children spots m at) in
     let got : HasGot job m after t 0 p os (m.begun t + length os) now =
-    gets_block job m t p n os w.before whole.graph whole.there at.part split input
+    gets_block job m t p n os w.before whole.graph whole.there at.part takes input
     (staying_at job m t (place_of_state s) whole.graph whole.there at.part.ran stands left) begins
     sees answer in
     let dealing = deal_begins job m after t p s.most os (place_of_state s) now whole.graph

@@ -1,4 +1,5 @@
--- A wait of a splitter that begins several steps leaves the task's part as the wait of one does.
+-- A wait for several steps, of a task whose steps take a value each from its one input, leaves the
+-- task's part as the wait for one does.
 use Rattle.std.proofs.Common.{◌≡◌, ◌≢◌, ℕ, ◌+◌, ◌<◌, ◌≤◌, ◌⊎◌, inl, inr, true, false, List, ◌∷◌, ◌++◌, Some, None, length, map, refl, sym, ap, subst, ◌∙◌, arith}
 use mathlib.Core.List.{IsPrefix}
 use Rattle.std.proofs.lemmas.List.{length-append, length-map, map-append}
@@ -12,9 +13,8 @@ use Rattle.graph_runs.specs.phase_history.Phases.{received_by}
 use Rattle.graph_runs.specs.phase_history.Sent.{sent_by, IsSilent}
 use Rattle.graph_runs.specs.graph_base.TaskLines.{IsGraph, IsTaskLine}
 use Rattle.graph_runs.specs.graph_base.Graphs.{task_at}
-use Rattle.graph_runs.specs.graph_base.declared.line.Kind.TheVariants.{Split}
 use Rattle.graph_runs.specs.graph_base.declared.line.Parent.{Parent}
-use Rattle.stream_eval.specs.stream_lists.Jobs.{Job}
+use Rattle.stream_eval.specs.stream_lists.Jobs.{Job, samples_at}
 use Rattle.stream_eval.specs.stream_lists.Lists.{number}
 use Rattle.stream_eval.specs.stream_lists.Spans.{takes_from}
 use Rattle.graph_runs.specs.Moments.{AtMost, HasEnded, HasNotPassed, HasTaken, Moment, OnLine, TaskRan, input_at, limits_at, one, value_at}
@@ -26,12 +26,13 @@ use Rattle.graph_runs.proofs.Following.{GetsAll}
 use Rattle.graph_runs.proofs.OwnEvents.{eq_case, history_by, inputs_later, joined_later, outputs_later, made_more}
 use Rattle.graph_runs.proofs.PartsLemmas.{later_staying, other_at, same_at, seen, with_history}
 use Rattle.graph_runs.proofs.Turned.{at_other, at_same}
+use Rattle.stream_tasks.proofs.OneInputs.{TakesOne}
 
--- task t, a splitter and number n on phaser p, its input, has waited and was answered these outcomes,
--- by which as many steps have begun
-pub record SplitWaits (job : Job) (before after : Moment) (t p n : ℕ) (outcomes : List Outcome)
+-- task t, number n on phaser p, its input, has waited and was answered these outcomes, by which as
+-- many steps have begun
+pub record BlockWaits (job : Job) (before after : Moment) (t p n : ℕ) (outcomes : List Outcome)
     : Type 0 where
-  pub kind : (task_at job.graph t).kind ≡ Split
+  pub takes : TakesOne job t
   pub moved : HasMoved job before after t p (Waited n (length outcomes))
   pub numbered : before.number p t ≡ Some n
   pub place : input_at (task_at job.graph t) 0 ≡ p
@@ -42,17 +43,17 @@ pub record SplitWaits (job : Job) (before after : Moment) (t p n : ℕ) (outcome
   pub begun : after.begun t ≡ before.begun t + length outcomes
   pub may : MayBeginTo job before t (before.begun t + length outcomes)
 
-pub split_ran : (job : Job) (before after : Moment) (t p n : ℕ) (outcomes : List Outcome)
+pub block_ran : (job : Job) (before after : Moment) (t p n : ℕ) (outcomes : List Outcome)
     → IsGraph job.graph → t < length job.graph.tasks
-    → SplitWaits job before after t p n outcomes → TaskRan job before t → TaskRan job after t
-split_ran job before after t p n outcomes is there s ran = record {
+    → BlockWaits job before after t p n outcomes → TaskRan job before t → TaskRan job after t
+block_ran job before after t p n outcomes is there s ran = record {
   puts = λ j lt.
       (rw (s.gets.put j)
       (made_more job before after t j (before.put t j) line ran lt grows
       (λ i below. takes_grow i (eq_case i 0)) (ran.exchanged j) (ran.puts j lt)));
-  exchanged = λ j. rw s.kind tt;
+  exchanged = λ j. s.takes.exchanged j (length (after.put t j)) (length (after.taken t 1));
   takes = λ i lt. takes i lt;
-  samples = rw s.kind tt;
+  samples = s.takes.samples (after.begun t) (length (samples_at job t));
   cut = subst (λ b. AtMost b (task_at job.graph t).until) (sym s.begun) s.may.cut;
   outputs = outputs_later s.moved (λ h a. refl) ran left
       (λ q a e silent. history_by job before after t p event (λ h. IsSilent h a) q s.moved
@@ -79,9 +80,7 @@ split_ran job before after t p n outcomes is there s ran = record {
     event = Waited n (length outcomes)
 
     input : length (task_at job.graph t).inputs ≡ 1
-    input =
-        let ends = rw s.kind at line.ends in
-        ends.0
+    input = s.takes.input
 
     grows : before.begun t ≤ after.begun t
     grows = omega (arith, s.begun)
@@ -102,11 +101,11 @@ split_ran job before after t p n outcomes is there s ran = record {
         let first : i ≡ 0 = omega (arith, input) in
         let was : length (before.taken t 0) ≡ takes_from task (before.begun t) 0 =
         s.may.taken 0 (omega (arith, input)) in
-        let plain : takes_from task (before.begun t) 0 ≡ before.begun t = rw s.kind refl in
-        let all : takes_from task (after.begun t) 0 ≡ after.begun t = rw s.kind refl in
+        let plain = s.takes.takes (before.begun t) in
+        let all = s.takes.takes (after.begun t) in
         let now : length (after.taken t 0) ≡ takes_from task (after.begun t) 0 =
         omega (arith, more, s.begun) in
-        rw first (rw s.kind now)
+        rw first (s.takes.taken_is (after.begun t) (length (after.taken t 0)) now)
 
     stays_dropped : (q a : ℕ) → before.number q t ≡ Some a
         → has_dropped (after.history q) a ≡ false
@@ -172,21 +171,20 @@ split_ran job before after t p n outcomes is there s ran = record {
 
 -- ---- the part
 
--- a splitter's wait for several steps, which it may begin, leaves its part with what it was answered
--- taken
+-- a wait for several steps, which it may begin, leaves its part with what it was answered taken
 pub gets_block : (job : Job) (m : Moment) (t p n : ℕ) (outcomes : List Outcome) (before : History)
     → IsGraph job.graph → t < length job.graph.tasks → HasPart job m t
-    → (task_at job.graph t).kind ≡ Split → input_at (task_at job.graph t) 0 ≡ p → IsStaying m t
+    → TakesOne job t → input_at (task_at job.graph t) 0 ≡ p → IsStaying m t
     → MayBeginTo job m t (m.begun t + length outcomes)
     → SeesOwn job m t p n (Waited n (length outcomes)) before
     → IsAnsweredBy job p n outcomes before
     → HasGot job m
     (after_waits t 0 p n outcomes (m.begun t + length outcomes) (with_history p before m)) t 0 p
     outcomes (m.begun t + length outcomes) (Waited n (length outcomes) ∷ before)
-gets_block job m t p n outcomes before is there part kind place staying may sees answered = record {
+gets_block job m t p n outcomes before is there part takes place staying may sees answered = record {
   moved = record {
     part = record {
-      ran = split_ran job now after t p n outcomes is there waits came.moved.part.ran;
+      ran = block_ran job now after t p n outcomes is there waits came.moved.part.ran;
       legal = λ q on.
           by_case q (λ h. IsLegal (limits_at job q) h)
           (λ e. (let L : ℕ → Type 0 = λ x. IsLegal (limits_at job x) (wait ∷ before) in
@@ -228,9 +226,9 @@ gets_block job m t p n outcomes before is there part kind place staying may sees
     came : HasSeen job m now t p before
     came = seen job m t p n before others is there part
 
-    waits : SplitWaits job now after t p n outcomes
+    waits : BlockWaits job now after t p n outcomes
     waits = record {
-      kind = kind;
+      takes = takes;
       moved = record {
         accepted =
             (let A : History → Type 0 = λ h. IsAccepted (limits_at job p) h wait in

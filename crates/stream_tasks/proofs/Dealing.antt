@@ -11,7 +11,7 @@ use Rattle.graph_runs.specs.phase_accum.declared.outcome.Outcome.{Outcome}
 use Rattle.graph_runs.specs.phase_history.Histories.{History, has_dropped}
 use Rattle.graph_runs.specs.graph_base.TaskLines.{IsGraph}
 use Rattle.graph_runs.specs.graph_base.Graphs.{Task, task_at}
-use Rattle.graph_runs.specs.graph_base.declared.line.Kind.TheVariants.{Split}
+use Rattle.graph_runs.specs.graph_base.declared.line.Kind.TheVariants.{Source, Split}
 use Rattle.stream_eval.specs.stream_lists.Jobs.{Job}
 use Rattle.stream_eval.specs.stream_lists.Lists.{every, number}
 use Rattle.stream_eval.specs.stream_lists.Spans.{puts_on, signalled_by, takes_from, turns_below}
@@ -30,6 +30,7 @@ use Rattle.graph_runs.proofs.PlacesLemmas.{place_of_output}
 use Rattle.graph_runs.proofs.Tasks.{now_at}
 use Rattle.graph_runs.proofs.TellsNext.{next_waits_at, owes_as}
 use Rattle.stream_tasks.specs.Deals.{IsDealing, dealt}
+use Rattle.stream_tasks.proofs.OneInputs.{TakesOne, taken_by}
 use Rattle.stream_tasks.proofs.Shares.{length-every, share_next, turn_of, turn_once, turns_first, turns_none, turns_then}
 
 -- ---- a splitter
@@ -44,10 +45,20 @@ split_ends job t is there kind =
     let ends = rw kind at (is.tasks t there).ends in
     (rw kind refl, ends.0, ends.1, ends.2)
 
--- its steps begin at its input
-pub first_of_split : (job : Job) (t i : ℕ) → (task_at job.graph t).kind ≡ Split
-    → 0 ≡ first_input (task_at job.graph t) i
-first_of_split job t i kind = rw kind refl
+-- it has one input, of which a step takes a value
+pub split_takes : (job : Job) (t : ℕ) → IsGraph job.graph → t < length job.graph.tasks
+    → (task_at job.graph t).kind ≡ Split → TakesOne job t
+split_takes job t is there kind = record {
+  input = (split_ends job t is there kind).1;
+  first = λ begun. rw kind refl;
+  block = rw kind refl;
+  source = λ source. (let no : Split ≡ Source = sym kind ∙ source in cc);
+  exchanged = λ j put taken. rw kind tt;
+  samples = λ begun samples. rw kind tt;
+  takes = λ begun. rw kind refl;
+  has_taken = λ begun taken has. rw kind at has;
+  taken_is = λ begun taken is. rw kind is;
+}
 
 -- what it makes on an output, over what it has taken
 split_made : (job : Job) (m : Moment) (t j : ℕ) → IsGraph job.graph → t < length job.graph.tasks
@@ -59,17 +70,6 @@ split_made job m t j is there kind =
     let made : made_now job m t j
     ≡ every (length task.outputs) j (get_or (taken_now m task t) 0 []) = rw kind refl in
     made ∙ ap (λ l. every (length task.outputs) j l) (now_at m task t 0 few)
-
--- it has taken a value for each step that it has begun
-split_taken : (job : Job) (m : Moment) (t : ℕ) → IsGraph job.graph → t < length job.graph.tasks
-    → (task_at job.graph t).kind ≡ Split → HasPart job m t → length (m.taken t 0) ≡ m.begun t
-split_taken job m t is there kind part =
-    let few : 0 < length (task_at job.graph t).inputs =
-    omega (arith, (split_ends job t is there kind).1) in
-    let plain : takes_from (task_at job.graph t) (m.begun t) 0 ≡ m.begun t = rw kind refl in
-    let took : length (m.taken t 0) ≡ takes_from (task_at job.graph t) (m.begun t) 0 =
-    rw kind at (part.ran.takes 0 few) in
-    took ∙ plain
 
 -- ---- before and behind a turn
 
@@ -83,46 +83,6 @@ dealt_behind outputs values turn i less =
     let yes : nat_lt i turn ≡ true = lt-ltb i turn less in rw yes refl
 
 -- ---- the wait
-
--- a splitter that owed nothing may begin so many steps
-pub split_may_begin : (job : Job) (m : Moment) (t most steps : ℕ) (at : TaskPlace)
-    → IsGraph job.graph → t < length job.graph.tasks → HasPart job m t
-    → (task_at job.graph t).kind ≡ Split → StandsUpTo most job m t at → at.left ≡ 0
-    → at.owed ≡ nothing → MayMake job t at.begun 1 → MayMake job t at.begun steps
-    → HasChildrenBy job m t at.begun → MayBeginTo job m t (m.begun t + steps)
-split_may_begin job m t most steps at is there part kind stands none owed_is one may children = record {
-  taken = first.taken;
-  cut = subst (λ b. AtMost (b + steps) (task_at job.graph t).until) (sym stands.begun) may.cut;
-  samples = rw kind tt;
-  children = λ p c n u there_c e same on none_c line.
-      (let early : m.begun t + 1 ≤ u.at =
-      first.children p c n u there_c e same on none_c line in
-      let begun : m.begun t ≡ at.begun = stands.begun in
-      let late : at.begun + steps ≤ u.at =
-      may.children c u there_c e same (omega arith) in omega arith);
-}
-  where
-    able : IsMost job t 1
-    able = record { some = omega arith; block = rw kind refl }
-
-    single : StandsUpTo 1 job m t at
-    single = record {
-      few = stands.few;
-      few_left = stands.few_left;
-      numbered = stands.numbered;
-      leaves = stands.leaves;
-      begun = stands.begun;
-      owes =
-          subst (λ o. OwesUpTo 1 job m t o) (sym owed_is)
-          (owes_as job m t at nothing stands owed_is);
-      lacks = stands.lacks;
-    }
-
-    first : MayBeginTo job m t (m.begun t + 1)
-    first =
-        (next_waits_at job m t 1 1 1 at is there part able single none owed_is
-        (λ source. (let no = sym kind ∙ source in cc)) one children (omega arith) (omega arith)
-        (omega arith)).may_begin
 
 -- with the values that it has taken then it has all to deal
 pub deal_begins : (job : Job) (m after : Moment) (t p most : ℕ) (outcomes : List Outcome)
@@ -179,7 +139,7 @@ deal_begins job m after t p most outcomes at now is there part kind stands owed_
     many = length-map outcomes number
 
     before : length (m.taken t 0) ≡ at.begun
-    before = split_taken job m t is there kind part ∙ stands.begun
+    before = taken_by job m t (split_takes job t is there kind) part ∙ stands.begun
 
 -- ---- others' events
 
@@ -238,7 +198,7 @@ module _ (job : Job) (m : Moment) (t begun turn : ℕ) (numbers : List ℕ) (val
         (sym (split_made job m t output is there deal.kind))
         (share_next outputs deal.first turn (m.taken t 0) values (m.put t output)
         deal.outputs_left deal.taken
-        (split_taken job m t is there deal.kind part ∙ deal.begun_is ∙ deal.steps)
+        (taken_by job m t (split_takes job t is there deal.kind) part ∙ deal.begun_is ∙ deal.steps)
         (subst (λ l. IsPrefix (m.put t output) l) (split_made job m t output is there deal.kind)
         (part.ran.puts output (within turn)))
         (let none = dealt_before outputs (length values) turn turn (omega arith) in

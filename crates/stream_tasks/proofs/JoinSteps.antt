@@ -20,7 +20,7 @@ use Rattle.stream_eval.specs.stream_lists.Lists.{entry, in_turn, number, turn_at
 use Rattle.stream_eval.specs.stream_lists.Ranges.{is_out_of_range}
 use Rattle.stream_eval.specs.stream_lists.Spans.{puts_on, takes_from, turns_below}
 use Rattle.graph_runs.specs.Answers.{output_at, values_up_to}
-use Rattle.graph_runs.specs.Moments.{AtMost, Moment, first_input, input_at, made_now, taken_now}
+use Rattle.graph_runs.specs.Moments.{AtMost, HasExchanged, Moment, first_input, input_at, made_now, taken_now}
 use Rattle.graph_runs.specs.Nexts.{exchanges, is_cut, signals, waits_first}
 use Rattle.graph_runs.specs.Parts.{AreNextValues, BeginsSteps, HasGot, HasPart, HasPut}
 use Rattle.graph_runs.specs.Places.{IsMost, after_steps, owing}
@@ -38,7 +38,7 @@ use Rattle.graph_runs.proofs.Ranged.{taken_ranged}
 use Rattle.graph_runs.proofs.Signalling.{begins_some, owed}
 use Rattle.graph_runs.proofs.Tasks.{first_looks, now_at}
 use Rattle.graph_runs.proofs.TellsNext.{next_values_are, owes_as, ranged_values, staying_at}
-use Rattle.stream_tasks.specs.Tasks.{owed_by}
+use Rattle.stream_tasks.specs.Tasks.{MakesMany, owed_by}
 
 -- ---- a joiner
 
@@ -74,13 +74,45 @@ oks-append : (vs : List ℤ) (x : ℤ) → oks (vs ++ x ∷ []) ≡ oks vs ++ Ok
 oks-append [] x = refl
 oks-append (v ∷ vs) x = ap (λ l. Ok v ∷ l) (oks-append vs x)
 
--- ---- its signals
+-- ---- signals
 
-join_next : (job : Job) (m : Moment) (t j most : ℕ) (vs : List ℤ) (at : TaskPlace)
+-- who makes many values has one output, and exchanges nothing
+made_once : (job : Job) (t : ℕ) → IsGraph job.graph → t < length job.graph.tasks
+    → MakesMany (task_at job.graph t).kind
+    → (length (signalled_by (task_at job.graph t)) ≡ 1)
+    × ((j put taken : ℕ) → HasExchanged (task_at job.graph t).kind j put taken)
+    × ((j : ℕ) (vs : List ℤ) → owed_after_signal (task_at job.graph t) j vs ≡ nothing)
+made_once job t is there many = by (task_at job.graph t).kind refl
+  where
+    Once : Type 0
+    Once =
+        (length (signalled_by (task_at job.graph t)) ≡ 1)
+        × ((j put taken : ℕ) → HasExchanged (task_at job.graph t).kind j put taken)
+        × ((j : ℕ) (vs : List ℤ) → owed_after_signal (task_at job.graph t) j vs ≡ nothing)
+
+    by : (kind : Kind) → (task_at job.graph t).kind ≡ kind → Once
+    by Fir e =
+        let ends = rw e at (is.tasks t there).ends in
+        let outs : signalled_by (task_at job.graph t) ≡ (task_at job.graph t).outputs = rw e refl in
+        (ap length outs ∙ ends.1, λ j put taken. rw e tt, λ j vs. rw e refl)
+    by Decimate e =
+        let ends = rw e at (is.tasks t there).ends in
+        let outs : signalled_by (task_at job.graph t) ≡ (task_at job.graph t).outputs = rw e refl in
+        (ap length outs ∙ ends.1, λ j put taken. rw e tt, λ j vs. rw e refl)
+    by Join e =
+        let ends = rw e at (is.tasks t there).ends in
+        let outs : signalled_by (task_at job.graph t) ≡ (task_at job.graph t).outputs = rw e refl in
+        (ap length outs ∙ ends.2, λ j put taken. rw e tt, λ j vs. rw e refl)
+    by Source e = absurd (rw e at many)
+    by Split e = absurd (rw e at many)
+    by Peer e = absurd (rw e at many)
+    by Sink e = absurd (rw e at many)
+
+made_next : (job : Job) (m : Moment) (t j most : ℕ) (vs : List ℤ) (at : TaskPlace)
     → IsGraph job.graph → t < length job.graph.tasks → HasPart job m t
-    → (task_at job.graph t).kind ≡ Join → StandsUpTo most job m t at → at.left ≡ 0
+    → MakesMany (task_at job.graph t).kind → StandsUpTo most job m t at → at.left ≡ 0
     → at.owed ≡ values j (oks vs) → AreNextValues job m t j (output_at job t j) vs
-join_next job m t j most vs at is there part kind stands none owed_is =
+made_next job m t j most vs at is there part many stands none owed_is =
     let owes = owes_as job m t at (values j (oks vs)) stands owed_is in
     let o = owed job m t j owes.0 in
     let next : values_up_to most job m t j ≡ vs =
@@ -89,33 +121,35 @@ join_next job m t j most vs at is there part kind stands none owed_is =
       place = place_of_output job.graph t (task_at job.graph t) j (is.tasks t there) o.0;
       staying = staying_at job m t at is there part.ran stands none;
       entries = rw next at (begins_some most (m.put t j) (made_now job m t j) (part.ran.puts j o.0));
-      exchanged = rw kind tt;
+      exchanged = (made_once job t is there many).1 j (length (m.put t j) + length vs)
+          (length (m.taken t 1));
     }
 
-join_follows : (job : Job) (m after : Moment) (t j p most : ℕ) (vs : List ℤ) (at : TaskPlace)
+made_follows : (job : Job) (m after : Moment) (t j p most : ℕ) (vs : List ℤ) (at : TaskPlace)
     (now : History) → IsGraph job.graph → t < length job.graph.tasks → HasPart job m t
-    → (task_at job.graph t).kind ≡ Join → StandsUpTo most job m t at → at.left ≡ 0
+    → MakesMany (task_at job.graph t).kind → StandsUpTo most job m t at → at.left ≡ 0
     → at.owed ≡ values j (oks vs) → HasPut job m after t j p vs (m.begun t) now
     → StandsUpTo most job after t (owing (owed_after_signal (task_at job.graph t) j vs) at)
-join_follows job m after t j p most vs at now is there part kind stands none owed_is put =
+made_follows job m after t j p most vs at now is there part many stands none owed_is put =
     let task = task_at job.graph t in
     let staying = staying_at job m t at is there part.ran stands none in
     let owes = owes_as job m t at (values j (oks vs)) stands owed_is in
     let o = owed job m t j owes.0 in
-    let one = (join_ends job t is there kind).0 in
-    let then : owed_after_signal task j vs ≡ nothing = rw kind refl in
+    let once = made_once job t is there many in
+    let one = once.0 in
+    let then : owed_after_signal task j vs ≡ nothing = once.2 j vs in
     let lacks : Lacks job after t nothing =
     λ i lt.
     (let same : i ≡ j = omega (arith, o.0, one, lt) in
     let still = made_still job m after t i put.taken put.begun_is in
     let was = lacks_as job m t at (values j (oks vs)) stands owed_is j o.0 in
     let here = lacks_here task.kind j (oks vs) in
-    let many = length-oks vs in
+    let long = length-oks vs in
     let more : length (after.put t i) ≡ length (m.put t j) + length vs =
     ap (λ x. length (after.put t x)) same ∙ ap length put.put ∙ length-append (m.put t j) vs in
     let made : length (made_now job after t i) ≡ length (made_now job m t j) =
     ap length still ∙ ap (λ x. length (made_now job m t x)) same in
-    omega (arith, made, was, here, many, more)) in
+    omega (arith, made, was, here, long, more)) in
     subst (λ o. StandsUpTo most job after t (owing o at)) (sym then)
     (stays_at job m after t at.begun nothing at stands
     (keeps_staying m after t put.moved.numbers staying put.staying)
@@ -124,31 +158,44 @@ join_follows job m after t j p most vs at now is there part kind stands none owe
 -- values that are owed are next, whichever the kind
 pub values_next : (job : Job) (m : Moment) (t j most : ℕ) (vs : List ℤ) (at : TaskPlace)
     → IsGraph job.graph → t < length job.graph.tasks → HasPart job m t
-    → ((task_at job.graph t).kind ≢ Join → IsMost job t most) → StandsUpTo most job m t at
-    → at.left ≡ 0 → at.owed ≡ values j (oks vs)
+    → ((task_at job.graph t).kind ≢ Decimate → (task_at job.graph t).kind ≢ Join
+    → IsMost job t most) → StandsUpTo most job m t at → at.left ≡ 0 → at.owed ≡ values j (oks vs)
     → AreNextValues job m t j (output_at job t j) vs
 values_next job m t j most vs at is there part able stands none owed_is =
     by (task_at job.graph t).kind refl
   where
-    other : (task_at job.graph t).kind ≢ Join → AreNextValues job m t j (output_at job t j) vs
-    other apart =
-        next_values_are job m t j most vs at is there part (able apart) stands none owed_is
+    other : (task_at job.graph t).kind ≢ Decimate → (task_at job.graph t).kind ≢ Join
+        → AreNextValues job m t j (output_at job t j) vs
+    other no_keeper apart =
+        next_values_are job m t j most vs at is there part (able no_keeper apart) stands none
+        owed_is
 
     by : (kind : Kind) → (task_at job.graph t).kind ≡ kind
         → AreNextValues job m t j (output_at job t j) vs
-    by Join e = join_next job m t j most vs at is there part e stands none owed_is
-    by Source e = other (λ join. (let no : Source ≡ Join = sym e ∙ join in cc))
-    by Fir e = other (λ join. (let no : Fir ≡ Join = sym e ∙ join in cc))
-    by Split e = other (λ join. (let no : Split ≡ Join = sym e ∙ join in cc))
-    by Decimate e = other (λ join. (let no : Decimate ≡ Join = sym e ∙ join in cc))
-    by Peer e = other (λ join. (let no : Peer ≡ Join = sym e ∙ join in cc))
-    by Sink e = other (λ join. (let no : Sink ≡ Join = sym e ∙ join in cc))
+    by Join e = made_next job m t j most vs at is there part (rw e tt) stands none owed_is
+    by Source e =
+        other (λ keeper. (let no : Source ≡ Decimate = sym e ∙ keeper in cc))
+        (λ join. (let no : Source ≡ Join = sym e ∙ join in cc))
+    by Fir e =
+        other (λ keeper. (let no : Fir ≡ Decimate = sym e ∙ keeper in cc))
+        (λ join. (let no : Fir ≡ Join = sym e ∙ join in cc))
+    by Split e =
+        other (λ keeper. (let no : Split ≡ Decimate = sym e ∙ keeper in cc))
+        (λ join. (let no : Split ≡ Join = sym e ∙ join in cc))
+    by Decimate e = made_next job m t j most vs at is there part (rw e tt) stands none owed_is
+    by Peer e =
+        other (λ keeper. (let no : Peer ≡ Decimate = sym e ∙ keeper in cc))
+        (λ join. (let no : Peer ≡ Join = sym e ∙ join in cc))
+    by Sink e =
+        other (λ keeper. (let no : Sink ≡ Decimate = sym e ∙ keeper in cc))
+        (λ join. (let no : Sink ≡ Join = sym e ∙ join in cc))
 
 -- and so is where the task stands once they are put
 pub values_follow : (job : Job) (m after : Moment) (t j p most : ℕ) (vs : List ℤ)
     (at : TaskPlace) (now : History) → IsGraph job.graph → t < length job.graph.tasks
-    → HasPart job m t → ((task_at job.graph t).kind ≢ Join → IsMost job t most)
-    → StandsUpTo most job m t at → at.left ≡ 0 → at.owed ≡ values j (oks vs)
+    → HasPart job m t
+    → ((task_at job.graph t).kind ≢ Decimate → (task_at job.graph t).kind ≢ Join
+    → IsMost job t most) → StandsUpTo most job m t at → at.left ≡ 0 → at.owed ≡ values j (oks vs)
     → HasPut job m after t j p vs (m.begun t) now
     → StandsUpTo most job after t (owing (owed_after_signal (task_at job.graph t) j vs) at)
 values_follow job m after t j p most vs at now is there part able stands none owed_is put =
@@ -158,19 +205,31 @@ values_follow job m after t j p most vs at now is there part able stands none ow
     Then =
         StandsUpTo most job after t (owing (owed_after_signal (task_at job.graph t) j vs) at)
 
-    other : (task_at job.graph t).kind ≢ Join → Then
-    other apart =
-        put_follows job m after t j p most vs at now is there part (able apart) stands none owed_is
-        put
+    other : (task_at job.graph t).kind ≢ Decimate → (task_at job.graph t).kind ≢ Join → Then
+    other no_keeper apart =
+        put_follows job m after t j p most vs at now is there part (able no_keeper apart) stands
+        none owed_is put
 
     by : (kind : Kind) → (task_at job.graph t).kind ≡ kind → Then
-    by Join e = join_follows job m after t j p most vs at now is there part e stands none owed_is put
-    by Source e = other (λ join. (let no : Source ≡ Join = sym e ∙ join in cc))
-    by Fir e = other (λ join. (let no : Fir ≡ Join = sym e ∙ join in cc))
-    by Split e = other (λ join. (let no : Split ≡ Join = sym e ∙ join in cc))
-    by Decimate e = other (λ join. (let no : Decimate ≡ Join = sym e ∙ join in cc))
-    by Peer e = other (λ join. (let no : Peer ≡ Join = sym e ∙ join in cc))
-    by Sink e = other (λ join. (let no : Sink ≡ Join = sym e ∙ join in cc))
+    by Join e =
+        made_follows job m after t j p most vs at now is there part (rw e tt) stands none owed_is put
+    by Source e =
+        other (λ keeper. (let no : Source ≡ Decimate = sym e ∙ keeper in cc))
+        (λ join. (let no : Source ≡ Join = sym e ∙ join in cc))
+    by Fir e =
+        other (λ keeper. (let no : Fir ≡ Decimate = sym e ∙ keeper in cc))
+        (λ join. (let no : Fir ≡ Join = sym e ∙ join in cc))
+    by Split e =
+        other (λ keeper. (let no : Split ≡ Decimate = sym e ∙ keeper in cc))
+        (λ join. (let no : Split ≡ Join = sym e ∙ join in cc))
+    by Decimate e =
+        made_follows job m after t j p most vs at now is there part (rw e tt) stands none owed_is put
+    by Peer e =
+        other (λ keeper. (let no : Peer ≡ Decimate = sym e ∙ keeper in cc))
+        (λ join. (let no : Peer ≡ Join = sym e ∙ join in cc))
+    by Sink e =
+        other (λ keeper. (let no : Sink ≡ Decimate = sym e ∙ keeper in cc))
+        (λ join. (let no : Sink ≡ Join = sym e ∙ join in cc))
 
 -- ---- its waits
 

@@ -3,7 +3,7 @@ use Rattle.std.proofs.Common.{◌≡◌, ◌≢◌, ◌≤◌, ℤ, length, sym,
 use Rattle.std.specs.Global.{Global}
 use Rattle.std.specs.Prelude.{Vec}
 use Rattle.graph_runs.specs.graph_base.Graphs.{task_at}
-use Rattle.graph_runs.specs.graph_base.declared.line.Kind.TheVariants.{Join, Split}
+use Rattle.graph_runs.specs.graph_base.declared.line.Kind.TheVariants.{Decimate, Join, Split}
 use Rattle.graph_runs.specs.Places.{IsMost}
 use Rattle.graph_runs.specs.TaskPlaces as turns
 use Rattle.graph_runs.specs.declared.owed.Owed.TheVariants.{Nothing}
@@ -55,6 +55,7 @@ places_stay job s after number most own same_made same_places same_deal many pla
         (subst (λ n. n ≤ sends_room job s.number s.places) (sym most) (places.sends signals)))
 
     able : (task_at job.graph after.number).kind ≢ Split
+        → (task_at job.graph after.number).kind ≢ Decimate
         → (task_at job.graph after.number).kind ≢ Join → IsMost job after.number after.most
     able =
         rw most (rw number places.most)

@@ -3,6 +3,7 @@ mod Holding
 mod Taking
 pub mod Keeping
 mod Shares
+mod OneInputs
 mod DealWaits
 mod JoinSteps
 mod JoinTurns
@@ -12,6 +13,8 @@ mod Dealing
 mod Turning
 mod Waiting
 mod DealStates
+mod Decimating
+mod KeptStates
 mod JoinStates
 mod JoinShares
 mod EndingLemmas

@@ -96,8 +96,8 @@ as_it_is s = record {
 abbrev pub StayPlaces : Places → Places → Type 0
 StayPlaces old new = (op : Op) → room_for op new ≡ room_for op old
 
--- the places stay as many, a filter and a joiner owe what they have made, and other tasks make
--- nothing; the same of a splitter and what it deals
+-- the places stay as many, a filter, a decimator and a joiner owe what they have made, and other
+-- tasks make nothing; the same of a splitter and what it deals
 pub record FitPlaces (job : Job) (s : TaskState) (x : Changes) : Type 0 where
   pub made : x.made.cap ≡ s.made.cap
   pub few_made : length x.made.items ≤ s.most
@@ -221,13 +221,13 @@ owes_values job s owed whole owes some split =
     (whole.others (λ many. rw split at many)) in
     some (sym owes ∙ none)
 
--- a task that owes something and has made nothing is no joiner
-pub no_joiner : (job : Job) (s : TaskState) (owed : turns.Owed) → IsWhole job s
+-- a task that owes something and has made nothing is of no kind that owes what it has made
+pub no_maker : (job : Job) (s : TaskState) (owed : turns.Owed) → IsWhole job s
     → s.made.items ≡ [] → owed_by s.owed s.made.items ≡ owed → (owed ≡ turns.nothing → ⊥)
-    → (task_at job.graph s.number).kind ≢ Join
-no_joiner job s owed whole none owes some join =
+    → MakesMany (task_at job.graph s.number).kind → ⊥
+no_maker job s owed whole none owes some many =
     let nothing_owed : owed_by s.owed s.made.items ≡ turns.nothing =
-    ap (λ o. owed_by o s.made.items) (whole.makers (rw join tt)) ∙ ap (owed_by Nothing) none in
+    ap (λ o. owed_by o s.made.items) (whole.makers many) ∙ ap (owed_by Nothing) none in
     some (sym owes ∙ nothing_owed)
 
 -- it has put the values that it owed on output j, phaser p
@@ -454,7 +454,7 @@ pub owes_value : (s : TaskState) (j : ℕ) (v : ℤ) → s.owed ≡ Value j (Ok 
 owes_value s j v owes none =
     ap (λ o. owed_by o s.made.items) owes ∙ ap (λ l. owed_by (Value j (Ok v)) l) none
 
--- it is neither a filter nor a joiner, so what it owes next fits
+-- it is none that owes what it has made, so what it owes next fits
 pub value_fits : (job : Job) (s : TaskState) (j : ℕ) (v : ℤ) (owed : Owed) → IsWhole job s
     → s.owed ≡ Value j (Ok v) → FitPlaces job s (record (as_it_is s) { owed = owed })
 value_fits job s j v owed whole owes = record {
@@ -481,7 +481,7 @@ owes_made s some = by s.made.items some
     by [] none = absurd (none refl)
     by (v ∷ vs) more = refl
 
--- who has made something is a filter or a joiner
+-- who has made something is of a kind that owes it
 pub makes_many : (job : Job) (s : TaskState) → IsWhole job s → s.made.items ≢ []
     → MakesMany (task_at job.graph s.number).kind
 makes_many job s whole some = by (task_at job.graph s.number).kind refl
@@ -492,19 +492,19 @@ makes_many job s whole some = by (task_at job.graph s.number).kind refl
     by Join e = rw e tt
     by Source e = absurd (some (whole.others (λ many. rw e at many)))
     by Split e = absurd (some (whole.others (λ many. rw e at many)))
-    by Decimate e = absurd (some (whole.others (λ many. rw e at many)))
+    by Decimate e = rw e tt
     by Peer e = absurd (some (whole.others (λ many. rw e at many)))
     by Sink e = absurd (some (whole.others (λ many. rw e at many)))
 
--- who makes many values and is no joiner is a filter
-pub filter_of : (kind : Kind) → MakesMany kind → kind ≢ Join → kind ≡ Fir
-filter_of Fir many apart = refl
-filter_of Join many apart = absurd (apart refl)
-filter_of Source many apart = absurd many
-filter_of Split many apart = absurd many
-filter_of Decimate many apart = absurd many
-filter_of Peer many apart = absurd many
-filter_of Sink many apart = absurd many
+-- who makes many values and is neither a decimator nor a joiner is a filter
+pub filter_of : (kind : Kind) → MakesMany kind → kind ≢ Decimate → kind ≢ Join → kind ≡ Fir
+filter_of Fir many no_keeper apart = refl
+filter_of Decimate many no_keeper apart = absurd (no_keeper refl)
+filter_of Join many no_keeper apart = absurd (apart refl)
+filter_of Source many no_keeper apart = absurd many
+filter_of Split many no_keeper apart = absurd many
+filter_of Peer many no_keeper apart = absurd many
+filter_of Sink many no_keeper apart = absurd many
 
 -- once it has put them it owes nothing
 pub put_all_owes : (job : Job) (s : TaskState) (made : Vec ℤ Global) → IsWhole job s
@@ -522,7 +522,7 @@ put_all_owes job s made whole some none =
     after task vs Join e many = rw e refl
     after task vs Source e many = absurd many
     after task vs Split e many = absurd many
-    after task vs Decimate e many = absurd many
+    after task vs Decimate e many = rw e refl
     after task vs Peer e many = absurd many
     after task vs Sink e many = absurd many
 

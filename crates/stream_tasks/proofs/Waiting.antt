@@ -42,7 +42,7 @@ use Rattle.stream_tasks.specs.declared.hold.Hold.{Hold}
 use Rattle.stream_tasks.specs.declared.hold.Hold.TheVariants.{On}
 use Rattle.stream_tasks.specs.declared.task_state.TaskState.{TaskState}
 use Rattle.stream_tasks.proofs.Holding.{sees_own, on_after}
-use Rattle.stream_tasks.proofs.Turning.{Changes, changed, as_it_is, FitPlaces, StayPlaces, no_joiner, owes_values, state_moves, whole_moves, goes, held}
+use Rattle.stream_tasks.proofs.Turning.{Changes, changed, as_it_is, FitPlaces, StayPlaces, no_maker, owes_values, state_moves, whole_moves, goes, held}
 use Rattle.stream_tasks.proofs.Keeping.{owed_none}
 
 -- a source has begun steps, by a signal with its next samples
@@ -172,6 +172,7 @@ state_exchanges job spots m s p x outcome old new owed outcomes whole few here i
     let sees = sees_own job spots m t p (wait_event 1) old new w.before on w.made in
     let answer = answered_on job spots m t p (outcome ∷ []) old new on w in
     let apart = owes_values job s (turns.exchange x) whole owes (λ e. (cc)) in
+    let makes = no_maker job s (turns.exchange x) whole none owes (λ e. (cc)) in
     let undealt = whole.dealers apart in
     let stands = at.place undealt in
     let next = subst (λ q. IsExchange job m t q) input
@@ -190,7 +191,7 @@ state_exchanges job spots m s p x outcome old new owed outcomes whole few here i
           (calls_got job m after t p whole.graph whole.there 1 n (m.begun t) (outcome ∷ []) w.before sees answer (All-cons (λ o. is_too_big o ≡ false) outcome [] fit (All-nil (λ o. is_too_big o ≡ false))) got at.own)
           (λ no_deal. subst (λ o. StandsUpTo s.most job after t (record { numbers = s.numbers.items; left = length s.lefts.items; begun = s.begun; owed = o }))
           (sym owed_then)
-          (exchanged_follows job m after t p s.most x outcome (place_of_state s) now whole.graph whole.there at.part (whole.places.most apart (no_joiner job s (turns.exchange x) whole none owes (λ e. (cc)))) stands left owes got))
+          (exchanged_follows job m after t p s.most x outcome (place_of_state s) now whole.graph whole.there at.part (whole.places.most apart (λ e. makes (rw e tt)) (λ e. makes (rw e tt))) stands left owes got))
           (λ some. absurd (some undealt))
           (on_after job spots m after t p now old new on w.made.same got.moved w.made.seen)
           (subst (λ taken. HasFilter (task_at job.graph t) s.filter taken) (sym stay) at.filter)
@@ -340,6 +341,7 @@ pub task_takes : (job : Job) (spots : ℕ → Spot) (s : TaskState) (k p allowed
     → input_at (task_at job.graph s.number) k ≡ p → (step : MayStep job s)
     → ((task_at job.graph s.number).kind ≡ kind.Source → ⊥)
     → (task_at job.graph s.number).kind ≢ kind.Split
+    → (task_at job.graph s.number).kind ≢ kind.Decimate
     → (task_at job.graph s.number).kind ≢ kind.Join
     → k ≡ first_input (task_at job.graph s.number) s.begun → x.begun ≡ s.begun + length os
     → MayMake job s.number s.begun allowed → 1 ≤ length os → length os ≤ allowed
@@ -355,7 +357,7 @@ pub task_takes : (job : Job) (spots : ℕ → Spot) (s : TaskState) (k p allowed
     → FitPlaces job s x
     → old ≡ get_or s.holds.items k old → HoldGoesOn (MemberHasWaited os) old new → IsTask job spots s
     → IsTask job spots (changed s x (with_item s.holds k new))
-task_takes job spots s k p allowed os old new x few here input step never apart single first more may some less room fit then follows keeps places looked g task =
+task_takes job spots s k p allowed os old new x few here input step never apart no_keeper single first more may some less room fit then follows keeps places looked g task =
     let none : length s.lefts.items ≡ 0 = task.whole.staying step.over in
     record {
       whole = whole_moves job s k new x places task.whole;
@@ -367,7 +369,7 @@ task_takes job spots s k p allowed os old new x few here input step never apart 
           let next_is = subst (λ q. BeginsSteps job m s.number k q (length os)) input
           (rw first
           (next_waits_at job m s.number s.most allowed (length os) (place_of_state s) task.whole.graph task.whole.there at.part
-          (task.whole.places.most apart single) (at.place step.owed.2) none (owed_none s step.owed) never may (step.children spots m at) some less room)) in
+          (task.whole.places.most apart no_keeper single) (at.place step.owed.2) none (owed_none s step.owed) never may (step.children spots m at) some less room)) in
           let next = state_takes job spots m s k p os both.0 both.1.0 x task.whole
           few here step.over step.owed first more fit then follows keeps (places.dealers apart) next_is some room at both.1.4 both.1.3 in (
             next.0,

@@ -3,7 +3,7 @@
 use Rattle.std.specs.Prelude.{◌≡◌, ◌≢◌, ◌⊎◌, ℕ, ◌<◌, ◌≤◌, ℤ, List, [], ◌∷◌, length, map, get_or, slice_get, Some, Ok, true, false}
 use Rattle.graph_runs.specs.graph_base.declared.line.Parent.{Parent}
 use Rattle.graph_runs.specs.graph_base.declared.line.Kind.{Kind}
-use Rattle.graph_runs.specs.graph_base.declared.line.Kind.TheVariants.{Fir, Join, Sink, Source, Split}
+use Rattle.graph_runs.specs.graph_base.declared.line.Kind.TheVariants.{Decimate, Fir, Join, Sink, Source, Split}
 use Rattle.graph_runs.specs.graph_base.Graphs.{task_at, phaser_at}
 use Rattle.graph_runs.specs.graph_base.TaskLines.{IsGraph}
 use Rattle.stream_eval.specs.stream_lists.Jobs.{Job, samples_at}
@@ -93,9 +93,10 @@ HasGivenNumbers job m children = (i : ℕ) (child : Child) → slice_get childre
 -- ---- what is owed
 
 -- the kinds whose steps may owe several values on their one output: what a filter makes of a block,
--- and what a joiner has taken value by value
+-- what a decimator keeps of one, and what a joiner has taken value by value
 abbrev pub MakesMany : Kind → Type 0
 MakesMany Fir = Unit {0}
+MakesMany Decimate = Unit {0}
 MakesMany Join = Unit {0}
 MakesMany kind = ⊥
 
@@ -164,6 +165,7 @@ sends_room job t places = room_for (phaser_at job.graph (output_at job t 0)).op 
 -- outcome of a wait, and for the send of a signal
 pub record HasStepPlaces (job : Job) (s : TaskState) : Type 0 where
   pub most : (task_at job.graph s.number).kind ≢ Split
+      → (task_at job.graph s.number).kind ≢ Decimate
       → (task_at job.graph s.number).kind ≢ Join → IsMost job s.number s.most
   pub own : 1 ≤ s.own
   pub own_few : s.own ≤ s.most
@@ -190,7 +192,7 @@ pub record IsWhole (job : Job) (s : TaskState) : Type 0 where
   -- what it has seen of each phaser finds room
   pub room : length (registrations_at job s.number) ≤ s.lefts.cap
   pub places : HasStepPlaces job s
-  -- a filter and a joiner owe what they have made, and other tasks make nothing
+  -- a filter, a decimator and a joiner owe what they have made, and other tasks make nothing
   pub makers : MakesMany (task_at job.graph s.number).kind → s.owed ≡ Nothing
   pub others : (MakesMany (task_at job.graph s.number).kind → ⊥) → s.made.items ≡ []
   -- a splitter owes what it deals, and other tasks deal nothing

@@ -12,11 +12,12 @@ ghost use Rattle.stream_tasks.specs.Children.{ChildrenAllow, MayStep};
 use crate::child::Child;
 use crate::deal::outputs_of;
 use crate::gate::Gate;
+use crate::keep::every_of;
 use crate::opening::founders::registration_of;
 use crate::task_state::TaskState;
 use graph_runs::graph_base::Kind;
 use graph_runs::phase_base::Op;
-use graph_runs::{kind_of, output_of, until_of};
+use graph_runs::{input_of, kind_of, output_of, until_of};
 use std::alloc::{AllocError, Global};
 use stream_eval::stream_lists::Job;
 use stream_members::Places;
@@ -29,11 +30,12 @@ const SMALL_BOUND: u64 = 64;
 
 /// How many steps task number `task` makes in one event of its own accord, at most, or puts by one
 /// where it is a joiner: one, or more where its kind has blocks, and no more than the bound of each
-/// of its phasers.
+/// of its phasers; but a decimator may make more than its output's bound, as it keeps few of them.
 pub fn own_steps(job: &Job, task: usize) -> u64
     requires task { task < length job.now.graph.tasks }
     ensures some { 1 ≤ result }
     ensures most { (task_at job.now.graph task).kind ≢ kind.Split
+        → (task_at job.now.graph task).kind ≢ kind.Decimate
         → (task_at job.now.graph task).kind ≢ kind.Join → IsMost job.now task result }
     ensures one_op { (task_at job.now.graph task).kind ≡ kind.Split → 2 ≤ result
         → HasOneOp job.now task }
@@ -43,7 +45,8 @@ pub fn own_steps(job: &Job, task: usize) -> u64
             steps_within(least_bound(job, task))
         }
         Kind::Split => split_steps(job, task),
-        Kind::Decimate | Kind::Peer => 1,
+        Kind::Decimate => decimate_steps(job, task),
+        Kind::Peer => 1,
     }
 }
 
@@ -59,6 +62,19 @@ fn split_steps(job: &Job, task: usize) -> u64
         return 1;
     }
     steps_within(least_bound(job, task))
+}
+
+/// The same of a decimator: of as many steps as its input's bound allows, and its output's bound
+/// allows to put what it keeps of them.
+fn decimate_steps(job: &Job, task: usize) -> u64
+    requires task { task < length job.now.graph.tasks }
+    requires kind { (task_at job.now.graph task).kind ≡ kind.Decimate }
+    ensures some { 1 ≤ result }
+{
+    let (_, phaser) = output_of(job, task, 0);
+    let kept = job.graph().phaser(phaser).bound;
+    let bound = job.graph().phaser(input_of(job, task, 0)).bound;
+    steps_within(bound.min(kept.saturating_mul(every_of(job, task))).max(1))
 }
 
 /// Whether the phasers of the outputs of task number `task`, a splitter, have one operation.
@@ -133,11 +149,11 @@ pub fn places_for(alloc: Global, job: &Job, task: usize, most: usize) -> Result<
 {
     let _lines = job.graph().tasks();
     match kind_of(job, task) {
-        Kind::Source | Kind::Fir | Kind::Split | Kind::Join => {
+        Kind::Source | Kind::Fir | Kind::Split | Kind::Decimate | Kind::Join => {
             let (_, phaser) = output_of(job, task, 0);
             Places::new(alloc, job.graph().phaser(phaser).op, most)
         }
-        Kind::Decimate | Kind::Peer | Kind::Sink => Places::new(alloc, Op::Sum, 0),
+        Kind::Peer | Kind::Sink => Places::new(alloc, Op::Sum, 0),
     }
 }
 
@@ -176,7 +192,8 @@ impl<'a> TaskState<'a> {
                 self.holds[k].room().clamp(1, self.own)
             }
             Kind::Split => self.dealt_steps(job),
-            Kind::Decimate | Kind::Join | Kind::Peer | Kind::Sink => self.own,
+            Kind::Decimate => self.kept_steps(job),
+            Kind::Join | Kind::Peer | Kind::Sink => self.own,
         }
     }
 }

@@ -39,6 +39,7 @@ mod held;
 mod hold;
 mod join;
 mod join_block;
+mod keep;
 mod opening;
 mod run;
 mod seed;

@@ -31,9 +31,10 @@ pub struct TaskState<'a> {
     pub begun: u64,
     /// The phase at which it began, of a sink that joined now.
     pub start: u64,
-    /// What these steps owe next, of a source, a decimator, a peer and a sink.
+    /// What these steps owe next, of a source, a peer and a sink.
     pub owed: Owed,
-    /// What these steps owe, of a filter, or of a joiner: what it has taken.
+    /// What these steps owe, of a filter, of a decimator: what it has kept, or of a joiner: what it
+    /// has taken.
     pub made: Vec<i64>,
     /// What these steps owe, of a splitter, on all its outputs.
     pub deal: Deal,

@@ -173,6 +173,7 @@ impl<'a> TaskState<'a> {
         match kind_of(job, self.number) {
             Kind::Source => self.put_samples(job, gate),
             Kind::Split => self.take_deal(job, gate),
+            Kind::Decimate => self.take_kept(job, gate),
             Kind::Join => self.begin_join(job, gate),
             _ => self.first_wait(job, gate),
         }
@@ -205,11 +206,12 @@ impl<'a> TaskState<'a> {
         }
     }
 
-    /// Begins steps of a filter, a decimator, a peer or a sink, by their first wait.
+    /// Begins steps of a filter, a peer or a sink, by their first wait.
     fn first_wait<G: Gate>(&mut self, job: &Job, gate: &G) -> Went
         requires step { MayStep job.now self.old }
         requires kind { (task_at job.now.graph self.old.number).kind ≢ kind.Source }
         requires split { (task_at job.now.graph self.old.number).kind ≢ kind.Split }
+        requires decimate { (task_at job.now.graph self.old.number).kind ≢ kind.Decimate }
         requires join { (task_at job.now.graph self.old.number).kind ≢ kind.Join }
         ensures { KeepsTask job.now self.old self.new }
     {

@@ -65,6 +65,21 @@ take_deal-requires-clause-step g c =
     } in
     step
 
+pub take_kept-requires-clause-step : goal.take_kept-requires-clause-step
+take_kept-requires-clause-step g c =
+    let s = c.args.self.now in
+    let job = c.args.job.now in
+    let step : MayStep job s = record {
+      spots = c.requires.task.0;
+      task = c.requires.task.1;
+      met = c.requires.met;
+      over = c.requires.over;
+      owed = c.requires.owed;
+      uncut = ap (λ u. is_cut u s.begun) (sym c.until_of.ensures) ∙ sym c.is_cut.ensures ∙ c.if-is_cut.false;
+      children = all_now job s c.requires.task.1.whole c.requires.children;
+    } in
+    step
+
 pub begin_join-requires-clause-step : goal.begin_join-requires-clause-step
 begin_join-requires-clause-step g c =
     let s = c.args.self.now in

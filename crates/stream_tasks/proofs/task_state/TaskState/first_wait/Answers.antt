@@ -114,7 +114,7 @@ returns-in-Some g c = λ spots task.
       places = s.places;
       deal = s.deal;
     })
-    on.0 on.1 (sym c.input_of-p.ensures.phaser) step c.requires.kind c.requires.split c.requires.join c.first_input_of-k.ensures.input
+    on.0 on.1 (sym c.input_of-p.ensures.phaser) step c.requires.kind c.requires.split c.requires.decimate c.requires.join c.first_input_of-k.ensures.input
     (omega arith) c.steps-steps.ensures.may (omega arith) (omega arith) (omega arith)
     taken.fit taken.owes taken.filter
     (λ sink. (let yes : is_sink_at job t ≡ true = rw sink refl in
@@ -126,7 +126,7 @@ returns-in-Some g c = λ spots task.
       few_made = few_made;
       outcomes = many;
       sends = λ op. refl;
-      makers = λ many. taken.filters (filter_of (task_at job.graph t).kind many c.requires.join)
+      makers = λ many. taken.filters (filter_of (task_at job.graph t).kind many c.requires.decimate c.requires.join)
           ∙ sym (task.whole.makers many);
       others = λ no. c.owed_after.ensures.others (λ fir. no (rw fir tt));
       few_dealt = task.whole.places.few_dealt;

@@ -5,7 +5,7 @@ use Rattle.std.proofs.lemmas.List.{length-take-le, take-append-le, take-append-d
 use Rattle.graph_runs.specs.graph_base.Graphs.{task_at}
 use Rattle.stream_eval.specs.stream_lists.Lists.{number}
 use Rattle.stream_tasks.specs.Holds.{HoldGoesOn, WaitGave, MemberHasWaited, IsAtMost}
-use Rattle.stream_tasks.proofs.Dealing.{first_of_split, split_ends}
+use Rattle.stream_tasks.proofs.Dealing.{split_ends, split_takes}
 use Rattle.stream_tasks.proofs.DealStates.{task_deals}
 use Rattle.stream_tasks.proofs.EndingLemmas.{runs_out}
 use Rattle.stream_tasks.proofs.Turning.{as_it_is, fits, task_sees, whole_moves}
@@ -83,7 +83,7 @@ returns-in-Ok-Ended g c = λ spots task.
     c.get_into.new.places
     step.met step.over step.owed
     (λ source. (let no = sym c.requires.kind ∙ source in cc))
-    (first_of_split job s.number s.begun c.requires.kind) within
+    ((split_takes job s.number task.whole.graph task.whole.there c.requires.kind).first s.begun) within
     (sym c.input_of-p.ensures.phaser) on.0 on.1 c.index_mut.ensures.value refl c.get_into.ensures.places step.children
     (subst (λ f. HoldGoesOn (WaitGave (Ok f) (take c.steps-steps.result c.get_into.new.places.items)) c.index_mut.result.now c.get_into.new.hold) c.in-Ok-Ended.field-0-is
     c.in-Ok-Ended.ensures.call) task
