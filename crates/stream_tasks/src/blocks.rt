@@ -71,6 +71,7 @@ fn decimate_steps(job: &Job, task: usize) -> u64
     requires kind { (task_at job.now.graph task).kind ≡ kind.Decimate }
     ensures some { 1 ≤ result }
 {
+    let _lines = job.graph().tasks();
     let (_, phaser) = output_of(job, task, 0);
     let kept = job.graph().phaser(phaser).bound;
     let bound = job.graph().phaser(input_of(job, task, 0)).bound;
