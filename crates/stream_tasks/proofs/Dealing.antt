@@ -14,21 +14,18 @@ use Rattle.graph_runs.specs.graph_base.Graphs.{Task, task_at}
 use Rattle.graph_runs.specs.graph_base.declared.line.Kind.TheVariants.{Source, Split}
 use Rattle.stream_eval.specs.stream_lists.Jobs.{Job}
 use Rattle.stream_eval.specs.stream_lists.Lists.{every, number}
-use Rattle.stream_eval.specs.stream_lists.Spans.{puts_on, signalled_by, takes_from, turns_below}
+use Rattle.stream_eval.specs.stream_lists.Spans.{puts_on, signalled_by, turns_below}
 use Rattle.graph_runs.specs.Answers.{output_at}
-use Rattle.graph_runs.specs.Moments.{AtMost, Moment, first_input, made_now, taken_now}
-use Rattle.graph_runs.specs.Moves.{MayBeginTo}
+use Rattle.graph_runs.specs.Moments.{Moment, made_now, taken_now}
 use Rattle.graph_runs.specs.Nexts.{has_left, number_on, registrations_at}
 use Rattle.graph_runs.specs.Parts.{AreNextValues, HasGot, HasPart, HasPut, HasSeen}
-use Rattle.graph_runs.specs.Places.{HasChildrenBy, IsMost, MayMake}
-use Rattle.graph_runs.specs.TaskPlaces.{OwesUpTo, StandsUpTo, TaskPlace, nothing, registration_at}
+use Rattle.graph_runs.specs.TaskPlaces.{StandsUpTo, TaskPlace, nothing, registration_at}
 use Rattle.graph_runs.proofs.Boundaries.{made_many}
 use Rattle.graph_runs.proofs.Following.{Lacks}
 use Rattle.graph_runs.proofs.Lacking.{first_none}
 use Rattle.graph_runs.proofs.OwnEvents.{eq_case}
 use Rattle.graph_runs.proofs.PlacesLemmas.{place_of_output}
 use Rattle.graph_runs.proofs.Tasks.{now_at}
-use Rattle.graph_runs.proofs.TellsNext.{next_waits_at, owes_as}
 use Rattle.stream_tasks.specs.Deals.{IsDealing, dealt}
 use Rattle.stream_tasks.proofs.OneInputs.{TakesOne, taken_by}
 use Rattle.stream_tasks.proofs.Shares.{length-every, share_next, turn_of, turn_once, turns_first, turns_none, turns_then}

@@ -212,7 +212,8 @@ values_follow job m after t j p most vs at now is there part able stands none ow
 
     by : (kind : Kind) → (task_at job.graph t).kind ≡ kind → Then
     by Join e =
-        made_follows job m after t j p most vs at now is there part (rw e tt) stands none owed_is put
+        made_follows job m after t j p most vs at now is there part (rw e tt) stands none owed_is
+        put
     by Source e =
         other (λ keeper. (let no : Source ≡ Decimate = sym e ∙ keeper in cc))
         (λ join. (let no : Source ≡ Join = sym e ∙ join in cc))
@@ -223,7 +224,8 @@ values_follow job m after t j p most vs at now is there part able stands none ow
         other (λ keeper. (let no : Split ≡ Decimate = sym e ∙ keeper in cc))
         (λ join. (let no : Split ≡ Join = sym e ∙ join in cc))
     by Decimate e =
-        made_follows job m after t j p most vs at now is there part (rw e tt) stands none owed_is put
+        made_follows job m after t j p most vs at now is there part (rw e tt) stands none owed_is
+        put
     by Peer e =
         other (λ keeper. (let no : Peer ≡ Decimate = sym e ∙ keeper in cc))
         (λ join. (let no : Peer ≡ Join = sym e ∙ join in cc))

@@ -1,5 +1,5 @@
--- The kinds whose steps take a value each from their one input: what their wait for several steps may
--- begin.
+-- The kinds whose steps take a value each from their one input: what their wait for several steps
+-- may begin.
 use Rattle.std.proofs.Common.{◌≡◌, ℕ, ◌+◌, ◌<◌, ◌≤◌, length, sym, subst, ◌∙◌, arith}
 use Rattle.graph_runs.specs.graph_base.TaskLines.{IsGraph}
 use Rattle.graph_runs.specs.graph_base.Graphs.{task_at}
@@ -41,7 +41,7 @@ pub block_may_begin : (job : Job) (m : Moment) (t most steps : ℕ) (at : TaskPl
     → StandsUpTo most job m t at → at.left ≡ 0 → at.owed ≡ nothing → MayMake job t at.begun 1
     → MayMake job t at.begun steps → HasChildrenBy job m t at.begun
     → MayBeginTo job m t (m.begun t + steps)
-block_may_begin job m t most steps at is there part takes stands none owed_is one may children = record {
+block_may_begin job m t most steps at is there part takes stands none owed_is one may kids = record {
   taken = first.taken;
   cut = subst (λ b. AtMost (b + steps) (task_at job.graph t).until) (sym stands.begun) may.cut;
   samples = takes.samples (m.begun t + steps) (length (samples_at job t));
@@ -72,4 +72,4 @@ block_may_begin job m t most steps at is there part takes stands none owed_is on
     first : MayBeginTo job m t (m.begun t + 1)
     first =
         (next_waits_at job m t 1 1 1 at is there part able single none owed_is takes.source one
-        children (omega arith) (omega arith) (omega arith)).may_begin
+        kids (omega arith) (omega arith) (omega arith)).may_begin

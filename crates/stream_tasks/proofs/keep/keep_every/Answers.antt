@@ -1,7 +1,6 @@
 -- One number more is kept.
 use Rattle.std.proofs.Common.{rules, ℕ, zero, suc, ◌≡◌, ◌<◌, ◌≤◌, ◌+◌, ◌*◌, ◌++◌, List, [], ◌∷◌, map, length, get_or, pos, refl, ap, sym, ◌∙◌, zero-add, w64, FitsSigned, arith}
 use Rattle.std.proofs.lemmas.Int.{to_z-of_z}
-use Rattle.std.proofs.lemmas.List.{length-map}
 use Rattle.std.proofs.lemmas.List.FromFn.{length-map-range_with_len, map-range_with_len_more}
 use Rattle.graph_runs.specs.phase_accum.declared.outcome.Outcome.{Outcome}
 use Rattle.graph_runs.specs.phase_accum.declared.outcome.Outcome.TheVariants.{Value}

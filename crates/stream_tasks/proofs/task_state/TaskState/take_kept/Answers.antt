@@ -1,4 +1,5 @@
--- The wait is on the only input, and of what it gets each value at a step that `every` divides is kept.
+-- The wait is on the only input, and of what it gets the values at steps that `every` divides are
+-- kept.
 use Rattle.std.proofs.Common.{◌≡◌, ◌<◌, ◌≤◌, ◌+◌, ◌%◌, false, length, refl, sym, subst, ap, ◌∙◌, arith, Ok, map}
 use Rattle.std.specs.Prelude.{take, drop}
 use Rattle.std.proofs.lemmas.List.{length-take-le, take-append-le, take-append-drop}
