@@ -11,8 +11,10 @@ fn made(fir: Result<Fir, FirFault>) -> Result<Fir, AllocError> {
     fir.map_err(|_fault| AllocError)
 }
 
-/// The form that shifts by so many bits, adds so much, and has such a delay.
-const fn by(shift: u32, plus: i64, delay: usize) -> Form {
+/// By how many bits a form shifts, what it adds before, and its delay.
+type Numbers = (u32, i64, usize);
+
+fn by((shift, plus, delay): Numbers) -> Form {
     Form { shift, plus, delay }
 }
 
@@ -38,7 +40,7 @@ type Steps = (usize, i64, Answer);
 struct Case {
     name: &'static str,
     taps: &'static [i64],
-    form: Form,
+    form: Numbers,
     steps: &'static [Steps],
 }
 
@@ -46,25 +48,25 @@ const CASES: [Case; 10] = [
     Case {
         name: "rounds down and not towards zero",
         taps: &[1, 2, 1],
-        form: by(2, 0, 0),
+        form: (2, 0, 0),
         steps: &[(2, -1, Answer::Value(-1)), (1, 0, Answer::Value(-1))],
     },
     Case {
         name: "one tap of one answers the sample",
         taps: &[1],
-        form: by(0, 0, 0),
+        form: (0, 0, 0),
         steps: &[(1, 7, Answer::Value(7))],
     },
     Case {
         name: "only a sum out of range is too big",
         taps: &[2],
-        form: by(0, 0, 0),
+        form: (0, 0, 0),
         steps: &[(1, VALUE_MAX, Answer::TooBig), (1, 1, Answer::Value(2))],
     },
     Case {
         name: "a sum that is halved is in range",
         taps: &[2],
-        form: by(1, 0, 0),
+        form: (1, 0, 0),
         steps: &[
             (1, VALUE_MAX, Answer::Value(VALUE_MAX)),
             (1, VALUE_MIN, Answer::Value(VALUE_MIN)),
@@ -73,7 +75,7 @@ const CASES: [Case; 10] = [
     Case {
         name: "sixty-four greatest taps meet the extremes",
         taps: &[2_147_483_647; 64],
-        form: by(62, 0, 0),
+        form: (62, 0, 0),
         steps: &[
             (1, VALUE_MAX, Answer::Value(4_294_967_293)),
             (62, VALUE_MAX, Answer::SomeValue),
@@ -85,7 +87,7 @@ const CASES: [Case; 10] = [
     Case {
         name: "a sample that is no value is weighed too",
         taps: &[1, 1],
-        form: by(0, 0, 0),
+        form: (0, 0, 0),
         steps: &[
             (1, i64::MIN, Answer::TooBig),
             (1, 1, Answer::Value(VALUE_MIN)),
@@ -94,7 +96,7 @@ const CASES: [Case; 10] = [
     Case {
         name: "half of the divisor rounds to the nearest",
         taps: &[1, 2, 1],
-        form: by(2, 2, 0),
+        form: (2, 2, 0),
         steps: &[
             (1, -1, Answer::Value(0)),
             (1, -1, Answer::Value(-1)),
@@ -104,7 +106,7 @@ const CASES: [Case; 10] = [
     Case {
         name: "what is added counts for the range",
         taps: &[1],
-        form: by(0, 1, 0),
+        form: (0, 1, 0),
         steps: &[
             (1, VALUE_MAX, Answer::TooBig),
             (1, VALUE_MIN, Answer::Value(VALUE_MIN + 1)),
@@ -113,7 +115,7 @@ const CASES: [Case; 10] = [
     Case {
         name: "a delay answers what came two samples before",
         taps: &[1],
-        form: by(0, 0, 2),
+        form: (0, 0, 2),
         steps: &[
             (1, 3, Answer::Value(0)),
             (1, 1, Answer::Value(0)),
@@ -125,7 +127,7 @@ const CASES: [Case; 10] = [
     Case {
         name: "the longest delay answers zeros first",
         taps: &[1],
-        form: by(0, 0, 65_536),
+        form: (0, 0, 65_536),
         steps: &[(65_536, 7, Answer::Value(0)), (1, 8, Answer::Value(7))],
     },
 ];
@@ -133,7 +135,7 @@ const CASES: [Case; 10] = [
 #[test]
 fn a_filter_answers_its_steps(rt: HostRuntime) -> Result<(), Fail> {
     for case in &CASES {
-        let mut fir = made(Fir::new(rt.alloc(), case.taps, case.form))?;
+        let mut fir = made(Fir::new(rt.alloc(), case.taps, by(case.form)))?;
         for (count, sample, wanted) in case.steps {
             for _ in 0..*count {
                 let found = fir.step(*sample);
@@ -188,25 +190,25 @@ fn peers_and_turns(rt: HostRuntime) -> Result<(), Fail> {
 }
 
 /// Taps and a form that no filter has.
-const BAD: [(&str, &[i64], Form); 6] = [
-    ("no taps", &[], by(0, 0, 0)),
-    ("too many taps", &[0; 65], by(0, 0, 0)),
-    ("a tap past its limit", &[2_147_483_648], by(0, 0, 0)),
-    ("a shift past its limit", &[1], by(63, 0, 0)),
+const BAD: [(&str, &[i64], Numbers); 6] = [
+    ("no taps", &[], (0, 0, 0)),
+    ("too many taps", &[0; 65], (0, 0, 0)),
+    ("a tap past its limit", &[2_147_483_648], (0, 0, 0)),
+    ("a shift past its limit", &[1], (63, 0, 0)),
     (
         "a sum past its limit",
         &[1],
-        by(0, -4_611_686_018_427_387_905, 0),
+        (0, -4_611_686_018_427_387_905, 0),
     ),
-    ("a delay past its limit", &[1], by(0, 0, 65_537)),
+    ("a delay past its limit", &[1], (0, 0, 65_537)),
 ];
 
 #[test]
 fn bad_taps_are_refused(rt: HostRuntime) {
     for (name, taps, form) in &BAD {
-        let fir = Fir::new(rt.alloc(), taps, *form);
+        let fir = Fir::new(rt.alloc(), taps, by(*form));
         assert!(rt; matches!(fir, Err(FirFault::BadTaps)), "{name}");
-        let list = filter_list(rt.alloc(), taps, *form, &[]);
+        let list = filter_list(rt.alloc(), taps, by(*form), &[]);
         assert!(rt;
             matches!(list, Err(FilterFault::BadTaps)),
             "{name}, of a list"
