@@ -156,19 +156,19 @@ fn a_filter_answers_a_list(rt: HostRuntime) -> Result<(), Fail> {
     let mut samples = [5; 40];
     let mut wanted = [2; 40];
     wanted[0] = 7;
-    let found = filter_list(rt.alloc(), &[3, -2], by(1, 0, 0), &samples).map_err(
+    let found = filter_list(rt.alloc(), &[3, -2], by((1, 0, 0)), &samples).map_err(
         |_fault| AllocError,
     )?;
     assert_eq!(rt; found.as_slice(), wanted.as_slice());
     samples[33] = VALUE_MAX;
-    let found = filter_list(rt.alloc(), &[3, -2], by(1, 0, 0), &samples);
+    let found = filter_list(rt.alloc(), &[3, -2], by((1, 0, 0)), &samples);
     assert!(rt;
         matches!(found, Err(FilterFault::TooBig(33))),
         "the first output too big"
     );
-    let found = filter_list(rt.alloc(), &[3, -2], by(2, 0, 0), &samples);
+    let found = filter_list(rt.alloc(), &[3, -2], by((2, 0, 0)), &samples);
     assert!(rt; found.is_ok(), "a large output in range");
-    let delayed = filter_list(rt.alloc(), &[1], by(0, 0, 33), &samples).map_err(
+    let delayed = filter_list(rt.alloc(), &[1], by((0, 0, 33)), &samples).map_err(
         |_fault| AllocError,
     )?;
     assert_eq!(rt; &delayed[..33], [0; 33].as_slice());
