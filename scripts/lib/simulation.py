@@ -77,9 +77,11 @@ class Task:
         if "mul" in rest:
             self.mul = int(rest[rest.index("mul") + 1])
         self.shift, self.plus, self.delay, self.taps, self.every = 0, 0, 0, [1], 1
-        if "plus" in rest:
-            self.plus = int(rest.pop(rest.index("plus") + 1))
-            rest.remove("plus")
+        # In the place of the name of a phaser or a task it is one.
+        adds = rest.index("shift") + 2 if "shift" in rest else len(rest)
+        if rest[adds : adds + 1] == ["plus"]:
+            self.plus = int(rest[adds + 1])
+            del rest[adds : adds + 2]
         if "shift" in rest:
             self.shift = int(rest[rest.index("shift") + 1])
             self.taps = [int(tap) for tap in rest[rest.index("taps") + 1 :]]
